@@ -1,0 +1,6 @@
+use Rattle.std.proofs.Common.{false, replicate, bit_xor}
+use Rattle.sii_words.specs.ShiftRegister.{ShiftsThrough}
+use Rattle.sii_words.proofs.check_byte.folded.Given as goal
+
+abbrev pub invariant-loop : goal.invariant-loop
+invariant-loop l = ShiftsThrough (replicate l.counter false) (bit_xor l.remainder l.byte) l.next

@@ -1,0 +1,75 @@
+// What every list of at least 64 words of an EEPROM has, read and written in place.
+ghost use Rattle.std.specs.Prelude.{◌≡◌, ◌+◌, ◌*◌, ◌/◌, ◌%◌, ◌<◌, ◌≤◌, ◌↔◌, length, IsTrue, IfOk};
+ghost use Rattle.sii_words.specs.Words.{bytes_of, double_word};
+ghost use Rattle.sii_words.specs.Identity.{identity_of};
+ghost use Rattle.sii_words.specs.CheckByte.{IsChecked};
+
+use crate::check_byte::check_byte;
+use crate::identity::Identity;
+use std::alloc::{AllocError, Global};
+
+/// The words that the bytes spell.
+pub(crate) fn words_of_bytes(alloc: Global, bytes: &[u8]) -> Result<Vec<u16>, AllocError>
+    requires { length bytes.now % 2 ≡ 0 }
+    ensures words { IfOk result (λ words. bytes_of words.items ≡ bytes.now) }
+    ensures count { IfOk result (λ words. length words.items ≡ length bytes.now / 2) }
+{
+    let mut words = Vec::with_capacity(alloc, bytes.len() / 2)?;
+    let mut rest = bytes;
+    while let [low, high, after @ ..] = rest {
+        words.push(u16::from_le_bytes([*low, *high]))?;
+        rest = after;
+    }
+    Ok(words)
+}
+
+/// The bytes of the words, each low byte first.
+pub(crate) fn bytes_of_words(alloc: Global, words: &[u16]) -> Result<Vec<u8>, AllocError>
+    ensures { IfOk result (λ bytes. bytes.items ≡ bytes_of words.now) }
+{
+    let mut bytes = Vec::with_capacity(alloc, words.len() * 2)?;
+    for word in words {
+        bytes.extend_from_slice(&word.to_le_bytes())?;
+    }
+    Ok(bytes)
+}
+
+/// The number in two words, the low one first.
+fn read_double_word(words: &[u16], at: usize) -> u32
+    requires { at + 1 < length words.now }
+    ensures { result ≡ double_word words.now at }
+{
+    u32::from(words[at]) + 65536 * u32::from(words[at + 1])
+}
+
+pub(crate) fn identity(words: &[u16]) -> Identity
+    requires { 64 ≤ length words.now }
+    ensures { result ≡ identity_of words.now }
+{
+    Identity {
+        vendor: read_double_word(words, 8),
+        product: read_double_word(words, 10),
+        revision: read_double_word(words, 12),
+        serial: read_double_word(words, 14),
+    }
+}
+
+/// Whether the low byte of word 7 is the check byte.
+pub(crate) fn check_ok(words: &[u16]) -> bool
+    requires { 64 ≤ length words.now }
+    ensures { IsTrue result ↔ IsChecked words.now }
+{
+    words[7] % 256 == u16::from(check_byte(words))
+}
+
+/// Writes the bytes of the words, each low byte first.
+pub(crate) fn write_bytes(words: &[u16], out: &mut [u8])
+    requires { length out.old ≡ 2 * length words.now }
+    ensures { out.new ≡ bytes_of words.now }
+{
+    for (i, word) in words.iter().enumerate() {
+        let [low, high] = word.to_le_bytes();
+        out[2 * i] = low;
+        out[2 * i + 1] = high;
+    }
+}

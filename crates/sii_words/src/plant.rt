@@ -1,0 +1,70 @@
+ghost use Rattle.std.specs.Prelude.{◌≡◌, ◌<◌, ◌≤◌, length, vec_len, IfOk};
+ghost use Rattle.sii_words.specs.Plant.{words_of, with_word};
+
+use crate::words::Words;
+use std::alloc::AllocError;
+use std::marker::Model;
+
+/// The contents of a whole line: the words of 1 to 64 slaves. Contracts see the list of these lists of words.
+#[derive(Debug, Drop)]
+pub struct Plant {
+    slaves: Vec<Words>,
+}
+
+impl Model for Plant {
+    ghost use Rattle.std.specs.Prelude.{ℕ, List, ◌≤◌, length};
+
+    ghost Value = { List (List ℕ) };
+
+    ghost view = { λ plant. plant.slaves.items };
+
+    ghost invariant = { λ plant. (1 ≤ length plant.slaves.items) × (length plant.slaves.items ≤ 64) };
+}
+
+impl Plant {
+    /// The plant of these slaves, numbered from 0 in their order.
+    pub fn of(slaves: Vec<Words>) -> Self
+        requires some { 1 ≤ vec_len slaves }
+        requires most { vec_len slaves ≤ 64 }
+        ensures { result ≡ slaves.items }
+    {
+        Plant { slaves }
+    }
+
+    /// How many slaves there are.
+    pub fn len(&self) -> usize
+        ensures len { result ≡ length self.now }
+        ensures some { 1 ≤ length self.now }
+        ensures most { length self.now ≤ 64 }
+    {
+        self.slaves.len()
+    }
+
+    /// The words of one slave.
+    pub fn slave(&self, slave: usize) -> &Words
+        requires { slave < length self.now }
+        ensures { result.now ≡ words_of self.now slave }
+    {
+        &self.slaves[slave]
+    }
+
+    /// Changes one word of one slave alone.
+    pub fn set(&mut self, slave: usize, at: usize, value: u16)
+        requires slave { slave < length self.old }
+        requires word { at < length (words_of self.old slave) }
+        ensures { self.new ≡ with_word self.old slave at value }
+    {
+        self.slaves[slave].set(at, value);
+    }
+
+    /// A copy with the same words.
+    pub fn try_copy(&self) -> Result<Plant, AllocError>
+        ensures { IfOk result (λ copy. copy ≡ self.now) }
+    {
+        let mut slaves = Vec::with_capacity(*self.slaves.allocator(), self.slaves.len())?;
+        for words in &self.slaves {
+            slaves.push(words.try_copy()?)?;
+        }
+        Ok(Plant { slaves })
+    }
+}
