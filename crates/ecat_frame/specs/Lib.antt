@@ -1,0 +1,6 @@
+pub mod Command
+pub mod Frame
+pub mod Fault
+pub mod Kept
+pub mod Answer
+pub mod Reading

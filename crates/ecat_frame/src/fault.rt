@@ -1,0 +1,14 @@
+//! Why a frame could not be made or read.
+
+use thiserror::Error;
+
+/// A datagram that finds no room, or bytes that are no frame.
+#[derive(Clone, Copy, Debug, PartialEq, Eq, Error)]
+pub enum FrameFault {
+    /// The frame would be longer than 1,500 bytes.
+    #[error("the frame has no room for the datagram")]
+    FrameFull,
+    /// The bytes are no frame; `at` is the place of the first fault, in bytes from the frame's start.
+    #[error("the bytes are no EtherCAT frame from byte {at} on")]
+    BadFrame { at: usize },
+}

@@ -1,0 +1,254 @@
+//! Frames.
+
+ghost use Rattle.std.specs.Prelude.{◌≡◌, ◌+◌, ◌<◌, ◌≤◌, ◌↔◌, ℕ, List, [], ◌∷◌, ◌++◌, length, take, drop, slice_get, true, false, IsOk, IfOk, IfErr, OnOk, OnErr, IsOkAnd};
+ghost use Rattle.std.specs.Option.{ForSome};
+
+use crate::bytes::{MAX_LEN, OVERHEAD, overwrite, promise_more, put, put_datagram, state_length};
+use crate::command::Command;
+use crate::datagram::Datagram;
+use crate::fault::FrameFault;
+use crate::reading::{fault_at, first_datagram, inside_of};
+use arrayvec::ArrayVec;
+use std::marker::Model;
+
+/// An EtherCAT frame (ETG.1000.4): a header and datagrams, 1,500 bytes at most.
+///
+/// It keeps the datagrams in their one spelling: reserved bits, the circulating bit and the IRQ word are zero,
+/// and nothing pads the frame. What `parse` reads is brought into that spelling.
+#[derive(Debug, Drop)]
+pub struct Frame {
+    bytes: ArrayVec<u8, MAX_LEN>,
+    count: usize,
+    // where the last datagram begins
+    last: usize,
+}
+
+impl Model for Frame {
+    ghost use Rattle.std.specs.Prelude.{List, drop};
+    ghost use Rattle.ecat_frame.specs.Frame.{Pdu};
+    ghost use Rattle.ecat_frame.specs.Kept.{Keeps, pdus};
+
+    ghost Value = { List Pdu };
+
+    ghost view = { λ frame. pdus frame.count (drop 2 frame.bytes.items) };
+
+    ghost invariant = { λ frame. Keeps frame.bytes.items frame.count frame.last
+        (pdus frame.count (drop 2 frame.bytes.items)) };
+}
+
+/// The datagrams of a frame, in order.
+#[derive(Debug, Drop)]
+pub struct Datagrams<'a> {
+    rest: &'a [u8],
+    // how many datagrams these bytes are
+    left: usize,
+}
+
+impl<'a> Model for Datagrams<'a> {
+    ghost use Rattle.std.specs.Prelude.{List};
+    ghost use Rattle.ecat_frame.specs.Frame.{Pdu};
+    ghost use Rattle.ecat_frame.specs.Kept.{IsRest, pdus};
+
+    ghost Value = { List Pdu };
+
+    ghost view = { λ datagrams. pdus datagrams.left datagrams.rest.now };
+
+    ghost invariant = { λ datagrams. IsRest datagrams.rest.now datagrams.left
+        (pdus datagrams.left datagrams.rest.now) };
+}
+
+impl<'a> Iterator for Datagrams<'a> {
+    ghost use Rattle.std.specs.Iterator.{YieldsFirstBy, item_count};
+    ghost use Rattle.ecat_frame.specs.Frame.{pdu};
+
+    type Item = Datagram<'a>;
+
+    ghost next_gives = { YieldsFirstBy pdu (λ rest. rest) };
+
+    ghost remaining = { item_count (λ rest. rest) };
+
+    fn next(&mut self) -> Option<Datagram<'a>> {
+        let (datagram, _, rest) = first_datagram(self.rest)?;
+        self.rest = rest;
+        self.left -= 1;
+        Some(datagram)
+    }
+}
+
+impl Frame {
+    ghost use Rattle.ecat_frame.specs.Frame.{Pdu, pdu, sent, IsFrame, AreDatagrams, spelled, spelling};
+    ghost use Rattle.ecat_frame.specs.Fault.{IsFaultOf, BreaksOff, IsFaultInside, IsBadAt};
+    ghost use Rattle.ecat_frame.specs.Answer.{answered};
+
+    /// A frame without datagrams.
+    pub fn new() -> Frame
+        ensures { result ≡ [] }
+    {
+        let mut bytes = ArrayVec::new();
+        put(&mut bytes, &[0x00, 0x10]);
+        Frame {
+            bytes,
+            count: 0,
+            last: 2,
+        }
+    }
+
+    /// Appends a datagram with a working counter of 0. Its content is of 1,486 bytes at most.
+    pub fn push(
+        &mut self,
+        command: Command,
+        index: u8,
+        address: u32,
+        content: &[u8],
+    ) -> Result<(), FrameFault>
+        ensures ok { OnOk result (self.new ≡ self.old ++ sent command index address content.now ∷ []) }
+        ensures full { IfErr result (λ fault. fault ≡ FrameFault.FrameFull) }
+        ensures err { OnErr result (self.new ≡ self.old) }
+
+        // It succeeds exactly where the new spelling is short enough, and the datagram takes 12 bytes
+        // besides its content.
+        ensures room { let new = self.old ++ sent command index address content.now ∷ []
+            in IsOk result ↔ (length (spelling new) ≤ MAX_LEN) }
+        ensures grows { let new = self.old ++ sent command index address content.now ∷ []
+            in length (spelling new) ≡ length (spelling self.old) + 12 + length content.now }
+    {
+        if self.bytes.len() + OVERHEAD + content.len() > MAX_LEN {
+            return Err(FrameFault::FrameFull);
+        }
+        self.append(Datagram {
+            command: Command::from(command.code()),
+            index,
+            address,
+            content,
+            counter: 0,
+        });
+        Ok(())
+    }
+
+    /// Appends a datagram, for which there is room.
+    fn append(&mut self, datagram: Datagram<'_>)
+        requires { length (spelling self.old) + 12 + length datagram.content.now ≤ MAX_LEN }
+        ensures { self.new ≡ self.old ++ pdu datagram.entry ∷ [] }
+    {
+        promise_more(&mut self.bytes, self.last);
+        self.last = self.bytes.len();
+        self.count += 1;
+        put_datagram(&mut self.bytes, datagram);
+        state_length(&mut self.bytes);
+    }
+
+    /// The frame's bytes.
+    pub fn as_bytes(&self) -> &[u8]
+        ensures spelling { result.now ≡ spelling self.now }
+        ensures frame { IsFrame result.now self.now }
+        ensures fits { length result.now ≤ MAX_LEN }
+    {
+        self.bytes.as_slice()
+    }
+
+    /// How many datagrams the frame has.
+    pub fn count(&self) -> usize
+        ensures { result ≡ length self.now }
+    {
+        self.count
+    }
+
+    /// The datagrams in order.
+    pub fn datagrams(&self) -> Datagrams<'_>
+        ensures { result ≡ self.now }
+    {
+        Datagrams {
+            rest: &self.bytes.as_slice()[2..],
+            left: self.count,
+        }
+    }
+
+    /// The datagrams from the one at `k` on.
+    fn datagrams_from(&self, k: usize) -> Datagrams<'_>
+        requires { k ≤ length self.now }
+        ensures { result ≡ drop k self.now }
+    {
+        let mut datagrams = self.datagrams();
+        for _ in 0..k {
+            let _ = datagrams.next();
+        }
+        datagrams
+    }
+
+    /// The datagram at `k`.
+    pub fn datagram(&self, k: usize) -> Datagram<'_>
+        requires { k < length self.now }
+        ensures { slice_get self.now k ≡ Some (pdu result) }
+    {
+        match self.datagrams_from(k).next() {
+            Some(datagram) => datagram,
+            None => unreachable!(),
+        }
+    }
+
+    /// Where the content of the datagram at `k` begins.
+    fn content_at(&self, k: usize) -> usize
+        requires { k < length self.now }
+        ensures place { result ≡ 12 + length (spelled (take k self.now) true) }
+        ensures fits { result ≤ MAX_LEN }
+    {
+        self.bytes.len() - self.datagrams_from(k).rest.len() + 10
+    }
+
+    /// Puts the answer into the datagram at `k`: its content, of the length that it has, and its working counter.
+    pub fn answer(&mut self, k: usize, content: &[u8], counter: u16)
+        requires inside { k < length self.old }
+        requires equal { ForSome (slice_get self.old k) (λ d. length content.now ≡ length d.content) }
+        ensures { self.new ≡ answered self.old k content.now counter }
+    {
+        let at = self.content_at(k);
+        overwrite(&mut self.bytes, at, content);
+        overwrite(&mut self.bytes, at + content.len(), &counter.to_le_bytes());
+    }
+
+    /// Reads a frame. Reserved bits, the circulating bits and the IRQ words are ignored, any command is kept,
+    /// and what pads the frame behind its stated length is dropped.
+    ///
+    /// # Errors
+    ///
+    /// `BadFrame` with the place of the first fault from the left: 0 where the header isn't there, 1 where the type
+    /// isn't 1, 0 where the stated length isn't there or is above 1,498; then the place of the datagram that isn't
+    /// whole, or of the first byte behind the last datagram and inside the stated length.
+    pub fn parse(bytes: &[u8]) -> Result<Frame, FrameFault>
+        // What is read is a frame, and what is a frame is read.
+        ensures found { IfOk result (IsFrame bytes.now) }
+        ensures only { (ds : List Pdu) → IsFrame bytes.now ds → IsOkAnd result (λ frame. frame ≡ ds) }
+
+        // What is refused is bad at the place that the fault says, and what is bad is refused there.
+        ensures fault { IfErr result (IsFaultOf bytes.now) }
+        ensures place { (at : ℕ) → IsBadAt bytes.now at → result ≡ Err (FrameFault.BadFrame at) }
+    {
+        Frame::read(inside_of(bytes)?)
+    }
+
+    /// Reads the datagrams inside the stated length.
+    fn read(inside: &[u8]) -> Result<Frame, FrameFault>
+        requires { length inside.now ≤ 1498 }
+        ensures ok { IfOk result (λ frame. AreDatagrams inside.now frame false) }
+        ensures err { IfErr result (IsFaultInside inside.now) }
+    {
+        let mut frame = Frame::new();
+        if inside.is_empty() {
+            return Ok(frame);
+        }
+        let mut rest = inside;
+        let mut more = true;
+        while more {
+            let Some((datagram, follows, behind)) = first_datagram(rest) else {
+                return Err(fault_at(inside, rest));
+            };
+            frame.append(datagram);
+            rest = behind;
+            more = follows;
+        }
+        if !rest.is_empty() {
+            return Err(fault_at(inside, rest));
+        }
+        Ok(frame)
+    }
+}
