@@ -1,0 +1,42 @@
+ghost use Rattle.std.specs.Prelude.{◌≡◌, ◌↔◌, IsOk, IfOk, OnOk, OnErr, IsOkUnless};
+ghost use Rattle.sii_words.specs.CheckByte.{IsChecked};
+ghost use Rattle.sii_edit.specs.Alias.{ChangesAlias, with_alias, with_low_byte};
+ghost use Rattle.sii_edit.specs.Refusal.{whole};
+
+use crate::refusal::{Cause, Refusal};
+use sii_words::{ImageFile, Words};
+use std::alloc::AllocError;
+
+/// A word with another low byte.
+fn with_low_byte(word: u16, byte: u8) -> u16
+    ensures { result ≡ with_low_byte word byte }
+{
+    word / 256 * 256 + u16::from(byte)
+}
+
+/// Sets the configured station alias of an image, and the check byte that goes with it (ETG.1000.6, words 4 and 7). The high
+/// byte of word 7 stays. An image whose check byte is wrong is refused, and stays as it is.
+pub fn alias_image(image: &mut ImageFile, value: u16) -> Result<(), Refusal>
+    ensures accepted { IsOk result ↔ IsChecked image.old }
+    ensures changed { OnOk result (ChangesAlias image.old value image.new) }
+    ensures refused { IsOkUnless result (whole Cause.BadCheck) }
+    ensures unchanged { OnErr result (image.new ≡ image.old) }
+{
+    if !image.check_ok() {
+        return Err(Refusal::whole(Cause::BadCheck));
+    }
+    let seven = image.as_slice()[7];
+    image.set(4, value);
+    image.set(7, with_low_byte(seven, image.check_byte()));
+    Ok(())
+}
+
+/// A copy of the words of a slave with another alias, and the check byte that goes with it.
+pub(crate) fn aliased(words: &Words, value: u16) -> Result<Words, AllocError>
+    ensures { IfOk result (λ new. new ≡ with_alias words.now value) }
+{
+    let mut new = words.try_copy()?;
+    new.set(4, value);
+    new.set(7, with_low_byte(words.get(7), new.check_byte()));
+    Ok(new)
+}

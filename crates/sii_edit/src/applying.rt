@@ -1,0 +1,62 @@
+ghost use Rattle.std.specs.Prelude.{◌≡◌, All, IfOk, IfErr, OnOk};
+ghost use Rattle.sii_edit.specs.Command.{outcome};
+ghost use Rattle.sii_edit.specs.Draft.{drafted, IsDraftOf};
+ghost use Rattle.sii_edit.specs.Redo.{redone, LiesInside};
+ghost use Rattle.sii_edit.specs.Refusal.{IsRefusalOf};
+ghost use Rattle.sii_edit.specs.Run.{runs_between};
+
+use crate::command::Command;
+use crate::draft::Draft;
+use crate::redoing::redo;
+use crate::refusal::Refusal;
+use crate::run::Run;
+use sii_words::Plant;
+use std::alloc::Global;
+
+/// The runs that a command asks for: the longest stretches of words that it changes, in rising order of slave and word. Redo of
+/// them over the plant gives the new contents. It copies the words of the slaves alone that the command is about.
+///
+/// # Errors
+///
+/// The first cause that applies, or `Memory` in place of any answer.
+pub fn changes(alloc: Global, plant: &Plant, command: &Command) -> Result<Vec<Run>, Refusal>
+    ensures accepted { IfOk result (λ runs. outcome plant.now command.now ≡ Ok (redone plant.now runs.items)) }
+    ensures runs { IfOk result (λ runs. runs.items ≡ runs_between plant.now (redone plant.now runs.items)) }
+    ensures inside { IfOk result (λ runs. All (LiesInside plant.now) runs.items) }
+    ensures refused { IfErr result (λ refusal. IsRefusalOf (outcome plant.now command.now) refusal) }
+{
+    let mut draft = Draft::of(alloc, plant)?;
+    carry_out(&mut draft, plant, command)?;
+    Ok(draft.runs(alloc, plant)?)
+}
+
+/// The plant once a command is carried out, and the runs that lead there.
+///
+/// # Errors
+///
+/// The first cause that applies, or `Memory` in place of any answer.
+pub fn apply(alloc: Global, plant: &Plant, command: &Command) -> Result<(Plant, Vec<Run>), Refusal>
+    ensures plant { IfOk result (λ applied. outcome plant.now command.now ≡ Ok applied.0) }
+    ensures runs { IfOk result (λ applied. applied.1.items ≡ runs_between plant.now applied.0) }
+    ensures redone { IfOk result (λ applied. redone plant.now applied.1.items ≡ applied.0) }
+    ensures inside { IfOk result (λ applied. All (LiesInside plant.now) applied.1.items) }
+    ensures refused { IfErr result (λ refusal. IsRefusalOf (outcome plant.now command.now) refusal) }
+{
+    let runs = changes(alloc, plant, command)?;
+    let mut new = plant.try_copy()?;
+    redo(&mut new, &runs);
+    Ok((new, runs))
+}
+
+/// Does a command to the draft.
+fn carry_out(draft: &mut Draft, plant: &Plant, command: &Command) -> Result<(), Refusal>
+    requires { IsDraftOf plant.now draft.old }
+    ensures ok { OnOk result (IsDraftOf plant.now draft.new × (outcome (drafted plant.now draft.old) command.now ≡ Ok (drafted plant.now draft.new))) }
+    ensures refused { IfErr result (λ refusal. IsRefusalOf (outcome (drafted plant.now draft.old) command.now) refusal) }
+{
+    let done = match command {
+        Command::One(edit) => draft.edit(plant, edit),
+        Command::Swap { a, b } => draft.swap(plant, *a, *b),
+    };
+    done.map_err(Refusal::whole)
+}
