@@ -1,0 +1,11 @@
+pub mod WordBytes
+pub mod Items
+pub mod Fields
+pub mod Refusals
+pub mod StringLaw
+pub mod ChainLaw
+pub mod RoundTrip
+pub mod Walk
+pub mod Edits
+pub mod Unique
+pub mod Writable

@@ -1,0 +1,11 @@
+use Rattle.std.proofs.Common.{◌≡◌, length}
+use Rattle.sii_cats.specs.Items.{items_of}
+use Rattle.sii_cats.specs.Contents.{manager_at}
+use Rattle.sii_cats.proofs.Items.{with_front}
+use Rattle.sii_cats.proofs.managers.read_managers.Given as goal
+
+abbrev pub invariant-loop-manager : goal.invariant-loop-manager
+invariant-loop-manager l = with_front l.managers.items (items_of manager_at l.rest) ≡ items_of manager_at l.bytes
+
+abbrev pub decreases-loop-manager : goal.decreases-loop-manager
+decreases-loop-manager l = length l.rest

@@ -1,0 +1,11 @@
+use Rattle.std.proofs.Common.{◌≡◌, length}
+use Rattle.sii_cats.specs.Items.{items_of}
+use Rattle.sii_cats.specs.Pdos.{pdo_at, views}
+use Rattle.sii_cats.proofs.Items.{with_front}
+use Rattle.sii_cats.proofs.mappings.read_pdos.Given as goal
+
+abbrev pub invariant-loop-pdos : goal.invariant-loop-pdos
+invariant-loop-pdos l = with_front (views l.pdos.items) (items_of pdo_at l.rest) ≡ items_of pdo_at l.bytes
+
+abbrev pub decreases-loop-pdos : goal.decreases-loop-pdos
+decreases-loop-pdos l = length l.rest

@@ -1,0 +1,110 @@
+-- The chain of categories, from word 0x40 on (ETG.1000.6, slave information interface): for each a type word, a word with
+-- the length of its content in words, and the content. The type 0xFFFF ends the chain, and so does the end of the words.
+use Rattle.std.specs.Prelude.{◌≡◌, ◌≢◌, ℕ, ◌+◌, ◌<◌, ◌≤◌, List, [], ◌∷◌, ◌++◌, length, map, take, drop, All, Option, Some, None, Result, Ok, Err, nat_lt, ◌==◌, if◌then◌else◌}
+use Rattle.std.specs.List.{flat_map}
+use Rattle.sii_cats.specs.Items.{AreItems, Front, items_of}
+use Rattle.sii_cats.specs.Items.Front.{Ended, Item, Broken}
+use Rattle.sii_cats.specs.declared.categories.Category.{Category}
+use Rattle.sii_cats.specs.declared.fault.ChainFault.{ChainFault}
+use Rattle.sii_cats.specs.declared.fault.ChainFault.TheVariants.{Memory, RunsOut}
+
+-- a category of a chain
+pub record Member : Type 0 where
+  pub kind : ℕ
+  pub content : List ℕ
+
+abbrev pub member_words : Member → List ℕ
+member_words m = m.kind ∷ length m.content ∷ m.content
+
+-- the words of a whole chain
+abbrev pub chain_words : List Member → List ℕ
+chain_words ms = flat_map member_words ms
+
+-- a category in front, and what is left behind it
+abbrev pub Begins : List ℕ → Member → List ℕ → Type 0
+Begins words m rest = (m.kind ≢ 0xFFFF) × (words ≡ member_words m ++ rest)
+
+-- nothing is left, or the end mark comes
+abbrev pub IsEnd : List ℕ → Type 0
+IsEnd [] = Unit {0}
+IsEnd (word ∷ words) = word ≡ 0xFFFF
+
+-- a header that isn't whole, or whose content isn't
+abbrev pub IsCut : List ℕ → Type 0
+IsCut [] = ⊥
+IsCut (kind ∷ []) = kind ≢ 0xFFFF
+IsCut (kind ∷ count ∷ words) = (kind ≢ 0xFFFF) × (length words < count)
+
+-- one category after another, up to an end
+abbrev pub IsChain : List ℕ → List Member → Type 0
+IsChain words ms = AreItems Begins IsEnd (drop 64 words) ms
+
+-- one category after another, up to the header at this word, which is cut
+abbrev pub IsCutAt : List ℕ → ℕ → Type 0
+IsCutAt words at = (ms : List Member) × AreItems Begins (λ rest. IsCut rest × (rest ≡ drop at words) × (at ≤ length words)) (drop 64 words) ms
+
+-- the same, as it is read
+abbrev pub content_at : ℕ → List ℕ → Front Member
+content_at kind [] = Broken
+content_at kind (count ∷ words) = if nat_lt (length words) count then Broken else Item (record { kind = kind; content = take count words }) (drop count words)
+
+abbrev pub member_at : List ℕ → Front Member
+member_at [] = Ended
+member_at (kind ∷ words) = if kind == 0xFFFF then Ended else content_at kind words
+
+-- the chain, or what is left where it can't be read
+abbrev pub members_of : List ℕ → Result (List Member) (List ℕ)
+members_of words = items_of member_at (drop 64 words)
+
+-- the word behind a category
+abbrev pub end_of : Category → ℕ
+end_of c = c.at + 2 + c.count
+
+-- a category's content among the words
+abbrev pub content_of : List ℕ → Category → List ℕ
+content_of words c = take c.count (drop (c.at + 2) words)
+
+-- what stands where a category says
+abbrev pub member_of : List ℕ → Category → Member
+member_of words c = record { kind = c.kind; content = content_of words c }
+
+-- where the categories stand, the first at this word
+abbrev pub categories_from : ℕ → List Member → List Category
+categories_from at [] = []
+categories_from at (m ∷ ms) = record { kind = m.kind; at = at; count = length m.content } ∷ categories_from (at + length (member_words m)) ms
+
+-- The categories lie inside the words, one behind the other from word 0x40 on.
+pub record ArePlaced (words : List ℕ) (categories : List Category) : Type 0 where
+  pub inside : All (λ c. end_of c ≤ length words) categories
+  pub placed : categories ≡ categories_from 64 (map (member_of words) categories)
+
+-- The chain can't be read from the header at this word on.
+abbrev pub RunsOutAt : List ℕ → ℕ → Type 0
+RunsOutAt words at = (members_of words ≡ Err (drop at words)) × (at ≤ length words)
+
+abbrev pub ChainFails : (ℕ → Type 0) → ChainFault → Type 0
+ChainFails Cut Memory = Unit {0}
+ChainFails Cut (RunsOut at) = Cut at
+
+-- What reading the chain answers.
+abbrev pub GivesChain : {V : Type 0} → (V → List Member) → List ℕ → Result V ChainFault → Type 0
+GivesChain view words (Ok v) = members_of words ≡ Ok (view v)
+GivesChain view words (Err fault) = ChainFails (RunsOutAt words) fault
+
+-- The same by the grammar.
+abbrev pub AnswersChain : {V : Type 0} → (V → List Member) → List ℕ → Result V ChainFault → Type 0
+AnswersChain view words (Ok v) = IsChain words (view v)
+AnswersChain view words (Err fault) = ChainFails (IsCutAt words) fault
+
+-- What reading the header at a word answers: a category, or None at an end.
+abbrev pub HeaderGives : List ℕ → ℕ → Result (Option Category) ChainFault → Type 0
+HeaderGives words at (Ok (Some c)) = (c.at ≡ at) × (end_of c ≤ length words) × (member_at (drop at words) ≡ Item (member_of words c) (drop (end_of c) words))
+HeaderGives words at (Ok None) = member_at (drop at words) ≡ Ended
+HeaderGives words at (Err fault) = ChainFails (λ k. (k ≡ at) × (member_at (drop at words) ≡ Broken)) fault
+
+-- The chain was read to its end, at this word.
+pub record IsWalked (words : List ℕ) (categories : List Category) (at : ℕ) : Type 0 where
+  pub read : members_of words ≡ Ok (map (member_of words) categories)
+  pub placed : ArePlaced words categories
+  pub ended : at ≡ 64 + length (chain_words (map (member_of words) categories))
+  pub low : at ≤ length words

@@ -1,0 +1,45 @@
+-- FMMU and SyncM categories (types 40 and 41): a byte for each unit, eight bytes for each sync manager.
+use Rattle.std.specs.Prelude.{◌≡◌, ℕ, ◌<◌, List, [], ◌∷◌, ◌++◌, length, map, Result, ◌==◌, if◌then◌else◌}
+use Rattle.sii_cats.specs.Bytes.{low_first, number, bytes_of}
+use Rattle.sii_cats.specs.Items.{AreItems, Front, items_of}
+use Rattle.sii_cats.specs.Items.Front.{Ended, Item}
+use Rattle.sii_cats.specs.declared.units.FmmuUnit.{FmmuUnit}
+use Rattle.sii_cats.specs.declared.units.FmmuUse.{FmmuUse}
+use Rattle.sii_cats.specs.declared.units.FmmuUse.TheVariants.{Unused, Outputs, Inputs, SyncManagerStatus, Other}
+use Rattle.sii_cats.specs.declared.managers.Manager.{Manager}
+
+abbrev pub unit_bytes : List FmmuUnit → List ℕ
+unit_bytes units = map (λ unit. unit.byte) units
+
+-- what a unit's byte says
+abbrev pub use_of : ℕ → FmmuUse
+use_of byte =
+    if byte == 0 then Unused else if byte == 255 then Unused else if byte == 1 then Outputs else if byte == 2 then Inputs
+    else if byte == 3 then SyncManagerStatus else Other
+
+-- one byte for each unit
+abbrev pub AreUnits : List ℕ → List FmmuUnit → Type 0
+AreUnits bytes units = bytes ≡ unit_bytes units
+
+-- an odd number of units, with one unused unit more
+abbrev pub in_pairs : List FmmuUnit → List FmmuUnit
+in_pairs [] = []
+in_pairs (unit ∷ []) = unit ∷ record { byte = 0 } ∷ []
+in_pairs (unit ∷ other ∷ units) = unit ∷ other ∷ in_pairs units
+
+-- physical start, length, control, status, enable, type
+abbrev pub manager_bytes : Manager → List ℕ
+manager_bytes m = low_first m.start ++ low_first m.length ++ (m.control ∷ m.status ∷ m.enable ∷ m.kind ∷ [])
+
+-- one manager after another; fewer bytes than a manager's are ignored at the end
+abbrev pub AreManagers : List ℕ → List Manager → Type 0
+AreManagers bytes managers = AreItems (λ cells m rest. cells ≡ manager_bytes m ++ rest) (λ rest. length rest < 8) bytes managers
+
+-- the same, as it is read
+abbrev pub manager_at : List ℕ → Front Manager
+manager_at (s0 ∷ s1 ∷ l0 ∷ l1 ∷ control ∷ status ∷ enable ∷ kind ∷ rest) =
+    Item (record { start = number s0 s1; length = number l0 l1; control = control; status = status; enable = enable; kind = kind }) rest
+manager_at short = Ended
+
+abbrev pub managers_of : List ℕ → Result (List Manager) (List ℕ)
+managers_of words = items_of manager_at (bytes_of words)

@@ -1,0 +1,9 @@
+pub mod Bytes
+pub mod Items
+pub mod Contents
+pub mod Pdos
+pub mod Strings
+pub mod Reading
+pub mod Chain
+pub mod Splice
+pub mod Laws

@@ -1,0 +1,87 @@
+//! The chain of categories.
+
+ghost use Rattle.std.specs.Prelude.{◌≡◌, ◌<◌, ◌≤◌, ◌+◌, ◌^◌, length, map, IfOk};
+ghost use Rattle.sii_cats.specs.Chain.{AnswersChain, ArePlaced, GivesChain, HeaderGives, IsWalked, content_of, end_of, member_of};
+
+use crate::fault::ChainFault;
+use std::alloc::Global;
+
+/// The word of the first category's header.
+pub const FIRST_HEADER: usize = 0x40;
+
+/// The type word that ends the chain.
+pub const END: u16 = 0xFFFF;
+
+/// A category of a chain, by its place among the words.
+#[derive(Clone, Copy, Debug, PartialEq, Eq)]
+pub struct Category {
+    /// The type.
+    pub kind: u16,
+    /// The word of its header.
+    pub at: usize,
+    /// How many words its content has.
+    pub count: usize,
+}
+
+impl Category {
+    /// The word behind the content.
+    pub fn end(self) -> usize
+        requires { end_of self < 2 ^ 64 }
+        ensures { result ≡ end_of self }
+    {
+        self.at + 2 + self.count
+    }
+
+    /// The content, of the words that the category was read from.
+    pub fn content(self, words: &[u16]) -> &[u16]
+        requires { end_of self ≤ length words.now }
+        ensures { result.now ≡ content_of words.now self }
+    {
+        let (_, behind) = words.split_at(self.at + 2);
+        let (content, _) = behind.split_at(self.count);
+        content
+    }
+}
+
+/// The category whose header stands at a word, or `None` at the end of the chain.
+fn header_at(words: &[u16], at: usize) -> Result<Option<Category>, ChainFault>
+    requires { at ≤ length words.now }
+    ensures { HeaderGives words.now at result }
+{
+    match &words[at..] {
+        [] | [END, ..] => Ok(None),
+        [kind, count, rest @ ..] if (*count as usize) <= rest.len() => Ok(Some(Category {
+            kind: *kind,
+            at,
+            count: *count as usize,
+        })),
+        _ => Err(ChainFault::RunsOut { at }),
+    }
+}
+
+/// The categories of the chain, and the word behind it.
+pub fn walk(alloc: Global, words: &[u16]) -> Result<(Vec<Category>, usize), ChainFault>
+    requires { 64 ≤ length words.now }
+    ensures exact { GivesChain (λ x. map (member_of words.now) x.0.items) words.now result }
+    ensures walked { IfOk result (λ x. IsWalked words.now x.0.items x.1) }
+{
+    let mut categories = Vec::new(alloc);
+    let mut at = FIRST_HEADER;
+    while let Some(category) = header_at(words, at)? {
+        categories.push(category)?;
+        at = category.end();
+    }
+    Ok((categories, at))
+}
+
+/// The categories of the words of a device, 64 at least. `RunsOut`: the header at word `at`, or its
+/// content, isn't whole.
+pub fn chain(alloc: Global, words: &[u16]) -> Result<Vec<Category>, ChainFault>
+    requires { 64 ≤ length words.now }
+    ensures grammar { AnswersChain (λ v. map (member_of words.now) v.items) words.now result }
+    ensures exact { GivesChain (λ v. map (member_of words.now) v.items) words.now result }
+    ensures placed { IfOk result (λ v. ArePlaced words.now v.items) }
+{
+    let (categories, _) = walk(alloc, words)?;
+    Ok(categories)
+}

@@ -1,0 +1,26 @@
+//! The categories of an EEPROM behind its first 64 words (ETG.1000.6 and ETG.2010, slave information
+//! interface): the chain of categories, and the contents of the STRINGS, FMMU, SyncM, TXPDO and RXPDO
+//! categories.
+#![tactic(auto)]
+
+mod bytes;
+mod categories;
+mod edit;
+mod fault;
+mod laws;
+mod managers;
+mod mappings;
+mod text;
+mod units;
+
+pub use categories::{Category, END, FIRST_HEADER, chain};
+pub use edit::splice;
+pub use fault::{CatFault, ChainFault};
+pub use laws::{one_chain, one_content, readings};
+pub use managers::{Manager, syncms, write_syncms};
+pub use mappings::{Pdo, PdoEntry, pdos, write_pdos};
+pub use text::{strings, write_strings};
+pub use units::{FmmuUnit, FmmuUse, fmmus, write_fmmus};
+
+#[cfg(test)]
+mod tests;

@@ -1,0 +1,93 @@
+//! SyncM categories (type 41).
+
+ghost use Rattle.std.specs.Prelude.{◌≡◌, IfOk, MatchOption, Ok};
+ghost use Rattle.std.specs.List.{flat_map};
+ghost use Rattle.sii_cats.specs.Bytes.{bytes_of};
+ghost use Rattle.sii_cats.specs.Items.{items_of};
+ghost use Rattle.sii_cats.specs.Items.Front.{Ended, Item};
+ghost use Rattle.sii_cats.specs.Contents.{AreManagers, manager_at, manager_bytes, managers_of};
+
+use crate::bytes::{pair, unpacked};
+use std::alloc::{AllocError, Global};
+
+/// A sync manager in a SyncM category.
+#[derive(Clone, Copy, Debug, PartialEq, Eq)]
+pub struct Manager {
+    /// Physical start address.
+    pub start: u16,
+    /// Length in bytes.
+    pub length: u16,
+    /// Control register.
+    pub control: u8,
+    /// Status register; not used for initialization.
+    pub status: u8,
+    /// Enable flags.
+    pub enable: u8,
+    /// 0 unused, 1 mailbox out, 2 mailbox in, 3 process data out, 4 process data in.
+    pub kind: u8,
+}
+
+fn manager_of(bytes: &[u8]) -> Option<(Manager, &[u8])>
+    ensures { MatchOption result (manager_at bytes.now ≡ Ended)
+        (λ x. manager_at bytes.now ≡ Item x.0 x.1.now) }
+{
+    match bytes {
+        [s0, s1, l0, l1, control, status, enable, kind, rest @ ..] => {
+            let manager = Manager {
+                start: u16::from_le_bytes([*s0, *s1]),
+                length: u16::from_le_bytes([*l0, *l1]),
+                control: *control,
+                status: *status,
+                enable: *enable,
+                kind: *kind,
+            };
+            Some((manager, rest))
+        }
+        _ => None,
+    }
+}
+
+fn read_managers(alloc: Global, bytes: &[u8]) -> Result<Vec<Manager>, AllocError>
+    ensures { IfOk result (λ v. items_of manager_at bytes.now ≡ Ok v.items) }
+{
+    let mut managers = Vec::new(alloc);
+    let mut rest = bytes;
+    while let Some((manager, after)) = manager_of(rest) {
+        managers.push(manager)?;
+        rest = after;
+    }
+    Ok(managers)
+}
+
+/// The sync managers of a SyncM category with this content. Up to three words behind the last whole
+/// one are ignored, and no content is refused.
+pub fn syncms(alloc: Global, words: &[u16]) -> Result<Vec<Manager>, AllocError>
+    ensures grammar { IfOk result (λ v. AreManagers (bytes_of words.now) v.items) }
+    ensures exact { IfOk result (λ v. managers_of words.now ≡ Ok v.items) }
+{
+    read_managers(alloc, &unpacked(alloc, words)?)
+}
+
+/// The words of a sync manager.
+fn manager_words(manager: Manager) -> [u16; 4]
+    ensures { bytes_of result ≡ manager_bytes manager }
+{
+    [
+        manager.start,
+        manager.length,
+        pair(manager.control, manager.status),
+        pair(manager.enable, manager.kind),
+    ]
+}
+
+/// The content of a SyncM category with these sync managers.
+pub fn write_syncms(alloc: Global, managers: &[Manager]) -> Result<Vec<u16>, AllocError>
+    ensures written { IfOk result (λ v. bytes_of v.items ≡ flat_map manager_bytes managers.now) }
+    ensures read_back { IfOk result (λ v. AreManagers (bytes_of v.items) managers.now) }
+{
+    let mut words = Vec::new(alloc);
+    for manager in managers {
+        words.extend_from_slice(&manager_words(*manager))?;
+    }
+    Ok(words)
+}

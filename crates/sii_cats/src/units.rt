@@ -1,0 +1,75 @@
+//! FMMU categories (type 40).
+
+ghost use Rattle.std.specs.Prelude.{◌≡◌, map, IfOk};
+ghost use Rattle.sii_cats.specs.Bytes.{bytes_of, padded};
+ghost use Rattle.sii_cats.specs.Contents.{AreUnits, in_pairs, unit_bytes, use_of};
+
+use crate::bytes::{packed, unpacked};
+use std::alloc::{AllocError, Global};
+
+/// A unit's byte in an FMMU category, kept as it is.
+#[derive(Clone, Copy, Debug, PartialEq, Eq)]
+pub struct FmmuUnit {
+    pub byte: u8,
+}
+
+/// What an FMMU is used for.
+#[derive(Clone, Copy, Debug, PartialEq, Eq)]
+pub enum FmmuUse {
+    /// 0x00 or 0xFF.
+    Unused,
+    /// 1.
+    Outputs,
+    /// 2.
+    Inputs,
+    /// 3.
+    SyncManagerStatus,
+    /// Any other byte; it isn't judged.
+    Other,
+}
+
+impl FmmuUnit {
+    /// What the unit is used for.
+    pub fn usage(self) -> FmmuUse
+        ensures { result ≡ use_of self.byte }
+    {
+        match self.byte {
+            0x00 | 0xFF => FmmuUse::Unused,
+            1 => FmmuUse::Outputs,
+            2 => FmmuUse::Inputs,
+            3 => FmmuUse::SyncManagerStatus,
+            _ => FmmuUse::Other,
+        }
+    }
+}
+
+fn units_of(alloc: Global, bytes: &[u8]) -> Result<Vec<FmmuUnit>, AllocError>
+    ensures { IfOk result (λ v. v.items ≡ map (λ byte. record { byte = byte }) bytes.now) }
+{
+    bytes
+        .iter()
+        .map(|byte| FmmuUnit { byte: *byte })
+        .collect(alloc)
+}
+
+/// The units of an FMMU category with this content, a byte each. No content is refused.
+pub fn fmmus(alloc: Global, words: &[u16]) -> Result<Vec<FmmuUnit>, AllocError>
+    ensures { IfOk result (λ v. AreUnits (bytes_of words.now) v.items) }
+{
+    units_of(alloc, &unpacked(alloc, words)?)
+}
+
+fn bytes_of_units(alloc: Global, units: &[FmmuUnit]) -> Result<Vec<u8>, AllocError>
+    ensures { IfOk result (λ v. v.items ≡ unit_bytes units.now) }
+{
+    units.iter().map(|unit| unit.byte).collect(alloc)
+}
+
+/// The content of an FMMU category with these units. Behind an odd number of them stands an unused
+/// one, 0x00.
+pub fn write_fmmus(alloc: Global, units: &[FmmuUnit]) -> Result<Vec<u16>, AllocError>
+    ensures written { IfOk result (λ v. bytes_of v.items ≡ padded (unit_bytes units.now)) }
+    ensures read_back { IfOk result (λ v. AreUnits (bytes_of v.items) (in_pairs units.now)) }
+{
+    packed(alloc, &bytes_of_units(alloc, units)?)
+}
