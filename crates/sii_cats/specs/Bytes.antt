@@ -1,5 +1,6 @@
 -- A content is a list of words. Its bytes are the words, low byte first (ETG.1000.6, slave information interface).
 use Rattle.std.specs.Prelude.{ℕ, ◌+◌, ◌*◌, ◌/◌, ◌%◌, List, [], ◌∷◌}
+pub use Rattle.sii_words.specs.Words.{bytes_of}
 
 -- a number of 16 bits, low byte first
 abbrev pub low_first : ℕ → List ℕ
@@ -8,10 +9,6 @@ low_first n = n % 256 ∷ n / 256 ∷ []
 -- the number that two bytes are
 abbrev pub number : ℕ → ℕ → ℕ
 number low high = low + high * 256
-
-abbrev pub bytes_of : List ℕ → List ℕ
-bytes_of [] = []
-bytes_of (word ∷ words) = word % 256 ∷ word / 256 ∷ bytes_of words
 
 -- Bytes of whole words: behind an odd number of them stands a 0.
 abbrev pub padded : List ℕ → List ℕ
