@@ -1,0 +1,98 @@
+//! The program's command line.
+
+use clap::error::ErrorKind;
+use clap::{Arg, ArgAction, ArgMatches, Command, Error, value_parser};
+use std::alloc::{AllocError, Global};
+
+/// What the command line asks for.
+#[derive(Clone, Copy, Debug, PartialEq, Eq)]
+pub enum Task<'a> {
+    /// Sets the alias of the image on standard input.
+    Alias { value: u16, hex: bool },
+    /// Runs a script on a line; both are names of files.
+    Run { line: &'a str, script: &'a str },
+}
+
+/// Reads the words of a command line, the program's name first.
+pub fn read_arguments<'a>(alloc: Global, words: &'a [String]) -> Result<Task<'a>, Error> {
+    let mut command = station(alloc)?;
+    let matches = command.try_get_matches_from_mut(words)?;
+    if let Some(alias) = matches.subcommand_matches("alias") {
+        return alias_task(&mut command, alias);
+    }
+    if let Some(run) = matches.subcommand_matches("run") {
+        return Ok(run_task(run));
+    }
+    Err(command.error(ErrorKind::MissingSubcommand, "a subcommand is needed")?)
+}
+
+/// The whole command line.
+fn station<'a>(alloc: Global) -> Result<Command<'a>, AllocError> {
+    Command::new(alloc, "sii_station")
+        .about("Reprograms the SII EEPROMs of a line of EtherCAT slaves")
+        .after_help("Example:\n  sii_station alias 1001 < slave.bin > renamed.bin")
+        .subcommand_required(true)
+        .subcommand(alias_command(alloc)?)?
+        .subcommand(run_command(alloc)?)
+}
+
+fn alias_command<'a>(alloc: Global) -> Result<Command<'a>, AllocError> {
+    let value = Arg::new(alloc, "VALUE")
+        .help("The new alias, 0 to 65535")
+        .required(true)
+        .value_parser(value_parser!(u16));
+    let hex = Arg::new(alloc, "hex")
+        .long("hex")
+        .help("Reads and writes hexadecimal text in place of bytes")
+        .action(ArgAction::SetTrue);
+    Command::new(alloc, "alias")
+        .about(
+            "Sets the configured station alias of an EEPROM image, and the check byte that goes with it",
+        )
+        .long_about(
+            "Reads the image of a slave's EEPROM from standard input, sets the configured station alias and the check byte that goes with it, and writes the image to standard output. An image has 64 to 4096 words, low byte first.",
+        )
+        .after_help("Example:\n  sii_station alias 1001 < slave.bin > renamed.bin")
+        .arg(value)?
+        .arg(hex)
+}
+
+fn run_command<'a>(alloc: Global) -> Result<Command<'a>, AllocError> {
+    let line = Arg::new(alloc, "LINE")
+        .help("The line file: the slaves' image files and the journal's")
+        .required(true);
+    let script = Arg::new(alloc, "SCRIPT")
+        .help("The script file: the commands, in order")
+        .required(true);
+    Command::new(alloc, "run")
+        .about("Runs a script of commands on a line of slaves")
+        .long_about(
+            "Reads a line file, the EEPROM images that it names and a script file, submits the script's commands in order, prints the answer to each, and saves the images.",
+        )
+        .after_help("Example:\n  sii_station run line.toml script.toml")
+        .arg(line)?
+        .arg(script)
+}
+
+/// Both names are required, so they are there.
+fn run_task<'a>(matches: &ArgMatches<'a>) -> Task<'a> {
+    Task::Run {
+        line: matches.get_str("LINE").unwrap_or(""),
+        script: matches.get_str("SCRIPT").unwrap_or(""),
+    }
+}
+
+/// A value is digits alone: a sign isn't part of it.
+fn alias_task<'a>(command: &mut Command<'a>, matches: &ArgMatches<'a>) -> Result<Task<'a>, Error> {
+    let text = matches.get_str("VALUE").unwrap_or("");
+    match matches.get_one::<u16>("VALUE") {
+        Some(value) if text.bytes().all(|byte| byte.is_ascii_digit()) => Ok(Task::Alias {
+            value,
+            hex: matches.get_flag("hex"),
+        }),
+        _ => Err(command.error(
+            ErrorKind::ValueValidation,
+            "VALUE is a number in digits, 0 to 65535",
+        )?),
+    }
+}

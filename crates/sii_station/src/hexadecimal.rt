@@ -1,0 +1,75 @@
+//! Hexadecimal text.
+ghost use Rattle.std.specs.Prelude.{◌≡◌, IfOk, IsErr, IsErrOf};
+ghost use Rattle.hex.specs.Hex.{decode_of, encode_lower};
+ghost use Rattle.sii_station.specs.Hexadecimal.{without_whitespace};
+
+use crate::faults::Fault;
+use hex::FromHexError;
+use std::alloc::{AllocError, Global};
+use thiserror::Error;
+
+/// Why a text gives no bytes.
+#[derive(Clone, Copy, Debug, PartialEq, Eq, Error)]
+pub enum HexFault {
+    #[error("out of memory")]
+    Memory,
+    #[error("the text is not pairs of hexadecimal digits")]
+    BadHex,
+}
+
+/// The bytes that a text spells, two digits of either case each. Spaces, tabs, line feeds, form feeds and carriage
+/// returns are skipped.
+pub fn read_hex(alloc: Global, text: &str) -> Result<Vec<u8>, HexFault>
+    ensures ok { IfOk result (λ bytes. decode_of (without_whitespace text.now) ≡ Ok bytes.items) }
+    ensures bad { IsErrOf result HexFault.BadHex → IsErr (decode_of (without_whitespace text.now)) }
+{
+    let digits = digits_of(alloc, text)?;
+    match hex::decode(alloc, digits.as_slice()) {
+        Ok(bytes) => Ok(bytes),
+        Err(FromHexError::OutOfMemory) => Err(HexFault::Memory),
+        Err(_) => Err(HexFault::BadHex),
+    }
+}
+
+/// The text without its whitespace.
+fn digits_of(alloc: Global, text: &str) -> Result<Vec<u8>, AllocError>
+    ensures { IfOk result (λ digits. digits.items ≡ without_whitespace text.now) }
+{
+    text.as_bytes()
+        .iter()
+        .copied()
+        .filter(|byte| !byte.is_ascii_whitespace())
+        .collect(alloc)
+}
+
+/// The bytes as lower case digits, 16 bytes a line.
+pub fn hex_lines(alloc: Global, bytes: &[u8]) -> Result<Vec<u8>, AllocError>
+    ensures { IfOk result (λ text. without_whitespace text.items ≡ encode_lower bytes.now) }
+{
+    let digits = hex::encode(alloc, bytes)?;
+    let mut text = Vec::new(alloc);
+    for line in digits.as_bytes().chunks(32) {
+        text.extend_from_slice(line)?;
+        text.push(b'\n')?;
+    }
+    Ok(text)
+}
+
+impl From<AllocError> for HexFault {
+    ghost use Rattle.sii_station.specs.declared.hexadecimal.HexFault.TheVariants.{Memory};
+
+    ghost from_gives = { λ _ fault. fault ≡ Memory };
+
+    fn from(_: AllocError) -> Self {
+        HexFault::Memory
+    }
+}
+
+impl From<HexFault> for Fault {
+    fn from(fault: HexFault) -> Self {
+        match fault {
+            HexFault::Memory => Fault::Memory,
+            HexFault::BadHex => Fault::BadHex,
+        }
+    }
+}

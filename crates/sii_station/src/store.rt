@@ -1,0 +1,36 @@
+//! Files by their names.
+
+use crate::reading::read_to_end;
+use std::alloc::Global;
+use std::fs::File;
+use std::rt::Files;
+use std::{fs, io};
+
+/// Named files, read and written whole.
+pub trait Store {
+    /// The bytes of a file; None where there is no such file.
+    fn read(&mut self, alloc: Global, name: &str) -> io::Result<Option<Vec<u8>>>;
+
+    /// Makes these the bytes of a file.
+    fn write(&mut self, name: &str, bytes: &[u8]) -> io::Result<()>;
+}
+
+/// The system's files. A name without a leading slash is relative to the current folder.
+#[derive(Drop)]
+pub struct FileStore<'r, R> {
+    pub files: &'r R,
+}
+
+impl<R: Files> Store for FileStore<'_, R> {
+    fn read(&mut self, alloc: Global, name: &str) -> io::Result<Option<Vec<u8>>> {
+        match File::open(self.files, name) {
+            Ok(mut file) => Ok(Some(read_to_end(alloc, &mut file)?)),
+            Err(error) if error.kind() == io::ErrorKind::NotFound => Ok(None),
+            Err(error) => Err(error),
+        }
+    }
+
+    fn write(&mut self, name: &str, bytes: &[u8]) -> io::Result<()> {
+        fs::write(self.files, name, bytes)
+    }
+}

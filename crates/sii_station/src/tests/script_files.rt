@@ -1,0 +1,93 @@
+use super::{Shelf, assert_fault, image, serve_words};
+use std::alloc::Global;
+use std::io;
+use std::process::Abort;
+use std::test::Fail;
+
+/// Runs a script that is refused.
+fn assert_bad_script(
+    alloc: Global,
+    rt: &impl Abort,
+    script: &[u8],
+    fault: &str,
+    case: &str,
+) -> Result<(), Fail> {
+    let mut shelf = Shelf::new(alloc);
+    shelf.put(
+        "line.toml",
+        b"journal = 'j.bin'\n[[slave]]\nimage = 's0.bin'",
+    )?;
+    shelf.put("script.toml", script)?;
+    shelf.put("s0.bin", &image(alloc, 0, 0x30)?)?;
+    let outcome = serve_words(
+        alloc,
+        "station run line.toml script.toml",
+        &mut io::empty(),
+        &mut shelf,
+    )?;
+    assert_fault(rt, &outcome, 3, fault, case);
+    assert_eq!(rt; shelf.writes, 0, "{case}");
+    Ok(())
+}
+
+#[test]
+fn scripts_that_are_refused_as_a_whole(rt: HostRuntime) -> Result<(), Fail> {
+    let scripts = [
+        "",
+        "command",
+        "command = 1",
+        "command = [1]",
+        "[command]\nswap = [0, 1]",
+        "name = 'swap'\n[[command]]\nswap = [0, 1]",
+    ];
+    for script in scripts {
+        assert_bad_script(
+            rt.alloc(),
+            &rt,
+            script.as_bytes(),
+            "fault 93 BadScript 0\n",
+            script,
+        )?;
+    }
+    let latin = b"# \xe4\ncommand = []";
+    assert_bad_script(rt.alloc(), &rt, latin, "fault 93 BadScript 0\n", "Latin 1")?;
+    Ok(())
+}
+
+#[test]
+fn commands_that_are_refused(rt: HostRuntime) -> Result<(), Fail> {
+    let commands = [
+        "",
+        "erase = 0",
+        "swap = [0, 0]\nalias = { slave = 0, value = 1 }",
+        "alias = 1",
+        "alias = {}",
+        "alias = { slave = 0 }",
+        "alias = { value = 0 }",
+        "alias = { slave = 0, value = 1, at = 4 }",
+        "alias = { slave = -1, value = 1 }",
+        "alias = { slave = 0, value = 65536 }",
+        "alias = { slave = 0, value = 1.0 }",
+        "alias = { slave = '0', value = 1 }",
+        "swap = 0",
+        "swap = []",
+        "swap = [0]",
+        "swap = [0, 1, 2]",
+        "swap = [0, 65536]",
+        "swap = [0, true]",
+        "swap = { a = 0, b = 1 }",
+    ];
+    for command in commands {
+        let mut script = String::from_str(rt.alloc(), "[[command]]\nswap = [0, 1]\n[[command]]\n")?;
+        script.push_str(command)?;
+        script.push_str("\n[[command]]\nerase = 0\n")?;
+        assert_bad_script(
+            rt.alloc(),
+            &rt,
+            script.as_bytes(),
+            "fault 93 BadScript 1\n",
+            command,
+        )?;
+    }
+    Ok(())
+}
