@@ -1,0 +1,151 @@
+ghost use Rattle.std.specs.Prelude.{◌≡◌, ◌+◌, ◌≤◌, length};
+ghost use Rattle.std.specs.List.{list_any};
+ghost use Rattle.esc_model.specs.Fmmu.{fmmu_at, fmmus, acts, reads, writes, counter_of, all_read, all_written};
+
+use crate::bytes::copy_part;
+
+/// A fieldbus memory management unit (ETG.1000.4), which maps bytes of a slave's memory into the logical address space.
+#[derive(Clone, Copy, Debug)]
+pub struct Fmmu {
+    pub logical: u32,
+    pub count: u16,
+    pub physical: u16,
+    /// Bit 0 for inputs of the master, bit 1 for outputs.
+    pub kind: u8,
+    /// Bit 0 says that it is active.
+    pub activate: u8,
+}
+
+impl Fmmu {
+    /// The one that stands at this place of a slave's memory.
+    fn at(bytes: &[u8], at: usize) -> Fmmu
+        requires { at + 16 ≤ length bytes.now }
+        ensures { result ≡ fmmu_at bytes.now at }
+    {
+        Fmmu {
+            logical: u32::from_le_bytes([bytes[at], bytes[at + 1], bytes[at + 2], bytes[at + 3]]),
+            count: u16::from_le_bytes([bytes[at + 4], bytes[at + 5]]),
+            physical: u16::from_le_bytes([bytes[at + 8], bytes[at + 9]]),
+            kind: bytes[at + 11],
+            activate: bytes[at + 12],
+        }
+    }
+
+    /// The eight of a slave.
+    #[tactic(auto, unfolding(crate::specs::Fmmu::fmmus))]
+    fn all(bytes: &[u8]) -> [Fmmu; 8]
+        requires { length bytes.now ≡ 65536 }
+        ensures { result ≡ fmmus bytes.now }
+    {
+        [
+            Fmmu::at(bytes, 0x0600),
+            Fmmu::at(bytes, 0x0610),
+            Fmmu::at(bytes, 0x0620),
+            Fmmu::at(bytes, 0x0630),
+            Fmmu::at(bytes, 0x0640),
+            Fmmu::at(bytes, 0x0650),
+            Fmmu::at(bytes, 0x0660),
+            Fmmu::at(bytes, 0x0670),
+        ]
+    }
+
+    /// Whether it acts in a datagram of this logical start and so many bytes.
+    fn acts(&self, start: u32, count: usize) -> bool
+        ensures { result ≡ acts start count self.now }
+    {
+        let physical = usize::from(self.physical);
+        let own = usize::from(self.count);
+        self.activate % 2 == 1
+            && own > 0
+            && physical >= 0x1000
+            && physical + own <= 0x10000
+            && self.logical >= start
+            && (self.logical - start) as usize + own <= count
+    }
+
+    fn reads(&self, start: u32, count: usize) -> bool
+        ensures { result ≡ reads start count self.now }
+    {
+        self.acts(start, count) && self.kind % 2 == 1
+    }
+
+    fn writes(&self, start: u32, count: usize) -> bool
+        ensures { result ≡ writes start count self.now }
+    {
+        self.acts(start, count) && self.kind / 2 % 2 == 1
+    }
+}
+
+/// Exchanges the content of a datagram of this logical start with the memory, which is `memory` as the units read it and
+/// `next` as they have written it. Answers what that adds to the working counter.
+pub(crate) fn exchange(memory: &[u8], next: &mut [u8], start: u32, content: &mut [u8]) -> u16
+    requires memory { length memory.now ≡ 65536 }
+    requires next { length next.old ≡ 65536 }
+    ensures next { next.new ≡ all_written content.old (fmmus memory.now) start memory.now }
+    ensures content { content.new ≡ all_read memory.now (fmmus memory.now) start content.old }
+    ensures counter { result ≡ counter_of (fmmus memory.now) start (length content.old) }
+{
+    let units = Fmmu::all(memory);
+    let counter = counter_of(&units, start, content.len());
+    next.copy_from_slice(memory);
+    write_mapped(content, &units, start, next);
+    read_mapped(memory, &units, start, content);
+    counter
+}
+
+/// What the units add to the working counter of a datagram of this logical start and so many bytes.
+fn counter_of(units: &[Fmmu], start: u32, count: usize) -> u16
+    ensures { result ≡ counter_of units.now start count }
+{
+    u16::from(any_reads(units, start, count)) + 2 * u16::from(any_writes(units, start, count))
+}
+
+fn any_reads(units: &[Fmmu], start: u32, count: usize) -> bool
+    ensures { result ≡ list_any (reads start count) units.now }
+{
+    units.iter().any(|unit| unit.reads(start, count))
+}
+
+fn any_writes(units: &[Fmmu], start: u32, count: usize) -> bool
+    ensures { result ≡ list_any (writes start count) units.now }
+{
+    units.iter().any(|unit| unit.writes(start, count))
+}
+
+/// Reads into the content of a datagram what the units map there.
+fn read_mapped(memory: &[u8], units: &[Fmmu], start: u32, content: &mut [u8])
+    requires { length memory.now ≡ 65536 }
+    ensures { content.new ≡ all_read memory.now units.now start content.old }
+{
+    for unit in units {
+        if unit.reads(start, content.len()) {
+            let place = (unit.logical - start) as usize;
+            copy_part(
+                memory,
+                usize::from(unit.physical),
+                usize::from(unit.count),
+                content,
+                place,
+            );
+        }
+    }
+}
+
+/// Writes into the memory what the units map there of the content.
+fn write_mapped(content: &[u8], units: &[Fmmu], start: u32, memory: &mut [u8])
+    requires { length memory.old ≡ 65536 }
+    ensures { memory.new ≡ all_written content.now units.now start memory.old }
+{
+    for unit in units {
+        if unit.writes(start, content.len()) {
+            let at = (unit.logical - start) as usize;
+            copy_part(
+                content,
+                at,
+                usize::from(unit.count),
+                memory,
+                usize::from(unit.physical),
+            );
+        }
+    }
+}

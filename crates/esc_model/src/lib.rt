@@ -1,0 +1,18 @@
+//! A slave in memory, as its EtherCAT slave controller shows it to the line (ETG.1000.4): the half that serves the EEPROM
+//! by its registers, and the half that holds the process data behind FMMUs.
+#![tactic(auto)]
+
+mod bytes;
+mod eeprom_registers;
+mod fmmu;
+mod process_half;
+mod rest;
+mod rom_half;
+mod work;
+
+pub use process_half::ProcessHalf;
+pub use rest::{Rest, WordWrite};
+pub use rom_half::RomHalf;
+
+#[cfg(test)]
+mod tests;
