@@ -1,0 +1,67 @@
+-- The offsets as sums are those of rows placed one behind the other; and what the limits decide.
+use Rattle.std.specs.Prelude.{take, map, nat_le, ◌&&◌}
+use Rattle.std.specs.List.{enumerate_from, list_all}
+use Rattle.std.proofs.Common.{◌≡◌, ℕ, ◌+◌, ◌-◌, ◌≤◌, List, [], ◌∷◌, ◌++◌, length, sum_by, Bool, cond, Option, Some, None, true, false, refl, sym, ap, ◌∙◌, append_assoc, arith}
+use Rattle.std.proofs.lemmas.List.{take_at, length_push}
+use Rattle.std.proofs.lemmas.Bool.{le-leb}
+use Rattle.std.proofs.lemmas.List.Sums.{sum_by_push}
+use Rattle.sii_image.specs.declared.rows.Row.{Row}
+use Rattle.sii_image.specs.declared.image.Segment.{Segment}
+use Rattle.sii_image.specs.declared.placement.Placement.{Placement}
+use Rattle.sii_image.specs.Placement.{AreAdded, segments_from}
+use Rattle.sii_image.specs.ProcessImage.{Image, all_rows, counter_of, image_of_layout, image_within, rows_towards, segment_at, segments_of, size_of, total}
+use Rattle.sii_image.proofs.Placing.{segments_from-append, total-append}
+
+-- each of these rows where its number says, among all rows
+abbrev placed_among : List (ℕ × Row) → ℕ → List (ℕ × Row) → List Segment
+placed_among all number rows = map (λ r. segment_at (total (take r.0 all)) r.1) (enumerate_from number rows)
+
+placed_behind : (before rows : List (ℕ × Row)) → placed_among (before ++ rows) (length before) rows ≡ segments_from (total before) rows
+placed_behind before [] = refl
+placed_behind before (r ∷ rows) =
+    let here : total (take (length before) (before ++ r ∷ rows)) ≡ total before = ap total (take_at before (r ∷ rows) (length before) refl) in
+    let behind : placed_among (before ++ r ∷ rows) (length before + 1) rows ≡ segments_from (total before + size_of r.1) rows =
+    ap (λ (all : List (ℕ × Row)). placed_among all (length before + 1) rows) (sym (append_assoc before (r ∷ []) rows))
+    ∙ ap (λ (n : ℕ). placed_among ((before ++ r ∷ []) ++ rows) n rows) (sym (length_push before r))
+    ∙ placed_behind (before ++ r ∷ []) rows
+    ∙ ap (λ (o : ℕ). segments_from o rows) (sum_by_push (λ (x : ℕ × Row). size_of x.1) before r) in
+    ap (λ (o : ℕ). segment_at o r ∷ placed_among (before ++ r ∷ rows) (length before + 1) rows) here
+    ∙ ap (λ (rest : List Segment). segment_at (total before) r ∷ rest) behind
+
+pub segments_of-from : (rows : List (ℕ × Row)) → segments_from 0 rows ≡ segments_of rows
+segments_of-from rows = sym (placed_behind [] rows)
+
+-- every slave has few rows
+abbrev pub are_few : List (List Row) → Bool
+are_few layout = list_all (λ rows. nat_le (length rows) 8) layout
+
+image_if : List (List Row) → Bool → Option Image
+image_if layout b = cond b (Some (image_of_layout layout)) None
+
+pub image_within-some : (layout : List (List Row)) → are_few layout ≡ true → total (all_rows layout) ≤ 1486 → image_within layout ≡ Some (image_of_layout layout)
+unfolding image_if
+image_within-some layout few fits =
+    ap (λ (b : Bool). image_if layout (b && nat_le (total (all_rows layout)) 1486)) few
+    ∙ ap (image_if layout) (le-leb (total (all_rows layout)) 1486 fits)
+
+abbrev made : List (List Row) → List Segment → ℕ → ℕ → Image
+made layout segments outputs inputs = record { segments = segments; outputs = outputs; inputs = inputs; counter = sum_by counter_of layout }
+
+-- the outputs placed, and then the inputs
+pub image_within-placed : (layout : List (List Row)) (start first last : Placement) → are_few layout ≡ true → start.segments.items ≡ [] → start.size ≡ 0
+    → AreAdded start first (rows_towards true layout) → AreAdded first last (rows_towards false layout) → last.size ≤ 1486
+    → image_within layout ≡ Some (record { segments = last.segments.items; outputs = first.size; inputs = last.size - first.size; counter = sum_by counter_of layout })
+image_within-placed layout start first last few nothing zero outputs inputs fits =
+    let outs : List (ℕ × Row) = rows_towards true layout in
+    let ins : List (ℕ × Row) = rows_towards false layout in
+    let first_size : first.size ≡ total outs = omega (arith, outputs.size) in
+    let segments : last.segments.items ≡ segments_of (all_rows layout) =
+    inputs.segments
+    ∙ ap (λ (o : ℕ). first.segments.items ++ segments_from o ins) first_size
+    ∙ ap (λ (s : List Segment). s ++ segments_from (total outs) ins) (outputs.segments ∙ ap (λ (s : List Segment). s ++ segments_from start.size outs) nothing ∙ ap (λ (o : ℕ). segments_from o outs) zero)
+    ∙ sym (segments_from-append 0 outs ins ∙ ap (λ (o : ℕ). segments_from 0 outs ++ segments_from o ins) (omega arith)) ∙ segments_of-from (all_rows layout) in
+    let inputs_size : last.size - first.size ≡ total ins = omega (arith, inputs.size) in
+    image_within-some layout few (omega (arith, inputs.size, total-append outs ins))
+    ∙ ap (λ (s : List Segment). Some (made layout s (total outs) (total ins))) (sym segments)
+    ∙ ap (λ (o : ℕ). Some (made layout last.segments.items o (total ins))) (sym first_size)
+    ∙ ap (λ (i : ℕ). Some (made layout last.segments.items first.size i)) (sym inputs_size)

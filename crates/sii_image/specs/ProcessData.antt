@@ -1,0 +1,80 @@
+-- What the categories of a slave say about its process data (ETG.1000.6 and ETG.2010, SyncM, TXPDO and RXPDO categories).
+use Rattle.std.specs.Prelude.{ℕ, List, [], ◌∷◌, ◌++◌, Result, Ok, Err, length, map, filter, sum_by, take, nat_lt, ◌==◌, if◌then◌else◌}
+use Rattle.std.specs.List.{enumerate_from}
+use Rattle.sii_cats.specs.Chain.{Member, content_of, member_of, members_of}
+use Rattle.sii_cats.specs.declared.categories.Category.{Category}
+use Rattle.sii_cats.specs.Contents.{managers_of}
+use Rattle.sii_cats.specs.Items.{◌>>=◌}
+use Rattle.sii_cats.specs.Pdos.{Mapping, pdos_of}
+use Rattle.sii_cats.specs.declared.managers.Manager.{Manager}
+use Rattle.sii_image.specs.declared.rows.Row.{Row}
+
+-- The managers that a slave has, and the PDOs that its master sends and receives.
+pub record Description : Type 0 where
+  pub managers : List Manager
+  pub outputs : List Mapping
+  pub inputs : List Mapping
+
+-- the contents of all categories of a type
+abbrev pub contents_of : ℕ → List Member → List (List ℕ)
+contents_of kind members = map (λ m. m.content) (filter (λ m. m.kind == kind) members)
+
+-- the same, where the categories stand among words
+abbrev pub contents_among : List ℕ → ℕ → List Category → List (List ℕ)
+contents_among words kind categories = contents_of kind (map (member_of words) categories)
+
+-- how many words the contents of categories have
+abbrev pub content_sizes : List ℕ → List Category → ℕ
+content_sizes words categories = sum_by (λ c. length (content_of words c)) categories
+
+-- The managers of the first SyncM category, or none where there is none. Such a category can always be read.
+abbrev pub managers_in : List (List ℕ) → Result (List Manager) (List ℕ)
+managers_in [] = Ok []
+managers_in (first ∷ others) = managers_of first
+
+-- the PDOs of these categories, unless one of them can't be read
+abbrev pub pdos_in : List (List ℕ) → Result (List Mapping) (List ℕ)
+pdos_in [] = Ok []
+pdos_in (content ∷ contents) = pdos_of content >>= λ pdos. pdos_in contents >>= λ others. Ok (pdos ++ others)
+
+-- Unless the chain or one of these categories can't be read: the first 16 managers of type 41, and the PDOs of types 51
+-- (RXPDO, outputs of the master) and 50 (TXPDO, inputs of the master).
+abbrev pub described : List ℕ → Result Description (List ℕ)
+described words = do
+  members ← members_of words
+  managers ← managers_in (contents_of 41 members)
+  outputs ← pdos_in (contents_of 51 members)
+  inputs ← pdos_in (contents_of 50 members)
+  Ok (record { managers = take 16 managers; outputs = outputs; inputs = inputs })
+
+-- the bits of a PDO
+abbrev pub pdo_bits : Mapping → ℕ
+pdo_bits pdo = sum_by (λ entry. entry.bit_length) pdo.entries
+
+-- the entries of PDOs
+abbrev pub entry_count : List Mapping → ℕ
+entry_count pdos = sum_by (λ pdo. length pdo.entries) pdos
+
+-- the bits of all PDOs that name a manager
+abbrev pub bits_for : List Mapping → ℕ → ℕ
+bits_for pdos number = sum_by pdo_bits (filter (λ pdo. pdo.manager == number) pdos)
+
+-- RXPDOs give bits to a manager of type 3 (process data out), TXPDOs to one of type 4 (process data in).
+abbrev pub manager_bits : Description → ℕ → Manager → ℕ
+manager_bits d number manager =
+    if manager.kind == 3 then bits_for d.outputs number else if manager.kind == 4 then bits_for d.inputs number else 0
+
+abbrev pub row : Description → ℕ × Manager → Row
+row d m = record { manager = m.0; output = (m.1.kind == 3); bits = manager_bits d m.0 m.1; start = m.1.start; control = m.1.control }
+
+-- the managers that have bits, numbered from 0
+abbrev pub rows_described : Description → List Row
+rows_described d = filter (λ r. nat_lt 0 r.bits) (map (row d) (enumerate_from 0 d.managers))
+
+abbrev pub rows_read : Result Description (List ℕ) → List Row
+rows_read (Ok d) = rows_described d
+rows_read (Err words) = []
+
+-- the rows of a slave with these words; none where they can't be read
+abbrev pub rows_of : List ℕ → List Row
+rows_of words = rows_read (described words)
