@@ -38,7 +38,7 @@ MayRest-twice half mid later (inr ends) second =
     inr (subst (λ (h : SlaveHalf). MayEnd half.activity half h) (sym is) ends)
 
 -- the words that an ended activity has
-MayEnd-words : (activity : Activity) (half later : SlaveHalf) → MayEnd activity half later → MayHold activity half.words later.words
+pub MayEnd-words : (activity : Activity) (half later : SlaveHalf) → MayEnd activity half later → MayHold activity half.words later.words
 MayEnd-words Idle half later ends = absurd ends
 MayEnd-words Reading half later (inl well) = ap (λ (h : SlaveHalf). h.words) well
 MayEnd-words Reading half later (inr fails) = ap (λ (h : SlaveHalf). h.words) fails.rested_is

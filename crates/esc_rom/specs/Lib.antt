@@ -1,0 +1,7 @@
+pub mod Orders
+pub mod Sending
+pub mod Halves
+pub mod Runs
+pub mod Status
+pub mod Access
+pub mod WordPairs

@@ -1,0 +1,13 @@
+-- A datagram to the half of one slave, in a frame of its own.
+use Rattle.std.specs.Prelude.{ℕ, List, [], ◌∷◌, Option, Some, None, Result, Ok, Err}
+use Rattle.ecat_frame.specs.Frame.{Pdu}
+use Rattle.site_core.specs.declared.fault.DeviceFault.TheVariants as device
+use Rattle.site_core.specs.State.{Seen}
+use Rattle.site_core.specs.Calls.{ExchangesFrame}
+use Rattle.esc_rom.specs.declared.fault.Stop.{Stop}
+
+-- it comes back, or it is lost, or the site stops
+abbrev pub Sends : (old : Seen) (slave : ℕ) → Pdu → Result (Option (List Pdu)) Stop → (new : Seen) → Type 0
+Sends old slave order (Ok (Some answer)) new = ExchangesFrame old slave (order ∷ []) (Ok tt) answer new
+Sends old slave order (Ok None) new = ExchangesFrame old slave (order ∷ []) (Err device.Lost) (order ∷ []) new
+Sends old slave order (Err stop) new = ExchangesFrame old slave (order ∷ []) (Err device.Stopped) (order ∷ []) new

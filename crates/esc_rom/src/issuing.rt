@@ -1,0 +1,49 @@
+//! Handing a word to a slave.
+
+ghost use Rattle.std.specs.Prelude.{◌≡◌, ◌++◌};
+ghost use Rattle.std.specs.Int.{w16, w32, to_le_bytes};
+ghost use Rattle.site_core.specs.Line.{Owns};
+ghost use Rattle.esc_rom.specs.Access.{IssuesWord};
+
+use crate::registers::CONTROL;
+use crate::send::send;
+use ecat_frame::Command;
+use site_core::{DeviceFault, Issued, Site};
+
+/// Control with write enable, and the command write.
+const WRITE: u16 = 0x0201;
+
+/// Control, the word's number as 32 bits, and its value.
+fn write_content(word: u16, value: u16) -> [u8; 8]
+    ensures { result ≡ to_le_bytes w16 0x0201 ++ to_le_bytes w32 word ++ to_le_bytes w16 value }
+{
+    let [enable, command] = WRITE.to_le_bytes();
+    let [a, b, c, d] = u32::from(word).to_le_bytes();
+    let [low, high] = value.to_le_bytes();
+    [enable, command, a, b, c, d, low, high]
+}
+
+/// Asks a slave to write a word of its EEPROM.
+///
+/// # Errors
+///
+/// `Stopped` alone, once the site has stopped.
+pub fn issue<S: Site>(
+    site: &mut S,
+    slave: u16,
+    word: u16,
+    value: u16,
+) -> Result<Issued, DeviceFault>
+    requires { Owns (S.line site.old) slave }
+    ensures issues { IssuesWord (S.seen site.old) slave word value result (S.seen site.new) }
+    ensures line { S.line site.new ≡ S.line site.old }
+{
+    let content = write_content(word, value);
+    let Some(answer) = send(site, slave, Command::Fpwr, CONTROL, &content)? else {
+        return Ok(Issued::Lost);
+    };
+    if answer.datagram(0).counter == 1 {
+        return Ok(Issued::Taken);
+    }
+    Ok(Issued::NotTaken)
+}

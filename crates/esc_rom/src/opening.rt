@@ -1,0 +1,47 @@
+//! Opening a slave's EEPROM.
+
+ghost use Rattle.std.specs.Prelude.{◌≡◌};
+ghost use Rattle.site_core.specs.Line.{Owns};
+ghost use Rattle.esc_rom.specs.Runs.{Runs};
+ghost use Rattle.esc_rom.specs.Access.{OpensSlave, BecomesOpen};
+
+use crate::fault::{RomFault, Stop};
+use crate::poll::wait_idle;
+use crate::registers::{ACCESS, CONTROL};
+use crate::write::insist;
+use site_core::Site;
+
+/// Takes the EEPROM from the PDI, waits until the slave is idle, and clears its errors. Tells whether that is done.
+fn take_over<S: Site>(site: &mut S, slave: u16) -> Result<bool, Stop>
+    requires { Owns (S.line site.old) slave }
+    ensures runs { Runs (BecomesOpen (S.seen site.old) slave (S.seen site.new)) (S.seen site.old) slave 10009 result (S.seen site.new) }
+    ensures line { S.line site.new ≡ S.line site.old }
+{
+    if !insist(site, slave, ACCESS, &[0x02])? {
+        return Ok(false);
+    }
+    if !insist(site, slave, ACCESS, &[0x00])? {
+        return Ok(false);
+    }
+    let Some(_rested) = wait_idle(site, slave)? else {
+        return Ok(false);
+    };
+    insist(site, slave, CONTROL, &[0, 0])
+}
+
+/// Opens the EEPROM of a slave for word access.
+///
+/// # Errors
+///
+/// `SlaveDead` where the slave doesn't take a datagram in three tries, or isn't idle after 10,000 polls; `Stopped` once the
+/// site has stopped.
+pub fn open_slave<S: Site>(site: &mut S, slave: u16) -> Result<(), RomFault>
+    requires { Owns (S.line site.old) slave }
+    ensures opens { OpensSlave (S.seen site.old) slave result (S.seen site.new) }
+    ensures line { S.line site.new ≡ S.line site.old }
+{
+    if take_over(site, slave)? {
+        return Ok(());
+    }
+    Err(RomFault::SlaveDead { slave })
+}

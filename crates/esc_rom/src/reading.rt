@@ -1,0 +1,176 @@
+//! Reading all words of a slave.
+
+ghost use Rattle.std.specs.Prelude.{◌≡◌, ◌+◌, ◌*◌, ◌/◌, ◌++◌, length, slice_index, IfOk, IfErr};
+ghost use Rattle.sii_words.specs.Words.{IsDeviceSize};
+ghost use Rattle.std.specs.Int.{w16, w32, to_le_bytes};
+ghost use Rattle.ecat_frame.specs.Frame.{pdu};
+ghost use Rattle.site_core.specs.Line.{Owns};
+ghost use Rattle.esc_rom.specs.Runs.{Runs};
+ghost use Rattle.esc_rom.specs.WordPairs.{pair_of, Fetches, TriesRead, ReadsPair, Fills, ReadsAll};
+ghost use Rattle.esc_rom.specs.Access.{ReadsWords};
+
+use crate::fault::{RomFault, Stop};
+use crate::poll::{Rested, wait_idle};
+use crate::registers::{CONTENT, CONTROL, TRIES};
+use crate::send::send;
+use crate::write::write;
+use ecat_frame::{Command, Datagram};
+use sii_words::{Words, WordsFault};
+use site_core::Site;
+use std::alloc::Global;
+
+/// Control, and the command read.
+const READ: u16 = 0x0100;
+
+/// Two words, one behind the other.
+#[derive(Clone, Copy, Debug)]
+pub(crate) struct WordPair {
+    first: u16,
+    second: u16,
+}
+
+/// What came of one try to read two words.
+#[derive(Clone, Copy, Debug)]
+pub(crate) enum Tried {
+    Read(WordPair),
+    /// A datagram was lost or not counted, or the slave showed an error.
+    Failed,
+    /// The slave was polled 10,000 times and not seen idle.
+    Dead,
+}
+
+/// Control, and the word's number as 32 bits.
+fn read_content(word: u16) -> [u8; 6]
+    ensures { result ≡ to_le_bytes w16 0x0100 ++ to_le_bytes w32 word }
+{
+    let [enable, command] = READ.to_le_bytes();
+    let [a, b, c, d] = u32::from(word).to_le_bytes();
+    [enable, command, a, b, c, d]
+}
+
+/// The words in an answer. None where the slave hasn't counted the datagram.
+fn pair_in(answer: Datagram<'_>) -> Option<WordPair>
+    requires { length answer.content.now ≡ 4 }
+    ensures { result ≡ pair_of (pdu answer.entry) }
+{
+    if answer.counter != 1 {
+        return None;
+    }
+    let content = answer.content;
+    Some(WordPair {
+        first: u16::from(content[0]) + 256 * u16::from(content[1]),
+        second: u16::from(content[2]) + 256 * u16::from(content[3]),
+    })
+}
+
+/// Asks for the two words that a slave has read. None where the frame is lost or isn't counted.
+fn fetch<S: Site>(site: &mut S, slave: u16) -> Result<Option<WordPair>, Stop>
+    requires { Owns (S.line site.old) slave }
+    ensures runs { Runs Fetches (S.seen site.old) slave 1 result (S.seen site.new) }
+    ensures line { S.line site.new ≡ S.line site.old }
+{
+    match send(site, slave, Command::Fprd, CONTENT, &[0, 0, 0, 0])? {
+        Some(answer) => Ok(pair_in(answer.datagram(0))),
+        None => Ok(None),
+    }
+}
+
+/// Tries once to read a word and the next one.
+fn try_pair<S: Site>(site: &mut S, slave: u16, word: u16) -> Result<Tried, Stop>
+    requires { Owns (S.line site.old) slave }
+    ensures runs { Runs (TriesRead word) (S.seen site.old) slave 10002 result (S.seen site.new) }
+    ensures line { S.line site.new ≡ S.line site.old }
+{
+    let content = read_content(word);
+    if !write(site, slave, CONTROL, &content)? {
+        return Ok(Tried::Failed);
+    }
+    let Some(rested) = wait_idle(site, slave)? else {
+        return Ok(Tried::Dead);
+    };
+    let Rested::Well = rested else {
+        return Ok(Tried::Failed);
+    };
+    let Some(pair) = fetch(site, slave)? else {
+        return Ok(Tried::Failed);
+    };
+    Ok(Tried::Read(pair))
+}
+
+/// Reads a word and the next one, in three tries at most. None where the slave is dead.
+fn read_pair<S: Site>(site: &mut S, slave: u16, word: u16) -> Result<Option<WordPair>, Stop>
+    requires { Owns (S.line site.old) slave }
+    ensures runs { Runs (ReadsPair word) (S.seen site.old) slave 30006 result (S.seen site.new) }
+    ensures line { S.line site.new ≡ S.line site.old }
+{
+    for _try in 0..TRIES {
+        match try_pair(site, slave, word)? {
+            Tried::Read(pair) => return Ok(Some(pair)),
+            Tried::Dead => return Ok(None),
+            Tried::Failed => {}
+        }
+    }
+    Ok(None)
+}
+
+/// Reads the words of a slave, two by two, into the place of those that are there. Tells whether all were read.
+fn fill<S: Site>(site: &mut S, slave: u16, words: &mut Words) -> Result<bool, Stop>
+    requires { Owns (S.line site.old) slave }
+    ensures runs { Runs (Fills words.new) (S.seen site.old) slave (30006 * (length words.old / 2)) result (S.seen site.new) }
+    ensures length { length words.new ≡ length words.old }
+    ensures line { S.line site.new ≡ S.line site.old }
+{
+    for pair in 0..words.len() / 2 {
+        let Some(found) = read_pair(site, slave, (2 * pair) as u16)? else {
+            return Ok(false);
+        };
+        words.set(2 * pair, found.first);
+        words.set(2 * pair + 1, found.second);
+    }
+    Ok(true)
+}
+
+/// Waits until a slave is idle, and reads its words. Tells whether all were read.
+fn wait_and_fill<S: Site>(site: &mut S, slave: u16, words: &mut Words) -> Result<bool, Stop>
+    requires { Owns (S.line site.old) slave }
+    ensures runs { Runs (ReadsAll words.new) (S.seen site.old) slave (10000 + 30006 * (length words.old / 2)) result (S.seen site.new) }
+    ensures length { length words.new ≡ length words.old }
+    ensures line { S.line site.new ≡ S.line site.old }
+{
+    let Some(_rested) = wait_idle(site, slave)? else {
+        return Ok(false);
+    };
+    fill(site, slave, words)
+}
+
+/// As many words as a slave has, all 0.
+fn blank(alloc: Global, count: u16) -> Result<Words, RomFault>
+    requires { IsDeviceSize count }
+    ensures count { IfOk result (λ words. length words ≡ count) }
+    ensures memory { IfErr result (λ fault. fault ≡ RomFault.Memory) }
+{
+    let bytes = vec![in alloc; 0u8; 2 * count as usize]?;
+    match Words::from_bytes(alloc, &bytes) {
+        Ok(words) => Ok(words),
+        Err(WordsFault::Memory) => Err(RomFault::Memory),
+        Err(_) => unreachable!(),
+    }
+}
+
+/// Reads all words of a slave, once it is idle.
+///
+/// # Errors
+///
+/// `Memory` before anything is sent; `SlaveDead` where the slave isn't idle after 10,000 polls, or two words can't be read in
+/// three tries; `Stopped` once the site has stopped.
+pub fn read_all<S: Site>(alloc: Global, site: &mut S, slave: u16) -> Result<Words, RomFault>
+    requires { Owns (S.line site.old) slave }
+    ensures reads { ReadsWords (S.seen site.old) slave (slice_index (S.line site.old).sizes slave) result (S.seen site.new) }
+    ensures line { S.line site.new ≡ S.line site.old }
+{
+    let mut words = blank(alloc, site.words_of(slave))?;
+    if wait_and_fill(site, slave, &mut words)? {
+        return Ok(words);
+    }
+    Err(RomFault::SlaveDead { slave })
+}

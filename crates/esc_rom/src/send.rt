@@ -1,0 +1,38 @@
+//! One datagram in one frame.
+
+ghost use Rattle.std.specs.Prelude.{◌≡◌, ◌≤◌, length};
+ghost use Rattle.ecat_frame.specs.Frame.{sent};
+ghost use Rattle.site_core.specs.Line.{Owns};
+ghost use Rattle.esc_rom.specs.Orders.{address_of};
+ghost use Rattle.esc_rom.specs.Sending.{Sends};
+
+use crate::fault::Stop;
+use crate::registers::FIRST_STATION;
+use ecat_frame::{Command, Frame, fp};
+use site_core::{DeviceFault, Site};
+
+/// Sends one datagram to a slave. None where the frame is lost.
+pub(crate) fn send<S: Site>(
+    site: &mut S,
+    slave: u16,
+    command: Command,
+    register: u16,
+    content: &[u8],
+) -> Result<Option<Frame>, Stop>
+    requires owned { Owns (S.line site.old) slave }
+    requires short { length content.now ≤ 16 }
+    ensures sends { Sends (S.seen site.old) slave (sent command 0 (address_of slave register) content.now) result (S.seen site.new) }
+    ensures line { S.line site.new ≡ S.line site.old }
+{
+    let address = fp(FIRST_STATION + slave, register);
+    let mut frame = Frame::new();
+    match frame.push(command, 0, address, content) {
+        Ok(()) => {}
+        Err(_) => unreachable!(),
+    }
+    match site.exchange(slave, &mut frame) {
+        Ok(()) => Ok(Some(frame)),
+        Err(DeviceFault::Lost) => Ok(None),
+        Err(_) => Err(Stop),
+    }
+}

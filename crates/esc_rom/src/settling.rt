@@ -1,0 +1,42 @@
+//! Waiting for a word that was handed to a slave.
+
+ghost use Rattle.std.specs.Prelude.{◌≡◌};
+ghost use Rattle.site_core.specs.Line.{Owns};
+ghost use Rattle.esc_rom.specs.Runs.{Runs};
+ghost use Rattle.esc_rom.specs.Access.{SettlesSlave, BecomesSettled};
+
+use crate::fault::Stop;
+use crate::poll::{Rested, wait_idle};
+use crate::registers::CONTROL;
+use crate::write::write;
+use site_core::{DeviceFault, Settled, Site};
+
+/// Polls a slave until it is idle, and clears its errors if the word isn't in place.
+fn rest<S: Site>(site: &mut S, slave: u16, taken: bool) -> Result<Settled, Stop>
+    requires { Owns (S.line site.old) slave }
+    ensures runs { Runs (BecomesSettled (S.seen site.old) taken (S.seen site.new)) (S.seen site.old) slave 10001 result (S.seen site.new) }
+    ensures line { S.line site.new ≡ S.line site.old }
+{
+    let Some(rested) = wait_idle(site, slave)? else {
+        return Ok(Settled::Dead);
+    };
+    if let (Rested::Well, true) = (rested, taken) {
+        return Ok(Settled::Written);
+    }
+    let _cleared = write(site, slave, CONTROL, &[0, 0])?;
+    Ok(Settled::Again)
+}
+
+/// Finds out what became of a word that was issued to a slave, `taken` if the slave is known to have taken it.
+///
+/// # Errors
+///
+/// `Stopped` alone, once the site has stopped.
+pub fn settle<S: Site>(site: &mut S, slave: u16, taken: bool) -> Result<Settled, DeviceFault>
+    requires { Owns (S.line site.old) slave }
+    ensures settles { SettlesSlave (S.seen site.old) slave taken result (S.seen site.new) }
+    ensures line { S.line site.new ≡ S.line site.old }
+{
+    let settled = rest(site, slave, taken)?;
+    Ok(settled)
+}

@@ -1,0 +1,54 @@
+//! Sending what a slave is to take, where it brings no word into flight.
+
+ghost use Rattle.std.specs.Prelude.{◌≡◌, ◌+◌, ◌≤◌, length};
+ghost use Rattle.ecat_frame.specs.Frame.{sent};
+ghost use Rattle.ecat_frame.specs.declared.command.Command.TheVariants.{Fpwr};
+ghost use Rattle.site_core.specs.Line.{Owns};
+ghost use Rattle.esc_rom.specs.Orders.{address_of};
+ghost use Rattle.esc_rom.specs.Runs.{Runs, Wrote, Insists, IsGentle};
+
+use crate::fault::Stop;
+use crate::registers::TRIES;
+use crate::send::send;
+use ecat_frame::Command;
+use site_core::Site;
+
+/// Writes to a register. Tells whether the slave is known to have taken it.
+pub(crate) fn write<S: Site>(
+    site: &mut S,
+    slave: u16,
+    register: u16,
+    content: &[u8],
+) -> Result<bool, Stop>
+    requires owned { Owns (S.line site.old) slave }
+    requires short { length content.now ≤ 16 }
+    requires gentle { IsGentle (sent Fpwr 0 (address_of slave register) content.now) }
+    ensures runs { Runs (Wrote (sent Fpwr 0 (address_of slave register) content.now) (S.seen site.old) (S.seen site.new)) (S.seen site.old) slave 1 result (S.seen site.new) }
+    ensures line { S.line site.new ≡ S.line site.old }
+{
+    match send(site, slave, Command::Fpwr, register, content)? {
+        Some(answer) => Ok(answer.datagram(0).counter == 1),
+        None => Ok(false),
+    }
+}
+
+/// Writes to a register until the slave takes it, three times at most. Tells whether it took it.
+pub(crate) fn insist<S: Site>(
+    site: &mut S,
+    slave: u16,
+    register: u16,
+    content: &[u8],
+) -> Result<bool, Stop>
+    requires owned { Owns (S.line site.old) slave }
+    requires short { length content.now ≤ 16 }
+    requires gentle { IsGentle (sent Fpwr 0 (address_of slave register) content.now) }
+    ensures runs { Runs (Insists (sent Fpwr 0 (address_of slave register) content.now) 3 (S.seen site.old) (S.seen site.new)) (S.seen site.old) slave 3 result (S.seen site.new) }
+    ensures line { S.line site.new ≡ S.line site.old }
+{
+    for _try in 0..TRIES {
+        if write(site, slave, register, content)? {
+            return Ok(true);
+        }
+    }
+    Ok(false)
+}

@@ -1,0 +1,90 @@
+-- What each device call does to a site. Each adds its moment to the past, also one that fails.
+use Rattle.std.specs.Prelude.{◌≡◌, ◌≢◌, ℕ, ◌+◌, ◌<◌, ◌≤◌, ◌↔◌, ◌++◌, List, [], ◌∷◌, length, map, slice_range, slice_get, Some, Result, Ok, Err, IsErrOf, IfOk, OnOk, OnErr, IsTrue}
+use Rattle.ecat_frame.specs.Frame.{Pdu}
+use Rattle.esc_model.specs.SlaveHalf.{SlaveHalf}
+use Rattle.site_core.specs.declared.fault.DeviceFault.{DeviceFault}
+use Rattle.site_core.specs.declared.fault.DeviceFault.TheVariants as faults
+use Rattle.site_core.specs.Disk.{write_begun, written, synced, WriteFailed}
+use Rattle.site_core.specs.State.{State, Seen, Stopped, with_half, last_of}
+use Rattle.site_core.specs.Exchange.{GoesThrough, AreReplies}
+
+-- One device call with these states in its middle. A fault of the disk or of the line is counted. A stop comes behind the last
+-- of these states, and after it nothing changes any more.
+pub record Calls {T : Type 0} (old : Seen) (middle : List State) (result : Result T DeviceFault) (new : Seen) : Type 0 where
+  pub past : new.past ≡ old.past ++ record { before = old.state; middle = middle } ∷ []
+  pub never_fewer : old.faults ≤ new.faults
+  pub disk : IsErrOf result faults.Disk → old.faults < new.faults
+  pub lost : IsErrOf result faults.Lost → old.faults < new.faults
+  pub stopped : IsTrue new.is_stopped ↔ IsErrOf result faults.Stopped
+  pub at_stop : IsErrOf result faults.Stopped → Stopped (last_of old.state middle) new.state
+  pub stays_stopped : IsTrue old.is_stopped → IsErrOf result faults.Stopped × (middle ≡ []) × (new.state ≡ old.state)
+
+-- a call that changes nothing, unless the site stops in it
+pub record Reads {T : Type 0} (old : Seen) (result : Result T DeviceFault) (new : Seen) : Type 0 where
+  pub call : Calls old [] result new
+  pub same : result ≢ Err faults.Stopped → new.state ≡ old.state
+  pub turns : new.turns ≡ old.turns
+
+-- the disk's length
+pub record GivesLength (old : Seen) (result : Result ℕ DeviceFault) (new : Seen) : Type 0 where
+  pub reads : Reads old result new
+  pub length : IfOk result (λ len. len ≡ length old.state.disk.bytes)
+  pub not_lost : result ≢ Err faults.Lost
+
+-- bytes of the disk from this place on
+pub record ReadsDisk (old : Seen) (at count : ℕ) (result : Result (Unit {0}) DeviceFault) (bytes : List ℕ) (new : Seen) : Type 0 where
+  pub reads : Reads old result new
+  pub bytes_read : OnOk result (bytes ≡ slice_range old.state.disk.bytes at (at + count))
+  pub not_lost : result ≢ Err faults.Lost
+
+-- A write: in its middle the range is unsynced.
+pub record WritesDisk (old : Seen) (at : ℕ) (bytes : List ℕ) (result : Result (Unit {0}) DeviceFault) (new : Seen) : Type 0 where
+  pub middle : List State
+  pub call : Calls old middle result new
+  pub begun : ¬ IsTrue old.is_stopped → middle ≡ record old.state { disk = write_begun old.state.disk at (length bytes) } ∷ []
+  pub ok : OnOk result (new.state ≡ record old.state { disk = written old.state.disk at bytes })
+  pub failed : IsErrOf result faults.Disk → WriteFailed old.state.disk at (length bytes) new.state.disk × (new.state.halves ≡ old.state.halves)
+  pub not_lost : result ≢ Err faults.Lost
+  pub turns : new.turns ≡ old.turns
+
+-- A sync: at Ok what a read gives is all that a stop leaves of the disk.
+pub record SyncsDisk (old : Seen) (result : Result (Unit {0}) DeviceFault) (new : Seen) : Type 0 where
+  pub call : Calls old [] result new
+  pub ok : OnOk result (new.state ≡ record old.state { disk = synced old.state.disk })
+  pub failed : IsErrOf result faults.Disk → new.state ≡ old.state
+  pub not_lost : result ≢ Err faults.Lost
+  pub turns : new.turns ≡ old.turns
+
+-- A frame for the half of one slave, which alone changes. Of a frame that is lost or cut off by a stop the half took the first
+-- datagrams, some, all or none, and the frame comes back as it was sent.
+pub record ExchangesFrame (old : Seen) (slave : ℕ) (sent : List Pdu) (result : Result (Unit {0}) DeviceFault) (answer : List Pdu) (new : Seen) : Type 0 where
+  pub half : SlaveHalf
+  pub here : slice_get old.state.halves slave ≡ Some half
+  -- the datagrams that the half took, and those that it didn't
+  pub passed : List Pdu
+  pub left : List Pdu
+  pub split : sent ≡ passed ++ left
+  -- the half after each of them, and what comes back
+  pub laters : List SlaveHalf
+  pub replies : List Pdu
+  pub through : GoesThrough half passed laters replies
+  pub call : Calls old (map (with_half old.state slave) laters) result new
+  pub ok : OnOk result ((left ≡ []) × (answer ≡ replies))
+  pub failed : OnErr result (answer ≡ sent)
+  pub kept : result ≢ Err faults.Stopped → new.state ≡ last_of old.state (map (with_half old.state slave) laters)
+  pub no_disk : result ≢ Err faults.Disk
+  pub turns : new.turns ≡ old.turns
+
+-- what a call gave, as a clause on the whole frame sees it
+abbrev pub told : {A : Type 0} → Result (Unit {0}) DeviceFault → A → Result A DeviceFault
+told (Ok done) answer = Ok answer
+told (Err fault) answer = Err fault
+
+-- A frame for the process halves of all slaves: neither the disk nor an EEPROM has a part in it.
+pub record CyclesFrame (old : Seen) (sent : List Pdu) (result : Result (Unit {0}) DeviceFault) (answer : List Pdu) (new : Seen) : Type 0 where
+  pub call : Calls old [] result new
+  pub same : result ≢ Err faults.Stopped → new.state ≡ old.state
+  pub ok : OnOk result (AreReplies sent answer)
+  pub failed : OnErr result (answer ≡ sent)
+  pub no_disk : result ≢ Err faults.Disk
+  pub turns : new.turns ≡ old.turns ++ record { sent = sent; answer = told result answer } ∷ []

@@ -1,0 +1,7 @@
+pub mod Line
+pub mod Disk
+pub mod State
+pub mod Exchange
+pub mod Calls
+pub mod Passes
+pub mod Laws

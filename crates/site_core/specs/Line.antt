@@ -1,0 +1,15 @@
+-- What a site is made of, which never changes: the slaves of the line, and which parts the site owns.
+use Rattle.std.specs.Prelude.{◌≡◌, ℕ, ◌<◌, Bool, true, List, length, Some, slice_get}
+
+pub record Line : Type 0 where
+  -- how many words the EEPROM of each slave has
+  pub sizes : List ℕ
+  -- whether the site owns the half of each slave that serves its EEPROM
+  pub owned : List Bool
+  pub has_disk : Bool
+  -- whether it owns the process halves of all slaves
+  pub has_process : Bool
+
+-- the slave is on the line, which has 64 at most, and the site owns the half of it that serves its EEPROM
+abbrev pub Owns : Line → ℕ → Type 0
+Owns line slave = (slave < length line.sizes) × (slave < 64) × (slice_get line.owned slave ≡ Some true)
