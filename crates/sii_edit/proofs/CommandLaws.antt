@@ -1,64 +1,63 @@
 -- What a command gives, case by case.
-use Rattle.std.proofs.Common.{◌≡◌, ◌≢◌, ◌⊎◌, ℕ, ◌<◌, ◌≤◌, ◌==◌, ◌||◌, Bool, true, false, List, [], ◌∷◌, length, slice_set, refl, sym, ap, ◌∙◌, inl, inr, arith, Result, Ok, Err, All, length-set, get_or-set_same, get_or-set_other}
+use Rattle.std.proofs.Common.{◌≡◌, ◌≢◌, ◌⊎◌, ℕ, suc, ◌<◌, ◌≤◌, List, [], ◌∷◌, length, map, slice_set, refl, sym, ap, ◌∙◌, inl, inr, arith, Option, None, Result, Ok, Err, All, length-set, get_or-set_same, get_or-set_other}
 use Rattle.std.proofs.lemmas.Bool.{cases_eq, cases_lt}
 use Rattle.std.proofs.lemmas.Bool.Decides.{nat_tests}
 use Rattle.std.proofs.lemmas.List.{set_past}
 use Rattle.sii_words.specs.Words.{alias_of}
 use Rattle.sii_words.specs.CheckByte.{IsChecked}
 use Rattle.sii_words.specs.Plant.{words_of}
+use Rattle.sii_edit.specs.declared.command.Expect.{Expect}
 use Rattle.sii_edit.specs.declared.command.Edit.{Edit}
-use Rattle.sii_edit.specs.declared.command.Edit.TheVariants.{Alias}
+use Rattle.sii_edit.specs.declared.command.Edit.TheVariants.{Alias, Category, Image}
+use Rattle.sii_edit.specs.declared.command.GuardedEdit.{GuardedEdit}
 use Rattle.sii_edit.specs.declared.command.Command.{Command}
-use Rattle.sii_edit.specs.declared.command.Command.TheVariants.{One, Swap}
+use Rattle.sii_edit.specs.declared.command.Command.TheVariants.{One, Swap, Group, Guarded}
 use Rattle.sii_edit.specs.declared.refusal.Cause.{Cause}
 use Rattle.sii_edit.specs.declared.refusal.Cause.TheVariants.{NoSlave, SameSlave, BadCheck, Memory}
 use Rattle.sii_edit.specs.declared.refusal.Refusal.{Refusal}
-use Rattle.sii_edit.specs.Alias.{with_alias, is_unchecked}
+use Rattle.sii_edit.specs.Alias.{with_alias}
 use Rattle.sii_edit.specs.Redo.{SameShape, LiesInside, redone}
 use Rattle.sii_edit.specs.Run.{runs_between}
 use Rattle.sii_edit.specs.declared.run.Run.{Run}
-use Rattle.sii_edit.specs.Refusal.{unless, whole, of_whole, IsCauseOf}
-use Rattle.sii_edit.specs.Command.{slave_of, causes_against, words_after, edited_words, edited, is_missing, swap_causes, swapped, outcome}
+use Rattle.sii_edit.specs.Refusal.{unless, of_whole, of_place, IsCauseOf}
+use Rattle.sii_edit.specs.Command.{slave_of, causes_against, words_after, edited_words, edited, edits_from, group_causes, grouped, is_missing, swap_causes, swapped, outcome, unguarded}
 use Rattle.sii_edit.proofs.AliasLaws.{length-with_alias}
+use Rattle.sii_edit.proofs.ShapeLaws.{length-words_after}
+use Rattle.sii_edit.proofs.UnlessLaws.{unless-ok, unless-change, unless-err, unless-stop, unless-pass, none_holds, NamesNoMemory, unless-not_memory, whole_ok, whole_err, place_ok, place_err, then_ok, then_err}
 use Rattle.sii_edit.proofs.RunLaws.{redone-runs_between, LiesInside-runs_between}
 
--- where no cause applies, it is what there is
-unless-ok : {A : Type 0} (tests : List (Bool × Cause)) (given new : A) → unless tests given ≡ Ok new → new ≡ given
-unless-ok [] given new judged = cc
-unless-ok ((true, cause) ∷ tests) given new judged = cc
-unless-ok ((false, cause) ∷ tests) given new judged = unless-ok tests given new judged
-
--- the causes don't depend on what there is
-unless-change : {A B : Type 0} (tests : List (Bool × Cause)) (given new : A) (other : B) → unless tests given ≡ Ok new → unless tests other ≡ Ok other
-unless-change [] given new other judged = refl
-unless-change ((true, cause) ∷ tests) given new other judged = cc
-unless-change ((false, cause) ∷ tests) given new other judged = unless-change tests given new other judged
-
-unless-err : {A B : Type 0} (tests : List (Bool × Cause)) (given : A) (other : B) (cause : Cause) → unless tests given ≡ Err cause → unless tests other ≡ Err cause
-unless-err [] given other cause judged = cc
-unless-err ((true, first) ∷ tests) given other cause judged = cc
-unless-err ((false, first) ∷ tests) given other cause judged = unless-err tests given other cause judged
-
 -- an edit of a slave that isn't there, and of one that is
-pub edited-missing : (plant : List (List ℕ)) (edit : Edit) → length plant ≤ slave_of edit → edited plant edit ≡ Err NoSlave
-edited-missing plant edit missing = grind (arith, nat_tests)
+pub edited-missing : (plant : List (List ℕ)) (expect : Option Expect) (edit : Edit) → length plant ≤ slave_of edit → edited plant expect edit ≡ Err NoSlave
+edited-missing plant expect edit missing =
+    unless-stop (is_missing plant (slave_of edit)) NoSlave (causes_against expect edit (words_of plant (slave_of edit))) (slice_set plant (slave_of edit) (words_after edit (words_of plant (slave_of edit))))
+    (grind (arith, nat_tests))
 
-edited-there : (plant : List (List ℕ)) (edit : Edit) → slave_of edit < length plant
-    → edited plant edit ≡ unless (causes_against edit (words_of plant (slave_of edit))) (slice_set plant (slave_of edit) (words_after edit (words_of plant (slave_of edit))))
-edited-there plant edit there = grind (arith, nat_tests)
+edited-there : (plant : List (List ℕ)) (expect : Option Expect) (edit : Edit) → slave_of edit < length plant
+    → edited plant expect edit ≡ unless (causes_against expect edit (words_of plant (slave_of edit))) (slice_set plant (slave_of edit) (words_after edit (words_of plant (slave_of edit))))
+edited-there plant expect edit there =
+    unless-pass (is_missing plant (slave_of edit)) NoSlave (causes_against expect edit (words_of plant (slave_of edit))) (slice_set plant (slave_of edit) (words_after edit (words_of plant (slave_of edit))))
+    (grind (arith, nat_tests))
 
-pub edited-ok : (plant : List (List ℕ)) (edit : Edit) (new : List ℕ) → slave_of edit < length plant
-    → edited_words edit (words_of plant (slave_of edit)) ≡ Ok new → edited plant edit ≡ Ok (slice_set plant (slave_of edit) new)
-edited-ok plant edit new there judged =
-    let words = words_of plant (slave_of edit) in
-    let is : new ≡ words_after edit words = unless-ok (causes_against edit words) (words_after edit words) new judged in
-    rw (edited-there plant edit there, is) (unless-change (causes_against edit words) (words_after edit words) new (slice_set plant (slave_of edit) (words_after edit words)) judged)
+pub edited-ok : (plant : List (List ℕ)) (expect : Option Expect) (edit : Edit) (new : List ℕ) → slave_of edit < length plant
+    → edited_words expect edit (words_of plant (slave_of edit)) ≡ Ok new → edited plant expect edit ≡ Ok (slice_set plant (slave_of edit) new)
+edited-ok plant expect edit new there judged =
+    let words : List ℕ = words_of plant (slave_of edit) in
+    let after : List ℕ = words_after edit words in
+    let is : new ≡ after = unless-ok (causes_against expect edit words) after new judged in
+    edited-there plant expect edit there ∙ unless-change (causes_against expect edit words) after new (slice_set plant (slave_of edit) after) judged
+    ∙ ap (λ (w : List ℕ). Ok (slice_set plant (slave_of edit) w)) (sym is)
 
-pub edited-err : (plant : List (List ℕ)) (edit : Edit) (cause : Cause) → slave_of edit < length plant
-    → edited_words edit (words_of plant (slave_of edit)) ≡ Err cause → edited plant edit ≡ Err cause
-edited-err plant edit cause there judged =
-    let words = words_of plant (slave_of edit) in
-    edited-there plant edit there ∙ unless-err (causes_against edit words) (words_after edit words) (slice_set plant (slave_of edit) (words_after edit words)) cause judged
+pub edited-err : (plant : List (List ℕ)) (expect : Option Expect) (edit : Edit) (cause : Cause) → slave_of edit < length plant
+    → edited_words expect edit (words_of plant (slave_of edit)) ≡ Err cause → edited plant expect edit ≡ Err cause
+edited-err plant expect edit cause there judged =
+    let words : List ℕ = words_of plant (slave_of edit) in
+    edited-there plant expect edit there ∙ unless-err (causes_against expect edit words) (words_after edit words) (slice_set plant (slave_of edit) (words_after edit words)) cause judged
+
+-- the new words are as many as the old ones
+pub length-edited_words : (expect : Option Expect) (edit : Edit) (words new : List ℕ) → edited_words expect edit words ≡ Ok new → length new ≡ length words
+length-edited_words expect edit words new judged =
+    ap length (unless-ok (causes_against expect edit words) (words_after edit words) new judged)
+    ∙ length-words_after expect edit words (none_holds (causes_against expect edit words) (words_after edit words) new judged)
 
 -- a swap, refusal by refusal
 pub swapped-missing : (plant : List (List ℕ)) (a b : ℕ) → (length plant ≤ a) ⊎ (length plant ≤ b) → swapped plant a b ≡ Err NoSlave
@@ -89,14 +88,13 @@ SameShape-set plant slave words size = record { slaves = length-set plant slave 
 pub SameShape-trans : (first second third : List (List ℕ)) → SameShape first second → SameShape second third → SameShape first third
 SameShape-trans first second third one two = record { slaves = two.slaves ∙ one.slaves; words = λ slave. two.words slave ∙ one.words slave }
 
-length-words_after : (edit : Edit) (words : List ℕ) → length (words_after edit words) ≡ length words
-length-words_after (Alias slave value) words = length-with_alias words value
-
-shape_edited : (plant new : List (List ℕ)) (edit : Edit) → edited plant edit ≡ Ok new → SameShape plant new
-shape_edited plant new edit judged =
-    let words = words_of plant (slave_of edit) in
-    rw (unless-ok ((is_missing plant (slave_of edit), NoSlave) ∷ causes_against edit words) (slice_set plant (slave_of edit) (words_after edit words)) new judged)
-    (SameShape-set plant (slave_of edit) (words_after edit words) (length-words_after edit words))
+shape_edited : (plant new : List (List ℕ)) (expect : Option Expect) (edit : Edit) → edited plant expect edit ≡ Ok new → SameShape plant new
+shape_edited plant new expect edit judged =
+    let words : List ℕ = words_of plant (slave_of edit) in
+    let tests = (is_missing plant (slave_of edit), NoSlave) ∷ causes_against expect edit words in
+    let given : List (List ℕ) = slice_set plant (slave_of edit) (words_after edit words) in
+    rw (unless-ok tests given new judged)
+    (SameShape-set plant (slave_of edit) (words_after edit words) (length-words_after expect edit words (none_holds tests given new judged).1))
 
 shape_swapped : (plant new : List (List ℕ)) (a b : ℕ) → swapped plant a b ≡ Ok new → SameShape plant new
 shape_swapped plant new a b judged =
@@ -109,14 +107,27 @@ shape_swapped plant new a b judged =
     rw (unless-ok (swap_causes plant a b) (slice_set once b new_b) new judged)
     (SameShape-trans plant once (slice_set once b new_b) first (SameShape-set once b new_b (length-with_alias of_b (alias_of of_a) ∙ sym (first.words b))))
 
-whole_ok : {A : Type 0} (judged : Result A Cause) (new : A) → of_whole judged ≡ Ok new → judged ≡ Ok new
-whole_ok (Ok given) new is = cc
-whole_ok (Err cause) new is = cc
+shape_edits : (place : ℕ) (plant new : List (List ℕ)) (edits : List GuardedEdit) → edits_from place plant edits ≡ Ok new → SameShape plant new
+shape_edits place plant new [] judged = let same : plant ≡ new = cc in rw (sym same) (record { slaves = refl; words = λ slave. refl })
+shape_edits place plant new (first ∷ others) judged =
+    let split = then_ok (of_place place (edited plant first.expect first.edit)) (λ (p : List (List ℕ)). edits_from (suc place) p others) new judged in
+    SameShape-trans plant split.0 new
+    (shape_edited plant split.0 first.expect first.edit (place_ok place (edited plant first.expect first.edit) split.0 split.1))
+    (shape_edits (suc place) split.0 new others split.2)
+
+shape_grouped : (plant new : List (List ℕ)) (edits : List GuardedEdit) → grouped plant edits ≡ Ok new → SameShape plant new
+shape_grouped plant new edits judged =
+    let causes = group_causes (length edits) in
+    let split = then_ok (of_whole (unless causes plant)) (λ (p : List (List ℕ)). edits_from 0 p edits) new judged in
+    let start : split.0 ≡ plant = unless-ok causes plant split.0 (whole_ok (unless causes plant) split.0 split.1) in
+    shape_edits 0 plant new edits (rw start at split.2)
 
 -- an accepted command keeps the shape of the plant
 pub SameShape-outcome : (plant new : List (List ℕ)) (command : Command) → outcome plant command ≡ Ok new → SameShape plant new
-SameShape-outcome plant new (One edit) judged = shape_edited plant new edit (whole_ok (edited plant edit) new judged)
+SameShape-outcome plant new (One edit) judged = shape_edited plant new None edit (whole_ok (edited plant None edit) new judged)
 SameShape-outcome plant new (Swap a b) judged = shape_swapped plant new a b (whole_ok (swapped plant a b) new judged)
+SameShape-outcome plant new (Group edits) judged = shape_grouped plant new (map unguarded edits) judged
+SameShape-outcome plant new (Guarded edits) judged = shape_grouped plant new edits judged
 
 -- the runs to the new contents lie inside the old ones, and redo of them gives the new ones
 pub record Accepted (plant : List (List ℕ)) (command : Command) (runs : List Run) : Type 0 where
@@ -130,36 +141,50 @@ accepted plant new command runs judged between =
     record { judged = rw there judged; between = rw there between; inside = rw between (LiesInside-runs_between plant new) }
 
 -- the judgement of an edit of a slave's words is that of the edit
-pub edited_refused : (plant : List (List ℕ)) (edit : Edit) (cause : Cause) → slave_of edit < length plant
-    → IsCauseOf (edited_words edit (words_of plant (slave_of edit))) cause → IsCauseOf (edited plant edit) cause
-edited_refused plant edit cause there (inl judged) = inl (edited-err plant edit cause there judged)
-edited_refused plant edit cause there (inr memory) = inr memory
+pub edited_refused : (plant : List (List ℕ)) (expect : Option Expect) (edit : Edit) (cause : Cause) → slave_of edit < length plant
+    → IsCauseOf (edited_words expect edit (words_of plant (slave_of edit))) cause → IsCauseOf (edited plant expect edit) cause
+edited_refused plant expect edit cause there (inl judged) = inl (edited-err plant expect edit cause there judged)
+edited_refused plant expect edit cause there (inr memory) = inr memory
 
-not_memory_edited : (plant : List (List ℕ)) (edit : Edit) → edited plant edit ≢ Err Memory
-not_memory_edited plant (Alias slave value) =
-    two (is_missing plant slave) (is_unchecked (words_of plant slave)) (slice_set plant slave (with_alias (words_of plant slave) value))
-  where
-    two : (missing unchecked : Bool) (given : List (List ℕ)) → unless ((missing, NoSlave) ∷ (unchecked, BadCheck) ∷ []) given ≢ Err Memory
-    two true unchecked given = λ is. cc
-    two false true given = λ is. cc
-    two false false given = λ is. cc
+names_no_memory : (expect : Option Expect) (edit : Edit) (words : List ℕ) → NamesNoMemory (causes_against expect edit words)
+names_no_memory expect (Alias slave value) words = (λ is. cc, (λ is. cc, tt))
+names_no_memory expect (Category slave kind content) words = (λ is. cc, (λ is. cc, (λ is. cc, (λ is. cc, (λ is. cc, (λ is. cc, tt))))))
+names_no_memory expect (Image slave image) words = (λ is. cc, (λ is. cc, (λ is. cc, (λ is. cc, (λ is. cc, tt)))))
+
+not_memory_edited : (plant : List (List ℕ)) (expect : Option Expect) (edit : Edit) → edited plant expect edit ≢ Err Memory
+not_memory_edited plant expect edit =
+    let words : List ℕ = words_of plant (slave_of edit) in
+    unless-not_memory ((is_missing plant (slave_of edit), NoSlave) ∷ causes_against expect edit words) (slice_set plant (slave_of edit) (words_after edit words)) (λ is. cc, names_no_memory expect edit words)
 
 not_memory_swapped : (plant : List (List ℕ)) (a b : ℕ) → swapped plant a b ≢ Err Memory
 not_memory_swapped plant a b =
-    three (is_missing plant a || is_missing plant b) (a == b) (is_unchecked (words_of plant a) || is_unchecked (words_of plant b))
+    unless-not_memory (swap_causes plant a b)
     (slice_set (slice_set plant a (with_alias (words_of plant a) (alias_of (words_of plant b)))) b (with_alias (words_of plant b) (alias_of (words_of plant a))))
-  where
-    three : (missing same unchecked : Bool) (given : List (List ℕ)) → unless ((missing, NoSlave) ∷ (same, SameSlave) ∷ (unchecked, BadCheck) ∷ []) given ≢ Err Memory
-    three true same unchecked given = λ is. cc
-    three false true unchecked given = λ is. cc
-    three false false true given = λ is. cc
-    three false false false given = λ is. cc
+    (λ is. cc, (λ is. cc, (λ is. cc, tt)))
 
-whole_err : {A : Type 0} (judged : Result A Cause) (refusal : Refusal) → of_whole judged ≡ Err refusal → judged ≡ Err refusal.cause
-whole_err (Ok given) refusal is = cc
-whole_err (Err cause) refusal is = let same : whole cause ≡ refusal = cc in ap (λ (r : Refusal). Err r.cause) same
+with_cause : {A : Type 0} (judged : Result A Cause) (cause : Cause) → judged ≡ Err cause → judged ≢ Err Memory → cause ≢ Memory
+with_cause judged cause is not = λ memory. not (is ∙ ap (λ (c : Cause). Err c) memory)
+
+not_memory_edits : (place : ℕ) (plant : List (List ℕ)) (edits : List GuardedEdit) (refusal : Refusal) → edits_from place plant edits ≡ Err refusal → refusal.cause ≢ Memory
+not_memory_edits place plant [] refusal is = cc
+not_memory_edits place plant (first ∷ others) refusal is =
+    let judged = edited plant first.expect first.edit in
+    elim (then_err (of_place place judged) (λ (p : List (List ℕ)). edits_from (suc place) p others) refusal is) [
+      | inl here ↦ with_cause judged refusal.cause (place_err place judged refusal here) (not_memory_edited plant first.expect first.edit)
+      | inr later ↦ not_memory_edits (suc place) later.0 others refusal later.2
+    ]
+
+not_memory_grouped : (plant : List (List ℕ)) (edits : List GuardedEdit) (refusal : Refusal) → grouped plant edits ≡ Err refusal → refusal.cause ≢ Memory
+not_memory_grouped plant edits refusal is =
+    let judged = unless (group_causes (length edits)) plant in
+    elim (then_err (of_whole judged) (λ (p : List (List ℕ)). edits_from 0 p edits) refusal is) [
+      | inl here ↦ with_cause judged refusal.cause (whole_err judged refusal here) (unless-not_memory (group_causes (length edits)) plant (λ is. cc, (λ is. cc, tt)))
+      | inr later ↦ not_memory_edits 0 later.0 edits refusal later.2
+    ]
 
 -- want of memory is no part of what a command does
 pub not_memory : (plant : List (List ℕ)) (command : Command) (refusal : Refusal) → outcome plant command ≡ Err refusal → refusal.cause ≢ Memory
-not_memory plant (One edit) refusal is = λ memory. not_memory_edited plant edit (whole_err (edited plant edit) refusal is ∙ ap (λ (cause : Cause). Err cause) memory)
-not_memory plant (Swap a b) refusal is = λ memory. not_memory_swapped plant a b (whole_err (swapped plant a b) refusal is ∙ ap (λ (cause : Cause). Err cause) memory)
+not_memory plant (One edit) refusal is = with_cause (edited plant None edit) refusal.cause (whole_err (edited plant None edit) refusal is) (not_memory_edited plant None edit)
+not_memory plant (Swap a b) refusal is = with_cause (swapped plant a b) refusal.cause (whole_err (swapped plant a b) refusal is) (not_memory_swapped plant a b)
+not_memory plant (Group edits) refusal is = not_memory_grouped plant (map unguarded edits) refusal is
+not_memory plant (Guarded edits) refusal is = not_memory_grouped plant edits refusal is

@@ -4,13 +4,14 @@ use Rattle.std.proofs.lemmas.List.{get_or_read}
 use Rattle.sii_words.specs.Words.{alias_of}
 use Rattle.sii_words.specs.CheckByte.{IsChecked}
 use Rattle.sii_words.specs.Plant.{words_of}
+use Rattle.sii_edit.specs.declared.command.Expect.{Expect}
 use Rattle.sii_edit.specs.declared.command.Edit.{Edit}
 use Rattle.sii_edit.specs.declared.refusal.Cause.{Cause}
 use Rattle.sii_edit.specs.Alias.{with_alias}
 use Rattle.sii_edit.specs.Refusal.{IsCauseOf}
 use Rattle.sii_edit.specs.Command.{slave_of, edited_words, edited, swapped}
 use Rattle.sii_edit.proofs.AliasLaws.{length-with_alias}
-use Rattle.sii_edit.proofs.CommandLaws.{edited-ok, edited_refused, swapped-ok}
+use Rattle.sii_edit.proofs.CommandLaws.{edited-ok, edited_refused, length-edited_words, swapped-ok}
 use Rattle.sii_edit.specs.Draft.{drafted, FitsWords, IsDraftOf, IsStep}
 use Rattle.sii_edit.specs.Redo.{SameShape}
 
@@ -77,25 +78,25 @@ drafted-empty (words ∷ plant) zero = refl
 drafted-empty (words ∷ plant) (suc n) = ap (λ (p : List (List ℕ)). words ∷ p) (drafted-empty plant n)
 
 -- refusals of a draft's edit
-pub refused_step : (plant : List (List ℕ)) (draft : List (Option (List ℕ))) (edit : Edit) (cause : Cause) (slave : ℕ) (words : List ℕ) (result : Result (Unit {0}) Cause)
+pub refused_step : (plant : List (List ℕ)) (draft : List (Option (List ℕ))) (expect : Option Expect) (edit : Edit) (cause : Cause) (slave : ℕ) (words : List ℕ) (result : Result (Unit {0}) Cause)
     → IsErrAnd result (λ error. error ≡ cause) → slave ≡ slave_of edit → slave < length plant → words ≡ words_of (drafted plant draft) slave
-    → IsCauseOf (edited_words edit words) cause → IsStep plant (edited (drafted plant draft) edit) draft draft result
-refused_step plant draft edit cause slave words (Ok done) gave is there read refused = absurd gave
-refused_step plant draft edit cause slave words (Err error) gave is there read refused =
+    → IsCauseOf (edited_words expect edit words) cause → IsStep plant (edited (drafted plant draft) expect edit) draft draft result
+refused_step plant draft expect edit cause slave words (Ok done) gave is there read refused = absurd gave
+refused_step plant draft expect edit cause slave words (Err error) gave is there read refused =
     let here : words ≡ words_of (drafted plant draft) (slave_of edit) = read ∙ ap (words_of (drafted plant draft)) is in
-    rw gave (edited_refused (drafted plant draft) edit cause (omega (arith, length-drafted plant draft)) (rw here at refused), refl)
+    rw gave (edited_refused (drafted plant draft) expect edit cause (omega (arith, length-drafted plant draft)) (rw here at refused), refl)
 
 -- an edit of a draft
-pub edited_step : (plant : List (List ℕ)) (draft put : List (Option (List ℕ))) (edit : Edit) (slave : ℕ) (words new : List ℕ)
+pub edited_step : (plant : List (List ℕ)) (draft put : List (Option (List ℕ))) (expect : Option Expect) (edit : Edit) (slave : ℕ) (words new : List ℕ)
     → IsDraftOf plant draft → slave ≡ slave_of edit → slave < length plant → words ≡ words_of (drafted plant draft) slave
-    → edited_words edit words ≡ Ok new → length new ≡ length words → put ≡ set draft slave (Some new)
-    → IsDraftOf plant put × (edited (drafted plant draft) edit ≡ Ok (drafted plant put))
-edited_step plant draft put edit slave words new fits is there read judged size made =
+    → edited_words expect edit words ≡ Ok new → put ≡ set draft slave (Some new)
+    → IsDraftOf plant put × (edited (drafted plant draft) expect edit ≡ Ok (drafted plant put))
+edited_step plant draft put expect edit slave words new fits is there read judged made =
     let here : words ≡ words_of (drafted plant draft) (slave_of edit) = read ∙ ap (words_of (drafted plant draft)) is in
-    let same : length new ≡ length (words_of plant slave) = size ∙ ap length read ∙ size_drafted plant draft slave fits in
+    let same : length new ≡ length (words_of plant slave) = length-edited_words expect edit words new judged ∙ ap length read ∙ size_drafted plant draft slave fits in
     rw (made, drafted-put plant draft slave new fits) (
       IsDraftOf-put plant draft slave new fits same,
-      edited-ok (drafted plant draft) edit new (omega (arith, length-drafted plant draft)) (rw here at judged) ∙ ap (λ (s : ℕ). Ok (slice_set (drafted plant draft) s new)) (sym is),
+      edited-ok (drafted plant draft) expect edit new (omega (arith, length-drafted plant draft)) (rw here at judged) ∙ ap (λ (s : ℕ). Ok (slice_set (drafted plant draft) s new)) (sym is),
     )
 
 -- a swap in a draft

@@ -1,4 +1,8 @@
 pub mod AliasLaws
+mod UnlessLaws
+mod ShapeLaws
+mod CategoryLaws
+mod ExchangeLaws
 pub mod RedoLaws
 pub mod RunLaws
 pub mod CommandLaws

@@ -1,43 +1,103 @@
 -- What a command does to a plant: it gives a new one, or it is refused for the first cause that applies.
-use Rattle.std.specs.Prelude.{ℕ, ◌==◌, ◌||◌, Bool, nat_le, List, [], ◌∷◌, length, Result, slice_set}
+use Rattle.std.specs.Prelude.{ℕ, suc, ◌==◌, ◌||◌, Bool, nat_le, nat_lt, List, [], ◌∷◌, length, map, Option, None, Result, Ok, is_err, slice_set}
 use Rattle.sii_words.specs.Words.{alias_of}
 use Rattle.sii_words.specs.Plant.{words_of}
+use Rattle.sii_cats.specs.Chain.{members_of}
 use Rattle.sii_edit.specs.Alias.{with_alias, is_unchecked}
-use Rattle.sii_edit.specs.Refusal.{unless, of_whole}
+use Rattle.sii_edit.specs.Category.{is_absent, is_repeated, is_unfit, is_too_long, has_malformed, if_read, with_category}
+use Rattle.sii_edit.specs.Image.{with_front}
+use Rattle.sii_edit.specs.Guard.{is_other}
+use Rattle.sii_edit.specs.Refusal.{unless, of_whole, of_place, then_judged}
+use Rattle.sii_edit.specs.declared.command.Expect.{Expect}
 use Rattle.sii_edit.specs.declared.command.Edit.{Edit}
-use Rattle.sii_edit.specs.declared.command.Edit.TheVariants.{Alias}
+use Rattle.sii_edit.specs.declared.command.Edit.TheVariants.{Alias, Category, Image}
+use Rattle.sii_edit.specs.declared.command.GuardedEdit.{GuardedEdit}
 use Rattle.sii_edit.specs.declared.command.Command.{Command}
-use Rattle.sii_edit.specs.declared.command.Command.TheVariants.{One, Swap}
+use Rattle.sii_edit.specs.declared.command.Command.TheVariants.{One, Swap, Group, Guarded}
 use Rattle.sii_edit.specs.declared.refusal.Cause.{Cause}
-use Rattle.sii_edit.specs.declared.refusal.Cause.TheVariants.{NoSlave, SameSlave, BadCheck}
+use Rattle.sii_edit.specs.declared.refusal.Cause.TheVariants.{NoSlave, SameSlave, EmptyGroup, GroupTooLong, ImageTooLong, BadCheck, WrongIdentity, NoSuchCategory, SeveralCategories, BadCategory, NoRoom, BadChain}
 use Rattle.sii_edit.specs.declared.refusal.Refusal.{Refusal}
 
 -- the slave that an edit is about
 abbrev pub slave_of : Edit → ℕ
 slave_of (Alias slave value) = slave
+slave_of (Category slave kind content) = slave
+slave_of (Image slave image) = slave
 
--- what speaks against an edit of a slave with these words, in order
-abbrev pub causes_against : Edit → List ℕ → List (Bool × Cause)
-causes_against (Alias slave value) words = (is_unchecked words, BadCheck) ∷ []
+-- what speaks against an alias of a slave with these words, in order
+abbrev pub alias_causes : Option Expect → List ℕ → List (Bool × Cause)
+alias_causes expect words =
+    (is_unchecked words, BadCheck)
+    ∷ (is_other expect words, WrongIdentity)
+    ∷ []
+
+-- what speaks against a category, in order; the new content and the old chain are judged
+abbrev pub category_causes : Option Expect → List ℕ → ℕ → List ℕ → List (Bool × Cause)
+category_causes expect words kind content =
+    (is_other expect words, WrongIdentity)
+    ∷ (if_read (members_of words) (is_absent kind content), NoSuchCategory)
+    ∷ (if_read (members_of words) (is_repeated kind), SeveralCategories)
+    ∷ (is_unfit kind content, BadCategory)
+    ∷ (if_read (members_of words) (is_too_long words kind content), NoRoom)
+    ∷ (is_err (members_of words), BadChain)
+    ∷ []
+
+-- what speaks against an image, in order; the chain that it leaves is judged
+abbrev pub image_causes : Option Expect → List ℕ → List ℕ → List (Bool × Cause)
+image_causes expect words image =
+    (nat_lt (length words) (length image), ImageTooLong)
+    ∷ (is_unchecked image, BadCheck)
+    ∷ (is_other expect words, WrongIdentity)
+    ∷ (if_read (members_of (with_front words image)) has_malformed, BadCategory)
+    ∷ (is_err (members_of (with_front words image)), BadChain)
+    ∷ []
+
+abbrev pub causes_against : Option Expect → Edit → List ℕ → List (Bool × Cause)
+causes_against expect (Alias slave value) words = alias_causes expect words
+causes_against expect (Category slave kind content) words = category_causes expect words kind content
+causes_against expect (Image slave image) words = image_causes expect words image
 
 -- the words of the slave once it is edited
 abbrev pub words_after : Edit → List ℕ → List ℕ
 words_after (Alias slave value) words = with_alias words value
+words_after (Category slave kind content) words = with_category words kind content
+words_after (Image slave image) words = with_front words image
 
--- one edit on the words of its slave
-abbrev pub edited_words : Edit → List ℕ → Result (List ℕ) Cause
-edited_words edit words = unless (causes_against edit words) (words_after edit words)
+-- one edit on the words of its slave, of which an identity may be expected
+abbrev pub edited_words : Option Expect → Edit → List ℕ → Result (List ℕ) Cause
+edited_words expect edit words = unless (causes_against expect edit words) (words_after edit words)
 
 -- the line has no slave of this number
 abbrev pub is_missing : List (List ℕ) → ℕ → Bool
 is_missing plant slave = nat_le (length plant) slave
 
 -- one edit of the slave that it is about
-abbrev pub edited : List (List ℕ) → Edit → Result (List (List ℕ)) Cause
-edited plant edit =
+abbrev pub edited : List (List ℕ) → Option Expect → Edit → Result (List (List ℕ)) Cause
+edited plant expect edit =
     unless
-    ((is_missing plant (slave_of edit), NoSlave) ∷ causes_against edit (words_of plant (slave_of edit)))
+    ((is_missing plant (slave_of edit), NoSlave) ∷ causes_against expect edit (words_of plant (slave_of edit)))
     (slice_set plant (slave_of edit) (words_after edit (words_of plant (slave_of edit))))
+
+-- the edits of a group from a place on, each on what the earlier ones left
+abbrev pub edits_from : ℕ → List (List ℕ) → List GuardedEdit → Result (List (List ℕ)) Refusal
+edits_from place plant [] = Ok plant
+edits_from place plant (first ∷ others) =
+    then_judged (of_place place (edited plant first.expect first.edit)) (λ new. edits_from (suc place) new others)
+
+-- what speaks against a group of so many edits, in order
+abbrev pub group_causes : ℕ → List (Bool × Cause)
+group_causes count =
+    (count == 0, EmptyGroup)
+    ∷ (nat_lt 64 count, GroupTooLong)
+    ∷ []
+
+-- a group is judged as a whole, and then edit by edit
+abbrev pub grouped : List (List ℕ) → List GuardedEdit → Result (List (List ℕ)) Refusal
+grouped plant edits = then_judged (of_whole (unless (group_causes (length edits)) plant)) (λ start. edits_from 0 start edits)
+
+-- an edit of which nothing is expected
+abbrev pub unguarded : Edit → GuardedEdit
+unguarded edit = record { expect = None; edit = edit }
 
 -- what speaks against a swap, in order
 abbrev pub swap_causes : List (List ℕ) → ℕ → ℕ → List (Bool × Cause)
@@ -56,5 +116,7 @@ swapped plant a b =
 
 -- the new plant, or the refusal
 abbrev pub outcome : List (List ℕ) → Command → Result (List (List ℕ)) Refusal
-outcome plant (One edit) = of_whole (edited plant edit)
+outcome plant (One edit) = of_whole (edited plant None edit)
 outcome plant (Swap a b) = of_whole (swapped plant a b)
+outcome plant (Group edits) = grouped plant (map unguarded edits)
+outcome plant (Guarded edits) = grouped plant edits

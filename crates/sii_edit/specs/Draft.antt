@@ -1,7 +1,8 @@
 -- A draft: for each slave of a plant its new words, where it has any.
 use Rattle.std.specs.Prelude.{◌≡◌, ℕ, List, [], ◌∷◌, length, Option, Some, None, unwrap_or, Result, Ok, Err}
 use Rattle.sii_edit.specs.declared.refusal.Cause.{Cause}
-use Rattle.sii_edit.specs.Refusal.{IsCauseOf}
+use Rattle.sii_edit.specs.declared.refusal.Refusal.{Refusal}
+use Rattle.sii_edit.specs.Refusal.{IsCauseOf, IsRefusalOf}
 
 -- the plant as the draft has it
 abbrev pub drafted : List (List ℕ) → List (Option (List ℕ)) → List (List ℕ)
@@ -25,3 +26,8 @@ IsDraftOf (words ∷ plant) (new ∷ changed) = FitsWords words new × IsDraftOf
 abbrev pub IsStep : List (List ℕ) → Result (List (List ℕ)) Cause → List (Option (List ℕ)) → List (Option (List ℕ)) → Result (Unit {0}) Cause → Type 0
 IsStep plant judged old new (Ok done) = IsDraftOf plant new × (judged ≡ Ok (drafted plant new))
 IsStep plant judged old new (Err cause) = IsCauseOf judged cause × (new ≡ old)
+
+-- What is judged is drafted. What a refusal leaves of the draft isn't used.
+abbrev pub IsCarriedOut : List (List ℕ) → Result (List (List ℕ)) Refusal → List (Option (List ℕ)) → Result (Unit {0}) Refusal → Type 0
+IsCarriedOut plant judged new (Ok done) = IsDraftOf plant new × (judged ≡ Ok (drafted plant new))
+IsCarriedOut plant judged new (Err refusal) = IsRefusalOf judged refusal

@@ -1,4 +1,7 @@
 pub mod Alias
+pub mod Category
+pub mod Image
+pub mod Guard
 pub mod Run
 pub mod Redo
 pub mod Refusal

@@ -1,8 +1,24 @@
 -- Refusals: the first cause that applies, in their order.
-use Rattle.std.specs.Prelude.{◌≡◌, ◌⊎◌, Bool, List, [], ◌∷◌, None, Result, Ok, Err, if◌then◌else◌}
+use Rattle.std.specs.Prelude.{◌≡◌, ◌⊎◌, ℕ, Bool, List, [], ◌∷◌, Some, None, Result, Ok, Err, if◌then◌else◌}
+use Rattle.sii_cats.specs.declared.fault.ChainFault.{ChainFault}
+use Rattle.sii_cats.specs.declared.fault.ChainFault.TheVariants as chain
+use Rattle.sii_cats.specs.declared.fault.CatFault.{CatFault}
+use Rattle.sii_cats.specs.declared.fault.CatFault.TheVariants as category
 use Rattle.sii_edit.specs.declared.refusal.Cause.{Cause}
-use Rattle.sii_edit.specs.declared.refusal.Cause.TheVariants.{Memory}
+use Rattle.sii_edit.specs.declared.refusal.Cause.TheVariants.{Memory, BadCategory, NoRoom, BadChain}
 use Rattle.sii_edit.specs.declared.refusal.Refusal.{Refusal}
+
+-- what a fault of the chain means for a command
+abbrev pub cause_of_chain : ChainFault → Cause
+cause_of_chain chain.Memory = Memory
+cause_of_chain (chain.RunsOut at) = BadChain
+
+-- and what a fault of a category means
+abbrev pub cause_of_category : CatFault → Cause
+cause_of_category category.Memory = Memory
+cause_of_category (category.RunsOut at) = BadChain
+cause_of_category (category.BadCategory kind) = BadCategory
+cause_of_category category.NoRoom = NoRoom
 
 -- the first cause whose test holds, else what there is
 abbrev pub unless : {A : Type 0} → List (Bool × Cause) → A → Result A Cause
@@ -13,14 +29,38 @@ unless (test ∷ tests) given = if test.0 then Err test.1 else unless tests give
 abbrev pub whole : Cause → Refusal
 whole cause = record { cause = cause; position = None }
 
+-- a refusal of the edit at this place of a group; want of memory has no place
+abbrev pub placed : ℕ → Cause → Refusal
+placed place Memory = whole Memory
+placed place cause = record { cause = cause; position = Some place }
+
 -- what is judged, as the outcome of a command as a whole
 abbrev pub of_whole : {A : Type 0} → Result A Cause → Result A Refusal
 of_whole (Ok given) = Ok given
 of_whole (Err cause) = Err (whole cause)
 
+-- what is judged of the edit at this place of a group
+abbrev pub of_place : {A : Type 0} → ℕ → Result A Cause → Result A Refusal
+of_place place (Ok given) = Ok given
+of_place place (Err cause) = Err (placed place cause)
+
+-- what comes next, where there is no refusal
+abbrev pub then_judged : {A B E : Type 0} → Result A E → (A → Result B E) → Result B E
+then_judged (Ok given) next = next given
+then_judged (Err refusal) next = Err refusal
+
 -- A cause is answered where it is the judged one. Want of memory comes in place of any answer.
 abbrev pub IsCauseOf : {A : Type 0} → Result A Cause → Cause → Type 0
 IsCauseOf judged cause = (judged ≡ Err cause) ⊎ (cause ≡ Memory)
+
+-- What is answered is what is judged, or want of memory.
+abbrev pub IsAnswer : {A : Type 0} → Result A Cause → Result A Cause → Type 0
+IsAnswer judged (Ok given) = judged ≡ Ok given
+IsAnswer judged (Err cause) = IsCauseOf judged cause
+
+-- the same, where nothing is given
+abbrev pub IsJudgement : List (Bool × Cause) → Result (Unit {0}) Cause → Type 0
+IsJudgement tests result = IsAnswer (unless tests tt) result
 
 -- the same of a refusal
 abbrev pub IsRefusalOf : {A : Type 0} → Result A Refusal → Refusal → Type 0

@@ -1,8 +1,11 @@
 ghost use Rattle.std.specs.Prelude.{◌≡◌, ◌↔◌, IsOk, IfOk, OnOk, OnErr, IsOkUnless};
 ghost use Rattle.sii_words.specs.CheckByte.{IsChecked};
 ghost use Rattle.sii_edit.specs.Alias.{ChangesAlias, with_alias, with_low_byte};
-ghost use Rattle.sii_edit.specs.Refusal.{whole};
+ghost use Rattle.sii_edit.specs.Command.{alias_causes};
+ghost use Rattle.sii_edit.specs.Refusal.{unless, whole, IsAnswer};
 
+use crate::command::Expect;
+use crate::guard::is_other;
 use crate::refusal::{Cause, Refusal};
 use sii_words::{ImageFile, Words};
 use std::alloc::AllocError;
@@ -39,4 +42,17 @@ pub(crate) fn aliased(words: &Words, value: u16) -> Result<Words, AllocError>
     new.set(4, value);
     new.set(7, with_low_byte(words.get(7), new.check_byte()));
     Ok(new)
+}
+
+/// The words of a slave with another alias, where its check byte is right.
+pub(crate) fn renamed(expect: Option<Expect>, words: &Words, value: u16) -> Result<Words, Cause>
+    ensures { IsAnswer (unless (alias_causes expect words.now) (with_alias words.now value)) result }
+{
+    if !words.check_ok() {
+        return Err(Cause::BadCheck);
+    }
+    if is_other(expect, words) {
+        return Err(Cause::WrongIdentity);
+    }
+    Ok(aliased(words, value)?)
 }

@@ -1,12 +1,13 @@
-ghost use Rattle.std.specs.Prelude.{◌≡◌, All, IfOk, IfErr, OnOk};
+ghost use Rattle.std.specs.Prelude.{◌≡◌, All, IfOk, IfErr};
 ghost use Rattle.sii_edit.specs.Command.{outcome};
-ghost use Rattle.sii_edit.specs.Draft.{drafted, IsDraftOf};
+ghost use Rattle.sii_edit.specs.Draft.{drafted, IsCarriedOut, IsDraftOf};
 ghost use Rattle.sii_edit.specs.Redo.{redone, LiesInside};
 ghost use Rattle.sii_edit.specs.Refusal.{IsRefusalOf};
 ghost use Rattle.sii_edit.specs.Run.{runs_between};
 
 use crate::command::Command;
 use crate::draft::Draft;
+use crate::group::{edit_all, edit_guarded};
 use crate::redoing::redo;
 use crate::refusal::Refusal;
 use crate::run::Run;
@@ -26,7 +27,7 @@ pub fn changes(alloc: Global, plant: &Plant, command: &Command) -> Result<Vec<Ru
     ensures refused { IfErr result (λ refusal. IsRefusalOf (outcome plant.now command.now) refusal) }
 {
     let mut draft = Draft::of(alloc, plant)?;
-    carry_out(&mut draft, plant, command)?;
+    carry_out(&mut draft, alloc, plant, command)?;
     Ok(draft.runs(alloc, plant)?)
 }
 
@@ -49,14 +50,19 @@ pub fn apply(alloc: Global, plant: &Plant, command: &Command) -> Result<(Plant, 
 }
 
 /// Does a command to the draft.
-fn carry_out(draft: &mut Draft, plant: &Plant, command: &Command) -> Result<(), Refusal>
+fn carry_out(
+    draft: &mut Draft,
+    alloc: Global,
+    plant: &Plant,
+    command: &Command,
+) -> Result<(), Refusal>
     requires { IsDraftOf plant.now draft.old }
-    ensures ok { OnOk result (IsDraftOf plant.now draft.new × (outcome (drafted plant.now draft.old) command.now ≡ Ok (drafted plant.now draft.new))) }
-    ensures refused { IfErr result (λ refusal. IsRefusalOf (outcome (drafted plant.now draft.old) command.now) refusal) }
+    ensures { IsCarriedOut plant.now (outcome (drafted plant.now draft.old) command.now) draft.new result }
 {
-    let done = match command {
-        Command::One(edit) => draft.edit(plant, edit),
-        Command::Swap { a, b } => draft.swap(plant, *a, *b),
-    };
-    done.map_err(Refusal::whole)
+    match command {
+        Command::One(edit) => draft.edit(alloc, plant, None, edit).map_err(Refusal::whole),
+        Command::Swap { a, b } => draft.swap(plant, *a, *b).map_err(Refusal::whole),
+        Command::Group(edits) => edit_all(draft, alloc, plant, edits.as_slice()),
+        Command::Guarded(edits) => edit_guarded(draft, alloc, plant, edits.as_slice()),
+    }
 }

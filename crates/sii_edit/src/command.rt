@@ -1,17 +1,54 @@
-ghost use Rattle.std.specs.Prelude.{◌≡◌, IfOk, IfErr, length};
+ghost use Rattle.std.specs.Prelude.{◌≡◌, IfOk};
 ghost use Rattle.sii_edit.specs.Command.{slave_of, edited_words};
-ghost use Rattle.sii_edit.specs.Refusal.{IsCauseOf};
+ghost use Rattle.sii_edit.specs.Refusal.{IsAnswer};
 
-use crate::alias::aliased;
+use crate::alias::renamed;
+use crate::category::recategorized;
+use crate::image::imaged;
+use crate::lists::{EditList, GuardedEditList};
 use crate::refusal::Cause;
-use sii_words::Words;
-use std::alloc::AllocError;
+use crate::run::WordList;
+use sii_words::{ImageFile, Words};
+use std::alloc::{AllocError, Global};
 
 /// A change of one slave's EEPROM. Slaves are numbered from 0, in the order of the line.
 #[derive(Debug, Drop)]
 pub enum Edit {
     /// Sets the configured station alias, and the check byte that goes with it.
-    Alias { slave: u16, value: u16 },
+    Alias {
+        slave: u16,
+        value: u16,
+    },
+    /// Exchanges the content of the one category of type `kind`, or adds it last where there is none. Without words it is removed.
+    Category {
+        slave: u16,
+        kind: u16,
+        words: WordList,
+    },
+    /// Writes the words of an image. Behind them the old words stay.
+    Image {
+        slave: u16,
+        image: ImageFile,
+    },
+}
+
+/// Who a slave is expected to be (ETG.1000.6: words 8 to 13). The serial number isn't compared.
+#[derive(Clone, Copy, Debug, PartialEq, Eq)]
+pub struct Expect {
+    /// The vendor id.
+    pub vendor: u32,
+    /// The product code.
+    pub product: u32,
+    /// The revision number.
+    pub revision: u32,
+}
+
+/// An edit that is refused where the slave isn't the expected one just before it.
+#[derive(Debug, Drop)]
+pub struct GuardedEdit {
+    /// Nothing is expected where it is `None`.
+    pub expect: Option<Expect>,
+    pub edit: Edit,
 }
 
 /// What a line can be asked to do, as one act.
@@ -21,6 +58,10 @@ pub enum Command {
     One(Edit),
     /// The aliases of two slaves change places.
     Swap { a: u16, b: u16 },
+    /// 1 to 64 edits, each on what the earlier ones left.
+    Group(EditList),
+    /// The same of guarded edits.
+    Guarded(GuardedEditList),
 }
 
 impl Edit {
@@ -30,22 +71,28 @@ impl Edit {
     {
         match self {
             Edit::Alias { slave, .. } => *slave,
+            Edit::Category { slave, .. } => *slave,
+            Edit::Image { slave, .. } => *slave,
         }
     }
 
     /// The words of that slave once it is edited.
-    pub(crate) fn edited(&self, words: &Words) -> Result<Words, Cause>
-        ensures new { IfOk result (λ new. edited_words self.now words.now ≡ Ok new) }
-        ensures size { IfOk result (λ new. length new ≡ length words.now) }
-        ensures refused { IfErr result (λ cause. IsCauseOf (edited_words self.now words.now) cause) }
+    pub(crate) fn edited(
+        &self,
+        alloc: Global,
+        expect: Option<Expect>,
+        words: &Words,
+    ) -> Result<Words, Cause>
+        ensures { IsAnswer (edited_words expect self.now words.now) result }
     {
         match self {
-            Edit::Alias { value, .. } => {
-                if !words.check_ok() {
-                    return Err(Cause::BadCheck);
-                }
-                Ok(aliased(words, *value)?)
-            }
+            Edit::Alias { value, .. } => renamed(expect, words, *value),
+            Edit::Category {
+                kind,
+                words: content,
+                ..
+            } => recategorized(alloc, expect, words, *kind, content.as_slice()),
+            Edit::Image { image, .. } => imaged(alloc, expect, words, image),
         }
     }
 
@@ -58,7 +105,28 @@ impl Edit {
                 slave: *slave,
                 value: *value,
             }),
+            Edit::Category { slave, kind, words } => Ok(Edit::Category {
+                slave: *slave,
+                kind: *kind,
+                words: words.try_copy()?,
+            }),
+            Edit::Image { slave, image } => Ok(Edit::Image {
+                slave: *slave,
+                image: image.try_copy()?,
+            }),
         }
+    }
+}
+
+impl GuardedEdit {
+    /// A copy that asks for the same.
+    pub fn try_copy(&self) -> Result<GuardedEdit, AllocError>
+        ensures { IfOk result (λ copy. copy ≡ self.now) }
+    {
+        Ok(GuardedEdit {
+            expect: self.expect,
+            edit: self.edit.try_copy()?,
+        })
     }
 }
 
@@ -70,6 +138,8 @@ impl Command {
         match self {
             Command::One(edit) => Ok(Command::One(edit.try_copy()?)),
             Command::Swap { a, b } => Ok(Command::Swap { a: *a, b: *b }),
+            Command::Group(edits) => Ok(Command::Group(edits.try_copy()?)),
+            Command::Guarded(edits) => Ok(Command::Guarded(edits.try_copy()?)),
         }
     }
 }

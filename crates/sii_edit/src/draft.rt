@@ -5,7 +5,7 @@ ghost use Rattle.sii_edit.specs.Run.{runs_between};
 ghost use Rattle.sii_edit.specs.Command.{edited, swapped};
 
 use crate::alias::aliased;
-use crate::command::Edit;
+use crate::command::{Edit, Expect};
 use crate::refusal::Cause;
 use crate::run::Run;
 use crate::stretches::push_stretches;
@@ -59,16 +59,22 @@ impl Draft {
         self.changed[slave] = Some(words);
     }
 
-    /// One edit. A draft stays as it is where the edit is refused.
-    pub fn edit(&mut self, plant: &Plant, edit: &Edit) -> Result<(), Cause>
+    /// One edit, of a slave that is the expected one. A draft stays as it is where the edit is refused.
+    pub fn edit(
+        &mut self,
+        alloc: Global,
+        plant: &Plant,
+        expect: Option<Expect>,
+        edit: &Edit,
+    ) -> Result<(), Cause>
         requires { IsDraftOf plant.now self.old }
-        ensures { IsStep plant.now (edited (drafted plant.now self.old) edit.now) self.old self.new result }
+        ensures { IsStep plant.now (edited (drafted plant.now self.old) expect edit.now) self.old self.new result }
     {
         let slave = usize::from(edit.slave());
         if slave >= plant.len() {
             return Err(Cause::NoSlave);
         }
-        let words = edit.edited(self.words(plant, slave))?;
+        let words = edit.edited(alloc, expect, self.words(plant, slave))?;
         self.put(slave, words);
         Ok(())
     }

@@ -1,16 +1,20 @@
 // The laws of commands and redo. Each function's contract is one of them, and its body does nothing.
-ghost use Rattle.std.specs.Prelude.{◌≡◌, ◌≢◌, ◌<◌, ℕ, None, [], ◌∷◌, ◌++◌, List, length, slice_index, All, AllPairs};
+ghost use Rattle.std.specs.Prelude.{◌≡◌, ◌≢◌, ◌<◌, ℕ, Option, None, [], ◌∷◌, ◌++◌, List, length, slice_index, All, AllPairs};
 ghost use Rattle.sii_words.specs.Plant.{words_of};
 ghost use Rattle.sii_edit.specs.Alias.{ChangesAlias, with_alias};
 ghost use Rattle.sii_edit.specs.Run.{runs_between, StandsBefore, change};
 ghost use Rattle.sii_edit.specs.Redo.{redone, last_given, AreApart, LiesInside, SameShape, AgreeElsewhere};
-ghost use Rattle.sii_edit.specs.Command.{outcome};
+ghost use Rattle.sii_edit.specs.Category.{ChangesCategory};
+ghost use Rattle.sii_edit.specs.Command.{edited_words, outcome};
 ghost use Rattle.sii_edit.specs.Fold.{contents, after};
 ghost use Rattle.sii_edit.specs.declared.command.Command.{Command};
+ghost use Rattle.sii_edit.specs.declared.command.Expect.{Expect};
 ghost use Rattle.sii_edit.specs.declared.refusal.Refusal.{Refusal};
 ghost use Rattle.sii_edit.specs.declared.run.Run.{Run};
 
+use crate::command::Edit;
 use crate::refusal::Cause;
+use sii_cats::readings;
 
 /// Setting the alias is the change that the relation describes.
 pub fn alias_is_changed()
@@ -21,6 +25,15 @@ pub fn alias_is_changed()
 pub fn alias_change_is_determined()
     ensures { (old new : List ℕ) (value : ℕ) → 7 < length old → ChangesAlias old value new → new ≡ with_alias old value }
 {}
+
+/// A category edit is the change that the relation describes: the words before the categories stay, the one category of the
+/// type is exchanged in its place, taken out, or added last where there was none, the word behind the chain is the end mark,
+/// and the words behind that stay.
+pub fn category_is_changed()
+    ensures { (expect : Option Expect) (slave kind : ℕ) (content words new : List ℕ) → edited_words expect (Edit.Category slave kind content) words ≡ Ok new → ChangesCategory words kind content new }
+{
+    readings();
+}
 
 /// Redo of more runs is redo of the first ones, and then of the others.
 pub fn redo_of_appended()

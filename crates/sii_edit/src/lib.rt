@@ -3,9 +3,14 @@
 
 mod alias;
 mod applying;
+mod category;
 mod command;
 mod draft;
+mod group;
+mod guard;
+mod image;
 pub mod laws;
+mod lists;
 mod redoing;
 mod refusal;
 mod run;
@@ -15,7 +20,8 @@ mod tests;
 
 pub use alias::alias_image;
 pub use applying::{apply, changes};
-pub use command::{Command, Edit};
+pub use command::{Command, Edit, Expect, GuardedEdit};
+pub use lists::{EditList, GuardedEditList};
 pub use redoing::redo;
 pub use refusal::{Cause, Refusal};
 pub use run::{Run, WordList};

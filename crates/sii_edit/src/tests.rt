@@ -112,3 +112,170 @@ fn runs_are_copied(rt: HostRuntime) -> Result<(), Fail> {
     assert_eq!(rt; copy.words.into_vec().as_slice(), [7, 8].as_slice());
     Ok(())
 }
+
+/// A command is refused for this cause, at this edit of a group.
+fn assert_refused(
+    rt: &impl Abort,
+    alloc: Global,
+    plant: &Plant,
+    command: &Command,
+    cause: Cause,
+    position: Option<u8>,
+) {
+    let refused = changes(alloc, plant, command).err();
+    assert_eq!(rt; refused, Some(Refusal { cause, position }));
+}
+
+/// A line of one slave with these words.
+fn alone(alloc: Global, words: Words) -> Result<Plant, Fail> {
+    Ok(Plant::of(vec![in alloc; words]?))
+}
+
+fn of_kind(slave: u16, kind: u16, words: Vec<u16>) -> Edit {
+    Edit::Category {
+        slave,
+        kind,
+        words: WordList::from_vec(words),
+    }
+}
+
+/// An image of so many words, zero but for words 4, 7 and 8.
+fn image(alloc: Global, bytes: &[u8], others: (u16, u16, u16)) -> Result<ImageFile, Fail> {
+    let mut image = ImageFile::from_bytes(alloc, bytes)?;
+    image.set(4, others.0);
+    image.set(7, others.1);
+    image.set(8, others.2);
+    Ok(image)
+}
+
+#[test]
+fn groups_are_judged(rt: HostRuntime) -> Result<(), Fail> {
+    let alloc = rt.alloc();
+    let plant = line(alloc, (0, 0x0030), (0, 0x0030), (0, 0x0030))?;
+    let edits = vec![in alloc;
+        Edit::Alias { slave: 0, value: 5 },
+        Edit::Alias { slave: 1, value: 6 },
+        of_kind(0, 60, Vec::new(alloc)),
+    ]?;
+    let group = Command::Group(EditList::from_vec(edits)).try_copy()?;
+    assert_refused(&rt, alloc, &plant, &group, Cause::NoSuchCategory, Some(2));
+    for (count, cause) in [
+        (0, Some(Cause::EmptyGroup)),
+        (64, None),
+        (65, Some(Cause::GroupTooLong)),
+    ] {
+        let mut edits = Vec::new(alloc);
+        for value in 0..count {
+            edits.push(Edit::Alias { slave: 2, value })?;
+        }
+        let group = Command::Group(EditList::from_vec(edits));
+        let refused = changes(alloc, &plant, &group)
+            .err()
+            .map(|refusal| refusal.cause);
+        assert_eq!(rt; refused, cause);
+    }
+    Ok(())
+}
+
+/// Two edits of the first slaves, of each of which a vendor is expected.
+fn guarded(alloc: Global, first: (u32, Edit), second: (u32, Edit)) -> Result<Command, Fail> {
+    let mut edits = Vec::with_capacity(alloc, 2)?;
+    for (vendor, edit) in [first, second] {
+        let expect = Some(Expect {
+            vendor,
+            product: 0,
+            revision: 0,
+        });
+        edits.push(GuardedEdit { expect, edit })?;
+    }
+    Ok(Command::Guarded(GuardedEditList::from_vec(edits)))
+}
+
+#[test]
+fn identity_is_that_just_before(rt: HostRuntime) -> Result<(), Fail> {
+    let alloc = rt.alloc();
+    let plant = line(alloc, (0, 0x0030), (0, 0x0030), (0, 0x0031))?;
+    let alias = |slave, value| Edit::Alias { slave, value };
+    let other = guarded(alloc, (0, alias(0, 5)), (2, alias(1, 6)))?.try_copy()?;
+    assert_refused(&rt, alloc, &plant, &other, Cause::WrongIdentity, Some(1));
+    let unchecked = guarded(alloc, (0, alias(0, 5)), (2, alias(2, 6)))?;
+    assert_refused(&rt, alloc, &plant, &unchecked, Cause::BadCheck, Some(1));
+
+    let image = image(alloc, &[0; 128], (0, 0x0030, 2))?;
+    let renewed = guarded(
+        alloc,
+        (0, Edit::Image { slave: 0, image }),
+        (2, alias(0, 3)),
+    )?;
+    let (new, _) = apply(alloc, &plant, &renewed)?;
+    assert_eq!(rt; new.len(), 3);
+    assert_eq!(rt;
+        (new.slave(0).alias(), new.slave(0).identity().vendor),
+        (3, 2)
+    );
+    Ok(())
+}
+
+#[test]
+fn image_leaves_the_words_behind_it(rt: HostRuntime) -> Result<(), Fail> {
+    let alloc = rt.alloc();
+    let plant = alone(alloc, Words::from_bytes(alloc, &[0xFF; 256])?)?;
+    let alias = Command::One(Edit::Alias { slave: 0, value: 1 });
+    assert_refused(&rt, alloc, &plant, &alias, Cause::BadCheck, None);
+
+    let front = image(alloc, &[0; 128], (1, 0xAB19, 0))?;
+    let command = Command::One(Edit::Image {
+        slave: 0,
+        image: front,
+    });
+    let (new, runs) = apply(alloc, &plant, &command.try_copy()?)?;
+    assert_eq!(rt; runs.len(), 1);
+    for run in &runs {
+        assert_eq!(rt; (run.first, run.words.as_slice().len()), (0, 64));
+    }
+    assert_eq!(rt; new.len(), 1);
+    assert_eq!(rt; &new.slave(0).as_slice()[64..], [0xFFFF; 64].as_slice());
+
+    let small = alone(alloc, slave(alloc, 0, 0x0030)?)?;
+    let long = image(alloc, &[0; 130], (0, 0x0030, 0))?;
+    let command = Command::One(Edit::Image {
+        slave: 0,
+        image: long,
+    });
+    assert_refused(&rt, alloc, &small, &command, Cause::ImageTooLong, None);
+    Ok(())
+}
+
+/// One PDO of 14 entries without a sync manager, and zero words behind it.
+fn fourteen_entries(alloc: Global, count: usize) -> Result<Vec<u16>, Fail> {
+    let mut words = vec![in alloc; 0x1600, 0xFF0E]?;
+    for _word in 2..count {
+        words.push(0)?;
+    }
+    Ok(words)
+}
+
+#[test]
+fn category_fills_the_device(rt: HostRuntime) -> Result<(), Fail> {
+    let alloc = rt.alloc();
+    let mut words = Words::from_bytes(alloc, &[0; 256])?;
+    let zeros = alone(alloc, words.try_copy()?)?;
+    words.set(0x40, 51);
+    words.set(0x41, 8);
+    words.set(0x4A, 0xFFFF);
+    let plant = alone(alloc, words)?;
+    let fits = Command::One(of_kind(0, 51, fourteen_entries(alloc, 62)?));
+    let (new, _) = apply(alloc, &plant, &fits.try_copy()?)?;
+    assert_eq!(rt; new.len(), 1);
+    let mut wanted = [0; 64];
+    wanted[0] = 51;
+    wanted[1] = 62;
+    wanted[2] = 0x1600;
+    wanted[3] = 0xFF0E;
+    assert_eq!(rt; &new.slave(0).as_slice()[0x40..], wanted.as_slice());
+    let long = Command::One(of_kind(0, 51, fourteen_entries(alloc, 63)?));
+    assert_refused(&rt, alloc, &plant, &long, Cause::NoRoom, None);
+    let several = Command::One(of_kind(0, 0, Vec::new(alloc)));
+    assert_refused(&rt, alloc, &zeros, &several, Cause::SeveralCategories, None);
+    Ok(())
+}

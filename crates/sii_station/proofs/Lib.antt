@@ -1,2 +1,3 @@
 pub mod HexDigits
 pub mod LineImages
+pub mod ListedMembers

@@ -1,3 +1,4 @@
 pub mod Hexadecimal
+pub mod ImageListing
 pub mod ImageText
 pub mod LineText

@@ -9,6 +9,8 @@ use std::alloc::{AllocError, Global};
 pub enum Task<'a> {
     /// Sets the alias of the image on standard input.
     Alias { value: u16, hex: bool },
+    /// Prints what the image on standard input says.
+    Show { hex: bool },
     /// Runs a script on a line; both are names of files.
     Run { line: &'a str, script: &'a str },
 }
@@ -19,6 +21,11 @@ pub fn read_arguments<'a>(alloc: Global, words: &'a [String]) -> Result<Task<'a>
     let matches = command.try_get_matches_from_mut(words)?;
     if let Some(alias) = matches.subcommand_matches("alias") {
         return alias_task(&mut command, alias);
+    }
+    if let Some(show) = matches.subcommand_matches("show") {
+        return Ok(Task::Show {
+            hex: show.get_flag("hex"),
+        });
     }
     if let Some(run) = matches.subcommand_matches("run") {
         return Ok(run_task(run));
@@ -32,8 +39,23 @@ fn station<'a>(alloc: Global) -> Result<Command<'a>, AllocError> {
         .about("Reprograms the SII EEPROMs of a line of EtherCAT slaves")
         .after_help("Example:\n  sii_station alias 1001 < slave.bin > renamed.bin")
         .subcommand_required(true)
+        .subcommand(show_command(alloc)?)?
         .subcommand(alias_command(alloc)?)?
         .subcommand(run_command(alloc)?)
+}
+
+fn show_command<'a>(alloc: Global) -> Result<Command<'a>, AllocError> {
+    let hex = Arg::new(alloc, "hex")
+        .long("hex")
+        .help("Reads hexadecimal text in place of bytes")
+        .action(ArgAction::SetTrue);
+    Command::new(alloc, "show")
+        .about("Prints what an EEPROM image says")
+        .long_about(
+            "Reads the image of a slave's EEPROM from standard input and prints its alias, whether its check byte is right, its identity and its categories. An image has 64 to 4096 words, low byte first.",
+        )
+        .after_help("Example:\n  sii_station show < slave.bin")
+        .arg(hex)
 }
 
 fn alias_command<'a>(alloc: Global) -> Result<Command<'a>, AllocError> {

@@ -53,6 +53,13 @@ pub fn find_text<'a>(table: &'a Table, key: &str) -> Option<&'a str>
     }
 }
 
+/// A number of 32 bits: 0 to 4294967295.
+pub fn read_wide_number(value: &Value) -> Option<u32>
+    ensures { IfSome result (λ number. as_integer (view value.now) ≡ Some (pos number)) }
+{
+    u32::try_from(value.as_integer()?).ok()
+}
+
 /// A number of the program's files: 0 to 65535.
 pub fn read_number(value: &Value) -> Option<u16>
     ensures { IfSome result (λ number. as_integer (view value.now) ≡ Some (pos number)) }

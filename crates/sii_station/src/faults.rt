@@ -30,14 +30,32 @@ pub enum Fault {
 /// Why a command isn't carried out. The texts are the table of codes and names.
 #[derive(Clone, Copy, Debug, PartialEq, Eq, Error)]
 pub enum RefusalCode {
+    #[error("4 BadCategory")]
+    BadCategory,
+    #[error("5 NoRoom")]
+    NoRoom,
     #[error("10 NoSlave")]
     NoSlave,
     #[error("11 SameSlave")]
     SameSlave,
+    #[error("12 EmptyGroup")]
+    EmptyGroup,
+    #[error("13 GroupTooLong")]
+    GroupTooLong,
+    #[error("14 ImageTooLong")]
+    ImageTooLong,
     #[error("15 BadCheck")]
     BadCheck,
+    #[error("16 NoSuchCategory")]
+    NoSuchCategory,
+    #[error("17 SeveralCategories")]
+    SeveralCategories,
+    #[error("18 BadChain")]
+    BadChain,
     #[error("20 Memory")]
     Memory,
+    #[error("21 WrongIdentity")]
+    WrongIdentity,
     #[error("61 Full")]
     Full,
     #[error("62 Closed")]
@@ -149,10 +167,19 @@ impl From<WordsFault> for Fault {
 impl From<Cause> for RefusalCode {
     fn from(cause: Cause) -> Self {
         match cause {
+            Cause::BadCategory => RefusalCode::BadCategory,
+            Cause::NoRoom => RefusalCode::NoRoom,
             Cause::NoSlave => RefusalCode::NoSlave,
             Cause::SameSlave => RefusalCode::SameSlave,
+            Cause::EmptyGroup => RefusalCode::EmptyGroup,
+            Cause::GroupTooLong => RefusalCode::GroupTooLong,
+            Cause::ImageTooLong => RefusalCode::ImageTooLong,
             Cause::BadCheck => RefusalCode::BadCheck,
+            Cause::NoSuchCategory => RefusalCode::NoSuchCategory,
+            Cause::SeveralCategories => RefusalCode::SeveralCategories,
+            Cause::BadChain => RefusalCode::BadChain,
             Cause::Memory => RefusalCode::Memory,
+            Cause::WrongIdentity => RefusalCode::WrongIdentity,
         }
     }
 }

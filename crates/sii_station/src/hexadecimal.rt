@@ -1,6 +1,7 @@
 //! Hexadecimal text.
-ghost use Rattle.std.specs.Prelude.{◌≡◌, IfOk, IsErr, IsErrOf};
+ghost use Rattle.std.specs.Prelude.{◌≡◌, ◌%◌, length, IfOk, IsErr, IsErrOf};
 ghost use Rattle.hex.specs.Hex.{decode_of, encode_lower};
+ghost use Rattle.sii_words.specs.Words.{bytes_of};
 ghost use Rattle.sii_station.specs.Hexadecimal.{without_whitespace};
 
 use crate::faults::Fault;
@@ -24,7 +25,15 @@ pub fn read_hex(alloc: Global, text: &str) -> Result<Vec<u8>, HexFault>
     ensures bad { IsErrOf result HexFault.BadHex → IsErr (decode_of (without_whitespace text.now)) }
 {
     let digits = digits_of(alloc, text)?;
-    match hex::decode(alloc, digits.as_slice()) {
+    decode_digits(alloc, &digits)
+}
+
+/// The bytes that digits spell.
+fn decode_digits(alloc: Global, digits: &[u8]) -> Result<Vec<u8>, HexFault>
+    ensures ok { IfOk result (λ bytes. decode_of digits.now ≡ Ok bytes.items) }
+    ensures bad { IsErrOf result HexFault.BadHex → IsErr (decode_of digits.now) }
+{
+    match hex::decode(alloc, digits) {
         Ok(bytes) => Ok(bytes),
         Err(FromHexError::OutOfMemory) => Err(HexFault::Memory),
         Err(_) => Err(HexFault::BadHex),
@@ -40,6 +49,31 @@ fn digits_of(alloc: Global, text: &str) -> Result<Vec<u8>, AllocError>
         .copied()
         .filter(|byte| !byte.is_ascii_whitespace())
         .collect(alloc)
+}
+
+/// The words whose bytes a text spells, low byte first, two digits of either case for each byte. Nothing is skipped.
+pub fn read_hex_words(alloc: Global, text: &str) -> Result<Vec<u16>, HexFault>
+    ensures ok { IfOk result (λ words. decode_of text.now ≡ Ok (bytes_of words.items)) }
+{
+    let bytes = decode_digits(alloc, text.as_bytes())?;
+    if bytes.len() % 2 != 0 {
+        return Err(HexFault::BadHex);
+    }
+    Ok(words_of_bytes(alloc, &bytes)?)
+}
+
+/// The words that the bytes spell.
+fn words_of_bytes(alloc: Global, bytes: &[u8]) -> Result<Vec<u16>, AllocError>
+    requires { length bytes.now % 2 ≡ 0 }
+    ensures { IfOk result (λ words. bytes_of words.items ≡ bytes.now) }
+{
+    let mut words = Vec::with_capacity(alloc, bytes.len() / 2)?;
+    let mut rest = bytes;
+    while let [low, high, after @ ..] = rest {
+        words.push(u16::from_le_bytes([*low, *high]))?;
+        rest = after;
+    }
+    Ok(words)
 }
 
 /// The bytes as lower case digits, 16 bytes a line.

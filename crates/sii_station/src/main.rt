@@ -3,15 +3,20 @@
 
 mod alias;
 mod arguments;
+mod content;
 mod document;
 mod faults;
 mod hexadecimal;
 mod image;
 mod line_file;
+mod listing;
 mod reading;
 mod run;
+mod script_command;
 mod script_file;
+mod script_images;
 mod serve;
+mod show;
 mod store;
 #[cfg(test)]
 mod tests;

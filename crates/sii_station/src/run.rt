@@ -4,8 +4,9 @@ ghost use Rattle.std.specs.Prelude.{◌≡◌, IfOk, vec_len};
 use crate::faults::{Failure, Fault, Refused, Status};
 use crate::line_file::{LineFile, read_line};
 use crate::script_file::read_script;
+use crate::script_images::load_commands;
 use crate::serve::report;
-use crate::store::Store;
+use crate::store::{Store, read_file};
 use book_core::Core;
 use sii_edit::Command;
 use sii_words::{Plant, Words};
@@ -43,7 +44,7 @@ pub fn run<S: Store, W: Write, E: Write>(
     status
 }
 
-/// Reads the files in order: line, slaves, script.
+/// Reads the files in order: line, slaves, script, its images.
 fn load<S: Store>(
     alloc: Global,
     line: &str,
@@ -61,16 +62,8 @@ fn load<S: Store>(
     })
 }
 
-/// The bytes of a file that has to be there.
-fn load_file<S: Store>(alloc: Global, name: &str, store: &mut S) -> Result<Vec<u8>, Fault> {
-    match store.read(alloc, name)? {
-        Some(bytes) => Ok(bytes),
-        None => Err(Fault::File),
-    }
-}
-
 fn load_line<S: Store>(alloc: Global, name: &str, store: &mut S) -> Result<LineFile, Fault> {
-    let bytes = load_file(alloc, name, store)?;
+    let bytes = read_file(alloc, name, store)?;
     let Ok(text) = str::from_utf8(&bytes) else {
         return Err(Fault::BadLine);
     };
@@ -83,18 +76,20 @@ fn load_slaves<S: Store>(alloc: Global, line: &LineFile, store: &mut S) -> Resul
 {
     let mut slaves = Vec::new(alloc);
     for image in &line.images {
-        let bytes = load_file(alloc, image.as_str(), store)?;
+        let bytes = read_file(alloc, image.as_str(), store)?;
         slaves.push(Words::from_bytes(alloc, &bytes)?)?;
     }
     Ok(slaves)
 }
 
+/// The images that the script names are read once all of its text is judged.
 fn load_script<S: Store>(alloc: Global, name: &str, store: &mut S) -> Result<Vec<Command>, Fault> {
-    let bytes = load_file(alloc, name, store)?;
+    let bytes = read_file(alloc, name, store)?;
     let Ok(text) = str::from_utf8(&bytes) else {
         return Err(Fault::BadScript { command: 0 });
     };
-    Ok(read_script(alloc, text)?)
+    let script = read_script(alloc, text)?;
+    load_commands(alloc, script, store)
 }
 
 /// Submits the commands in order, prints the answer to each, and last the totals. A refusal raises the status.

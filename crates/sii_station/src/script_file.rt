@@ -2,9 +2,9 @@
 ghost use Rattle.std.specs.Prelude.{◌≡◌, IfOk, IsSome};
 ghost use Rattle.toml.specs.Parse.{parse_document};
 
-use crate::document::{DocumentFault, has_only, read_document, read_number};
+use crate::document::{DocumentFault, has_only, read_document};
 use crate::faults::Fault;
-use sii_edit::{Command, Edit};
+use crate::script_command::{CommandFault, ScriptCommand, read_command};
 use std::alloc::{AllocError, AllocFailed, Global};
 use thiserror::Error;
 use toml::{Table, Value};
@@ -19,15 +19,16 @@ pub enum ScriptFault {
     BadScript { command: usize },
 }
 
-/// Reads a script: an array of tables `command`, each with one key, `alias` or `swap`.
-pub fn read_script(alloc: Global, text: &str) -> Result<Vec<Command>, ScriptFault>
+/// Reads a script: an array of tables `command`, each with one key, `alias`, `swap`, `category`, `image` or `group`. The
+/// files of images aren't read.
+pub fn read_script(alloc: Global, text: &str) -> Result<Vec<ScriptCommand>, ScriptFault>
     ensures { IfOk result (λ _. IsSome (parse_document text.now)) }
 {
     let table = read_document(alloc, text)?;
     commands_of(alloc, &table)
 }
 
-fn commands_of(alloc: Global, table: &Table) -> Result<Vec<Command>, ScriptFault> {
+fn commands_of(alloc: Global, table: &Table) -> Result<Vec<ScriptCommand>, ScriptFault> {
     let whole = ScriptFault::BadScript { command: 0 };
     if !has_only(table, &["command"]) {
         return Err(whole);
@@ -37,46 +38,17 @@ fn commands_of(alloc: Global, table: &Table) -> Result<Vec<Command>, ScriptFault
     };
     let mut commands = Vec::new(alloc);
     for (place, value) in values.iter().enumerate() {
-        let Some(command) = read_command(value) else {
-            return Err(ScriptFault::BadScript { command: place });
-        };
-        commands.push(command)?;
+        commands.push(command_at(alloc, place, value)?)?;
     }
     Ok(commands)
 }
 
-/// A table with one key says what the command is.
-fn read_command(value: &Value) -> Option<Command> {
-    let table = value.as_table()?;
-    if table.len() != 1 {
-        return None;
-    }
-    if let Some(edit) = table.get("alias") {
-        return Some(Command::One(read_alias(edit)?));
-    }
-    read_swap(table.get("swap")?)
-}
-
-/// `{ slave = 0, value = 1 }`
-fn read_alias(value: &Value) -> Option<Edit> {
-    let table = value.as_table()?;
-    if !has_only(table, &["slave", "value"]) {
-        return None;
-    }
-    Some(Edit::Alias {
-        slave: read_number(table.get("slave")?)?,
-        value: read_number(table.get("value")?)?,
-    })
-}
-
-/// `[0, 1]`
-fn read_swap(value: &Value) -> Option<Command> {
-    match value.as_array()?.as_slice() {
-        [a, b] => Some(Command::Swap {
-            a: read_number(a)?,
-            b: read_number(b)?,
-        }),
-        _ => None,
+/// The command at this place of the script.
+fn command_at(alloc: Global, place: usize, value: &Value) -> Result<ScriptCommand, ScriptFault> {
+    match read_command(alloc, value) {
+        Ok(command) => Ok(command),
+        Err(CommandFault::Memory) => Err(ScriptFault::Memory),
+        Err(CommandFault::Malformed) => Err(ScriptFault::BadScript { command: place }),
     }
 }
 

@@ -4,6 +4,7 @@ use crate::alias::alias;
 use crate::arguments::{Task, read_arguments};
 use crate::faults::{Failure, Fault, Status};
 use crate::run::run;
+use crate::show::show;
 use crate::store::Store;
 use clap::Error;
 use clap::error::ErrorKind;
@@ -24,6 +25,10 @@ pub fn serve<R: Read, S: Store, W: Write, E: Write>(
         Ok(Task::Alias { value, hex }) => match alias(alloc, value, hex, input, output) {
             Ok(()) => Status::Done,
             Err(failure) => report(failure, faults),
+        },
+        Ok(Task::Show { hex }) => match show(alloc, hex, input, output) {
+            Ok(status) => status,
+            Err(fault) => report(Failure::Fault(fault), faults),
         },
         Ok(Task::Run { line, script }) => run(alloc, line, script, store, output, faults),
         Err(error) => explain(&error, output, faults),

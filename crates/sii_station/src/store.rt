@@ -1,5 +1,6 @@
 //! Files by their names.
 
+use crate::faults::Fault;
 use crate::reading::read_to_end;
 use std::alloc::Global;
 use std::fs::File;
@@ -13,6 +14,14 @@ pub trait Store {
 
     /// Makes these the bytes of a file.
     fn write(&mut self, name: &str, bytes: &[u8]) -> io::Result<()>;
+}
+
+/// The bytes of a file that has to be there.
+pub fn read_file<S: Store>(alloc: Global, name: &str, store: &mut S) -> Result<Vec<u8>, Fault> {
+    match store.read(alloc, name)? {
+        Some(bytes) => Ok(bytes),
+        None => Err(Fault::File),
+    }
 }
 
 /// The system's files. A name without a leading slash is relative to the current folder.

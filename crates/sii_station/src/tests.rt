@@ -2,8 +2,10 @@
 
 mod alias_runs;
 mod line_files;
+mod script_commands;
 mod script_files;
 mod script_runs;
+mod show_runs;
 
 use crate::serve::serve;
 use crate::store::Store;

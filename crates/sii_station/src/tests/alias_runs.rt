@@ -13,7 +13,8 @@ fn alias_run<R: Read>(alloc: Global, words: &str, input: &mut R) -> Result<Outco
 fn wrong_words_are_usage(rt: HostRuntime) -> Result<(), Fail> {
     let wrong = [
         "station",
-        "station show",
+        "station show 1",
+        "station show --hex --hex",
         "station run",
         "station run line.toml",
         "station run line.toml script.toml more",
@@ -44,6 +45,7 @@ fn help_says_what_it_does(rt: HostRuntime) -> Result<(), Fail> {
     for words in [
         "station --help",
         "station help",
+        "station show --help",
         "station alias --help",
         "station run --help",
     ] {

@@ -81,6 +81,116 @@ accepted 2 durable 0 settled 0\n";
 }
 
 #[test]
+fn an_edit_of_a_group_is_refused_by_its_place(rt: HostRuntime) -> Result<(), Fail> {
+    let cases = [
+        (
+            "[{ alias = { slave = 0, value = 5 } }, { alias = { slave = 1, value = 6 } },
+                { category = { slave = 0, kind = 60, content = '' } }]",
+            "16 NoSuchCategory at 2",
+        ),
+        (
+            "[{ alias = { slave = 0, value = 5 }, expect = { vendor = 0, product = 0, revision = 0 } },
+                { alias = { slave = 1, value = 6 }, expect = { vendor = 2, product = 0, revision = 0 } }]",
+            "21 WrongIdentity at 1",
+        ),
+        (
+            "[{ alias = { slave = 2, value = 1 }, expect = { vendor = 2, product = 0, revision = 0 } }]",
+            "15 BadCheck at 0",
+        ),
+        ("[]", "12 EmptyGroup"),
+    ];
+    for (group, refusal) in cases {
+        let script = format!(in rt.alloc(); "[[command]]\ngroup = {group}\n")?;
+        let text = format!(in rt.alloc();
+            "command 0 refused {refusal}\naccepted 0 durable 0 settled 0\n"
+        )?;
+        let mut shelf = line_of_three(rt.alloc())?;
+        let outcome = run_script(rt.alloc(), script.as_str(), &mut shelf)?;
+        assert_printed(&rt, &outcome, 1, text.as_str());
+        assert_file(&rt, &shelf, "s0.bin", &image(rt.alloc(), 0, 0x30)?);
+    }
+    Ok(())
+}
+
+fn image_of_vendor_2(alloc: Global, alias: u16, check: u8) -> Result<Vec<u8>, AllocError> {
+    let mut bytes = image(alloc, alias, check)?;
+    if let Some(vendor) = bytes.get_mut(16) {
+        *vendor = 2;
+    }
+    Ok(bytes)
+}
+
+#[test]
+fn a_slave_gets_an_identity_and_then_an_alias(rt: HostRuntime) -> Result<(), Fail> {
+    let script = "[[command]]
+group = [
+    { image = { slave = 0, file = 'new.bin' }, expect = { vendor = 0, product = 0, revision = 0 } },
+    { alias = { slave = 0, value = 3 }, expect = { vendor = 2, product = 0, revision = 0 } },
+]\n";
+    let mut shelf = line_of_three(rt.alloc())?;
+    let new = image_of_vendor_2(rt.alloc(), 0, 0x30)?;
+    let saved = image_of_vendor_2(rt.alloc(), 3, 0x4B)?;
+    shelf.put("new.bin", &new)?;
+    let outcome = run_script(rt.alloc(), script, &mut shelf)?;
+    let text = "command 0 accepted 0\naccepted 1 durable 0 settled 0\n";
+    assert_printed(&rt, &outcome, 0, text);
+    assert_file(&rt, &shelf, "s0.bin", &saved);
+    Ok(())
+}
+
+#[test]
+fn categories_and_images_are_refused(rt: HostRuntime) -> Result<(), Fail> {
+    // slave 1 has two categories of type 60, the chain of slave 2 is cut
+    let commands = [
+        (
+            "category = { slave = 0, kind = 10, content = '0202' }",
+            "4 BadCategory",
+        ),
+        (
+            "category = { slave = 0, kind = 60, content = '0000' }",
+            "5 NoRoom",
+        ),
+        (
+            "category = { slave = 1, kind = 61, content = '' }",
+            "16 NoSuchCategory",
+        ),
+        (
+            "category = { slave = 1, kind = 60, content = '0000' }",
+            "17 SeveralCategories",
+        ),
+        (
+            "category = { slave = 2, kind = 60, content = '0000' }",
+            "18 BadChain",
+        ),
+        ("image = { slave = 0, file = 's1.bin' }", "14 ImageTooLong"),
+    ];
+    for (command, refusal) in commands {
+        let mut shelf = line_of_three(rt.alloc())?;
+        shelf.put(
+            "s1.bin",
+            &with_chain(rt.alloc(), &[60, 0, 0, 0, 60, 0, 0, 0, 255, 255])?,
+        )?;
+        shelf.put("s2.bin", &with_chain(rt.alloc(), &[60, 0, 255, 255])?)?;
+        let script = format!(in rt.alloc(); "[[command]]\n{command}\n")?;
+        let text = format!(in rt.alloc();
+            "command 0 refused {refusal}\naccepted 0 durable 0 settled 0\n"
+        )?;
+        let outcome = run_script(rt.alloc(), script.as_str(), &mut shelf)?;
+        assert_printed(&rt, &outcome, 1, text.as_str());
+    }
+    Ok(())
+}
+
+/// A device of 128 words, all 0 but its check byte and the bytes from word 0x40 on.
+fn with_chain(alloc: Global, chain: &[u8]) -> Result<Vec<u8>, AllocError> {
+    let mut bytes = zeros(alloc, 256)?;
+    for (byte, value) in bytes.iter_mut().skip(128).zip(chain) {
+        *byte = *value;
+    }
+    Ok(bytes)
+}
+
+#[test]
 fn the_1025th_command_is_refused(rt: HostRuntime) -> Result<(), Fail> {
     let script = "[[command]]\nalias = { slave = 0, value = 0 }\n".repeat(rt.alloc(), 1025)?;
     let mut shelf = line_of_three(rt.alloc())?;

@@ -6,6 +6,6 @@ pub returns : goal.returns
 returns c =
     let plant = c.args.plant.now in
     let new = drafted plant c.carry_out.new.draft in
-    let judged = rw c.in_ok-draft.ensures.1 at c.in_ok-carry_out.ensures.ok.1 in
+    let judged = rw c.in_ok-draft.ensures.1 at c.in_ok-carry_out.ensures.1 in
     let facts = accepted plant new c.args.command.now c.in_ok-runs.field-0.items judged c.in_ok-runs.ensures in
     record { accepted = facts.judged; runs = facts.between; inside = facts.inside; refused = tt }

@@ -8,15 +8,15 @@ pub returns-then-slave-len : goal.returns-then-slave-len
 returns-then-slave-len c =
     let plant = c.args.plant.now in
     let draft = c.args.self.now in
-    (inl (edited-missing (drafted plant draft) c.args.edit.now (omega (arith, length-drafted plant draft))), refl)
+    (inl (edited-missing (drafted plant draft) c.args.expect c.args.edit.now (omega (arith, length-drafted plant draft))), refl)
 
 pub returns-in_err-words : goal.returns-in_err-words
 returns-in_err-words c =
-    refused_step c.args.plant.now c.args.self.now c.args.edit.now c.in_err-words.field-0.0 c.from-slave.result c.words.result.now c.from_residual.result c.from_residual.ensures.1 (c.from-slave.ensures ∙ c.slave.ensures) (omega arith) c.words.ensures c.in_err-words.ensures.refused
+    refused_step c.args.plant.now c.args.self.now c.args.expect c.args.edit.now c.in_err-words.field-0.0 c.from-slave.result c.words.result.now c.from_residual.result c.from_residual.ensures.1 (c.from-slave.ensures ∙ c.slave.ensures) (omega arith) c.words.ensures c.in_err-words.ensures
 
 pub put-requires : goal.put-requires
 put-requires c = omega (arith, length_draft c.args.plant.now c.args.self.now c.requires)
 
 pub returns : goal.returns
 returns c =
-    edited_step c.args.plant.now c.args.self.now c.put.new.self c.args.edit.now c.from-slave.result c.words.result.now c.in_ok-words.words c.requires (c.from-slave.ensures ∙ c.slave.ensures) (omega arith) c.words.ensures c.in_ok-words.ensures.new c.in_ok-words.ensures.size c.put.ensures
+    edited_step c.args.plant.now c.args.self.now c.put.new.self c.args.expect c.args.edit.now c.from-slave.result c.words.result.now c.in_ok-words.words c.requires (c.from-slave.ensures ∙ c.slave.ensures) (omega arith) c.words.ensures c.in_ok-words.ensures c.put.ensures

@@ -1,0 +1,99 @@
+-- The first cause that applies: what an answer says of the tests.
+use Rattle.std.proofs.Common.{◌≡◌, ◌≢◌, ◌⊎◌, ℕ, Bool, true, false, List, [], ◌∷◌, refl, sym, ap, ◌∙◌, inl, inr, Result, Ok, Err}
+use Rattle.sii_edit.specs.declared.refusal.Cause.{Cause}
+use Rattle.sii_edit.specs.declared.refusal.Cause.TheVariants.{Memory}
+use Rattle.sii_edit.specs.declared.refusal.Refusal.{Refusal}
+use Rattle.sii_edit.specs.Refusal.{unless, whole, placed, of_whole, of_place, then_judged, IsCauseOf, IsRefusalOf}
+
+-- where no cause applies, it is what there is
+pub unless-ok : {A : Type 0} (tests : List (Bool × Cause)) (given new : A) → unless tests given ≡ Ok new → new ≡ given
+unless-ok [] given new judged = cc
+unless-ok ((true, cause) ∷ tests) given new judged = cc
+unless-ok ((false, cause) ∷ tests) given new judged = unless-ok tests given new judged
+
+-- the causes don't depend on what there is
+pub unless-change : {A B : Type 0} (tests : List (Bool × Cause)) (given new : A) (other : B) → unless tests given ≡ Ok new → unless tests other ≡ Ok other
+unless-change [] given new other judged = refl
+unless-change ((true, cause) ∷ tests) given new other judged = cc
+unless-change ((false, cause) ∷ tests) given new other judged = unless-change tests given new other judged
+
+pub unless-err : {A B : Type 0} (tests : List (Bool × Cause)) (given : A) (other : B) (cause : Cause) → unless tests given ≡ Err cause → unless tests other ≡ Err cause
+unless-err [] given other cause judged = cc
+unless-err ((true, first) ∷ tests) given other cause judged = cc
+unless-err ((false, first) ∷ tests) given other cause judged = unless-err tests given other cause judged
+
+-- the first test, one way and the other
+pub unless-stop : {A : Type 0} (test : Bool) (cause : Cause) (tests : List (Bool × Cause)) (given : A) → test ≡ true → unless ((test, cause) ∷ tests) given ≡ Err cause
+unless-stop true cause tests given holds = refl
+unless-stop false cause tests given holds = cc
+
+pub unless-pass : {A : Type 0} (test : Bool) (cause : Cause) (tests : List (Bool × Cause)) (given : A) → test ≡ false → unless ((test, cause) ∷ tests) given ≡ unless tests given
+unless-pass true cause tests given fails = cc
+unless-pass false cause tests given fails = refl
+
+-- none of the tests holds
+abbrev pub NoneHolds : List (Bool × Cause) → Type 0
+NoneHolds [] = Unit {0}
+NoneHolds (test ∷ tests) = (test.0 ≡ false) × NoneHolds tests
+
+pub none_holds : {A : Type 0} (tests : List (Bool × Cause)) (given new : A) → unless tests given ≡ Ok new → NoneHolds tests
+none_holds [] given new judged = tt
+none_holds ((true, cause) ∷ tests) given new judged = cc
+none_holds ((false, cause) ∷ tests) given new judged = (refl, none_holds tests given new judged)
+
+-- want of memory is none of the causes
+abbrev pub NamesNoMemory : List (Bool × Cause) → Type 0
+NamesNoMemory [] = Unit {0}
+NamesNoMemory (test ∷ tests) = (test.1 ≢ Memory) × NamesNoMemory tests
+
+pub unless-not_memory : {A : Type 0} (tests : List (Bool × Cause)) (given : A) → NamesNoMemory tests → unless tests given ≢ Err Memory
+unless-not_memory [] given named = λ is. cc
+unless-not_memory ((true, cause) ∷ tests) given named = λ is. let same : cause ≡ Memory = cc in named.0 same
+unless-not_memory ((false, cause) ∷ tests) given named = unless-not_memory tests given named.1
+
+-- ---- refusals
+
+pub whole_ok : {A : Type 0} (judged : Result A Cause) (new : A) → of_whole judged ≡ Ok new → judged ≡ Ok new
+whole_ok (Ok given) new is = cc
+whole_ok (Err cause) new is = cc
+
+pub whole_err : {A : Type 0} (judged : Result A Cause) (refusal : Refusal) → of_whole judged ≡ Err refusal → judged ≡ Err refusal.cause
+whole_err (Ok given) refusal is = cc
+whole_err (Err cause) refusal is = let same : whole cause ≡ refusal = cc in ap (λ (r : Refusal). Err r.cause) same
+
+pub place_ok : {A : Type 0} (place : ℕ) (judged : Result A Cause) (new : A) → of_place place judged ≡ Ok new → judged ≡ Ok new
+place_ok place (Ok given) new is = cc
+place_ok place (Err cause) new is = cc
+
+placed-cause : (place : ℕ) (cause : Cause) → (placed place cause).cause ≡ cause
+placed-cause place Memory = refl
+placed-cause place cause = refl
+
+pub place_err : {A : Type 0} (place : ℕ) (judged : Result A Cause) (refusal : Refusal) → of_place place judged ≡ Err refusal → judged ≡ Err refusal.cause
+place_err place (Ok given) refusal is = cc
+place_err place (Err cause) refusal is =
+    let same : placed place cause ≡ refusal = cc in
+    ap (λ (c : Cause). Err c) (sym (placed-cause place cause) ∙ ap (λ (r : Refusal). r.cause) same)
+
+-- what was judged before what comes next
+pub then_ok : {A B E : Type 0} (judged : Result A E) (next : A → Result B E) (new : B) → then_judged judged next ≡ Ok new → (mid : A) × (judged ≡ Ok mid) × (next mid ≡ Ok new)
+then_ok (Ok mid) next new is = (mid, refl, is)
+then_ok (Err refusal) next new is = cc
+
+pub then_err : {A B E : Type 0} (judged : Result A E) (next : A → Result B E) (refusal : E) → then_judged judged next ≡ Err refusal
+    → (judged ≡ Err refusal) ⊎ ((mid : A) × (judged ≡ Ok mid) × (next mid ≡ Err refusal))
+then_err (Ok mid) next refusal is = inr (mid, refl, is)
+then_err (Err first) next refusal is = inl cc
+
+-- a refusal of what is judged, in a group and of a command as a whole
+pub refused_at : {A : Type 0} (place : ℕ) (judged : Result A Cause) (cause : Cause) → IsCauseOf judged cause → IsRefusalOf (of_place place judged) (placed place cause)
+refused_at place judged cause (inl is) = inl (ap (of_place place) is)
+refused_at place judged cause (inr memory) = inr (ap (placed place) memory)
+
+pub refused_whole : {A : Type 0} (judged : Result A Cause) (cause : Cause) → IsCauseOf judged cause → IsRefusalOf (of_whole judged) (whole cause)
+refused_whole judged cause (inl is) = inl (ap of_whole is)
+refused_whole judged cause (inr memory) = inr (ap whole memory)
+
+pub refused_then : {A B : Type 0} (judged : Result A Refusal) (next : A → Result B Refusal) (refusal : Refusal) → IsRefusalOf judged refusal → IsRefusalOf (then_judged judged next) refusal
+refused_then {A = A} judged next refusal (inl is) = inl (ap (λ (r : Result A Refusal). then_judged r next) is)
+refused_then {A = A} judged next refusal (inr memory) = inr memory

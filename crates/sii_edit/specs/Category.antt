@@ -1,0 +1,70 @@
+-- What exchanging the content of the one category of a type does to the words of a slave, and what speaks against it.
+use Rattle.std.specs.Prelude.{◌≡◌, ◌≢◌, ℕ, ◌==◌, ◌&&◌, ◌||◌, Bool, false, nat_lt, List, [], ◌∷◌, length, count_by, position, slice_get, All, Option, Some, None, Result, Ok, Err, is_err, if◌then◌else◌}
+use Rattle.sii_cats.specs.Chain.{Member, members_of, IsChain}
+use Rattle.sii_cats.specs.Strings.{strings_of}
+use Rattle.sii_cats.specs.Pdos.{pdos_of}
+use Rattle.sii_cats.specs.Splice.{chain_end, with_chain, IsEdit}
+use Rattle.sii_cats.specs.Splice.{edited as spliced}
+
+-- a content that isn't what its type asks for: strings in type 10, PDOs in types 50 and 51; other contents aren't looked into
+abbrev pub is_malformed : ℕ → List ℕ → Bool
+is_malformed kind content =
+    if kind == 10 then is_err (strings_of content) else if kind == 50 then is_err (pdos_of content) else if kind == 51 then is_err (pdos_of content) else false
+
+-- no edit gives the end mark's type to a category
+abbrev pub is_unfit : ℕ → List ℕ → Bool
+is_unfit kind content = kind == 0xFFFF || is_malformed kind content
+
+-- a chain has a category whose content is malformed
+abbrev pub has_malformed : List Member → Bool
+has_malformed [] = false
+has_malformed (m ∷ ms) = is_malformed m.kind m.content || has_malformed ms
+
+abbrev pub has_kind : ℕ → Member → Bool
+has_kind kind m = m.kind == kind
+
+-- how many categories of a type a chain has
+abbrev pub count_of : ℕ → List Member → ℕ
+count_of kind ms = count_by (has_kind kind) ms
+
+-- a category is to be removed that the chain doesn't have
+abbrev pub is_absent : ℕ → List ℕ → List Member → Bool
+is_absent kind content ms = length content == 0 && count_of kind ms == 0
+
+abbrev pub is_repeated : ℕ → List Member → Bool
+is_repeated kind ms = nat_lt 1 (count_of kind ms)
+
+-- The category of the type keeps its place, or is taken out without a content; where there is none, it is added last.
+abbrev pub exchanged : ℕ → List ℕ → List Member → List Member
+exchanged kind content ms = spliced (position (has_kind kind) ms) kind content ms
+
+-- the new chain passes the end of the words
+abbrev pub is_too_long : List ℕ → ℕ → List ℕ → List Member → Bool
+is_too_long words kind content ms = nat_lt (length words) (chain_end (exchanged kind content ms))
+
+-- a test of the chain; it fails where the chain can't be read
+abbrev pub if_read : Result (List Member) (List ℕ) → (List Member → Bool) → Bool
+if_read (Ok ms) test = test ms
+if_read (Err rest) test = false
+
+-- the words with the new chain
+abbrev pub rechained : ℕ → List ℕ → List ℕ → Result (List Member) (List ℕ) → List ℕ
+rechained kind content words (Ok ms) = with_chain words (exchanged kind content ms)
+rechained kind content words (Err rest) = words
+
+abbrev pub with_category : List ℕ → ℕ → List ℕ → List ℕ
+with_category words kind content = rechained kind content words (members_of words)
+
+-- the one place of a category of this type, or None where there is none
+abbrev pub IsPlaceOf : ℕ → List Member → Option ℕ → Type 0
+IsPlaceOf kind ms None = All (λ m. m.kind ≢ kind) ms
+IsPlaceOf kind ms (Some i) = (m : Member) × (slice_get ms i ≡ Some m) × (m.kind ≡ kind)
+    × ((j : ℕ) (other : Member) → slice_get ms j ≡ Some other → other.kind ≡ kind → j ≡ i)
+
+-- The new words differ from the old ones in one category of this type, which is exchanged, added last or taken out.
+pub record ChangesCategory (old : List ℕ) (kind : ℕ) (content new : List ℕ) : Type 0 where
+  pub chain : List Member
+  pub place : Option ℕ
+  pub read : IsChain old chain
+  pub one : IsPlaceOf kind chain place
+  pub edit : IsEdit old new (spliced place kind content chain)

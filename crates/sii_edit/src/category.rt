@@ -1,0 +1,139 @@
+ghost use Rattle.std.specs.Prelude.{◌≡◌, ◌≢◌, ◌≤◌, ◌==◌, ◌∷◌, [], None, Ok, Err, is_err, length, map, count_by, position, All, IfOk, IfErr, OnOk};
+ghost use Rattle.sii_cats.specs.Chain.{end_of, members_of, member_of};
+ghost use Rattle.sii_edit.specs.Category.{has_malformed, if_read, is_malformed, is_unfit, with_category};
+ghost use Rattle.sii_edit.specs.Command.{category_causes};
+ghost use Rattle.sii_edit.specs.Refusal.{unless, IsAnswer, IsJudgement};
+
+use crate::command::Expect;
+use crate::guard::is_other;
+use crate::image::overwritten;
+use crate::refusal::Cause;
+use sii_cats::{CatFault, Category, ChainFault, END, chain, pdos, splice, strings};
+use sii_words::Words;
+use std::alloc::Global;
+
+/// The types of the categories whose contents are judged.
+const STRINGS: u16 = 10;
+
+const TXPDO: u16 = 50;
+
+const RXPDO: u16 = 51;
+
+/// Whether what was read is refused as malformed.
+fn is_refused<T: Drop>(read: Result<T, CatFault>) -> Result<bool, Cause>
+    ensures refused { IfOk result (λ refused. refused ≡ is_err read) }
+    ensures known { OnOk result (read ≢ Err CatFault.Memory) }
+    ensures memory { IfErr result (λ cause. cause ≡ Cause.Memory) }
+{
+    match read {
+        Ok(_) => Ok(false),
+        Err(CatFault::Memory) => Err(Cause::Memory),
+        Err(_) => Ok(true),
+    }
+}
+
+/// Whether a content isn't what its type asks for.
+fn is_malformed(alloc: Global, kind: u16, content: &[u16]) -> Result<bool, Cause>
+    ensures answer { IfOk result (λ malformed. malformed ≡ is_malformed kind content.now) }
+    ensures memory { IfErr result (λ cause. cause ≡ Cause.Memory) }
+{
+    match kind {
+        STRINGS => is_refused(strings(alloc, content)),
+        TXPDO | RXPDO => is_refused(pdos(alloc, kind, content)),
+        _ => Ok(false),
+    }
+}
+
+/// Judges the content and the type that a category is to have.
+fn judge_content(alloc: Global, kind: u16, content: &[u16]) -> Result<(), Cause>
+    ensures { IsJudgement ((is_unfit kind content.now, Cause.BadCategory) ∷ []) result }
+{
+    if kind == END || is_malformed(alloc, kind, content)? {
+        return Err(Cause::BadCategory);
+    }
+    Ok(())
+}
+
+/// Judges the contents of categories that stand among these words.
+fn judge_contents(alloc: Global, words: &[u16], categories: &[Category]) -> Result<(), Cause>
+    requires { All (λ c. end_of c ≤ length words.now) categories.now }
+    ensures { IsJudgement ((has_malformed (map (member_of words.now) categories.now), Cause.BadCategory) ∷ []) result }
+{
+    for category in categories {
+        if is_malformed(alloc, category.kind, category.content(words))? {
+            return Err(Cause::BadCategory);
+        }
+    }
+    Ok(())
+}
+
+/// Judges the chain of categories of these words, and their contents.
+pub(crate) fn judge_chain(alloc: Global, words: &[u16]) -> Result<(), Cause>
+    requires { 64 ≤ length words.now }
+    ensures { IsJudgement ((if_read (members_of words.now) has_malformed, Cause.BadCategory) ∷ (is_err (members_of words.now), Cause.BadChain) ∷ []) result }
+{
+    let categories = chain(alloc, words)?;
+    judge_contents(alloc, words, &categories)
+}
+
+/// How many categories have a type.
+fn count_of(categories: &[Category], kind: u16) -> usize
+    ensures { result ≡ count_by (λ c. c.kind == kind) categories.now }
+{
+    categories.iter().filter(|c| c.kind == kind).count()
+}
+
+/// The first category of a type.
+fn place_of(categories: &[Category], kind: u16) -> Option<usize>
+    ensures { result ≡ position (λ c. c.kind == kind) categories.now }
+{
+    categories.iter().position(|c| c.kind == kind)
+}
+
+/// The words of a slave whose chain has these categories, with the one of a type exchanged, added last or taken out.
+fn exchanged(
+    alloc: Global,
+    words: &Words,
+    categories: &[Category],
+    kind: u16,
+    content: &[u16],
+) -> Result<Words, Cause>
+    requires { members_of words.now ≡ Ok (map (member_of words.now) categories.now) }
+    ensures { IsAnswer (unless (category_causes None words.now kind content.now) (with_category words.now kind content.now)) result }
+{
+    let count = count_of(categories, kind);
+    if content.is_empty() && count == 0 {
+        return Err(Cause::NoSuchCategory);
+    }
+    if count > 1 {
+        return Err(Cause::SeveralCategories);
+    }
+    judge_content(alloc, kind, content)?;
+    let place = place_of(categories, kind);
+    let new = splice(alloc, words.as_slice(), place, kind, content)?;
+    Ok(overwritten(words, &new)?)
+}
+
+/// The words of a slave with the one category of a type exchanged, added last where there is none, or taken out where the
+/// content is empty.
+pub(crate) fn recategorized(
+    alloc: Global,
+    expect: Option<Expect>,
+    words: &Words,
+    kind: u16,
+    content: &[u16],
+) -> Result<Words, Cause>
+    ensures { IsAnswer (unless (category_causes expect words.now kind content.now) (with_category words.now kind content.now)) result }
+{
+    if is_other(expect, words) {
+        return Err(Cause::WrongIdentity);
+    }
+    match chain(alloc, words.as_slice()) {
+        Ok(categories) => exchanged(alloc, words, &categories, kind, content),
+        Err(ChainFault::Memory) => Err(Cause::Memory),
+        Err(ChainFault::RunsOut { .. }) => {
+            judge_content(alloc, kind, content)?;
+            Err(Cause::BadChain)
+        }
+    }
+}

@@ -1,0 +1,79 @@
+ghost use Rattle.std.specs.Prelude.{◌<◌, map};
+ghost use Rattle.sii_edit.specs.Command.{edited, group_causes, grouped, unguarded};
+ghost use Rattle.sii_edit.specs.Draft.{drafted, IsCarriedOut, IsDraftOf};
+ghost use Rattle.sii_edit.specs.Refusal.{IsJudgement, of_place};
+
+use crate::command::{Edit, Expect, GuardedEdit};
+use crate::draft::Draft;
+use crate::refusal::{Cause, Refusal};
+use sii_words::Plant;
+use std::alloc::Global;
+
+/// How many edits a group may have.
+const MOST_EDITS: usize = 64;
+
+/// Judges a group of so many edits as a whole.
+fn judge_count(count: usize) -> Result<(), Cause>
+    ensures { IsJudgement (group_causes count) result }
+{
+    if count == 0 {
+        return Err(Cause::EmptyGroup);
+    }
+    if count > MOST_EDITS {
+        return Err(Cause::GroupTooLong);
+    }
+    Ok(())
+}
+
+/// The edit at a place of a group.
+fn edit_at(
+    draft: &mut Draft,
+    alloc: Global,
+    plant: &Plant,
+    place: usize,
+    expect: Option<Expect>,
+    edit: &Edit,
+) -> Result<(), Refusal>
+    requires draft { IsDraftOf plant.now draft.old }
+    requires place { place < 64 }
+    ensures { IsCarriedOut plant.now (of_place place (edited (drafted plant.now draft.old) expect edit.now)) draft.new result }
+{
+    match draft.edit(alloc, plant, expect, edit) {
+        Ok(()) => Ok(()),
+        Err(cause) => Err(Refusal::at(place as u8, cause)),
+    }
+}
+
+/// Edits of a group, each on what the earlier ones left.
+pub(crate) fn edit_all(
+    draft: &mut Draft,
+    alloc: Global,
+    plant: &Plant,
+    edits: &[Edit],
+) -> Result<(), Refusal>
+    requires { IsDraftOf plant.now draft.old }
+    ensures { IsCarriedOut plant.now (grouped (drafted plant.now draft.old) (map unguarded edits.now)) draft.new result }
+{
+    judge_count(edits.len()).map_err(Refusal::whole)?;
+    for (place, edit) in edits.iter().enumerate() {
+        edit_at(draft, alloc, plant, place, None, edit)?;
+    }
+    Ok(())
+}
+
+/// Guarded edits of a group, each on what the earlier ones left.
+pub(crate) fn edit_guarded(
+    draft: &mut Draft,
+    alloc: Global,
+    plant: &Plant,
+    edits: &[GuardedEdit],
+) -> Result<(), Refusal>
+    requires { IsDraftOf plant.now draft.old }
+    ensures { IsCarriedOut plant.now (grouped (drafted plant.now draft.old) edits.now) draft.new result }
+{
+    judge_count(edits.len()).map_err(Refusal::whole)?;
+    for (place, guarded) in edits.iter().enumerate() {
+        edit_at(draft, alloc, plant, place, guarded.expect, &guarded.edit)?;
+    }
+    Ok(())
+}

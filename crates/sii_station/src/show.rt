@@ -1,0 +1,44 @@
+//! The subcommand `show`.
+ghost use Rattle.std.specs.Prelude.{◌≡◌, ◌↔◌, IfOk, IfSome};
+ghost use Rattle.sii_station.specs.ImageListing.{IsSound, ShowsStatus};
+
+use crate::faults::{Fault, Status};
+use crate::image::read_image;
+use crate::listing::{Listing, list_image};
+use std::alloc::{AllocError, Global};
+use std::io::{Read, Write};
+
+/// Reads an image and prints what it says. The status says whether the check byte, the chain or a content is bad.
+/// Nothing is printed where memory is refused.
+pub fn show<R: Read, W: Write>(
+    alloc: Global,
+    hex: bool,
+    input: &mut R,
+    output: &mut W,
+) -> Result<Status, Fault>
+    ensures { IfOk result (λ status. IfSome (R.remaining input.old) (λ text. ShowsStatus hex text status)) }
+{
+    let image = read_image(alloc, hex, input)?;
+    let listing = list_image(alloc, &image)?;
+    let text = spell_listing(alloc, &listing)?;
+    output.write_all(text.as_bytes())?;
+    output.flush()?;
+    Ok(status_of(&listing))
+}
+
+/// Done where all is sound.
+fn status_of(listing: &Listing) -> Status
+    ensures { (result ≡ Status.Done) ↔ IsSound listing.now }
+{
+    if listing.is_sound() {
+        Status::Done
+    } else {
+        Status::File
+    }
+}
+
+fn spell_listing(alloc: Global, listing: &Listing) -> Result<String, AllocError> {
+    let mut text = String::new(alloc);
+    write!(text, "{listing}")?;
+    Ok(text)
+}
