@@ -1,0 +1,9 @@
+pub mod Remembered
+pub mod Calling
+pub mod Lengths
+pub mod LineHalves
+pub mod GoingThrough
+pub mod Exchanging
+pub mod Replies
+pub mod Owning
+pub mod Wholes

@@ -1,0 +1,7 @@
+pub mod Unsynced
+pub mod Line
+pub mod Stopping
+pub mod Going
+pub mod Headers
+pub mod Site
+pub mod Parts

@@ -1,0 +1,85 @@
+// Bytes of a disk, and what is remembered of them until a sync.
+ghost use Rattle.std.specs.Prelude.{◌≡◌, ℕ, ◌+◌, ◌<◌, ◌≤◌, ◌^◌, length, slice_get, OnOk, OnErr};
+ghost use Rattle.site_core.specs.Disk.{Disk, StopImage, overlaid};
+ghost use Rattle.site_mem.specs.Unsynced.{IsTorn, Keeps, MarksOnly};
+
+use crate::faults::Pattern;
+use std::alloc::AllocError;
+
+/// Remembers the bytes of a range as they are, unless they are remembered already.
+pub(crate) fn hold(
+    before: &mut Vec<Option<u8>>,
+    bytes: &[u8],
+    at: usize,
+    count: usize,
+) -> Result<(), AllocError>
+    requires inside { at ≤ length bytes.now }
+    requires count { count < 2 ^ 63 }
+    ensures { MarksOnly before.old.items at (at + count) before.new.items }
+{
+    let end = at + count;
+    if before.len() < end {
+        before.resize(end, None)?;
+    }
+    mark(before, bytes, at, end);
+    Ok(())
+}
+
+fn mark(before: &mut [Option<u8>], bytes: &[u8], at: usize, end: usize)
+    requires { end ≤ length before.old }
+    ensures { MarksOnly before.old at end before.new }
+{
+    for place in at..end {
+        if before[place].is_none() {
+            before[place] = Some(bytes.get(place).copied().unwrap_or(0));
+        }
+    }
+}
+
+/// Lays bytes over others from a place on, past the end too.
+pub(crate) fn lay_over(bytes: &mut Vec<u8>, at: usize, over: &[u8]) -> Result<(), AllocError>
+    requires { at ≤ length bytes.old.items }
+    ensures ok { OnOk result (bytes.new.items ≡ overlaid bytes.old.items at over.now) }
+    ensures err { OnErr result (bytes.new.items ≡ bytes.old.items) }
+{
+    let inside = over.len().min(bytes.len() - at);
+    let (front, behind) = over.split_at(inside);
+    bytes.extend_from_slice(behind)?;
+    bytes[at..at + inside].copy_from_slice(front);
+    Ok(())
+}
+
+/// What a stop leaves of the bytes: those of the pattern where something is remembered, and of a lengthened disk the old
+/// length where the pattern is the old one.
+pub(crate) fn leave(
+    bytes: &mut Vec<u8>,
+    before: &[Option<u8>],
+    synced_length: usize,
+    pattern: Pattern,
+)
+    ensures { (disk : Disk) → disk.bytes ≡ bytes.old.items → disk.synced_length ≡ synced_length → Keeps before.now disk → StopImage disk bytes.new.items }
+{
+    match pattern {
+        Pattern::Old => {
+            tear(bytes, before, None);
+            bytes.truncate(synced_length);
+            return;
+        }
+        Pattern::New => return,
+        Pattern::Fill(word) => {
+            tear(bytes, before, Some((word % 256) as u8));
+            return;
+        }
+    }
+}
+
+/// Puts what is remembered, or the fill, into the places of which something is remembered.
+fn tear(bytes: &mut Vec<u8>, before: &[Option<u8>], fill: Option<u8>)
+    ensures { IsTorn before.now bytes.old.items bytes.new.items }
+{
+    for place in 0..bytes.len().min(before.len()) {
+        if let Some(byte) = before[place] {
+            bytes[place] = fill.unwrap_or(byte);
+        }
+    }
+}
