@@ -8,8 +8,8 @@ use Rattle.esc_rom.specs.declared.fault.RomFault.{RomFault}
 use Rattle.esc_rom.specs.declared.fault.RomFault.TheVariants as rom
 use Rattle.esc_rom.specs.Halves.{HalfGoes}
 use Rattle.esc_rom.specs.Runs.{Quiet, Runs}
+use Rattle.esc_rom.specs.Access.{BecomesRead, BecomesUnread, ReadsWords}
 use Rattle.esc_rom.specs.WordPairs.{ReadsAll}
-use Rattle.esc_rom.specs.Access.{BecomesRead, ReadsWords}
 use Rattle.esc_rom.proofs.QuietRuns.{Quiet-none, Quiet-more, Quiet-adds_nothing}
 
 quiet_of : (old : Seen) (long size : ℕ) (new : Seen) → long ≡ size → Quiet old (10000 + 30006 * (long / 2)) new → Quiet old (10000 + 30006 * (size / 2)) new
@@ -20,7 +20,7 @@ held_here : (old : Seen) (slave : ℕ) (half : SlaveHalf) → slice_get old.stat
 held_here old slave half here = ap (λ (o : Option SlaveHalf). unwrap_or (option_map (λ (h : SlaveHalf). length h.words) o) 0) here
 
 pub reads_ok : (old : Seen) (slave size long : ℕ) (words : List ℕ) (said : Bool) (new : Seen) → long ≡ size → length words ≡ words_held old slave → said ≡ true
-    → Runs (ReadsAll words) old slave (10000 + 30006 * (long / 2)) (Ok said) new → ReadsWords old slave size (Ok words) new
+    → Runs (ReadsAll old slave new words) old slave (10000 + 30006 * (long / 2)) (Ok said) new → ReadsWords old slave size (Ok words) new
 reads_ok old slave size long words said new is held yes_all runs = record {
   adds_nothing = Quiet-adds_nothing old (10000 + 30006 * (long / 2)) new runs.quiet;
   quiet = quiet_of old long size new is runs.quiet;
@@ -38,13 +38,13 @@ reads_ok old slave size long words said new is held yes_all runs = record {
         let so = all.2.1 (held ∙ held_here old slave half here) in
         (all.0, all.1, (all.2.0, so.0, so.1))
 
-pub reads_dead : (old : Seen) (slave size long : ℕ) (words : List ℕ) (said : Bool) (new : Seen) → long ≡ size → said ≡ false
-    → Runs (ReadsAll words) old slave (10000 + 30006 * (long / 2)) (Ok said) new → ReadsWords old slave size (Err (rom.SlaveDead slave)) new
-reads_dead old slave size long words said new is not_all runs = record {
+pub reads_dead : (old : Seen) (slave size long : ℕ) (words : List ℕ) (said : Bool) (new : Seen) → long ≡ size → length words ≡ size → said ≡ false
+    → Runs (ReadsAll old slave new words) old slave (10000 + 30006 * (long / 2)) (Ok said) new → ReadsWords old slave size (Err (rom.SlaveDead slave)) new
+reads_dead old slave size long words said new is held not_all runs = record {
   adds_nothing = Quiet-adds_nothing old (10000 + 30006 * (long / 2)) new runs.quiet;
   quiet = quiet_of old long size new is runs.quiet;
   read = λ w was. absurd cc;
-  dead = λ was. runs.half false (ap Ok not_all);
+  dead = λ was. subst (λ (n : ℕ). HalfGoes (BecomesUnread old slave n new) old.state slave new.state) held (runs.half false (ap Ok not_all));
   memory = λ was. absurd cc;
   stopped = λ was. absurd cc;
   going = λ stops. refl;
@@ -52,7 +52,7 @@ reads_dead old slave size long words said new is not_all runs = record {
 }
 
 pub reads_cut : (old : Seen) (slave size long : ℕ) (words : List ℕ) (stop : Stop) (result : Result (List ℕ) RomFault) (new : Seen) → long ≡ size → result ≡ Err rom.Stopped
-    → Runs (ReadsAll words) old slave (10000 + 30006 * (long / 2)) (Err stop) new → ReadsWords old slave size result new
+    → Runs (ReadsAll old slave new words) old slave (10000 + 30006 * (long / 2)) (Err stop) new → ReadsWords old slave size result new
 reads_cut old slave size long words stop result new is stopped runs = subst (λ (r : Result (List ℕ) RomFault). ReadsWords old slave size r new) (sym stopped) (record {
   adds_nothing = Quiet-adds_nothing old (10000 + 30006 * (long / 2)) new runs.quiet;
   quiet = quiet_of old long size new is runs.quiet;

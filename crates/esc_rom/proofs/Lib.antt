@@ -1,6 +1,8 @@
 pub mod Resting
 pub mod States
 pub mod QuietRuns
+pub mod Times
+pub mod GivingUp
 pub mod Exchanges
 pub mod Taking
 pub mod Polling
@@ -12,7 +14,9 @@ pub mod TakenWords
 pub mod IssuedWords
 pub mod SettledWords
 pub mod OpenSlaves
+pub mod Shown
 pub mod ReadWords
 pub mod Stops
 pub mod ReadRuns
+pub mod FailedTries
 pub mod AllWords

@@ -10,14 +10,16 @@ use Rattle.esc_rom.specs.declared.fault.Stop.{Stop}
 use Rattle.esc_rom.specs.declared.poll.Rested.{Rested}
 use Rattle.esc_rom.specs.Orders.{poll_order}
 use Rattle.esc_rom.specs.Sending.{Sends}
-use Rattle.esc_rom.specs.Halves.{OnlyRests, HalfGoes}
-use Rattle.esc_rom.specs.Status.{found_in}
+use Rattle.esc_rom.specs.Halves.{IsAt, OnlyRests, HalfGoes}
+use Rattle.esc_rom.specs.GivingUp.{MissesIdle}
 use Rattle.esc_rom.specs.Runs.{Runs, IsSeen, RestsSeen, IsGentle}
-use Rattle.esc_rom.proofs.Resting.{OnlyRests-same}
+use Rattle.esc_rom.specs.Status.{found_in}
+use Rattle.esc_rom.proofs.Resting.{OnlyRests-same, MayRest-station}
 use Rattle.esc_rom.proofs.States.{same_some, with_half-same}
+use Rattle.esc_rom.proofs.Times.{exchange_next}
 use Rattle.esc_rom.proofs.Exchanges.{exchange_quiet, exchange_back, exchange_lost}
 use Rattle.esc_rom.proofs.Taking.{here_or_elsewhere, poll_here, poll_elsewhere, poll-same}
-use Rattle.esc_rom.proofs.Polling.{poll-says}
+use Rattle.esc_rom.proofs.Polling.{poll-says, poll-misses, poll-at}
 
 -- a run of one exchange, where it came back, was lost, or the site stopped
 pub runs_back : {T : Type 0} (R : T → SlaveHalf → SlaveHalf → Type 0) (old : Seen) (slave : ℕ) (order : Pdu) (answer : List Pdu) (new : Seen) (value : T)
@@ -81,6 +83,54 @@ poll_back old slave answer new datagram found near sends first is =
             seen = subst (λ (f : Option Rested). IsSeen f back.rested) (ap found_in same ∙ sym is) (poll-says back.rested slave near);
           },
         )
+
+-- a poll that doesn't see the half idle
+pub poll_misses : (old : Seen) (slave : ℕ) (answer : List Pdu) (new : Seen) (datagram : Pdu) → slave < 64
+    → Sends old slave (poll_order slave) (Ok (Some answer)) new → slice_get answer 0 ≡ Some datagram → found_in datagram ≡ None
+    → HalfGoes (MissesIdle old slave new) old.state slave new.state
+poll_misses old slave answer new datagram near sends first is half here =
+    let back = exchange_back old slave (poll_order slave) answer new half here sends in
+    let same : answered (poll_order slave) (took back.rested (poll_order slave)) ≡ datagram =
+    same_some (answered (poll_order slave) (took back.rested (poll_order slave))) datagram (sym (ap (λ (ds : List Pdu). slice_get ds 0) back.answer_is) ∙ first) in (
+      back.rested,
+      poll_state old.state slave back.rested new.state near back.state_is,
+      record {
+        here = here;
+        next = exchange_next old slave (poll_order slave ∷ []) (Ok tt) answer new sends;
+        rests = back.rests;
+        why = inr (elim (poll-misses back.rested slave near (ap found_in same ∙ is)) [
+          | inl busy ↦ inl busy
+          | inr elsewhere ↦ inr (λ at. elsewhere (MayRest-station half back.rested back.rests ∙ at))
+        ]);
+      },
+    )
+
+-- one that sees it idle
+pub poll_at : (old : Seen) (slave : ℕ) (answer : List Pdu) (new : Seen) (datagram : Pdu) (rested : Rested) → slave < 64
+    → Sends old slave (poll_order slave) (Ok (Some answer)) new → slice_get answer 0 ≡ Some datagram → found_in datagram ≡ Some rested
+    → HalfGoes (λ half later. IsAt slave later) old.state slave new.state
+poll_at old slave answer new datagram rested near sends first is half here =
+    let back = exchange_back old slave (poll_order slave) answer new half here sends in
+    let same : answered (poll_order slave) (took back.rested (poll_order slave)) ≡ datagram =
+    same_some (answered (poll_order slave) (took back.rested (poll_order slave))) datagram (sym (ap (λ (ds : List Pdu). slice_get ds 0) back.answer_is) ∙ first) in
+    (back.rested, poll_state old.state slave back.rested new.state near back.state_is, poll-at back.rested slave rested near (ap found_in same ∙ is))
+
+pub poll_lost_misses : (old : Seen) (slave : ℕ) (new : Seen) → slave < 64 → Sends old slave (poll_order slave) (Ok None) new
+    → HalfGoes (MissesIdle old slave new) old.state slave new.state
+poll_lost_misses old slave new near sends half here =
+    let next = exchange_next old slave (poll_order slave ∷ []) (Err device.Lost) (poll_order slave ∷ []) new sends in
+    elim (exchange_lost old slave (poll_order slave) (poll_order slave ∷ []) new half here sends) [
+      | inl same ↦ (
+        half,
+        same ∙ sym (with_half-same old.state slave half here),
+        record { here = here; next = next; rests = inl refl; why = inl (sends.call.lost refl) },
+      )
+      | inr t ↦ (
+        t.0,
+        poll_state old.state slave t.0 new.state near t.2,
+        record { here = here; next = next; rests = t.1; why = inl (sends.call.lost refl) },
+      )
+    ]
 
 pub poll_lost : (old : Seen) (slave : ℕ) (new : Seen) → slave < 64 → Sends old slave (poll_order slave) (Ok None) new → Runs RestsSeen old slave 1 (Ok None) new
 poll_lost old slave new near sends =

@@ -1,5 +1,5 @@
 -- Runs of device calls that add nothing, in a row.
-use Rattle.std.proofs.Common.{◌≡◌, ℕ, ◌+◌, ◌≤◌, IsTrue, Result, Ok, Err, refl, subst, ◌∙◌, arith}
+use Rattle.std.proofs.Common.{◌≡◌, ℕ, ◌+◌, ◌≤◌, IsTrue, Some, slice_get, Result, Ok, Err, refl, subst, ◌∙◌, arith}
 use Rattle.esc_model.specs.SlaveHalf.{SlaveHalf}
 use Rattle.site_core.specs.State.{Seen, Leaves, clock}
 use Rattle.site_core.specs.Passes.{LeavesOnly, AddsNothing}
@@ -7,7 +7,7 @@ use Rattle.site_core.proofs.Runs.{Passes-none, Passes-then, Passes-weaker, Passe
 use Rattle.esc_rom.specs.declared.fault.Stop.{Stop}
 use Rattle.esc_rom.specs.Halves.{HalfGoes}
 use Rattle.esc_rom.specs.Runs.{Quiet, Runs}
-use Rattle.esc_rom.proofs.States.{HalfGoes-same, HalfGoes-weaker, HalfGoes-then}
+use Rattle.esc_rom.proofs.States.{HalfGoes-same, HalfGoes-weaker, HalfGoes-tied, HalfGoes-then}
 
 pub Quiet-none : (seen : Seen) → Quiet seen 0 seen
 Quiet-none seen = record { passes = Passes-none (LeavesOnly (Leaves seen.state)) seen (λ pair leaves. leaves); within = omega arith; never_fewer = omega arith; turns = refl }
@@ -46,6 +46,26 @@ Runs-answer {T} {U} R W old slave m n x y new more weaker runs = record {
   going = λ ok. runs.going refl;
   stopped = λ err. absurd cc;
   half = λ v is. subst (λ (u : U). HalfGoes (W u) old.state slave new.state) (let e : y ≡ v = cc in e) (HalfGoes-weaker (R x) (W y) old.state slave new.state weaker (runs.half x refl));
+}
+
+-- what becomes of the half is said of it alone
+pub Runs-by : {T U : Type 0} {W : T → SlaveHalf → SlaveHalf → Type 0} {x : T} (V : U → SlaveHalf → SlaveHalf → Type 0) (old : Seen) (slave m n : ℕ) (y : U) (new : Seen)
+    → m ≤ n → Runs W old slave m (Ok x) new → HalfGoes (V y) old.state slave new.state → Runs V old slave n (Ok y) new
+Runs-by {T} {U} V old slave m n y new more runs goes = record {
+  quiet = Quiet-more old m n new more runs.quiet;
+  going = λ ok. runs.going refl;
+  stopped = λ err. absurd cc;
+  half = λ v is. subst (λ (u : U). HalfGoes (V u) old.state slave new.state) (let e : y ≡ v = cc in e) goes;
+}
+
+-- the half that goes is the one that the state has
+pub Runs-tied : {T : Type 0} (R : T → SlaveHalf → SlaveHalf → Type 0) (old : Seen) (slave most : ℕ) (result : Result T Stop) (new : Seen) → Runs R old slave most result new
+    → Runs (λ value half later. (slice_get old.state.halves slave ≡ Some half) × R value half later) old slave most result new
+Runs-tied R old slave most result new runs = record {
+  quiet = runs.quiet;
+  going = runs.going;
+  stopped = runs.stopped;
+  half = λ value is. HalfGoes-tied (R value) old.state slave new.state (runs.half value is);
 }
 
 -- a stop stays one

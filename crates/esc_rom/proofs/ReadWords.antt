@@ -1,20 +1,22 @@
 -- What a half makes of a read of two words.
 use Rattle.std.proofs.Common.{◌≡◌, ◌⊎◌, ℕ, ◌+◌, ◌^◌, ◌<◌, ◌||◌, true, false, ◌++◌, None, slice_index, refl, sym, ap, subst, ◌∙◌, inl, inr, arith}
 use Rattle.std.specs.Int.{w16, w32, to_le_bytes}
-use Rattle.esc_model.specs.SlaveHalf.{SlaveHalf, Reading, is_busy, in_flight, begun, judged, with_stored}
+use Rattle.esc_model.specs.SlaveHalf.{SlaveHalf, MayRest, Reading, is_busy, in_flight, begun, judged, with_stored}
 use Rattle.site_core.specs.Exchange.{took}
 use Rattle.esc_rom.specs.Orders.{read_order}
-use Rattle.esc_rom.specs.Halves.{IsIdle, HasError, OnlyRests}
+use Rattle.esc_rom.specs.Halves.{IsAt, IsIdle, HasError, ShowsError, OnlyRests, Counts}
 use Rattle.esc_rom.specs.Runs.{IsGentle}
-use Rattle.esc_rom.proofs.Resting.{OnlyRests-same}
+use Rattle.esc_rom.proofs.Resting.{OnlyRests-same, MayRest-command}
 use Rattle.esc_rom.proofs.Taking.{idle_not_busy}
 use Rattle.esc_rom.proofs.Writing.{Writes, elsewhere, busy, done, control_writes, begun_refused, begun_read, true_or_false}
 use Rattle.esc_rom.proofs.TakenWords.{number_back, or_first}
+use Rattle.esc_rom.proofs.Shown.{error_shown}
 
 -- An idle half that took the command to read: it is fetching the two words, or it refused, with bit 13 or 14 set.
 pub record IsAsked (word : ℕ) (half later : SlaveHalf) : Type 0 where
   pub words : later.words ≡ half.words
   pub station : later.station ≡ half.station
+  pub command : later.registers.command ≡ 1
   pub reads : (IsIdle later × HasError later)
       ⊎ ((later.activity ≡ Reading) × (later.registers.first ≡ slice_index half.words word) × (later.registers.second ≡ slice_index half.words (word + 1)))
 
@@ -29,12 +31,13 @@ module _ (half : SlaveHalf) (word : ℕ) (word_fits : word < 2 ^ 16) where
   asked_idle idle = elim (true_or_false asked.registers.command_error) [
     | inl error ↦
         let either : (asked.registers.command_error || asked.registers.enable_error) ≡ true = or_first asked.registers.command_error asked.registers.enable_error error in
-        subst (λ (h : SlaveHalf). IsAsked word half h) (sym (begun_refused asked either)) (record { words = refl; station = refl; reads = inl (idle, either) })
+        subst (λ (h : SlaveHalf). IsAsked word half h) (sym (begun_refused asked either)) (record { words = refl; station = refl; command = refl; reads = inl (idle, either) })
     | inr fine ↦
         let neither : (asked.registers.command_error || asked.registers.enable_error) ≡ false = rw fine refl in
         subst (λ (h : SlaveHalf). IsAsked word half h) (sym (begun_read asked neither refl)) (record {
           words = refl;
           station = refl;
+          command = refl;
           reads = inr (refl, ap (λ (a : ℕ). slice_index half.words a) asked_address, ap (λ (a : ℕ). slice_index half.words (a + 1)) asked_address);
         })
   ]
@@ -77,3 +80,25 @@ read_taken half slave word near word_fits counted = by (read_writes half slave w
     by (done here b is one) =
         let idle : IsIdle half = idle_not_busy half.activity b in
         (idle, subst (λ (h : SlaveHalf). IsAsked word half h) (sym is) (asked_idle half word word_fits idle))
+
+-- one that didn't count it stays as it is, and is at another station, or busy
+pub read_refused : (half : SlaveHalf) (slave word : ℕ) → slave < 64 → (took half (read_order slave word)).added ≡ 0
+    → ((took half (read_order slave word)).half ≡ half) × ((IsAt slave half → ⊥) ⊎ (is_busy half.activity ≡ true))
+read_refused half slave word near refused = by (read_writes half slave word near)
+  where
+    by : Writes half slave (is_busy half.activity ≡ false) (begun (judged (with_stored half 2 (to_le_bytes w16 0x0100 ++ to_le_bytes w32 word)))) (took half (read_order slave word))
+        → ((took half (read_order slave word)).half ≡ half) × ((IsAt slave half → ⊥) ⊎ (is_busy half.activity ≡ true))
+    by (elsewhere not same none) = (same, inl not)
+    by (busy b same none) = (same, inr b)
+    by (done here b is one) = absurd (omega arith)
+
+-- at a counted command
+module _ (slave word : ℕ) (half asked : SlaveHalf) (near : slave < 64) (word_fits : word < 2 ^ 16) (counts : Counts (read_order slave word) half asked) where
+  counts_command : asked.registers.command ≡ 1
+  counts_command = ap (λ (h : SlaveHalf). h.registers.command) counts.3 ∙ (read_taken counts.0 slave word near word_fits counts.2).1.command
+
+  -- the error that it then shows is bit 13 or 14
+  pub counts_error : (later : SlaveHalf) → MayRest asked later → ShowsError later → HasError later
+  counts_error later rests shows =
+      let command : later.registers.command ≡ 1 = MayRest-command asked later rests ∙ counts_command in
+      error_shown later (omega arith) shows

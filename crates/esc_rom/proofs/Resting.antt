@@ -3,10 +3,10 @@ use Rattle.std.proofs.Common.{◌≡◌, ℕ, inl, inr, List, None, refl, sym, a
 use Rattle.ecat_frame.specs.Frame.{Pdu}
 use Rattle.esc_model.specs.SlaveHalf.{SlaveHalf, Activity, Idle, Reading, Writing, in_flight, MayEnd, MayRest, MayHold, MayLeave}
 use Rattle.esc_model.specs.declared.rest.WordWrite.{WordWrite}
+use Rattle.esc_model.specs.Registers.{access_byte}
 use Rattle.site_core.proofs.Resting.{MayEnd-is_idle, MayEnd-words}
 use Rattle.esc_rom.specs.Halves.{OnlyRests, Takes}
 use Rattle.esc_rom.specs.Runs.{IsGentle, Tries, never, again}
-use Rattle.esc_model.specs.Registers.{access_byte}
 
 MayEnd-station : (activity : Activity) (half later : SlaveHalf) → MayEnd activity half later → later.station ≡ half.station
 MayEnd-station Idle half later ends = absurd ends
@@ -29,6 +29,17 @@ MayEnd-access (Writing word value) half later (inr fails) = ap (λ (h : SlaveHal
 pub MayRest-access : (half later : SlaveHalf) → MayRest half later → access_byte later.registers ≡ access_byte half.registers
 MayRest-access half later (inl same) = ap (λ (h : SlaveHalf). access_byte h.registers) same
 MayRest-access half later (inr ends) = MayEnd-access half.activity half later ends
+
+MayEnd-command : (activity : Activity) (half later : SlaveHalf) → MayEnd activity half later → later.registers.command ≡ half.registers.command
+MayEnd-command Idle half later ends = absurd ends
+MayEnd-command Reading half later (inl well) = ap (λ (h : SlaveHalf). h.registers.command) well
+MayEnd-command Reading half later (inr fails) = ap (λ (h : SlaveHalf). h.registers.command) fails.rested_is
+MayEnd-command (Writing word value) half later (inl well) = ap (λ (h : SlaveHalf). h.registers.command) well
+MayEnd-command (Writing word value) half later (inr fails) = ap (λ (h : SlaveHalf). h.registers.command) fails.ends.rested_is
+
+pub MayRest-command : (half later : SlaveHalf) → MayRest half later → later.registers.command ≡ half.registers.command
+MayRest-command half later (inl same) = ap (λ (h : SlaveHalf). h.registers.command) same
+MayRest-command half later (inr ends) = MayEnd-command half.activity half later ends
 
 pub OnlyRests-same : (half : SlaveHalf) → OnlyRests half half
 OnlyRests-same half = record { station = refl; words = inl (refl, refl) }

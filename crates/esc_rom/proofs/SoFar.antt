@@ -56,6 +56,18 @@ so_answer {T} {U} R W V a slave times b more most value answer c within both so 
       (HalfGoes-then R (W value) (V answer) a.state slave b.state c.state both so.half (runs.half value refl));
 }
 
+-- the same, where what becomes of the half in the last run is said of it alone
+pub so_by : {T U : Type 0} {W : T → SlaveHalf → SlaveHalf → Type 0} {value : T} (R X : SlaveHalf → SlaveHalf → Type 0) (V : U → SlaveHalf → SlaveHalf → Type 0) (a : Seen) (slave times : ℕ) (b : Seen) (more most : ℕ) (answer : U) (c : Seen)
+    → times + more ≤ most → ((half mid later : SlaveHalf) → R half mid → X mid later → V answer half later)
+    → SoFar R a slave times b → Runs W b slave more (Ok value) c → HalfGoes X b.state slave c.state → Runs V a slave most (Ok answer) c
+so_by {T} {U} R X V a slave times b more most answer c within both so runs goes = record {
+  quiet = Quiet-more a (times + more) most c within (Quiet-then a times b more c so.quiet runs.quiet);
+  going = λ ok. runs.going refl;
+  stopped = λ err. absurd cc;
+  half = λ v is. subst (λ (u : U). HalfGoes (V u) a.state slave c.state) (let e : answer ≡ v = cc in e)
+      (HalfGoes-then R X (V answer) a.state slave b.state c.state both so.half goes);
+}
+
 -- the site stopped
 pub so_cut : {T U : Type 0} (R : SlaveHalf → SlaveHalf → Type 0) (W : T → SlaveHalf → SlaveHalf → Type 0) (V : U → SlaveHalf → SlaveHalf → Type 0) (a : Seen) (slave times : ℕ) (b : Seen) (more most : ℕ) (stop : Stop) (result : Result U Stop) (c : Seen)
     → times + more ≤ most → IsErr result → SoFar R a slave times b → Runs W b slave more (Err stop) c → Runs V a slave most result c

@@ -39,6 +39,23 @@ pub HalfGoes-weaker : (R W : SlaveHalf → SlaveHalf → Type 0) (old : State) (
 HalfGoes-weaker R W old slave new weaker goes half here =
     let g = goes half here in (g.0, g.1, weaker half g.0 g.2)
 
+-- the half that goes is the one that the state has
+pub HalfGoes-tied : (R : SlaveHalf → SlaveHalf → Type 0) (old : State) (slave : ℕ) (new : State) → HalfGoes R old slave new
+    → HalfGoes (λ half later. (slice_get old.halves slave ≡ Some half) × R half later) old slave new
+HalfGoes-tied R old slave new goes half here =
+    let g = goes half here in (g.0, g.1, (here, g.2))
+
+-- the half that goes is one
+pub HalfGoes-both : (R W : SlaveHalf → SlaveHalf → Type 0) (old : State) (slave : ℕ) (new : State) → HalfGoes R old slave new → HalfGoes W old slave new
+    → HalfGoes (λ half later. R half later × W half later) old slave new
+HalfGoes-both R W old slave new first second half here =
+    let f = first half here in
+    let s = second half here in
+    let same : s.0 ≡ f.0 = same_some s.0 f.0 (sym (with_half-here old slave half s.0 here)
+    ∙ ap (λ (t : State). slice_get t.halves slave) (sym s.1 ∙ f.1)
+    ∙ with_half-here old slave half f.0 here) in
+    (f.0, f.1, (f.2, subst (λ (h : SlaveHalf). W half h) same s.2))
+
 -- one after the other
 pub HalfGoes-then : (R W V : SlaveHalf → SlaveHalf → Type 0) (a : State) (slave : ℕ) (b c : State)
     → ((half mid later : SlaveHalf) → R half mid → W mid later → V half later)

@@ -6,6 +6,7 @@ use Rattle.esc_model.specs.Bytes.{lies_in, station_of, register_of}
 use Rattle.esc_model.specs.SlaveHalf.{SlaveHalf, Activity, Idle, Reading, Writing, Taken, is_busy, taken, concerns, replied, passed_on, written}
 use Rattle.site_core.specs.Exchange.{took}
 use Rattle.esc_rom.specs.Orders.{station, address_of, poll_order}
+use Rattle.esc_rom.specs.Halves.{IsAt}
 
 -- ADDRESSES
 
@@ -15,16 +16,12 @@ station_is slave register near = omega arith
 register_is : (slave register : ℕ) → slave < 64 → register_of (address_of slave register) ≡ register
 register_is slave register near = omega arith
 
--- the half is at this slave's station, or it isn't
-abbrev pub IsHere : ℕ → SlaveHalf → Type 0
-IsHere slave half = half.station ≡ station slave
-
-concerns-here : (half : SlaveHalf) (slave register count : ℕ) → slave < 64 → IsHere slave half → lies_in 0x0500 0x0510 register count ≡ true
+concerns-here : (half : SlaveHalf) (slave register count : ℕ) → slave < 64 → IsAt slave half → lies_in 0x0500 0x0510 register count ≡ true
     → concerns half (address_of slave register) count ≡ true
 concerns-here half slave register count near here inside =
     rw (station_is slave register near, register_is slave register near, here, eq-eqb (station slave) (station slave) refl, inside) refl
 
-concerns-elsewhere : (half : SlaveHalf) (slave register count : ℕ) → slave < 64 → (IsHere slave half → ⊥)
+concerns-elsewhere : (half : SlaveHalf) (slave register count : ℕ) → slave < 64 → (IsAt slave half → ⊥)
     → concerns half (address_of slave register) count ≡ false
 concerns-elsewhere half slave register count near elsewhere =
     elim (eqb_tells (station slave) half.station) [
@@ -32,27 +29,27 @@ concerns-elsewhere half slave register count near elsewhere =
       | inr other ↦ rw (station_is slave register near, other.0) refl
     ]
 
-pub here_or_elsewhere : (slave : ℕ) (half : SlaveHalf) → IsHere slave half ⊎ (IsHere slave half → ⊥)
+pub here_or_elsewhere : (slave : ℕ) (half : SlaveHalf) → IsAt slave half ⊎ (IsAt slave half → ⊥)
 here_or_elsewhere slave half = elim (eqb_tells half.station (station slave)) [ inl same ↦ inl same.1 | inr other ↦ inr other.1 ]
 
 -- READS
 
 module _ (half : SlaveHalf) (slave register : ℕ) (content : List ℕ) (near : slave < 64) where
-  pub read_here : IsHere slave half → lies_in 0x0500 0x0510 register (length content) ≡ true
+  pub read_here : IsAt slave half → lies_in 0x0500 0x0510 register (length content) ≡ true
       → taken half Fprd (address_of slave register) content ≡ replied half (register - 0x0500) content
   unfolding taken
   read_here here inside = rw (concerns-here half slave register (length content) near here inside, register_is slave register near) refl
 
-  pub read_elsewhere : (IsHere slave half → ⊥) → taken half Fprd (address_of slave register) content ≡ passed_on half content
+  pub read_elsewhere : (IsAt slave half → ⊥) → taken half Fprd (address_of slave register) content ≡ passed_on half content
   unfolding taken
   read_elsewhere elsewhere = rw (concerns-elsewhere half slave register (length content) near elsewhere) refl
 
-  pub write_here : IsHere slave half → lies_in 0x0500 0x0510 register (length content) ≡ true
+  pub write_here : IsAt slave half → lies_in 0x0500 0x0510 register (length content) ≡ true
       → taken half Fpwr (address_of slave register) content ≡ written half (register - 0x0500) content
   unfolding taken
   write_here here inside = rw (concerns-here half slave register (length content) near here inside, register_is slave register near) refl
 
-  pub write_elsewhere : (IsHere slave half → ⊥) → taken half Fpwr (address_of slave register) content ≡ passed_on half content
+  pub write_elsewhere : (IsAt slave half → ⊥) → taken half Fpwr (address_of slave register) content ≡ passed_on half content
   unfolding taken
   write_elsewhere elsewhere = rw (concerns-elsewhere half slave register (length content) near elsewhere) refl
 
@@ -62,10 +59,10 @@ idle_not_busy Reading is = absurd cc
 idle_not_busy (Writing word value) is = absurd cc
 
 -- a poll
-pub poll_here : (half : SlaveHalf) (slave : ℕ) → slave < 64 → IsHere slave half → took half (poll_order slave) ≡ replied half 2 (0 ∷ 0 ∷ [])
+pub poll_here : (half : SlaveHalf) (slave : ℕ) → slave < 64 → IsAt slave half → took half (poll_order slave) ≡ replied half 2 (0 ∷ 0 ∷ [])
 poll_here half slave near here = read_here half slave 0x0502 (0 ∷ 0 ∷ []) near here refl
 
-pub poll_elsewhere : (half : SlaveHalf) (slave : ℕ) → slave < 64 → (IsHere slave half → ⊥) → took half (poll_order slave) ≡ passed_on half (0 ∷ 0 ∷ [])
+pub poll_elsewhere : (half : SlaveHalf) (slave : ℕ) → slave < 64 → (IsAt slave half → ⊥) → took half (poll_order slave) ≡ passed_on half (0 ∷ 0 ∷ [])
 poll_elsewhere half slave near elsewhere = read_elsewhere half slave 0x0502 (0 ∷ 0 ∷ []) near elsewhere
 
 pub poll-same : (half : SlaveHalf) (slave : ℕ) → slave < 64 → (took half (poll_order slave)).half ≡ half

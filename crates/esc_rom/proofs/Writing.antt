@@ -1,27 +1,40 @@
 -- What a half makes of writes to its registers.
-use Rattle.std.proofs.Common.{◌≡◌, ◌⊎◌, ℕ, ◌+◌, ◌%◌, ◌<◌, ◌||◌, Bool, true, false, nat_le, nat_lt, List, [], ◌∷◌, length, refl, sym, ap, subst, ◌∙◌, inl, inr, arith, ◌/◌}
+use Rattle.std.proofs.Common.{◌≡◌, ◌⊎◌, ℕ, ◌+◌, ◌%◌, ◌<◌, ◌||◌, ◌&&◌, Bool, true, false, nat_le, nat_lt, List, [], ◌∷◌, length, refl, sym, ap, subst, ◌∙◌, inl, inr, arith, ◌/◌}
 use Rattle.std.specs.Prelude.{◌==◌, if◌then◌else◌}
 use Rattle.std.proofs.lemmas.Bool.Decides.{nat_tests}
 use Rattle.ecat_frame.specs.Frame.{sent}
 use Rattle.ecat_frame.specs.declared.command.Command.TheVariants.{Fpwr}
 use Rattle.esc_model.specs.Bytes.{lies_in}
-use Rattle.esc_model.specs.SlaveHalf.{SlaveHalf, Taken, is_busy, in_flight, passed_on, written, begun, judged, with_stored, fetching, writing}
+use Rattle.esc_model.specs.SlaveHalf.{SlaveHalf, Taken, is_busy, in_flight, passed_on, written, after_write, begun, judged, with_stored, fetching, writing}
+use Rattle.esc_model.specs.Registers.{access_byte}
 use Rattle.site_core.specs.Exchange.{took}
 use Rattle.esc_rom.specs.Orders.{address_of, access_order, clear_order}
-use Rattle.esc_rom.specs.Halves.{IsIdle, OnlyRests}
+use Rattle.esc_rom.specs.Halves.{IsAt, IsIdle, OnlyRests}
 use Rattle.esc_rom.specs.Runs.{IsGentle}
-use Rattle.esc_rom.proofs.Taking.{IsHere, here_or_elsewhere, write_here, write_elsewhere}
-use Rattle.esc_model.specs.Registers.{access_byte}
+use Rattle.esc_rom.proofs.Taking.{here_or_elsewhere, write_here, write_elsewhere}
 
 -- The half passed a write on, being at another station or busy, or it took it, where it may, and is this afterwards.
 pub data Writes (half : SlaveHalf) (slave : ℕ) (may : Type 0) (after : SlaveHalf) (t : Taken) : Type 0 where
-  elsewhere : (IsHere slave half → ⊥) → t.half ≡ half → t.added ≡ 0 → Writes half slave may after t
+  elsewhere : (IsAt slave half → ⊥) → t.half ≡ half → t.added ≡ 0 → Writes half slave may after t
   busy : is_busy half.activity ≡ true → t.half ≡ half → t.added ≡ 0 → Writes half slave may after t
-  done : IsHere slave half → may → t.half ≡ after → t.added ≡ 1 → Writes half slave may after t
+  done : IsAt slave half → may → t.half ≡ after → t.added ≡ 1 → Writes half slave may after t
 
 pub true_or_false : (b : Bool) → (b ≡ true) ⊎ (b ≡ false)
 true_or_false true = inl refl
 true_or_false false = inr refl
+
+module _ (half : SlaveHalf) (content : List ℕ) where
+  written_busy : is_busy half.activity ≡ true → nat_lt 2 (2 + length content) ≡ true → written half 2 content ≡ passed_on half content
+  written_busy b touches = rw (b, touches) (refl {a = passed_on half content})
+
+  abbrev counted : Taken
+  counted = record { half = begun (judged (with_stored half 2 content)); content = content; added = 1 }
+
+  written_free : is_busy half.activity ≡ false → nat_le 4 (2 + length content) ≡ true → written half 2 content ≡ counted
+  written_free free covers =
+      let e : (is_busy half.activity && nat_lt 2 (2 + length content)) ≡ false = rw free refl in
+      ap (λ (b : Bool). if b then passed_on half content else record { half = after_write half 2 content; content = content; added = 1 }) e
+      ∙ ap (λ (b : Bool). record { half = if b then begun (judged (with_stored half 2 content)) else with_stored half 2 content; content = content; added = 1 }) covers
 
 -- a write of control and status, and perhaps of what is behind them
 pub control_writes : (half : SlaveHalf) (slave : ℕ) (content : List ℕ) → slave < 64
@@ -35,10 +48,10 @@ control_writes half slave content near inside touches covers = elim (here_or_els
       let e = write_here half slave 0x0502 content near here inside in
       elim (true_or_false (is_busy half.activity)) [
         | inl b ↦
-            let is : written half 2 content ≡ passed_on half content = rw (b, touches) refl in
+            let is = written_busy half content b touches in
             busy b (ap (λ (t : Taken). t.half) (e ∙ is)) (ap (λ (t : Taken). t.added) (e ∙ is))
         | inr b ↦
-            let is : written half 2 content ≡ record { half = begun (judged (with_stored half 2 content)); content = content; added = 1 } = rw (b, covers) refl in
+            let is = written_free half content b covers in
             done here b (ap (λ (t : Taken). t.half) (e ∙ is)) (ap (λ (t : Taken). t.added) (e ∙ is))
       ]
 ]
@@ -129,7 +142,7 @@ clear_access half slave near zero = by (clear_writes half slave near)
     by (done here b is one) = ap (λ (h : SlaveHalf). access_byte h.registers) is ∙ ap kept_bits zero
 
 -- an idle half at the station takes it
-pub clear_refused : (half : SlaveHalf) (slave : ℕ) → slave < 64 → IsIdle half → (took half (clear_order slave)).added ≡ 0 → IsHere slave half → ⊥
+pub clear_refused : (half : SlaveHalf) (slave : ℕ) → slave < 64 → IsIdle half → (took half (clear_order slave)).added ≡ 0 → IsAt slave half → ⊥
 clear_refused half slave near idle refused here = by (clear_writes half slave near)
   where
     by : Writes half slave (is_busy half.activity ≡ false) (judged (with_stored half 2 (0 ∷ 0 ∷ []))) (took half (clear_order slave)) → ⊥
@@ -157,7 +170,7 @@ access_taken half slave value near taken = by (access_writes half slave value ne
     by (done here b is one) = ap (λ (h : SlaveHalf). access_byte h.registers) is ∙ kept_bits-mod value
 
 -- a half at the station takes it, busy or not
-pub access_refused : (half : SlaveHalf) (slave value : ℕ) → slave < 64 → (took half (access_order slave value)).added ≡ 0 → IsHere slave half → ⊥
+pub access_refused : (half : SlaveHalf) (slave value : ℕ) → slave < 64 → (took half (access_order slave value)).added ≡ 0 → IsAt slave half → ⊥
 access_refused half slave value near refused here =
     let e : (took half (access_order slave value)).added ≡ 1 =
     ap (λ (t : Taken). t.added) (write_here half slave 0x0500 (value ∷ []) near here refl ∙ access_written half value) in

@@ -1,5 +1,5 @@
 -- Writes to a slave's registers, one after the other.
-use Rattle.std.proofs.Common.{◌≡◌, ◌⊎◌, ℕ, ◌+◌, ◌-◌, ◌%◌, ◌<◌, ◌≤◌, ◌==◌, ◌&&◌, Bool, true, false, nat_lt, IsErr, List, [], ◌∷◌, length, Some, None, slice_get, Result, Ok, Err, refl, sym, ap, subst, ◌∙◌, inl, inr, arith}
+use Rattle.std.proofs.Common.{◌≡◌, ◌⊎◌, ℕ, ◌+◌, ◌-◌, ◌%◌, ◌==◌, ◌&&◌, Bool, true, false, nat_lt, IsErr, List, [], ◌∷◌, length, Some, None, slice_get, Result, Ok, Err, refl, sym, ap, subst, ◌∙◌, inl, inr}
 use Rattle.ecat_frame.specs.Frame.{Pdu, sent}
 use Rattle.ecat_frame.specs.declared.command.Command.TheVariants.{Fpwr}
 use Rattle.esc_model.specs.SlaveHalf.{SlaveHalf, taken, concerns, is_busy}
@@ -9,6 +9,7 @@ use Rattle.site_core.specs.Exchange.{took, answered}
 use Rattle.esc_rom.specs.declared.fault.Stop.{Stop}
 use Rattle.esc_rom.specs.Sending.{Sends}
 use Rattle.esc_rom.specs.Halves.{HalfGoes}
+use Rattle.esc_rom.specs.Times.{IsNext, none_lost, one_more_lost}
 use Rattle.esc_rom.specs.Runs.{Runs, IsGentle, Wrote, Tries, never, again, Fails, Insists}
 use Rattle.esc_rom.proofs.States.{same_some, with_half-same}
 use Rattle.esc_rom.proofs.Exchanges.{exchange_back, exchange_lost}
@@ -80,20 +81,20 @@ pub record TriedSo (order : Pdu) (times : ℕ) (old new : Seen) (half later : Sl
   pub fails : Fails order times old new half
 
 pub tried_none : (order : Pdu) (old : Seen) (half : SlaveHalf) → TriedSo order 0 old old half half
-tried_none order old half = record { tried = never; fails = inl (omega arith) }
+tried_none order old half = record { tried = never; fails = inl none_lost }
 
-pub tried_more : (order : Pdu) (times : ℕ) (a b c : Seen) (half mid later : SlaveHalf) → b.faults ≤ c.faults
+pub tried_more : (order : Pdu) (times : ℕ) (a b c : Seen) (half mid later : SlaveHalf) → IsNext b c
     → TriedSo order times a b half mid → Wrote order b c false mid later → TriedSo order (times + 1) a c half later
-tried_more order times a b c half mid later fewer so (inl same) = record {
+tried_more order times a b c half mid later next so (inl same) = record {
   tried = subst (λ (h : SlaveHalf). Tries order half h) (sym same.0) so.tried;
-  fails = elim so.fails [ inl lost ↦ inl (let e : b.faults < c.faults = same.1 in omega arith) | inr refuses ↦ inr refuses ];
+  fails = elim so.fails [ inl lost ↦ inl (one_more_lost lost next same.1) | inr refuses ↦ inr refuses ];
 }
-tried_more order times a b c half mid later fewer so (inr took_it) = record {
+tried_more order times a b c half mid later next so (inr took_it) = record {
   tried = again so.tried (record { rested = took_it.0; rests = took_it.1; is = took_it.2 });
   fails = elim so.fails [
     | inr refuses ↦ inr refuses
     | inl lost ↦ elim took_it.3 [
-      | inl once ↦ inl (let e : b.faults < c.faults = once in omega arith)
+      | inl once ↦ inl (one_more_lost lost next once)
       | inr refused ↦ inr (record { mid = mid; rested = took_it.0; tried = so.tried; rests = took_it.1; refused = refused })
     ]
   ];
@@ -102,6 +103,3 @@ tried_more order times a b c half mid later fewer so (inr took_it) = record {
 pub insist_took : (order : Pdu) (times : ℕ) (a b c : Seen) (half mid later : SlaveHalf) → TriedSo order times a b half mid → Wrote order b c true mid later
     → Insists order 3 a c true half later
 insist_took order times a b c half mid later so wrote = (mid, wrote.0, so.tried, wrote.1, wrote.2, wrote.3)
-
-pub insist_failed : (order : Pdu) (a b : Seen) (half later : SlaveHalf) → TriedSo order 3 a b half later → Insists order 3 a b false half later
-insist_failed order a b half later so = (so.tried, so.fails)

@@ -1,10 +1,15 @@
 -- What may become of the half of a slave while datagrams are sent to it.
-use Rattle.std.specs.Prelude.{◌≡◌, ◌⊎◌, ℕ, ◌<◌, length, false, ◌||◌, Some, None, IsTrue, slice_get}
+use Rattle.std.specs.Prelude.{◌≡◌, ◌⊎◌, ℕ, ◌<◌, ◌≤◌, length, false, ◌||◌, Some, None, IsTrue, slice_get}
 use Rattle.ecat_frame.specs.Frame.{Pdu}
-use Rattle.esc_model.specs.SlaveHalf.{SlaveHalf, Idle, Writing, in_flight, MayRest, MayLeave, settled, with_errors}
+use Rattle.esc_model.specs.Registers.{status_byte}
+use Rattle.esc_model.specs.SlaveHalf.{SlaveHalf, is_busy, Idle, Writing, in_flight, MayRest, MayLeave, settled, with_errors}
 use Rattle.site_core.specs.State.{State, with_half}
 use Rattle.site_core.specs.Exchange.{took}
-use Rattle.esc_rom.specs.Orders.{write_order}
+use Rattle.esc_rom.specs.Orders.{station, write_order}
+
+-- it is at the station of the slave at this place
+abbrev pub IsAt : (slave : ℕ) → SlaveHalf → Type 0
+IsAt slave half = half.station ≡ station slave
 
 abbrev pub IsIdle : SlaveHalf → Type 0
 IsIdle half = half.activity ≡ Idle
@@ -12,6 +17,14 @@ IsIdle half = half.activity ≡ Idle
 -- bit 13 or 14 is set
 abbrev pub HasError : SlaveHalf → Type 0
 HasError half = IsTrue (half.registers.command_error || half.registers.enable_error)
+
+-- bit 15 of control and status, as a read shows it
+abbrev pub ShowsBusy : SlaveHalf → Type 0
+ShowsBusy half = 0x80 ≤ status_byte half.registers (is_busy half.activity)
+
+-- it is idle, and of bits 13 and 14 a read shows one
+abbrev pub ShowsError : SlaveHalf → Type 0
+ShowsError half = IsIdle half × (0x20 ≤ status_byte half.registers (is_busy half.activity))
 
 -- it is idle with bits 13 and 14 clear
 pub record IsWell (half : SlaveHalf) : Type 0 where
@@ -31,6 +44,10 @@ pub record Takes (order : Pdu) (half later : SlaveHalf) : Type 0 where
   pub rested : SlaveHalf
   pub rests : MayRest half rested
   pub is : later ≡ (took rested order).half
+
+-- the half counts the datagram, perhaps after it came to rest
+abbrev pub Counts : Pdu → SlaveHalf → SlaveHalf → Type 0
+Counts order half later = (rested : SlaveHalf) × MayRest half rested × ((took rested order).added ≡ 1) × (later ≡ (took rested order).half)
 
 -- The half has taken a word and its value: the word is in flight, or the half refused it with bit 13 or 14 set.
 abbrev pub HasTaken : (word value : ℕ) → SlaveHalf → Type 0

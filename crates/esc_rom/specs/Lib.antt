@@ -1,7 +1,10 @@
 pub mod Orders
 pub mod Sending
 pub mod Halves
+pub mod Times
+pub mod GivingUp
 pub mod Runs
 pub mod Status
+pub mod Laws
 pub mod Access
 pub mod WordPairs

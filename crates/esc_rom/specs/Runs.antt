@@ -1,5 +1,5 @@
 -- Device calls in a row, by which the words of one slave are reached.
-use Rattle.std.specs.Prelude.{◌≡◌, ◌⊎◌, ℕ, ◌+◌, ◌<◌, ◌≤◌, Bool, true, false, Option, Some, None, Result, Ok, IsOk, IsErr, IsTrue}
+use Rattle.std.specs.Prelude.{◌≡◌, ◌⊎◌, ℕ, ◌+◌, ◌≤◌, Bool, true, false, Option, Some, None, Result, Ok, IsOk, IsErr, IsTrue}
 use Rattle.ecat_frame.specs.Frame.{Pdu}
 use Rattle.esc_model.specs.SlaveHalf.{SlaveHalf, MayRest}
 use Rattle.site_core.specs.State.{Seen, Leaves, clock}
@@ -8,7 +8,8 @@ use Rattle.site_core.specs.Exchange.{took}
 use Rattle.esc_rom.specs.declared.fault.Stop.{Stop}
 use Rattle.esc_rom.specs.declared.poll.Rested.{Rested}
 use Rattle.esc_rom.specs.declared.poll.Rested.TheVariants.{Well, Failed}
-use Rattle.esc_rom.specs.Halves.{IsIdle, IsWell, OnlyRests, Takes, HalfGoes}
+use Rattle.esc_rom.specs.Halves.{ShowsError, IsWell, OnlyRests, Takes, Counts, HalfGoes}
+use Rattle.esc_rom.specs.Times.{Loses, AreLost}
 
 -- At no moment on the way could a stop leave what it couldn't leave before. The clock moved on by so many calls at most.
 pub record Quiet (old : Seen) (most : ℕ) (new : Seen) : Type 0 where
@@ -28,7 +29,7 @@ pub record Runs {T : Type 0} (R : T → SlaveHalf → SlaveHalf → Type 0) (old
 abbrev pub IsSeen : Option Rested → SlaveHalf → Type 0
 IsSeen None half = Unit {0}
 IsSeen (Some Well) half = IsWell half
-IsSeen (Some Failed) half = IsIdle half
+IsSeen (Some Failed) half = ShowsError half
 
 -- the half comes to rest or not, and a poll says so
 pub record RestsSeen (found : Option Rested) (half later : SlaveHalf) : Type 0 where
@@ -39,14 +40,9 @@ pub record RestsSeen (found : Option Rested) (half later : SlaveHalf) : Type 0 w
 abbrev pub IsGentle : Pdu → Type 0
 IsGentle order = (half : SlaveHalf) → OnlyRests half (took half order).half
 
--- a datagram was lost
-abbrev pub Loses : Seen → Seen → Type 0
-Loses old new = old.faults < new.faults
-
 -- it was sent, and the half took it, or didn't, or perhaps did
 abbrev pub Wrote : (order : Pdu) → Seen → Seen → Bool → SlaveHalf → SlaveHalf → Type 0
-Wrote order old new true half later =
-    (rested : SlaveHalf) × MayRest half rested × ((took rested order).added ≡ 1) × (later ≡ (took rested order).half)
+Wrote order old new true half later = Counts order half later
 Wrote order old new false half later =
     ((later ≡ half) × Loses old new)
     ⊎ ((rested : SlaveHalf) × MayRest half rested × (later ≡ (took rested order).half) × (Loses old new ⊎ ((took rested order).added ≡ 0)))
@@ -64,9 +60,9 @@ pub record Refuses (order : Pdu) (half : SlaveHalf) : Type 0 where
   pub rests : MayRest mid rested
   pub refused : (took rested order).added ≡ 0
 
--- so many datagrams were lost, or the half didn't take one
+-- so many datagrams in a row were lost, or the half didn't take one
 abbrev pub Fails : (order : Pdu) (times : ℕ) → Seen → Seen → SlaveHalf → Type 0
-Fails order times old new half = (old.faults + times ≤ new.faults) ⊎ Refuses order half
+Fails order times old new half = AreLost times old new ⊎ Refuses order half
 
 -- it was sent until the half took it, so many times at most
 abbrev pub Insists : (order : Pdu) (times : ℕ) → Seen → Seen → Bool → SlaveHalf → SlaveHalf → Type 0

@@ -5,6 +5,7 @@
 
 mod fault;
 mod issuing;
+pub mod laws;
 mod opening;
 mod poll;
 mod reading;

@@ -6,6 +6,8 @@ ghost use Rattle.ecat_frame.specs.Frame.{Pdu, pdu};
 ghost use Rattle.site_core.specs.Line.{Owns};
 ghost use Rattle.site_core.specs.State.{clock};
 ghost use Rattle.esc_rom.specs.Status.{rested_by, found_in};
+ghost use Rattle.esc_rom.specs.Halves.{IsAt, HalfGoes};
+ghost use Rattle.esc_rom.specs.GivingUp.{MissesIdle, WaitsInVain};
 ghost use Rattle.esc_rom.specs.Runs.{Runs, RestsSeen};
 
 use crate::fault::Stop;
@@ -50,6 +52,8 @@ pub(crate) fn poll<S: Site>(site: &mut S, slave: u16) -> Result<Option<Rested>, 
     requires { Owns (S.line site.old) slave }
     ensures runs { Runs RestsSeen (S.seen site.old) slave 1 result (S.seen site.new) }
     ensures clock { clock (S.seen site.new) ≡ clock (S.seen site.old) + 1 }
+    ensures missed { result ≡ Ok None → HalfGoes (MissesIdle (S.seen site.old) slave (S.seen site.new)) (S.seen site.old).state slave (S.seen site.new).state }
+    ensures at { (rested : Rested) → result ≡ Ok (Some rested) → HalfGoes (λ half later. IsAt slave later) (S.seen site.old).state slave (S.seen site.new).state }
     ensures line { S.line site.new ≡ S.line site.old }
 {
     match send(site, slave, Command::Fprd, CONTROL, &[0, 0])? {
@@ -62,7 +66,8 @@ pub(crate) fn poll<S: Site>(site: &mut S, slave: u16) -> Result<Option<Rested>, 
 pub(crate) fn wait_idle<S: Site>(site: &mut S, slave: u16) -> Result<Option<Rested>, Stop>
     requires { Owns (S.line site.old) slave }
     ensures runs { Runs RestsSeen (S.seen site.old) slave POLLS result (S.seen site.new) }
-    ensures never { result ≡ Ok None → clock (S.seen site.new) ≡ clock (S.seen site.old) + POLLS }
+    ensures never { result ≡ Ok None → HalfGoes (WaitsInVain (S.seen site.old) slave (S.seen site.new)) (S.seen site.old).state slave (S.seen site.new).state }
+    ensures at { (rested : Rested) → result ≡ Ok (Some rested) → HalfGoes (λ half later. IsAt slave later) (S.seen site.old).state slave (S.seen site.new).state }
     ensures line { S.line site.new ≡ S.line site.old }
 {
     for _poll in 0..POLLS {

@@ -5,6 +5,7 @@ ghost use Rattle.sii_words.specs.Words.{IsDeviceSize};
 ghost use Rattle.std.specs.Int.{w16, w32, to_le_bytes};
 ghost use Rattle.ecat_frame.specs.Frame.{pdu};
 ghost use Rattle.site_core.specs.Line.{Owns};
+ghost use Rattle.esc_rom.specs.Times.{IsNext};
 ghost use Rattle.esc_rom.specs.Runs.{Runs};
 ghost use Rattle.esc_rom.specs.WordPairs.{pair_of, Fetches, TriesRead, ReadsPair, Fills, ReadsAll};
 ghost use Rattle.esc_rom.specs.Access.{ReadsWords};
@@ -66,7 +67,8 @@ fn pair_in(answer: Datagram<'_>) -> Option<WordPair>
 /// Asks for the two words that a slave has read. None where the frame is lost or isn't counted.
 fn fetch<S: Site>(site: &mut S, slave: u16) -> Result<Option<WordPair>, Stop>
     requires { Owns (S.line site.old) slave }
-    ensures runs { Runs Fetches (S.seen site.old) slave 1 result (S.seen site.new) }
+    ensures runs { Runs (Fetches (S.seen site.old) slave (S.seen site.new)) (S.seen site.old) slave 1 result (S.seen site.new) }
+    ensures next { IsNext (S.seen site.old) (S.seen site.new) }
     ensures line { S.line site.new ≡ S.line site.old }
 {
     match send(site, slave, Command::Fprd, CONTENT, &[0, 0, 0, 0])? {
@@ -78,7 +80,7 @@ fn fetch<S: Site>(site: &mut S, slave: u16) -> Result<Option<WordPair>, Stop>
 /// Tries once to read a word and the next one.
 fn try_pair<S: Site>(site: &mut S, slave: u16, word: u16) -> Result<Tried, Stop>
     requires { Owns (S.line site.old) slave }
-    ensures runs { Runs (TriesRead word) (S.seen site.old) slave 10002 result (S.seen site.new) }
+    ensures runs { Runs (TriesRead (S.seen site.old) slave word (S.seen site.new)) (S.seen site.old) slave 10002 result (S.seen site.new) }
     ensures line { S.line site.new ≡ S.line site.old }
 {
     let content = read_content(word);
@@ -100,7 +102,7 @@ fn try_pair<S: Site>(site: &mut S, slave: u16, word: u16) -> Result<Tried, Stop>
 /// Reads a word and the next one, in three tries at most. None where the slave is dead.
 fn read_pair<S: Site>(site: &mut S, slave: u16, word: u16) -> Result<Option<WordPair>, Stop>
     requires { Owns (S.line site.old) slave }
-    ensures runs { Runs (ReadsPair word) (S.seen site.old) slave 30006 result (S.seen site.new) }
+    ensures runs { Runs (ReadsPair (S.seen site.old) slave word (S.seen site.new)) (S.seen site.old) slave 30006 result (S.seen site.new) }
     ensures line { S.line site.new ≡ S.line site.old }
 {
     for _try in 0..TRIES {
@@ -116,7 +118,7 @@ fn read_pair<S: Site>(site: &mut S, slave: u16, word: u16) -> Result<Option<Word
 /// Reads the words of a slave, two by two, into the place of those that are there. Tells whether all were read.
 fn fill<S: Site>(site: &mut S, slave: u16, words: &mut Words) -> Result<bool, Stop>
     requires { Owns (S.line site.old) slave }
-    ensures runs { Runs (Fills words.new) (S.seen site.old) slave (30006 * (length words.old / 2)) result (S.seen site.new) }
+    ensures runs { Runs (Fills (S.seen site.old) slave (S.seen site.new) words.new) (S.seen site.old) slave (30006 * (length words.old / 2)) result (S.seen site.new) }
     ensures length { length words.new ≡ length words.old }
     ensures line { S.line site.new ≡ S.line site.old }
 {
@@ -133,7 +135,7 @@ fn fill<S: Site>(site: &mut S, slave: u16, words: &mut Words) -> Result<bool, St
 /// Waits until a slave is idle, and reads its words. Tells whether all were read.
 fn wait_and_fill<S: Site>(site: &mut S, slave: u16, words: &mut Words) -> Result<bool, Stop>
     requires { Owns (S.line site.old) slave }
-    ensures runs { Runs (ReadsAll words.new) (S.seen site.old) slave (10000 + 30006 * (length words.old / 2)) result (S.seen site.new) }
+    ensures runs { Runs (ReadsAll (S.seen site.old) slave (S.seen site.new) words.new) (S.seen site.old) slave (10000 + 30006 * (length words.old / 2)) result (S.seen site.new) }
     ensures length { length words.new ≡ length words.old }
     ensures line { S.line site.new ≡ S.line site.old }
 {

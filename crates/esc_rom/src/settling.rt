@@ -14,7 +14,7 @@ use site_core::{DeviceFault, Settled, Site};
 /// Polls a slave until it is idle, and clears its errors if the word isn't in place.
 fn rest<S: Site>(site: &mut S, slave: u16, taken: bool) -> Result<Settled, Stop>
     requires { Owns (S.line site.old) slave }
-    ensures runs { Runs (BecomesSettled (S.seen site.old) taken (S.seen site.new)) (S.seen site.old) slave 10001 result (S.seen site.new) }
+    ensures runs { Runs (BecomesSettled (S.seen site.old) slave taken (S.seen site.new)) (S.seen site.old) slave 10001 result (S.seen site.new) }
     ensures line { S.line site.new ≡ S.line site.old }
 {
     let Some(rested) = wait_idle(site, slave)? else {

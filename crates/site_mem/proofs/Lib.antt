@@ -5,5 +5,6 @@ pub mod LineHalves
 pub mod GoingThrough
 pub mod Exchanging
 pub mod Replies
+pub mod Passing
 pub mod Owning
 pub mod Wholes

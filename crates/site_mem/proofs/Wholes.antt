@@ -1,11 +1,12 @@
 -- Parts that fit together.
-use Rattle.std.proofs.Common.{◌≡◌, ℕ, zero, suc, ◌<◌, ◌≤◌, List, [], ◌∷◌, length, Option, Some, slice_get, refl, sym, ap, subst, ◌∙◌, arith}
+use Rattle.std.proofs.Common.{◌≡◌, ℕ, zero, suc, ◌+◌, ◌<◌, ◌≤◌, List, [], ◌∷◌, length, Option, Some, slice_get, slice_index, refl, sym, ap, subst, ◌∙◌, arith}
 use Rattle.std.proofs.lemmas.Option.{slice_get_within}
+use borrow.Author.Count.{below_more}
 use Rattle.esc_model.specs.SlaveHalf.{SlaveHalf}
 use Rattle.site_mem.specs.Line.{half_of, halves_of, word_counts}
-use Rattle.site_mem.specs.Site.{IsWhole, SizesFit}
+use Rattle.site_mem.specs.Site.{IsWhole, HasSize, SizesFit}
 
-length-counts : (halves : List (Option SlaveHalf)) → length (word_counts (halves_of halves)) ≡ length halves
+pub length-counts : (halves : List (Option SlaveHalf)) → length (word_counts (halves_of halves)) ≡ length halves
 length-counts [] = refl
 length-counts (h ∷ hs) = ap suc (length-counts hs)
 
@@ -33,3 +34,31 @@ IsWhole-all halves sizes some most each fit = record {
       let held : 0 < length (half_of at.0).words = subst (λ (n : ℕ). 0 < n) (sym at.2) positive in
       sym at.2 ∙ (fit slave at.0 (omega arith) at.1).words held;
 }
+
+counts-at : (halves : List (Option SlaveHalf)) (slave : ℕ) (half : Option SlaveHalf) → slice_get halves slave ≡ Some half
+    → slice_get (word_counts (halves_of halves)) slave ≡ Some (length (half_of half).words)
+counts-at [] slave half here = absurd cc
+counts-at (h ∷ hs) zero half here = let e : h ≡ half = cc in ap (λ (x : Option SlaveHalf). Some (length (half_of x).words)) e
+counts-at (h ∷ hs) (suc slave) half here = counts-at hs slave half here
+
+-- on a whole line each half has the size of its slave
+pub IsWhole-half : (halves : List (Option SlaveHalf)) (sizes : List ℕ) (slave : ℕ) (half : Option SlaveHalf) → IsWhole sizes (word_counts (halves_of halves))
+    → slice_get halves slave ≡ Some half → HasSize half (slice_index sizes slave)
+IsWhole-half halves sizes slave half whole here =
+    let below : slave < length halves = slice_get_within halves slave half here in
+    let each : length halves ≡ length sizes = sym (length-counts halves) ∙ whole.each in
+    record {
+      device = whole.devices slave (omega arith);
+      words = whole.words slave (length (half_of half).words) (counts-at halves slave half here);
+    }
+
+abbrev HalfFits : List (Option SlaveHalf) → List ℕ → ℕ → Type 0
+HalfFits halves sizes slave = (half : Option SlaveHalf) → slice_get halves slave ≡ Some half → HasSize half (slice_index sizes slave)
+
+-- one half more has its size
+pub SizesFit-more : (halves : List (Option SlaveHalf)) (sizes : List ℕ) (count : ℕ) (half : Option SlaveHalf) → SizesFit halves sizes count
+    → slice_get halves count ≡ Some half → HasSize half (slice_index sizes count) → SizesFit halves sizes (count + 1)
+SizesFit-more halves sizes count half fit here has slave other below is =
+    let last : HalfFits halves sizes count = λ h at. (let e : half ≡ h = cc in let P : Option SlaveHalf → Type 0 = λ x. HasSize x (slice_index sizes count) in subst P e has) in
+    let all : (k : ℕ) → k < count + 1 → HalfFits halves sizes k = below_more (HalfFits halves sizes) count (λ k low h at. fit k h low at) last in
+    all slave below other is

@@ -1,5 +1,5 @@
 // The halves of a line that serve the EEPROMs.
-ghost use Rattle.std.specs.Prelude.{◌≡◌, length};
+ghost use Rattle.std.specs.Prelude.{◌≡◌, length, IfOk};
 ghost use Rattle.esc_model.specs.SlaveHalf.{MayRest, MayStop, Takes};
 ghost use Rattle.site_mem.specs.Going.{HasHalf, HalfTakes, HalfTears};
 
@@ -99,14 +99,21 @@ fn tear_half(half: &mut RomHalf, pattern: Pattern)
 pub(crate) fn copy_halves(
     alloc: Global,
     halves: &Vec<Option<RomHalf>>,
-) -> Result<Vec<Option<RomHalf>>, AllocError> {
+) -> Result<Vec<Option<RomHalf>>, AllocError>
+    ensures { IfOk result (λ copies. copies.items ≡ halves.now.items) }
+{
     let mut copies = Vec::new(alloc);
     for half in halves {
-        let copy = match half {
-            Some(half) => Some(half.try_copy()?),
-            None => None,
-        };
-        copies.push(copy)?;
+        copies.push(copy_half(half)?)?;
     }
     Ok(copies)
+}
+
+fn copy_half(half: &Option<RomHalf>) -> Result<Option<RomHalf>, AllocError>
+    ensures { IfOk result (λ copy. copy ≡ half.now) }
+{
+    match half {
+        Some(half) => Ok(Some(half.try_copy()?)),
+        None => Ok(None),
+    }
 }

@@ -1,8 +1,9 @@
-ghost use Rattle.std.specs.Prelude.{◌≡◌, ◌<◌, ◌≤◌, length, is_some, IsTrue, IfOk, IfSome};
-ghost use Rattle.site_core.specs.Disk.{StopImage};
+ghost use Rattle.std.specs.Prelude.{◌≡◌, ◌<◌, ◌≤◌, ◌↔◌, length, is_some, slice_set, IsTrue, IfOk, IfSome};
 ghost use Rattle.site_core.specs.Line.{Owns};
-ghost use Rattle.site_mem.specs.Site.{SiteValue, IsWhole, HasSize};
-ghost use Rattle.site_mem.specs.Parts.{site_of, bytes_or_none};
+ghost use Rattle.site_core.specs.Calls.{CyclesFrame};
+ghost use Rattle.site_mem.specs.Site.{SiteValue, IsWhole, HasSize, CyclesProcess};
+ghost use Rattle.site_mem.specs.Parts.{site_of, bytes_or_none, IsLeftOf};
+ghost use Rattle.site_mem.specs.Process.{memories_of};
 ghost use Rattle.site_mem.specs.Line.{halves_of, word_counts};
 
 use crate::disk::MemDisk;
@@ -41,11 +42,12 @@ pub struct MemSite {
 impl Model for MemSite {
     ghost use Rattle.std.specs.Prelude.{is_some};
     ghost use Rattle.site_mem.specs.Line.{word_counts};
+    ghost use Rattle.site_mem.specs.Process.{memories_of};
     ghost use Rattle.site_mem.specs.Site.{SiteValue, value_of, IsWhole};
 
     ghost Value = { SiteValue };
 
-    ghost view = { λ s. value_of s.sizes.items s.has_disk (is_some s.process) s.track };
+    ghost view = { λ s. value_of s.sizes.items s.has_disk (is_some s.process) (memories_of s.process) s.muted s.track };
 
     ghost invariant = { λ s. IsWhole s.sizes.items (word_counts s.track.state.halves) };
 }
@@ -54,7 +56,7 @@ impl Parts {
     /// Whether the line has 1 to 64 slaves, each of a size that a device may have, and a place for the half of each, and
     /// whether each half has as many words as its slave.
     pub fn is_whole(&self) -> bool
-        ensures { IsTrue result → IsWhole self.now.sizes.items (word_counts (halves_of self.now.halves.items)) }
+        ensures { IsTrue result ↔ IsWhole self.now.sizes.items (word_counts (halves_of self.now.halves.items)) }
     {
         let count = self.sizes.len();
         if count == 0 || count > 64 || self.halves.len() != count {
@@ -71,7 +73,7 @@ impl Parts {
 
 /// Whether it is a size of a device, and the half, where there is one, has it.
 fn has_size(half: &Option<RomHalf>, size: u16) -> bool
-    ensures { IsTrue result → HasSize half.now size }
+    ensures { IsTrue result ↔ HasSize half.now size }
 {
     if size < 64 || size > 4096 || size % 64 != 0 {
         return false;
@@ -112,6 +114,7 @@ impl MemSite {
         ensures disk { IfSome result.disk (λ bytes. bytes.items ≡ self.seen.state.disk.bytes) }
         ensures has_disk { is_some result.disk ≡ self.line.has_disk }
         ensures has_process { is_some result.process ≡ self.line.has_process }
+        ensures process { memories_of result.process ≡ self.process }
     {
         let MemSite {
             sizes,
@@ -132,7 +135,7 @@ impl MemSite {
     /// What a stop leaves now, by the pattern of the fuse, and by `Old` without one. Words in flight stay in flight.
     /// Fails where there is no memory.
     pub fn snapshot(&self, alloc: Global) -> Result<Parts, AllocError>
-        ensures { IfOk result (λ parts. IfSome parts.disk (λ bytes. StopImage self.now.seen.state.disk bytes.items)) }
+        ensures { IfOk result (λ parts. IsLeftOf self.now parts) }
     {
         let sizes = self.sizes.clone()?;
         let bytes = self.track.snapshot_disk()?;
@@ -174,7 +177,7 @@ impl MemSite {
 
     /// A process half that is muted takes nothing.
     pub fn mute(&mut self, slave: u16, is_muted: bool)
-        ensures { self.new ≡ self.old }
+        ensures { self.new ≡ record self.old { muted = slice_set self.old.muted slave is_muted } }
     {
         let place = usize::from(slave);
         if place < 64 {
@@ -239,7 +242,12 @@ impl Site for MemSite {
         self.track.exchange(usize::from(slave), frame)
     }
 
-    fn cycle(&mut self, frame: &mut Frame) -> Result<(), DeviceFault> {
+    fn cycle(&mut self, frame: &mut Frame) -> Result<(), DeviceFault>
+        requires { IsTrue self.old.line.has_process }
+        ensures cycles { CyclesFrame self.old.seen frame.old result frame.new self.new.seen }
+        ensures line { self.new.line ≡ self.old.line }
+        ensures process { CyclesProcess self.old frame.old result frame.new self.new }
+    {
         match &mut self.process {
             Some(halves) => self.track.cycle(halves, &self.muted, frame),
             None => unreachable!(),

@@ -29,8 +29,7 @@ fn site(rt: &impl Abort, alloc: Global) -> Result<MemSite, Fail> {
 }
 
 /// The disk's bytes and the slave's word 4 are these.
-fn left(rt: &impl Abort, site: MemSite, bytes: &[u8], alias: u16) {
-    let parts = site.into_parts();
+fn left(rt: &impl Abort, parts: Parts, bytes: &[u8], alias: u16) {
     assert!(rt; parts.disk.is_some_and(|disk| disk.as_slice() == bytes));
     for half in &parts.halves {
         assert!(rt;
@@ -59,7 +58,7 @@ fn tears_bytes(rt: &impl Abort, alloc: Global, pattern: Pattern, bytes: &[u8]) -
         assert!(rt; site.disk_write(0, &[8, 8]).is_ok() == (passing == 3));
         assert!(rt; site.disk_sync() == Err(DeviceFault::Stopped));
         assert!(rt; site.disk_len() == Err(DeviceFault::Stopped));
-        left(rt, site, bytes, 0);
+        left(rt, site.into_parts(), bytes, 0);
     }
     Ok(())
 }
@@ -71,18 +70,20 @@ fn fuse_tears_bytes(rt: HostRuntime) -> Result<(), Fail> {
     tears_bytes(&rt, rt.alloc(), Pattern::Fill(0x12a5), &[0xa5, 0xa5, 3, 4])
 }
 
+/// A stop in a word tears the unsynced bytes too.
 #[test]
 fn fuse_tears_a_word(rt: HostRuntime) -> Result<(), Fail> {
-    for (pattern, alias) in [
-        (Pattern::Old, 0),
-        (Pattern::New, 1),
-        (Pattern::Fill(0xdead), 0xdead),
+    for (pattern, byte, alias) in [
+        (Pattern::Old, 1, 0),
+        (Pattern::New, 9, 1),
+        (Pattern::Fill(0xdead), 0xad, 0xdead),
     ] {
         let mut site = site(&rt, rt.alloc())?;
-        assert!(rt; site.owns(0));
-        site.fuse(0, pattern);
+        assert!(rt; site.has_disk() && site.owns(0));
+        site.fuse(1, pattern);
+        assert!(rt; site.disk_write(0, &[9]).is_ok());
         assert!(rt; site.exchange(0, &mut issue()?) == Err(DeviceFault::Stopped));
-        left(&rt, site, &[1, 2, 3, 4], alias);
+        left(&rt, site.into_parts(), &[byte, 2, 3, 4], alias);
     }
     Ok(())
 }
@@ -97,7 +98,7 @@ fn fails_once(rt: HostRuntime) -> Result<(), Fail> {
     site.fail_once(0);
     assert!(rt; site.exchange(0, &mut issue()?) == Err(DeviceFault::Lost));
     assert!(rt; site.disk_sync().is_ok());
-    left(&rt, site, &[1, 2, 3, 4], 0);
+    left(&rt, site.into_parts(), &[1, 2, 3, 4], 0);
     Ok(())
 }
 
@@ -118,7 +119,7 @@ fn issued(
         poll.push(Command::Fprd, 0, fp(STATION, 0x0502), &[0, 0])?;
         let _ = site.exchange(0, &mut poll);
     }
-    left(rt, site, &[1, 2, 3, 4], alias);
+    left(rt, site.into_parts(), &[1, 2, 3, 4], alias);
     Ok(())
 }
 
@@ -126,4 +127,78 @@ fn issued(
 fn fails_writes(rt: HostRuntime) -> Result<(), Fail> {
     issued(&rt, rt.alloc(), 1, 1, 0)?;
     issued(&rt, rt.alloc(), 1, 2, 1)
+}
+
+/// Writes bytes from a place on.
+fn write(rt: &impl Abort, site: &mut MemSite, at: usize, over: &[u8]) {
+    assert!(rt; site.has_disk());
+    if let Ok(length) = site.disk_len() {
+        assert!(rt; at <= length);
+        assert!(rt; site.disk_write(at, over).is_ok());
+    }
+}
+
+/// Bytes are written at a place, and a word is issued. These are the disk's bytes in a snapshot then, which has the word in
+/// flight.
+fn snapshot_has(
+    rt: &impl Abort,
+    alloc: Global,
+    fuse: Option<Pattern>,
+    (at, over): (usize, &[u8]),
+    bytes: &[u8],
+) -> Result<(), Fail> {
+    let mut site = site(rt, alloc)?;
+    if let Some(pattern) = fuse {
+        site.fuse(9, pattern);
+    }
+    write(rt, &mut site, at, over);
+    assert!(rt; site.owns(0));
+    assert!(rt; site.exchange(0, &mut issue()?).is_ok());
+    let parts = site.snapshot(alloc)?;
+    for half in &parts.halves {
+        assert!(rt; half.as_ref().is_some_and(|half| half.in_flight().is_some()));
+    }
+    left(rt, parts, bytes, 0);
+    Ok(())
+}
+
+/// Each row: the fuse's pattern, and what stands on the disk where two bytes in its middle, and one behind its end, are
+/// unsynced.
+#[test]
+fn snapshot_is_what_a_stop_leaves(rt: HostRuntime) -> Result<(), Fail> {
+    let rows: [(Option<Pattern>, &[u8], &[u8]); 4] = [
+        (None, &[1, 2, 3, 4], &[1, 2, 3, 4]),
+        (Some(Pattern::Old), &[1, 2, 3, 4], &[1, 2, 3, 4]),
+        (Some(Pattern::New), &[1, 8, 9, 4], &[1, 2, 3, 4, 5]),
+        (
+            Some(Pattern::Fill(0x12a5)),
+            &[1, 0xa5, 0xa5, 4],
+            &[1, 2, 3, 4, 0xa5],
+        ),
+    ];
+    for (fuse, inside, longer) in rows {
+        snapshot_has(&rt, rt.alloc(), fuse, (1, &[8, 9]), inside)?;
+        snapshot_has(&rt, rt.alloc(), fuse, (4, &[5]), longer)?;
+    }
+    Ok(())
+}
+
+/// What the disk holds from place 2 on, 3 bytes of it.
+fn read(rt: &impl Abort, site: &mut MemSite) -> [u8; 3] {
+    let mut bytes = [0u8; 3];
+    assert!(rt; site.has_disk());
+    if let Ok(length) = site.disk_len() {
+        assert!(rt; length == 5);
+        assert!(rt; site.disk_read(2, &mut bytes).is_ok());
+    }
+    bytes
+}
+
+#[test]
+fn reads_what_was_written(rt: HostRuntime) -> Result<(), Fail> {
+    let mut site = site(&rt, rt.alloc())?;
+    assert!(rt; site.slaves() == 1 && site.words_of(0) == 64);
+    write(&rt, &mut site, 3, &[7, 9]);
+    assert!(rt; read(&rt, &mut site) == [3, 7, 9]);
+    Ok(())
 }

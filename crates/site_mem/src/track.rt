@@ -4,6 +4,7 @@ ghost use Rattle.site_core.specs.State.{Seen, words_held};
 ghost use Rattle.site_mem.specs.Unsynced.{Covers};
 ghost use Rattle.site_core.specs.Calls.{Reads, GivesLength, ReadsDisk, WritesDisk, SyncsDisk, ExchangesFrame, CyclesFrame, told};
 ghost use Rattle.site_mem.specs.Line.{halves_of, KeepsCounts};
+ghost use Rattle.site_mem.specs.Process.{CyclesHalves};
 ghost use Rattle.site_mem.specs.Going.{TakesOne, Went};
 ghost use Rattle.site_mem.specs.Stopping.{HasStopped, Fails, noted, begun, laid};
 
@@ -375,6 +376,7 @@ impl Track {
         frame: &mut Frame,
     ) -> Result<(), DeviceFault>
         ensures cycles { CyclesFrame self.old frame.old result frame.new self.new }
+        ensures process { CyclesHalves muted.now process.old frame.old result process.new frame.new }
         ensures counts { KeepsCounts self.old self.new }
     {
         let sent = Snapshot::of(frame);
@@ -424,10 +426,9 @@ impl Track {
     }
 
     /// Copies of the halves, with the words that are in flight.
-    pub(crate) fn snapshot_halves(
-        &self,
-        alloc: Global,
-    ) -> Result<Vec<Option<RomHalf>>, AllocError> {
+    pub(crate) fn snapshot_halves(&self, alloc: Global) -> Result<Vec<Option<RomHalf>>, AllocError>
+        ensures { IfOk result (λ halves. halves_of halves.items ≡ self.now.state.halves) }
+    {
         copy_halves(alloc, &self.halves)
     }
 }

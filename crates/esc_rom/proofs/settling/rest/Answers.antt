@@ -1,12 +1,13 @@
-use Rattle.std.proofs.Common.{ap, Ok}
+use Rattle.std.proofs.Common.{ap, Ok, arith, rules}
+use Rattle.std.proofs.lemmas.Grind.{common_steps}
 use Rattle.esc_rom.proofs.Writing.{clear_gentle}
 use Rattle.esc_rom.proofs.SettledWords.{rest_dead, rest_written, rest_again, rest_cut}
 use Rattle.esc_rom.proofs.settling.rest.Goals as goal
 
 pub returns-in_default-clause-runs : goal.returns-in_default-clause-runs
 returns-in_default-clause-runs g c =
-    rest_dead (g.S.Site.seen c.args.site.now) c.args.slave c.args.taken c.in_ok-rested.field-0 (g.S.Site.seen c.wait_idle.new.site) c.in_default.is
-    (c.in_ok-rested.ensures.never (ap Ok c.in_default.is)) c.in_ok-rested.ensures.runs
+    rest_dead (g.S.Site.seen c.args.site.now) c.args.slave c.args.taken c.in_ok-rested.field-0 (g.S.Site.seen c.wait_idle.new.site) c.in_ok-rested.ensures.runs
+    (c.in_ok-rested.ensures.never (ap Ok c.in_default.is))
 
 pub returns-in-Well-true-clause-runs : goal.returns-in-Well-true-clause-runs
 returns-in-Well-true-clause-runs g c =
@@ -24,4 +25,5 @@ returns-in_err-_cleared-clause-runs g c =
 pub returns-clause-runs : goal.returns-clause-runs
 returns-clause-runs g c =
     rest_again (g.S.Site.seen c.args.site.now) c.args.slave c.args.taken c.in_ok-rested.field-0 c.in-Some.rested (g.S.Site.seen c.wait_idle.new.site) c.in_ok-_cleared._cleared (g.S.Site.seen c.write.new.site)
-    c.requires.1 c.in-Some.is c.in_ok-rested.ensures.runs c.in_ok-_cleared.ensures.runs
+    c.requires.1 c.in-Some.is
+    (λ wanted. first_of ((cc), search rules, grind (arith, common_steps))) c.in_ok-_cleared.ensures.next c.in_ok-rested.ensures.runs c.in_ok-_cleared.ensures.runs

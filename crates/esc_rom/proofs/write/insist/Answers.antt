@@ -1,13 +1,14 @@
-use Rattle.std.proofs.Common.{◌≡◌, ℕ, ◌+◌, ◌≤◌, Bool, true, false, refl, sym, subst, ◌∙◌, arith}
+use Rattle.std.proofs.Common.{◌≡◌, ℕ, ◌+◌, Bool, true, false, refl, sym, subst, ◌∙◌, arith}
 use Rattle.ecat_frame.specs.Frame.{Pdu, sent}
 use Rattle.ecat_frame.specs.declared.command.Command.TheVariants.{Fpwr}
 use Rattle.esc_model.specs.SlaveHalf.{SlaveHalf}
 use Rattle.site_core.specs.Line.{Line, Owns}
 use Rattle.site_core.specs.State.{Seen}
 use Rattle.esc_rom.specs.Orders.{address_of}
+use Rattle.esc_rom.specs.Times.{IsNext}
 use Rattle.esc_rom.specs.Runs.{Wrote, Insists}
-use Rattle.esc_rom.proofs.SoFar.{so_none, so_more, so_answer, so_cut}
 use Rattle.esc_rom.proofs.Wrote.{TriedSo, tried_none, tried_more, insist_took}
+use Rattle.esc_rom.proofs.SoFar.{so_none, so_more, so_answer, so_cut}
 use Rattle.esc_rom.proofs.write.insist.Goals as goal
 
 took_it : (order : Pdu) (times : ℕ) (a b c : Seen) (value : Bool) → value ≡ true → (half mid later : SlaveHalf) → TriedSo order times a b half mid → Wrote order b c value mid later
@@ -15,10 +16,10 @@ took_it : (order : Pdu) (times : ℕ) (a b c : Seen) (value : Bool) → value �
 took_it order times a b c value is half mid later so wrote =
     insist_took order times a b c half mid later so (subst (λ (v : Bool). Wrote order b c v mid later) is wrote)
 
-not_yet : (order : Pdu) (times : ℕ) (a b c : Seen) (value : Bool) → value ≡ false → b.faults ≤ c.faults → (half mid later : SlaveHalf) → TriedSo order times a b half mid → Wrote order b c value mid later
+not_yet : (order : Pdu) (times : ℕ) (a b c : Seen) (value : Bool) → value ≡ false → IsNext b c → (half mid later : SlaveHalf) → TriedSo order times a b half mid → Wrote order b c value mid later
     → TriedSo order (times + 1) a c half later
-not_yet order times a b c value is fewer half mid later so wrote =
-    tried_more order times a b c half mid later fewer so (subst (λ (v : Bool). Wrote order b c v mid later) is wrote)
+not_yet order times a b c value is next half mid later so wrote =
+    tried_more order times a b c half mid later next so (subst (λ (v : Bool). Wrote order b c v mid later) is wrote)
 
 pub loop-try-init : goal.loop-try-init
 loop-try-init g c = record {
@@ -51,6 +52,6 @@ loop-try-preserved g c =
     let d = g.S.Site.seen c.write.new.site in
     record {
       so = so_more (TriedSo order c.loop-try._try a b) (TriedSo order (c.loop-try._try + 1) a d) (Wrote order b d) a c.args.slave c.loop-try._try b 1 d c.in_ok-write.field-0
-          (not_yet order c.loop-try._try a b d c.in_ok-write.field-0 c.if-branch.false c.in_ok-write.ensures.runs.quiet.never_fewer) c.loop-try.invariant.so c.in_ok-write.ensures.runs;
+          (not_yet order c.loop-try._try a b d c.in_ok-write.field-0 c.if-branch.false c.in_ok-write.ensures.next) c.loop-try.invariant.so c.in_ok-write.ensures.runs;
       line = c.in_ok-write.ensures.line ∙ c.loop-try.invariant.line;
     }

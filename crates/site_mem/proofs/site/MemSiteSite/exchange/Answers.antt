@@ -1,12 +1,13 @@
 use Rattle.std.proofs.Common.{◌≡◌, ◌<◌, ℕ, is_some, sym, subst}
 use Rattle.site_core.specs.Line.{Owns}
 use Rattle.site_core.specs.State.{words_held}
+use Rattle.site_mem.specs.Process.{memories_of}
 use Rattle.site_mem.specs.Site.{SiteValue, value_of}
 use Rattle.site_mem.proofs.Owning.{owned-held}
 use Rattle.site_mem.proofs.site.MemSiteSite.exchange.Goals as goal
 
 pub exchange-requires : goal.exchange-requires
 exchange-requires c =
-    let own : Owns (value_of c.self.inside.sizes.items c.self.inside.has_disk (is_some c.self.inside.process) c.self.inside.track).line c.args.slave = subst (λ (v : SiteValue). Owns v.line c.args.slave) (sym c.self.view_is) c.requires in
+    let own : Owns (value_of c.self.inside.sizes.items c.self.inside.has_disk (is_some c.self.inside.process) (memories_of c.self.inside.process) c.self.inside.muted c.self.inside.track).line c.args.slave = subst (λ (v : SiteValue). Owns v.line c.args.slave) (sym c.self.view_is) c.requires in
     let same : c.from.result ≡ c.args.slave = c.from.ensures in
     subst (λ (n : ℕ). 0 < words_held c.self.inside.track n) (sym same) (owned-held c.self.inside.track c.args.slave own.2)
