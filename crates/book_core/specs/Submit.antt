@@ -1,9 +1,8 @@
 -- What submitting a command answers.
-use Rattle.std.specs.Prelude.{◌≡◌, ◌⊎◌, ◌<◌, ◌≤◌, ℕ, true, false, List, [], ◌∷◌, ◌++◌, length, Result, Ok, Err, IsOk}
+use Rattle.std.specs.Prelude.{◌≡◌, ◌<◌, ◌≤◌, ℕ, true, false, [], ◌∷◌, ◌++◌, length, Result, Ok, Err, IsOk}
 use Rattle.sii_edit.specs.declared.Command.{Command}
-use Rattle.sii_edit.specs.declared.Refusal.{Refusal}
-use Rattle.sii_edit.specs.declared.Cause.TheVariants as causes
 use Rattle.sii_edit.specs.Command.{outcome}
+use Rattle.sii_edit.specs.Refusal.{IsRefusalOf}
 use Rattle.book_core.specs.declared.refusal.SubmitRefusal.{SubmitRefusal}
 use Rattle.book_core.specs.declared.refusal.SubmitRefusal.TheVariants as refusals
 use Rattle.book_core.specs.declared.book.TheConstants.{QUEUE}
@@ -14,12 +13,13 @@ abbrev pub IsOpen : Book → Type 0
 IsOpen book = book.is_finished ≡ false
 
 -- When each answer comes: a finished book is closed; then the command is judged on the contents; then the queue wants room.
+-- Want of memory comes in place of any answer but the first.
 abbrev pub IsAnswer : Book → Command → Result ℕ SubmitRefusal → Type 0
 IsAnswer book command (Ok number) =
     IsOpen book × IsOk (outcome (contents_of book) command) × (length book.accepted < QUEUE) × (number ≡ length book.accepted)
 IsAnswer book command (Err refusals.Closed) = book.is_finished ≡ true
 IsAnswer book command (Err (refusals.Command refusal)) =
-    IsOpen book × ((outcome (contents_of book) command ≡ Err refusal) ⊎ (refusal.cause ≡ causes.Memory))
+    IsOpen book × IsRefusalOf (outcome (contents_of book) command) refusal
 IsAnswer book command (Err refusals.Full) = IsOpen book × IsOk (outcome (contents_of book) command) × (QUEUE ≤ length book.accepted)
 
 -- the book with one more command

@@ -1,8 +1,9 @@
-ghost use Rattle.std.specs.Prelude.{◌≡◌, ◌≤◌, [], true, false, None, length, vec_len, IfOk, OnOk, OnErr};
+ghost use Rattle.std.specs.Prelude.{◌≡◌, ◌≤◌, [], true, false, None, length, vec_len, IfOk, IfErr, OnOk, OnErr};
 
 use crate::refusal::{CoreFault, Fault, SubmitRefusal};
 use crate::status::Status;
 use sii_edit::{Command, changes, redo};
+use sii_image::Layout;
 use sii_words::{Plant, Words};
 use std::alloc::Global;
 use std::marker::Model;
@@ -19,6 +20,7 @@ pub struct Core {
     alloc: Global,
     base: Snapshot<Plant>,
     contents: Plant,
+    layout: Layout,
     accepted: Vec<Command>,
     is_finished: bool,
 }
@@ -30,7 +32,7 @@ impl Model for Core {
 
     ghost view = { λ core. record { base = core.base.value; accepted = core.accepted.items; is_finished = core.is_finished } };
 
-    ghost invariant = { λ core. Keeps core.base.value core.accepted.items core.contents };
+    ghost invariant = { λ core. Keeps core.base.value core.accepted.items core.contents core.layout };
 }
 
 impl Core {
@@ -39,23 +41,36 @@ impl Core {
     ghost use Rattle.book_core.specs.Submit.{IsAnswer, with_command};
 
     /// A book over these contents, with nothing accepted.
+    ///
+    /// # Errors
+    ///
+    /// `Memory`; the words are then dropped.
     pub fn open(alloc: Global, slaves: Vec<Words>) -> Result<Core, CoreFault>
         requires some { 1 ≤ vec_len slaves }
         requires most { vec_len slaves ≤ 64 }
-        ensures { IfOk result (λ core. core ≡ record { base = slaves.items; accepted = []; is_finished = false }) }
+        ensures opened { IfOk result (λ core. core ≡ record { base = slaves.items; accepted = []; is_finished = false }) }
+        ensures refused { IfErr result (λ fault. fault ≡ CoreFault.Memory) }
     {
         let accepted = Vec::with_capacity(alloc, QUEUE)?;
         let contents = Plant::of(slaves);
+        let layout = Layout::of(alloc, &contents)?;
         Ok(Core {
             alloc,
             base: Snapshot::of(&contents),
             contents,
+            layout,
             accepted,
             is_finished: false,
         })
     }
 
-    /// Accepts the command, and answers its number, counted from 0; or refuses it, and stays as it is.
+    /// Accepts the command, and answers its number, counted from 0. It copies and reads the words of the slaves alone that the
+    /// command is about.
+    ///
+    /// # Errors
+    ///
+    /// `Closed`; then what speaks against the command on the contents as they are; then `Full`. Want of memory may be answered
+    /// in place of any of these but the first, and of a number. The book stays as it is.
     pub fn submit(&mut self, command: &Command) -> Result<u64, SubmitRefusal>
         ensures answer { IsAnswer self.old command.now result }
         ensures accepted { OnOk result (self.new ≡ with_command self.old command.now) }
@@ -64,13 +79,14 @@ impl Core {
         if self.is_finished {
             return Err(SubmitRefusal::Closed);
         }
-        let runs = changes(self.alloc, &self.contents, command)?;
+        let change = changes(self.alloc, &self.contents, &self.layout, command)?;
         if self.accepted.len() >= QUEUE {
             return Err(SubmitRefusal::Full);
         }
         let number = self.accepted.len() as u64;
         self.accepted.push(command.try_copy()?)?;
-        redo(&mut self.contents, &runs);
+        redo(&mut self.contents, &change.runs);
+        self.layout = change.layout;
         Ok(number)
     }
 

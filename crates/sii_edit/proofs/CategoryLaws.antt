@@ -11,10 +11,12 @@ use Rattle.sii_cats.specs.declared.fault.CatFault.TheVariants as fault
 use Rattle.sii_cats.specs.Chain.{Member, member_of, members_of}
 use Rattle.sii_cats.specs.Splice.{chain_end, with_chain, SpliceFails}
 use Rattle.sii_cats.specs.Splice.{edited as spliced}
+use Rattle.sii_edit.specs.declared.command.Expect.{Expect}
 use Rattle.sii_edit.specs.declared.refusal.Cause.{Cause}
-use Rattle.sii_edit.specs.declared.refusal.Cause.TheVariants.{NoSuchCategory, SeveralCategories, BadCategory, NoRoom, BadChain}
+use Rattle.sii_edit.specs.declared.refusal.Cause.TheVariants.{WrongIdentity, NoSuchCategory, SeveralCategories, BadCategory, NoRoom, BadChain}
 use Rattle.sii_edit.specs.Category.{has_kind, count_of, is_absent, is_repeated, is_unfit, is_too_long, if_read, exchanged, rechained, with_category}
 use Rattle.sii_edit.specs.Command.{category_causes}
+use Rattle.sii_edit.specs.Guard.{is_other}
 use Rattle.sii_edit.specs.Image.{with_front}
 use Rattle.sii_edit.specs.Refusal.{unless, cause_of_category, IsCauseOf, IsAnswer, IsJudgement}
 use Rattle.sii_edit.proofs.ShapeLaws.{length-with_chain, within}
@@ -143,3 +145,25 @@ splice_accepted judged words kind content ms others place new copy left fit read
     left ∙ unless-pass (is_unfit kind content) BadCategory ((is_too_long words kind content ms, NoRoom) ∷ []) (with_chain words (exchanged kind content ms)) fit
     ∙ unless-pass (is_too_long words kind content ms) NoRoom [] (with_chain words (exchanged kind content ms)) (grind (arith, nat_tests))
     ∙ ap (λ (w : List ℕ). Ok w) (sym (whole ∙ made'))
+
+-- what is left of the causes where the chain can't be read
+pub judged_unread : (expect : Option Expect) (words : List ℕ) (kind : ℕ) (content rest : List ℕ) → members_of words ≡ Err rest → is_other expect words ≡ false
+    → unless (category_causes expect words kind content) (with_category words kind content) ≡ unless ((is_unfit kind content, BadCategory) ∷ (true, BadChain) ∷ []) words
+judged_unread expect words kind content rest unread same =
+    ap (λ (r : Result (List Member) (List ℕ)). unless (
+    (is_other expect words, WrongIdentity)
+    ∷ (if_read r (is_absent kind content), NoSuchCategory)
+    ∷ (if_read r (is_repeated kind), SeveralCategories)
+    ∷ (is_unfit kind content, BadCategory)
+    ∷ (if_read r (is_too_long words kind content), NoRoom)
+    ∷ (is_err r, BadChain)
+    ∷ []) (rechained kind content words r)) unread
+    ∙ unless-pass (is_other expect words) WrongIdentity ((is_unfit kind content, BadCategory) ∷ (true, BadChain) ∷ []) words same
+
+-- a content that is refused before the chain is
+pub content_unread : (expect : Option Expect) (words : List ℕ) (kind : ℕ) (content rest : List ℕ) (cause : Cause) → members_of words ≡ Err rest → is_other expect words ≡ false
+    → IsJudgement ((is_unfit kind content, BadCategory) ∷ []) (Err cause) → IsCauseOf (unless (category_causes expect words kind content) (with_category words kind content)) cause
+content_unread expect words kind content rest cause unread same (inl is) =
+    let nothing : Unit {0} = tt in
+    inl (judged_unread expect words kind content rest unread same ∙ first_found (is_unfit kind content) BadCategory cause ((true, BadChain) ∷ []) nothing words is)
+content_unread expect words kind content rest cause unread same (inr memory) = inr memory

@@ -1,5 +1,5 @@
 -- What a command gives, case by case.
-use Rattle.std.proofs.Common.{◌≡◌, ◌≢◌, ◌⊎◌, ℕ, suc, ◌<◌, ◌≤◌, List, [], ◌∷◌, length, map, slice_set, refl, sym, ap, ◌∙◌, inl, inr, arith, Option, None, Result, Ok, Err, All, length-set, get_or-set_same, get_or-set_other}
+use Rattle.std.proofs.Common.{◌≡◌, ◌≢◌, ◌⊎◌, ℕ, suc, ◌<◌, ◌≤◌, List, [], ◌∷◌, length, map, slice_set, refl, sym, ap, ◌∙◌, inl, inr, arith, true, Option, None, Result, Ok, Err, All, length-set, get_or-set_same, get_or-set_other}
 use Rattle.std.proofs.lemmas.Bool.{cases_eq, cases_lt}
 use Rattle.std.proofs.lemmas.Bool.Decides.{nat_tests}
 use Rattle.std.proofs.lemmas.List.{set_past}
@@ -13,17 +13,18 @@ use Rattle.sii_edit.specs.declared.command.GuardedEdit.{GuardedEdit}
 use Rattle.sii_edit.specs.declared.command.Command.{Command}
 use Rattle.sii_edit.specs.declared.command.Command.TheVariants.{One, Swap, Group, Guarded}
 use Rattle.sii_edit.specs.declared.refusal.Cause.{Cause}
-use Rattle.sii_edit.specs.declared.refusal.Cause.TheVariants.{NoSlave, SameSlave, BadCheck, Memory}
+use Rattle.sii_edit.specs.declared.refusal.Cause.TheVariants.{NoSlave, SameSlave, BadCheck, ImageOverLimit, Memory}
 use Rattle.sii_edit.specs.declared.refusal.Refusal.{Refusal}
 use Rattle.sii_edit.specs.Alias.{with_alias}
 use Rattle.sii_edit.specs.Redo.{SameShape, LiesInside, redone}
 use Rattle.sii_edit.specs.Run.{runs_between}
 use Rattle.sii_edit.specs.declared.run.Run.{Run}
-use Rattle.sii_edit.specs.Refusal.{unless, of_whole, of_place, IsCauseOf}
-use Rattle.sii_edit.specs.Command.{slave_of, causes_against, words_after, edited_words, edited, edits_from, group_causes, grouped, is_missing, swap_causes, swapped, outcome, unguarded}
+use Rattle.sii_edit.specs.Refusal.{unless, whole, of_whole, of_place, IsCauseOf}
+use Rattle.sii_edit.specs.Command.{slave_of, causes_against, words_after, edited_words, edited, edits_from, group_causes, grouped, is_missing, swap_causes, swapped, carried_out, has_image, with_image, outcome, unguarded}
 use Rattle.sii_edit.proofs.AliasLaws.{length-with_alias}
 use Rattle.sii_edit.proofs.ShapeLaws.{length-words_after}
 use Rattle.sii_edit.proofs.UnlessLaws.{unless-ok, unless-change, unless-err, unless-stop, unless-pass, none_holds, NamesNoMemory, unless-not_memory, whole_ok, whole_err, place_ok, place_err, then_ok, then_err}
+use Rattle.sii_edit.proofs.ImageLaws.{with_image-has, with_image_accepts, with_image_refuses}
 use Rattle.sii_edit.proofs.RunLaws.{redone-runs_between, LiesInside-runs_between}
 
 -- an edit of a slave that isn't there, and of one that is
@@ -122,23 +123,29 @@ shape_grouped plant new edits judged =
     let start : split.0 ≡ plant = unless-ok causes plant split.0 (whole_ok (unless causes plant) split.0 split.1) in
     shape_edits 0 plant new edits (rw start at split.2)
 
+shape_carried_out : (plant new : List (List ℕ)) (command : Command) → carried_out plant command ≡ Ok new → SameShape plant new
+shape_carried_out plant new (One edit) judged = shape_edited plant new None edit (whole_ok (edited plant None edit) new judged)
+shape_carried_out plant new (Swap a b) judged = shape_swapped plant new a b (whole_ok (swapped plant a b) new judged)
+shape_carried_out plant new (Group edits) judged = shape_grouped plant new (map unguarded edits) judged
+shape_carried_out plant new (Guarded edits) judged = shape_grouped plant new edits judged
+
 -- an accepted command keeps the shape of the plant
 pub SameShape-outcome : (plant new : List (List ℕ)) (command : Command) → outcome plant command ≡ Ok new → SameShape plant new
-SameShape-outcome plant new (One edit) judged = shape_edited plant new None edit (whole_ok (edited plant None edit) new judged)
-SameShape-outcome plant new (Swap a b) judged = shape_swapped plant new a b (whole_ok (swapped plant a b) new judged)
-SameShape-outcome plant new (Group edits) judged = shape_grouped plant new (map unguarded edits) judged
-SameShape-outcome plant new (Guarded edits) judged = shape_grouped plant new edits judged
+SameShape-outcome plant new command judged = shape_carried_out plant new command (with_image_accepts (carried_out plant command) new judged)
 
 -- the runs to the new contents lie inside the old ones, and redo of them gives the new ones
-pub record Accepted (plant : List (List ℕ)) (command : Command) (runs : List Run) : Type 0 where
+pub record Accepted (plant new : List (List ℕ)) (command : Command) (runs : List Run) : Type 0 where
+  pub reached : redone plant runs ≡ new
   pub judged : outcome plant command ≡ Ok (redone plant runs)
   pub between : runs ≡ runs_between plant (redone plant runs)
   pub inside : All (LiesInside plant) runs
 
-pub accepted : (plant new : List (List ℕ)) (command : Command) (runs : List Run) → outcome plant command ≡ Ok new → runs ≡ runs_between plant new → Accepted plant command runs
-accepted plant new command runs judged between =
+pub accepted : (plant new : List (List ℕ)) (command : Command) (runs : List Run) → carried_out plant command ≡ Ok new → has_image new ≡ true → runs ≡ runs_between plant new
+    → Accepted plant new command runs
+accepted plant new command runs carried has between =
+    let judged : outcome plant command ≡ Ok new = ap with_image carried ∙ with_image-has new has in
     let there : redone plant runs ≡ new = rw between (redone-runs_between plant new (SameShape-outcome plant new command judged)) in
-    record { judged = rw there judged; between = rw there between; inside = rw between (LiesInside-runs_between plant new) }
+    record { reached = there; judged = rw there judged; between = rw there between; inside = rw between (LiesInside-runs_between plant new) }
 
 -- the judgement of an edit of a slave's words is that of the edit
 pub edited_refused : (plant : List (List ℕ)) (expect : Option Expect) (edit : Edit) (cause : Cause) → slave_of edit < length plant
@@ -182,9 +189,19 @@ not_memory_grouped plant edits refusal is =
       | inr later ↦ not_memory_edits 0 later.0 edits refusal later.2
     ]
 
+not_memory_carried_out : (plant : List (List ℕ)) (command : Command) (refusal : Refusal) → carried_out plant command ≡ Err refusal → refusal.cause ≢ Memory
+not_memory_carried_out plant (One edit) refusal is = with_cause (edited plant None edit) refusal.cause (whole_err (edited plant None edit) refusal is) (not_memory_edited plant None edit)
+not_memory_carried_out plant (Swap a b) refusal is = with_cause (swapped plant a b) refusal.cause (whole_err (swapped plant a b) refusal is) (not_memory_swapped plant a b)
+not_memory_carried_out plant (Group edits) refusal is = not_memory_grouped plant (map unguarded edits) refusal is
+not_memory_carried_out plant (Guarded edits) refusal is = not_memory_grouped plant edits refusal is
+
+over_limit : (refusal : Refusal) → refusal ≡ whole ImageOverLimit → refusal.cause ≢ Memory
+over_limit refusal is = λ memory. let never : ImageOverLimit ≡ Memory = sym (ap (λ (r : Refusal). r.cause) is) ∙ memory in cc
+
 -- want of memory is no part of what a command does
 pub not_memory : (plant : List (List ℕ)) (command : Command) (refusal : Refusal) → outcome plant command ≡ Err refusal → refusal.cause ≢ Memory
-not_memory plant (One edit) refusal is = with_cause (edited plant None edit) refusal.cause (whole_err (edited plant None edit) refusal is) (not_memory_edited plant None edit)
-not_memory plant (Swap a b) refusal is = with_cause (swapped plant a b) refusal.cause (whole_err (swapped plant a b) refusal is) (not_memory_swapped plant a b)
-not_memory plant (Group edits) refusal is = not_memory_grouped plant (map unguarded edits) refusal is
-not_memory plant (Guarded edits) refusal is = not_memory_grouped plant edits refusal is
+not_memory plant command refusal is =
+    elim (with_image_refuses (carried_out plant command) refusal is) [
+      | inl before ↦ not_memory_carried_out plant command refusal before
+      | inr over ↦ over_limit refusal over
+    ]

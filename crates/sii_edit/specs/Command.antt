@@ -1,13 +1,15 @@
--- What a command does to a plant: it gives a new one, or it is refused for the first cause that applies.
-use Rattle.std.specs.Prelude.{ℕ, suc, ◌==◌, ◌||◌, Bool, nat_le, nat_lt, List, [], ◌∷◌, length, map, Option, None, Result, Ok, is_err, slice_set}
+-- What a command does to a plant: it gives a new one, or it is refused for the first cause that applies. The last cause is that the new
+-- plant has no process image, whatever the command did to get there.
+use Rattle.std.specs.Prelude.{ℕ, suc, ◌==◌, ◌||◌, Bool, nat_le, nat_lt, List, [], ◌∷◌, length, map, Option, None, is_some, Result, Ok, Err, is_err, slice_set, if◌then◌else◌}
 use Rattle.sii_words.specs.Words.{alias_of}
 use Rattle.sii_words.specs.Plant.{words_of}
 use Rattle.sii_cats.specs.Chain.{members_of}
+use Rattle.sii_image.specs.ProcessImage.{process_image}
 use Rattle.sii_edit.specs.Alias.{with_alias, is_unchecked}
 use Rattle.sii_edit.specs.Category.{is_absent, is_repeated, is_unfit, is_too_long, has_malformed, if_read, with_category}
 use Rattle.sii_edit.specs.Image.{with_front}
 use Rattle.sii_edit.specs.Guard.{is_other}
-use Rattle.sii_edit.specs.Refusal.{unless, of_whole, of_place, then_judged}
+use Rattle.sii_edit.specs.Refusal.{unless, whole, of_whole, of_place, then_judged}
 use Rattle.sii_edit.specs.declared.command.Expect.{Expect}
 use Rattle.sii_edit.specs.declared.command.Edit.{Edit}
 use Rattle.sii_edit.specs.declared.command.Edit.TheVariants.{Alias, Category, Image}
@@ -15,7 +17,7 @@ use Rattle.sii_edit.specs.declared.command.GuardedEdit.{GuardedEdit}
 use Rattle.sii_edit.specs.declared.command.Command.{Command}
 use Rattle.sii_edit.specs.declared.command.Command.TheVariants.{One, Swap, Group, Guarded}
 use Rattle.sii_edit.specs.declared.refusal.Cause.{Cause}
-use Rattle.sii_edit.specs.declared.refusal.Cause.TheVariants.{NoSlave, SameSlave, EmptyGroup, GroupTooLong, ImageTooLong, BadCheck, WrongIdentity, NoSuchCategory, SeveralCategories, BadCategory, NoRoom, BadChain}
+use Rattle.sii_edit.specs.declared.refusal.Cause.TheVariants.{NoSlave, SameSlave, EmptyGroup, GroupTooLong, ImageTooLong, BadCheck, WrongIdentity, NoSuchCategory, SeveralCategories, BadCategory, NoRoom, BadChain, ImageOverLimit}
 use Rattle.sii_edit.specs.declared.refusal.Refusal.{Refusal}
 
 -- the slave that an edit is about
@@ -114,9 +116,22 @@ swapped plant a b =
     (swap_causes plant a b)
     (slice_set (slice_set plant a (with_alias (words_of plant a) (alias_of (words_of plant b)))) b (with_alias (words_of plant b) (alias_of (words_of plant a))))
 
+-- the new plant, or the refusal, before its process image is judged
+abbrev pub carried_out : List (List ℕ) → Command → Result (List (List ℕ)) Refusal
+carried_out plant (One edit) = of_whole (edited plant None edit)
+carried_out plant (Swap a b) = of_whole (swapped plant a b)
+carried_out plant (Group edits) = grouped plant (map unguarded edits)
+carried_out plant (Guarded edits) = grouped plant edits
+
+-- the line has a process image
+unfoldable pub has_image : List (List ℕ) → Bool
+has_image plant = is_some (process_image plant)
+
+-- the new plant, which has to have a process image
+abbrev pub with_image : Result (List (List ℕ)) Refusal → Result (List (List ℕ)) Refusal
+with_image (Ok new) = if has_image new then Ok new else Err (whole ImageOverLimit)
+with_image (Err refusal) = Err refusal
+
 -- the new plant, or the refusal
 abbrev pub outcome : List (List ℕ) → Command → Result (List (List ℕ)) Refusal
-outcome plant (One edit) = of_whole (edited plant None edit)
-outcome plant (Swap a b) = of_whole (swapped plant a b)
-outcome plant (Group edits) = grouped plant (map unguarded edits)
-outcome plant (Guarded edits) = grouped plant edits
+outcome plant command = with_image (carried_out plant command)

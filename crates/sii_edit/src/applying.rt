@@ -1,9 +1,10 @@
 ghost use Rattle.std.specs.Prelude.{◌≡◌, All, IfOk, IfErr};
-ghost use Rattle.sii_edit.specs.Command.{outcome};
+ghost use Rattle.sii_edit.specs.Command.{carried_out, outcome};
 ghost use Rattle.sii_edit.specs.Draft.{drafted, IsCarriedOut, IsDraftOf};
 ghost use Rattle.sii_edit.specs.Redo.{redone, LiesInside};
 ghost use Rattle.sii_edit.specs.Refusal.{IsRefusalOf};
 ghost use Rattle.sii_edit.specs.Run.{runs_between};
+ghost use Rattle.sii_image.specs.ProcessImage.{layout_of};
 
 use crate::command::Command;
 use crate::draft::Draft;
@@ -11,24 +12,47 @@ use crate::group::{edit_all, edit_guarded};
 use crate::redoing::redo;
 use crate::refusal::Refusal;
 use crate::run::Run;
+use sii_image::Layout;
 use sii_words::Plant;
 use std::alloc::Global;
 
-/// The runs that a command asks for: the longest stretches of words that it changes, in rising order of slave and word. Redo of
-/// them over the plant gives the new contents. It copies the words of the slaves alone that the command is about.
+/// What a command changes: the runs, and the layout of the new contents.
+#[derive(Debug, Drop)]
+pub struct Change {
+    /// The longest stretches of words that change, in rising order of slave and word. Redo of them over the plant gives the
+    /// new contents.
+    pub runs: Vec<Run>,
+    /// What the process image of the new contents is made from.
+    pub layout: Layout,
+}
+
+/// What a command changes in a plant with this layout. It copies and reads the words of the slaves alone that the command is
+/// about.
 ///
 /// # Errors
 ///
-/// The first cause that applies, or `Memory` in place of any answer.
-pub fn changes(alloc: Global, plant: &Plant, command: &Command) -> Result<Vec<Run>, Refusal>
-    ensures accepted { IfOk result (λ runs. outcome plant.now command.now ≡ Ok (redone plant.now runs.items)) }
-    ensures runs { IfOk result (λ runs. runs.items ≡ runs_between plant.now (redone plant.now runs.items)) }
-    ensures inside { IfOk result (λ runs. All (LiesInside plant.now) runs.items) }
+/// The first cause that applies, or `Memory` in place of any answer. The last cause is `ImageOverLimit`: the new contents have
+/// no process image.
+pub fn changes(
+    alloc: Global,
+    plant: &Plant,
+    layout: &Layout,
+    command: &Command,
+) -> Result<Change, Refusal>
+    requires { layout.now ≡ layout_of plant.now }
+    ensures accepted { IfOk result (λ change. outcome plant.now command.now ≡ Ok (redone plant.now change.runs.items)) }
+    ensures runs { IfOk result (λ change. change.runs.items ≡ runs_between plant.now (redone plant.now change.runs.items)) }
+    ensures inside { IfOk result (λ change. All (LiesInside plant.now) change.runs.items) }
+    ensures layout { IfOk result (λ change. change.layout ≡ layout_of (redone plant.now change.runs.items)) }
     ensures refused { IfErr result (λ refusal. IsRefusalOf (outcome plant.now command.now) refusal) }
 {
     let mut draft = Draft::of(alloc, plant)?;
     carry_out(&mut draft, alloc, plant, command)?;
-    Ok(draft.runs(alloc, plant)?)
+    let new = draft.judged_layout(plant, layout)?;
+    Ok(Change {
+        runs: draft.runs(alloc, plant)?,
+        layout: new,
+    })
 }
 
 /// The plant once a command is carried out, and the runs that lead there.
@@ -43,10 +67,11 @@ pub fn apply(alloc: Global, plant: &Plant, command: &Command) -> Result<(Plant, 
     ensures inside { IfOk result (λ applied. All (LiesInside plant.now) applied.1.items) }
     ensures refused { IfErr result (λ refusal. IsRefusalOf (outcome plant.now command.now) refusal) }
 {
-    let runs = changes(alloc, plant, command)?;
+    let layout = Layout::of(alloc, plant)?;
+    let change = changes(alloc, plant, &layout, command)?;
     let mut new = plant.try_copy()?;
-    redo(&mut new, &runs);
-    Ok((new, runs))
+    redo(&mut new, &change.runs);
+    Ok((new, change.runs))
 }
 
 /// Does a command to the draft.
@@ -57,7 +82,7 @@ fn carry_out(
     command: &Command,
 ) -> Result<(), Refusal>
     requires { IsDraftOf plant.now draft.old }
-    ensures { IsCarriedOut plant.now (outcome (drafted plant.now draft.old) command.now) draft.new result }
+    ensures { IsCarriedOut plant.now (carried_out (drafted plant.now draft.old) command.now) draft.new result }
 {
     match command {
         Command::One(edit) => draft.edit(alloc, plant, None, edit).map_err(Refusal::whole),

@@ -7,8 +7,7 @@ use crate::category::recategorized;
 use crate::image::imaged;
 use crate::lists::{EditList, GuardedEditList};
 use crate::refusal::Cause;
-use crate::run::WordList;
-use sii_words::{ImageFile, Words};
+use sii_words::{ImageFile, WordList, Words};
 use std::alloc::{AllocError, Global};
 
 /// A change of one slave's EEPROM. Slaves are numbered from 0, in the order of the line.

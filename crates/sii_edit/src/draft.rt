@@ -1,14 +1,17 @@
-ghost use Rattle.std.specs.Prelude.{◌≡◌, ◌<◌, length, slice_set, Some, IfOk};
+ghost use Rattle.std.specs.Prelude.{◌≡◌, ◌<◌, length, slice_set, IsTrue, Some, Ok, IfOk, IfErr};
 ghost use Rattle.sii_words.specs.Plant.{words_of};
 ghost use Rattle.sii_edit.specs.Draft.{drafted, IsDraftOf, IsStep};
 ghost use Rattle.sii_edit.specs.Run.{runs_between};
-ghost use Rattle.sii_edit.specs.Command.{edited, swapped};
+ghost use Rattle.sii_edit.specs.Command.{edited, has_image, swapped, with_image};
+ghost use Rattle.sii_edit.specs.Refusal.{IsRefusalOf};
+ghost use Rattle.sii_image.specs.ProcessImage.{layout_of};
 
 use crate::alias::aliased;
 use crate::command::{Edit, Expect};
-use crate::refusal::Cause;
+use crate::refusal::{Cause, Refusal};
 use crate::run::Run;
 use crate::stretches::push_stretches;
+use sii_image::{ImageFault, Layout};
 use sii_words::{Plant, Words};
 use std::alloc::{AllocError, Global};
 use std::marker::Model;
@@ -121,5 +124,36 @@ impl Draft {
             }
         }
         Ok(runs)
+    }
+
+    /// The layout of what the plant will be, made from the plant's own: the slaves alone that have new words are read.
+    fn layout(&self, plant: &Plant, layout: &Layout) -> Result<Layout, AllocError>
+        requires draft { IsDraftOf plant.now self.now }
+        requires layout { layout.now ≡ layout_of plant.now }
+        ensures { IfOk result (λ new. new ≡ layout_of (drafted plant.now self.now)) }
+    {
+        let mut new = layout.try_copy()?;
+        for slave in 0..plant.len() {
+            if let Some(words) = &self.changed[slave] {
+                new.change(slave as u16, words)?;
+            }
+        }
+        Ok(new)
+    }
+
+    /// The layout of what the plant will be, where that has a process image.
+    pub fn judged_layout(&self, plant: &Plant, layout: &Layout) -> Result<Layout, Refusal>
+        requires draft { IsDraftOf plant.now self.now }
+        requires layout { layout.now ≡ layout_of plant.now }
+        ensures accepted { IfOk result (λ new. IsTrue (has_image (drafted plant.now self.now))) }
+        ensures layout { IfOk result (λ new. new ≡ layout_of (drafted plant.now self.now)) }
+        ensures refused { IfErr result (λ refusal. IsRefusalOf (with_image (Ok (drafted plant.now self.now))) refusal) }
+    {
+        let new = self.layout(plant, layout)?;
+        match new.image() {
+            Ok(_) => Ok(new),
+            Err(ImageFault::Memory) => Err(Refusal::whole(Cause::Memory)),
+            Err(ImageFault::ImageOverLimit) => Err(Refusal::whole(Cause::ImageOverLimit)),
+        }
     }
 }

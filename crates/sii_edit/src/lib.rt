@@ -19,9 +19,10 @@ mod stretches;
 mod tests;
 
 pub use alias::alias_image;
-pub use applying::{apply, changes};
+pub use applying::{Change, apply, changes};
 pub use command::{Command, Edit, Expect, GuardedEdit};
 pub use lists::{EditList, GuardedEditList};
 pub use redoing::redo;
 pub use refusal::{Cause, Refusal};
-pub use run::{Run, WordList};
+pub use run::Run;
+pub use sii_words::WordList;

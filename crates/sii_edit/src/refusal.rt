@@ -32,6 +32,8 @@ pub enum Cause {
     NoRoom,
     #[error("the chain of categories can not be read")]
     BadChain,
+    #[error("the process image is over its limits")]
+    ImageOverLimit,
     #[error("out of memory")]
     Memory,
 }

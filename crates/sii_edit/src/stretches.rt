@@ -1,7 +1,8 @@
 ghost use Rattle.std.specs.Prelude.{◌≡◌, ◌≢◌, ℕ, ◌≤◌, ◌<◌, ◌++◌, length, OnOk, slice_index};
 ghost use Rattle.sii_edit.specs.Run.{stretches};
 
-use crate::run::{Run, WordList};
+use crate::run::Run;
+use sii_words::WordList;
 use std::alloc::{AllocError, Global};
 
 /// How many words at the front differ.

@@ -1,4 +1,7 @@
+mod limits;
+
 use super::*;
+use sii_image::Layout;
 use sii_words::{ImageFile, Plant, Words, WordsFault};
 use std::alloc::Global;
 use std::process::Abort;
@@ -36,6 +39,12 @@ fn assert_runs(rt: &impl Abort, runs: &[Run], wanted: &[(u16, u16, u16)]) {
     }
 }
 
+/// What a command changes in a plant.
+fn changed(alloc: Global, plant: &Plant, command: &Command) -> Result<Change, Refusal> {
+    let layout = Layout::of(alloc, plant)?;
+    changes(alloc, plant, &layout, command)
+}
+
 #[test]
 fn aliases_change_places(rt: HostRuntime) -> Result<(), Fail> {
     let alloc = rt.alloc();
@@ -46,10 +55,10 @@ fn aliases_change_places(rt: HostRuntime) -> Result<(), Fail> {
         &runs,
         &[(0, 4, 0), (0, 7, 0x0030), (1, 4, 1), (1, 7, 0x0019)],
     );
-    let back = changes(alloc, &new, &Command::Swap { a: 1, b: 0 })?;
+    let back = changed(alloc, &new, &Command::Swap { a: 1, b: 0 })?;
     assert_runs(
         &rt,
-        &back,
+        &back.runs,
         &[(0, 4, 1), (0, 7, 0x0019), (1, 4, 0), (1, 7, 0x0030)],
     );
     let mut again = plant.try_copy()?;
@@ -63,7 +72,7 @@ fn first_cause_is_answered(rt: HostRuntime) -> Result<(), Fail> {
     let alloc = rt.alloc();
     let plant = line(alloc, (0, 0x0030), (0, 0x0031), (0, 0x0030))?;
     let alias = Command::One(Edit::Alias { slave: 0, value: 0 });
-    assert_eq!(rt; changes(alloc, &plant, &alias.try_copy()?)?.len(), 0);
+    assert_eq!(rt; changed(alloc, &plant, &alias.try_copy()?)?.runs.len(), 0);
     let table = [
         (2, 2, Cause::SameSlave),
         (3, 3, Cause::NoSlave),
@@ -72,7 +81,7 @@ fn first_cause_is_answered(rt: HostRuntime) -> Result<(), Fail> {
         (1, 3, Cause::NoSlave),
     ];
     for (a, b, cause) in table {
-        let refused = changes(alloc, &plant, &Command::Swap { a, b }).err();
+        let refused = changed(alloc, &plant, &Command::Swap { a, b }).err();
         assert_eq!(rt;
             refused,
             Some(Refusal {
@@ -122,7 +131,7 @@ fn assert_refused(
     cause: Cause,
     position: Option<u8>,
 ) {
-    let refused = changes(alloc, plant, command).err();
+    let refused = changed(alloc, plant, command).err();
     assert_eq!(rt; refused, Some(Refusal { cause, position }));
 }
 
@@ -169,7 +178,7 @@ fn groups_are_judged(rt: HostRuntime) -> Result<(), Fail> {
             edits.push(Edit::Alias { slave: 2, value })?;
         }
         let group = Command::Group(EditList::from_vec(edits));
-        let refused = changes(alloc, &plant, &group)
+        let refused = changed(alloc, &plant, &group)
             .err()
             .map(|refusal| refusal.cause);
         assert_eq!(rt; refused, cause);

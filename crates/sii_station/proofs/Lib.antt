@@ -1,3 +1,1 @@
-pub mod HexDigits
-pub mod LineImages
 pub mod ListedMembers

@@ -7,10 +7,8 @@ use Rattle.sii_words.specs.Words.{alias_of, bytes_of as file_bytes}
 use Rattle.sii_cats.specs.Bytes.{bytes_of}
 use Rattle.sii_cats.specs.Chain.{IsChain, IsCutAt, Member}
 use Rattle.sii_cats.specs.Contents.{AreManagers, AreUnits}
-use Rattle.sii_cats.specs.Pdos.{ArePdos, Mapping}
+use Rattle.sii_cats.specs.Pdos.{ArePdos}
 use Rattle.sii_cats.specs.Strings.{AreStrings}
-use Rattle.sii_cats.specs.declared.managers.Manager.{Manager}
-use Rattle.sii_cats.specs.declared.units.FmmuUnit.{FmmuUnit}
 use Rattle.sii_station.specs.ImageText.{Spells}
 use Rattle.sii_station.specs.declared.content.Content.{Content}
 use Rattle.sii_station.specs.declared.content.Content.TheVariants.{Strings, Units, Managers, Pdos, Malformed, Opaque}

@@ -1,7 +1,7 @@
 -- The bytes of an image as the program reads and writes them: as they are, or with `--hex` as hexadecimal text.
 use Rattle.std.specs.Prelude.{◌≡◌, ℕ, Bool, List, Ok, MatchBool}
 use Rattle.hex.specs.Hex.{decode_of, encode_lower}
-use Rattle.sii_station.specs.Hexadecimal.{without_whitespace}
+use Rattle.station_text.specs.Hexadecimal.{without_whitespace}
 
 -- an input that spells these bytes, with digits of either case
 abbrev pub Spells : Bool → List ℕ → List ℕ → Type 0

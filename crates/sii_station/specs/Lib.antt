@@ -1,4 +1,5 @@
-pub mod Hexadecimal
+pub mod Files
 pub mod ImageListing
 pub mod ImageText
-pub mod LineText
+pub mod LayoutListing
+pub mod LineFiles

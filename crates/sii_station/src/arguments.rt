@@ -13,6 +13,8 @@ pub enum Task<'a> {
     Show { hex: bool },
     /// Runs a script on a line; both are names of files.
     Run { line: &'a str, script: &'a str },
+    /// Prints the process image of a line, the name of a file.
+    Layout { line: &'a str },
 }
 
 /// Reads the words of a command line, the program's name first.
@@ -30,6 +32,9 @@ pub fn read_arguments<'a>(alloc: Global, words: &'a [String]) -> Result<Task<'a>
     if let Some(run) = matches.subcommand_matches("run") {
         return Ok(run_task(run));
     }
+    if let Some(layout) = matches.subcommand_matches("layout") {
+        return Ok(layout_task(layout));
+    }
     Err(command.error(ErrorKind::MissingSubcommand, "a subcommand is needed")?)
 }
 
@@ -41,7 +46,8 @@ fn station<'a>(alloc: Global) -> Result<Command<'a>, AllocError> {
         .subcommand_required(true)
         .subcommand(show_command(alloc)?)?
         .subcommand(alias_command(alloc)?)?
-        .subcommand(run_command(alloc)?)
+        .subcommand(run_command(alloc)?)?
+        .subcommand(layout_command(alloc)?)
 }
 
 fn show_command<'a>(alloc: Global) -> Result<Command<'a>, AllocError> {
@@ -96,11 +102,31 @@ fn run_command<'a>(alloc: Global) -> Result<Command<'a>, AllocError> {
         .arg(script)
 }
 
+fn layout_command<'a>(alloc: Global) -> Result<Command<'a>, AllocError> {
+    let line = Arg::new(alloc, "LINE")
+        .help("The line file: the slaves' image files and the journal's")
+        .required(true);
+    Command::new(alloc, "layout")
+        .about("Prints the process image of a line of slaves")
+        .long_about(
+            "Reads a line file and the EEPROM images that it names, and prints where the process data of each sync manager lies in the process image, then the sizes of outputs and inputs in bytes and the working counter that is expected. No file is written.",
+        )
+        .after_help("Example:\n  sii_station layout line.toml")
+        .arg(line)
+}
+
 /// Both names are required, so they are there.
 fn run_task<'a>(matches: &ArgMatches<'a>) -> Task<'a> {
     Task::Run {
         line: matches.get_str("LINE").unwrap_or(""),
         script: matches.get_str("SCRIPT").unwrap_or(""),
+    }
+}
+
+/// The name is required, so it is there.
+fn layout_task<'a>(matches: &ArgMatches<'a>) -> Task<'a> {
+    Task::Layout {
+        line: matches.get_str("LINE").unwrap_or(""),
     }
 }
 

@@ -4,6 +4,7 @@ ghost use Rattle.std.specs.Prelude.{◌≡◌};
 use book_core::{CoreFault, SubmitRefusal};
 use sii_edit::{Cause, Refusal};
 use sii_words::WordsFault;
+use station_text::{HexFault, LineFault, ScriptFault};
 use std::alloc::{AllocError, AllocFailed};
 use std::{fmt, io};
 use thiserror::Error;
@@ -15,6 +16,8 @@ pub enum Fault {
     OddLength,
     #[error("fault 2 BadSize")]
     BadSize,
+    #[error("fault 19 ImageOverLimit")]
+    ImageOverLimit,
     #[error("fault 20 Memory")]
     Memory,
     #[error("fault 90 File")]
@@ -52,6 +55,8 @@ pub enum RefusalCode {
     SeveralCategories,
     #[error("18 BadChain")]
     BadChain,
+    #[error("19 ImageOverLimit")]
+    ImageOverLimit,
     #[error("20 Memory")]
     Memory,
     #[error("21 WrongIdentity")]
@@ -164,6 +169,33 @@ impl From<WordsFault> for Fault {
     }
 }
 
+impl From<HexFault> for Fault {
+    fn from(fault: HexFault) -> Self {
+        match fault {
+            HexFault::Memory => Fault::Memory,
+            HexFault::BadHex => Fault::BadHex,
+        }
+    }
+}
+
+impl From<LineFault> for Fault {
+    fn from(fault: LineFault) -> Self {
+        match fault {
+            LineFault::Memory => Fault::Memory,
+            LineFault::BadLine => Fault::BadLine,
+        }
+    }
+}
+
+impl From<ScriptFault> for Fault {
+    fn from(fault: ScriptFault) -> Self {
+        match fault {
+            ScriptFault::Memory => Fault::Memory,
+            ScriptFault::BadScript { command } => Fault::BadScript { command },
+        }
+    }
+}
+
 impl From<Cause> for RefusalCode {
     fn from(cause: Cause) -> Self {
         match cause {
@@ -178,6 +210,7 @@ impl From<Cause> for RefusalCode {
             Cause::NoSuchCategory => RefusalCode::NoSuchCategory,
             Cause::SeveralCategories => RefusalCode::SeveralCategories,
             Cause::BadChain => RefusalCode::BadChain,
+            Cause::ImageOverLimit => RefusalCode::ImageOverLimit,
             Cause::Memory => RefusalCode::Memory,
             Cause::WrongIdentity => RefusalCode::WrongIdentity,
         }

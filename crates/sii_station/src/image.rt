@@ -5,9 +5,9 @@ ghost use Rattle.sii_words.specs.Words.{bytes_of};
 ghost use Rattle.sii_station.specs.ImageText.{Spells, SpellsLower};
 
 use crate::faults::Fault;
-use crate::hexadecimal::{hex_lines, read_hex};
 use crate::reading::read_to_end;
 use sii_words::ImageFile;
+use station_text::{hex_lines, read_hex};
 use std::alloc::{AllocError, Global};
 use std::io::{Read, Write};
 

@@ -4,16 +4,14 @@
 mod alias;
 mod arguments;
 mod content;
-mod document;
 mod faults;
-mod hexadecimal;
 mod image;
-mod line_file;
+mod layout;
+mod layout_listing;
+mod line;
 mod listing;
 mod reading;
 mod run;
-mod script_command;
-mod script_file;
 mod script_images;
 mod serve;
 mod show;
@@ -23,6 +21,7 @@ mod tests;
 
 use faults::{Failure, Fault, Status};
 use serve::{report, serve};
+pub use station_text::{read_hex, read_line, read_script};
 use std::process::ExitCode;
 use std::{env, io};
 use store::FileStore;

@@ -1,15 +1,14 @@
 //! The subcommand `run`.
-ghost use Rattle.std.specs.Prelude.{◌≡◌, IfOk, vec_len};
 
 use crate::faults::{Failure, Fault, Refused, Status};
-use crate::line_file::{LineFile, read_line};
-use crate::script_file::read_script;
+use crate::line::{load_line, load_slaves};
 use crate::script_images::load_commands;
 use crate::serve::report;
 use crate::store::{Store, read_file};
 use book_core::Core;
 use sii_edit::Command;
-use sii_words::{Plant, Words};
+use sii_words::Plant;
+use station_text::{LineFile, read_script};
 use std::alloc::{AllocError, Global};
 use std::io::Write;
 
@@ -60,26 +59,6 @@ fn load<S: Store>(
         core,
         commands,
     })
-}
-
-fn load_line<S: Store>(alloc: Global, name: &str, store: &mut S) -> Result<LineFile, Fault> {
-    let bytes = read_file(alloc, name, store)?;
-    let Ok(text) = str::from_utf8(&bytes) else {
-        return Err(Fault::BadLine);
-    };
-    Ok(read_line(alloc, text)?)
-}
-
-/// Each slave's file is judged before the next is read.
-fn load_slaves<S: Store>(alloc: Global, line: &LineFile, store: &mut S) -> Result<Vec<Words>, Fault>
-    ensures { IfOk result (λ slaves. vec_len slaves ≡ vec_len line.now.images) }
-{
-    let mut slaves = Vec::new(alloc);
-    for image in &line.images {
-        let bytes = read_file(alloc, image.as_str(), store)?;
-        slaves.push(Words::from_bytes(alloc, &bytes)?)?;
-    }
-    Ok(slaves)
 }
 
 /// The images that the script names are read once all of its text is judged.

@@ -2,10 +2,10 @@
 ghost use Rattle.std.specs.Prelude.{◌≡◌, IfOk};
 
 use crate::faults::Fault;
-use crate::script_command::{ScriptCommand, ScriptEdit, ScriptGroupEdit};
 use crate::store::{Store, read_file};
 use sii_edit::{Command, Edit, EditList, GuardedEdit, GuardedEditList};
 use sii_words::ImageFile;
+use station_text::{ScriptCommand, ScriptEdit, ScriptGroupEdit};
 use std::alloc::Global;
 
 /// The commands of a script, with the images from their files. The files are read in the commands' order, each judged

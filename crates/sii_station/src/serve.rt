@@ -3,6 +3,7 @@
 use crate::alias::alias;
 use crate::arguments::{Task, read_arguments};
 use crate::faults::{Failure, Fault, Status};
+use crate::layout::layout;
 use crate::run::run;
 use crate::show::show;
 use crate::store::Store;
@@ -28,6 +29,10 @@ pub fn serve<R: Read, S: Store, W: Write, E: Write>(
         },
         Ok(Task::Show { hex }) => match show(alloc, hex, input, output) {
             Ok(status) => status,
+            Err(fault) => report(Failure::Fault(fault), faults),
+        },
+        Ok(Task::Layout { line }) => match layout(alloc, line, store, output) {
+            Ok(()) => Status::Done,
             Err(fault) => report(Failure::Fault(fault), faults),
         },
         Ok(Task::Run { line, script }) => run(alloc, line, script, store, output, faults),

@@ -5,7 +5,7 @@ ghost use Rattle.sii_station.specs.ImageListing.{IsSound, ShowsStatus};
 use crate::faults::{Fault, Status};
 use crate::image::read_image;
 use crate::listing::{Listing, list_image};
-use std::alloc::{AllocError, Global};
+use std::alloc::Global;
 use std::io::{Read, Write};
 
 /// Reads an image and prints what it says. The status says whether the check byte, the chain or a content is bad.
@@ -20,7 +20,7 @@ pub fn show<R: Read, W: Write>(
 {
     let image = read_image(alloc, hex, input)?;
     let listing = list_image(alloc, &image)?;
-    let text = spell_listing(alloc, &listing)?;
+    let text = format!(in alloc; "{listing}")?;
     output.write_all(text.as_bytes())?;
     output.flush()?;
     Ok(status_of(&listing))
@@ -35,10 +35,4 @@ fn status_of(listing: &Listing) -> Status
     } else {
         Status::File
     }
-}
-
-fn spell_listing(alloc: Global, listing: &Listing) -> Result<String, AllocError> {
-    let mut text = String::new(alloc);
-    write!(text, "{listing}")?;
-    Ok(text)
 }

@@ -1,4 +1,6 @@
 //! Files by their names.
+ghost use Rattle.std.specs.Prelude.{◌≡◌, ℕ, List, Option, None, IfOk, IfSome, IsSomeAnd};
+ghost use Rattle.sii_station.specs.Files.{HasBytes};
 
 use crate::faults::Fault;
 use crate::reading::read_to_end;
@@ -9,15 +11,24 @@ use std::{fs, io};
 
 /// Named files, read and written whole.
 pub trait Store {
+    // The bytes of a file by its name, as far as they are known; None claims nothing.
+    ghost files: { Self → List ℕ → Option (List ℕ) } = { λ _ _. None };
+
     /// The bytes of a file; None where there is no such file.
-    fn read(&mut self, alloc: Global, name: &str) -> io::Result<Option<Vec<u8>>>;
+    fn read(&mut self, alloc: Global, name: &str) -> io::Result<Option<Vec<u8>>>
+        ensures bytes { IfOk result (λ found. IfSome (files self.old name.now) (λ held.
+            IsSomeAnd found (λ bytes. bytes.items ≡ held))) }
+        ensures same { files self.new ≡ files self.old };
 
     /// Makes these the bytes of a file.
     fn write(&mut self, name: &str, bytes: &[u8]) -> io::Result<()>;
 }
 
 /// The bytes of a file that has to be there.
-pub fn read_file<S: Store>(alloc: Global, name: &str, store: &mut S) -> Result<Vec<u8>, Fault> {
+pub fn read_file<S: Store>(alloc: Global, name: &str, store: &mut S) -> Result<Vec<u8>, Fault>
+    ensures bytes { IfOk result (λ bytes. HasBytes (S.files store.old) name.now bytes.items) }
+    ensures same { S.files store.new ≡ S.files store.old }
+{
     match store.read(alloc, name)? {
         Some(bytes) => Ok(bytes),
         None => Err(Fault::File),

@@ -1,9 +1,8 @@
 // What the program prints and leaves, in runs over memory.
 
 mod alias_runs;
-mod line_files;
-mod script_commands;
-mod script_files;
+mod layout_runs;
+mod script_images;
 mod script_runs;
 mod show_runs;
 
@@ -128,6 +127,15 @@ fn image(alloc: Global, alias: u16, check: u8) -> Result<Vec<u8>, AllocError> {
         if let Some(byte) = bytes.get_mut(at) {
             *byte = value;
         }
+    }
+    Ok(bytes)
+}
+
+/// An image of so many bytes, all 0 but its check byte and the bytes from word 0x40 on.
+fn with_chain(alloc: Global, len: usize, chain: &[u8]) -> Result<Vec<u8>, AllocError> {
+    let mut bytes = zeros(alloc, len)?;
+    for (byte, value) in bytes.iter_mut().skip(128).zip(chain) {
+        *byte = *value;
     }
     Ok(bytes)
 }

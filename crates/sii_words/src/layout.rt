@@ -8,8 +8,8 @@ use crate::check_byte::check_byte;
 use crate::identity::Identity;
 use std::alloc::{AllocError, Global};
 
-/// The words that the bytes spell.
-pub(crate) fn words_of_bytes(alloc: Global, bytes: &[u8]) -> Result<Vec<u16>, AllocError>
+/// The words that the bytes spell, each low byte first.
+pub fn words_of_bytes(alloc: Global, bytes: &[u8]) -> Result<Vec<u16>, AllocError>
     requires { length bytes.now % 2 ≡ 0 }
     ensures words { IfOk result (λ words. bytes_of words.items ≡ bytes.now) }
     ensures count { IfOk result (λ words. length words.items ≡ length bytes.now / 2) }

@@ -9,10 +9,13 @@ mod layout;
 mod plant;
 #[cfg(test)]
 mod tests;
+mod word_list;
 mod words;
 
 pub use fault::WordsFault;
 pub use identity::Identity;
 pub use image_file::ImageFile;
+pub use layout::words_of_bytes;
 pub use plant::Plant;
+pub use word_list::WordList;
 pub use words::Words;

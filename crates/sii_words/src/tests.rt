@@ -1,4 +1,4 @@
-use crate::{Identity, ImageFile, Plant, Words, WordsFault};
+use crate::{Identity, ImageFile, Plant, WordList, Words, WordsFault, words_of_bytes};
 use std::test::Fail;
 
 // The bytes of 64 words: every byte is its own index, from 0 to 127.
@@ -110,5 +110,21 @@ fn a_plant_of_two(rt: HostRuntime) -> Result<(), Fail> {
     assert_eq!(rt; plant.slave(0).alias(), 0x0908);
     assert_eq!(rt; plant.slave(1).alias(), 0x0003);
     assert_eq!(rt; copy.slave(1).alias(), 0x0908);
+    Ok(())
+}
+
+#[test]
+fn word_lists_are_copied(rt: HostRuntime) -> Result<(), Fail> {
+    let list = WordList::from_vec([7, 8].to_vec(rt.alloc())?);
+    let copy = list.try_copy()?;
+    assert_eq!(rt; list.as_slice(), [7, 8].as_slice());
+    assert_eq!(rt; copy.into_vec().as_slice(), [7, 8].as_slice());
+    Ok(())
+}
+
+#[test]
+fn words_of_four_bytes(rt: HostRuntime) -> Result<(), Fail> {
+    let words = words_of_bytes(rt.alloc(), &[0x00, 0x16, 0xAB, 0xCD])?;
+    assert_eq!(rt; words.as_slice(), [0x1600, 0xCDAB].as_slice());
     Ok(())
 }

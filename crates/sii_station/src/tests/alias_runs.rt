@@ -18,6 +18,9 @@ fn wrong_words_are_usage(rt: HostRuntime) -> Result<(), Fail> {
         "station run",
         "station run line.toml",
         "station run line.toml script.toml more",
+        "station layout",
+        "station layout line.toml more",
+        "station layout --hex",
         "station alias",
         "station alias 65536",
         "station alias -1",
@@ -48,6 +51,7 @@ fn help_says_what_it_does(rt: HostRuntime) -> Result<(), Fail> {
         "station show --help",
         "station alias --help",
         "station run --help",
+        "station layout --help",
     ] {
         let outcome = serve_words(
             rt.alloc(),

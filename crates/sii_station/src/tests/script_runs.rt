@@ -1,4 +1,4 @@
-use super::{Outcome, Shelf, assert_fault, image, serve_words, zeros};
+use super::{Outcome, Shelf, assert_fault, image, serve_words, with_chain, zeros};
 use std::alloc::{AllocError, Global};
 use std::io;
 use std::process::Abort;
@@ -168,9 +168,9 @@ fn categories_and_images_are_refused(rt: HostRuntime) -> Result<(), Fail> {
         let mut shelf = line_of_three(rt.alloc())?;
         shelf.put(
             "s1.bin",
-            &with_chain(rt.alloc(), &[60, 0, 0, 0, 60, 0, 0, 0, 255, 255])?,
+            &with_chain(rt.alloc(), 256, &[60, 0, 0, 0, 60, 0, 0, 0, 255, 255])?,
         )?;
-        shelf.put("s2.bin", &with_chain(rt.alloc(), &[60, 0, 255, 255])?)?;
+        shelf.put("s2.bin", &with_chain(rt.alloc(), 256, &[60, 0, 255, 255])?)?;
         let script = format!(in rt.alloc(); "[[command]]\n{command}\n")?;
         let text = format!(in rt.alloc();
             "command 0 refused {refusal}\naccepted 0 durable 0 settled 0\n"
@@ -179,15 +179,6 @@ fn categories_and_images_are_refused(rt: HostRuntime) -> Result<(), Fail> {
         assert_printed(&rt, &outcome, 1, text.as_str());
     }
     Ok(())
-}
-
-/// A device of 128 words, all 0 but its check byte and the bytes from word 0x40 on.
-fn with_chain(alloc: Global, chain: &[u8]) -> Result<Vec<u8>, AllocError> {
-    let mut bytes = zeros(alloc, 256)?;
-    for (byte, value) in bytes.iter_mut().skip(128).zip(chain) {
-        *byte = *value;
-    }
-    Ok(bytes)
 }
 
 #[test]

@@ -1,3 +1,5 @@
+use Rattle.std.proofs.Common.{ap, sym, ◌∙◌}
+use Rattle.sii_image.specs.ProcessImage.{layout_of}
 use Rattle.sii_edit.specs.Draft.{drafted}
 use Rattle.sii_edit.proofs.CommandLaws.{accepted}
 use Rattle.sii_edit.proofs.applying.changes.Goals as goal
@@ -6,6 +8,12 @@ pub returns : goal.returns
 returns c =
     let plant = c.args.plant.now in
     let new = drafted plant c.carry_out.new.draft in
-    let judged = rw c.in_ok-draft.ensures.1 at c.in_ok-carry_out.ensures.1 in
-    let facts = accepted plant new c.args.command.now c.in_ok-runs.field-0.items judged c.in_ok-runs.ensures in
-    record { accepted = facts.judged; runs = facts.between; inside = facts.inside; refused = tt }
+    let carried = rw c.in_ok-draft.ensures.1 at c.in_ok-carry_out.ensures.1 in
+    let facts = accepted plant new c.args.command.now c.in_ok-runs.field-0.items carried c.in_ok-new.ensures.accepted c.in_ok-runs.ensures in
+    record {
+      accepted = facts.judged;
+      runs = facts.between;
+      inside = facts.inside;
+      layout = c.in_ok-new.ensures.layout ∙ ap layout_of (sym facts.reached);
+      refused = tt;
+    }

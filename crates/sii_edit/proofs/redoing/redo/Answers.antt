@@ -3,7 +3,7 @@ use Rattle.std.proofs.lemmas.List.{take_more}
 use Rattle.sii_edit.specs.declared.run.Run.{Run}
 use Rattle.sii_edit.specs.Redo.{redone}
 use Rattle.sii_edit.proofs.RedoLaws.{SameShape-redone, redone-nil, redone-append}
-use Rattle.sii_edit.proofs.RunLaws.{LiesInside-same_shape}
+use Rattle.sii_edit.proofs.GivenLaws.{LiesInside-same_shape}
 use Rattle.sii_edit.proofs.redoing.redo.Goals as goal
 
 pub loop-run-init : goal.loop-run-init

@@ -4,7 +4,7 @@ use Rattle.sii_edit.specs.declared.run.Run.{Run}
 use Rattle.sii_edit.specs.Redo.{redone}
 use Rattle.sii_words.specs.Plant.{with_word}
 use Rattle.sii_edit.proofs.RedoLaws.{SameShape-redone}
-use Rattle.sii_edit.proofs.RunLaws.{redone-empty_run, redone-more}
+use Rattle.sii_edit.proofs.GivenLaws.{redone-empty_run, redone-more}
 use Rattle.sii_edit.proofs.redoing.write_run.Goals as goal
 
 pub loop-place-init : goal.loop-place-init

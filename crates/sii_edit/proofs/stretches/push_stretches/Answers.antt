@@ -2,7 +2,7 @@ use Rattle.std.proofs.Common.{◌≡◌, ◌≢◌, ◌++◌, [], ◌∷◌, Lis
 use Rattle.std.proofs.Math.Nat.{add-sub_cancel_left}
 use Rattle.std.proofs.lemmas.List.{take_rest}
 use Rattle.sii_edit.specs.Run.{stretches}
-use Rattle.sii_edit.proofs.RunLaws.{next_stretch}
+use Rattle.sii_edit.proofs.StretchLaws.{next_stretch}
 use Rattle.sii_edit.proofs.stretches.push_stretches.Goals as goal
 
 pub loop-at-preserved : goal.loop-at-preserved

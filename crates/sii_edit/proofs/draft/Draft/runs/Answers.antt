@@ -3,7 +3,8 @@ use Rattle.sii_words.specs.Plant.{words_of}
 use Rattle.sii_edit.specs.Draft.{drafted}
 use Rattle.sii_edit.specs.Run.{runs_between}
 use Rattle.sii_edit.proofs.DraftLaws.{length_draft, length-drafted, size_drafted, drafted_read}
-use Rattle.sii_edit.proofs.RunLaws.{next_slave, stretches-same}
+use Rattle.sii_edit.proofs.RunLaws.{next_slave}
+use Rattle.sii_edit.proofs.StretchLaws.{stretches-same}
 use Rattle.sii_edit.proofs.draft.Draft.runs.Goals as goal
 use Rattle.sii_edit.proofs.draft.Draft.runs.Goals.{in-Some+in_ok-push_stretches, in_default}
 

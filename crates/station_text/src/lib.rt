@@ -1,0 +1,15 @@
+//! The station's texts: hexadecimal text, the line file and the script file, each read as a value or refused by name.
+#![tactic(auto)]
+
+mod document;
+mod hexadecimal;
+mod line_file;
+mod script_command;
+mod script_file;
+#[cfg(test)]
+mod tests;
+
+pub use hexadecimal::{HexFault, hex_lines, read_hex};
+pub use line_file::{LineFault, LineFile, read_line};
+pub use script_command::{ScriptCommand, ScriptEdit, ScriptGroupEdit};
+pub use script_file::{ScriptFault, read_script};

@@ -1,0 +1,159 @@
+//! The line file: the slaves of a line, and where its journal is.
+ghost use Rattle.std.specs.Prelude.{◌≡◌, ◌≤◌, vec_len, string_bytes, codes, map, Some, IfOk, IsSomeAnd};
+ghost use Rattle.toml.specs.Data.{get_member};
+ghost use Rattle.toml.specs.Parse.{parse_document};
+ghost use Rattle.toml.specs.View.{view, table_view};
+ghost use Rattle.station_text.specs.LineText.{Describes, IsArea, image_of, images_at_slave, text_at};
+
+use crate::document::{DocumentFault, find, find_text, has_only, read_document};
+use std::alloc::{AllocError, AllocFailed, Global};
+use thiserror::Error;
+use toml::{Table, Value};
+
+/// The area of a journal where the line file says nothing, in bytes.
+const DEFAULT_AREA: u32 = 65_536;
+
+/// What a line file says.
+#[derive(Debug, Drop)]
+pub struct LineFile {
+    /// The journal's file.
+    pub journal: String,
+    /// The bytes of the journal's area: 4,096 to 4,194,304.
+    pub area: u32,
+    /// The file of each slave's EEPROM, for 1 to 64 slaves.
+    pub images: Vec<String>,
+    ghost area_least: { 4096 ≤ area },
+    ghost area_most: { area ≤ 4194304 },
+    ghost some_slave: { 1 ≤ vec_len images },
+    ghost slaves_most: { vec_len images ≤ 64 },
+}
+
+/// Why a text is no line file.
+#[derive(Clone, Copy, Debug, PartialEq, Eq, Error)]
+pub enum LineFault {
+    #[error("out of memory")]
+    Memory,
+    #[error("the text is no line file")]
+    BadLine,
+}
+
+/// Reads a line file: the keys `journal`, `area` and an array of tables `slave`, each with `image`, and no others.
+pub fn read_line(alloc: Global, text: &str) -> Result<LineFile, LineFault>
+    ensures { IfOk result (λ line. IsSomeAnd (parse_document text.now) (λ document.
+        Describes document line.journal line.area line.images.items)) }
+{
+    let table = read_document(alloc, text)?;
+    line_of(alloc, &table)
+}
+
+fn line_of(alloc: Global, table: &Table) -> Result<LineFile, LineFault>
+    ensures { IfOk result (λ line.
+        Describes (table_view table.now) line.journal line.area line.images.items) }
+{
+    if !has_only(table, &["journal", "area", "slave"]) {
+        return Err(LineFault::BadLine);
+    }
+    let journal = read_name(alloc, table, "journal")?;
+    let area = read_area(table)?;
+    let images = read_images(alloc, table)?;
+    Ok(LineFile {
+        journal,
+        area,
+        images,
+    })
+}
+
+/// The file's name at a key.
+fn read_name(alloc: Global, table: &Table, key: &str) -> Result<String, LineFault>
+    ensures { IfOk result (λ name. text_at key.now (table_view table.now) ≡ Some (string_bytes name)) }
+{
+    match find_text(table, key) {
+        Some(name) => Ok(String::from_str(alloc, name)?),
+        None => Err(LineFault::BadLine),
+    }
+}
+
+fn read_area(table: &Table) -> Result<u32, LineFault>
+    ensures value { IfOk result (λ area. IsArea (get_member (codes "area") (table_view table.now)) area) }
+    ensures limits { IfOk result (λ area. (4096 ≤ area) × (area ≤ 4194304)) }
+{
+    let Some(value) = find(table, "area") else {
+        return Ok(DEFAULT_AREA);
+    };
+    let Some(area) = value.as_integer() else {
+        return Err(LineFault::BadLine);
+    };
+    match u32::try_from(area) {
+        Ok(area @ 4_096..=4_194_304) => Ok(area),
+        _ => Err(LineFault::BadLine),
+    }
+}
+
+fn read_images(alloc: Global, table: &Table) -> Result<Vec<String>, LineFault>
+    ensures names { IfOk result (λ images.
+        images_at_slave (table_view table.now) ≡ Some (map (λ name. Some (string_bytes name)) images.items)) }
+    ensures count { IfOk result (λ images. (1 ≤ vec_len images) × (vec_len images ≤ 64)) }
+{
+    let Some(value) = find(table, "slave") else {
+        return Err(LineFault::BadLine);
+    };
+    match value.as_array() {
+        Some(slaves) => read_image_names(alloc, slaves),
+        None => Err(LineFault::BadLine),
+    }
+}
+
+/// The files of 1 to 64 slaves.
+fn read_image_names(alloc: Global, slaves: &[Value]) -> Result<Vec<String>, LineFault>
+    ensures names { IfOk result (λ images.
+        map (λ slave. image_of (view slave)) slaves.now ≡ map (λ name. Some (string_bytes name)) images.items) }
+    ensures count { IfOk result (λ images. (1 ≤ vec_len images) × (vec_len images ≤ 64)) }
+{
+    if slaves.is_empty() || slaves.len() > 64 {
+        return Err(LineFault::BadLine);
+    }
+    let mut images = Vec::with_capacity(alloc, slaves.len())?;
+    for slave in slaves {
+        images.push(read_image_name(alloc, slave)?)?;
+    }
+    Ok(images)
+}
+
+/// The file of one slave.
+fn read_image_name(alloc: Global, slave: &Value) -> Result<String, LineFault>
+    ensures { IfOk result (λ name. image_of (view slave.now) ≡ Some (string_bytes name)) }
+{
+    match slave.as_table() {
+        Some(table) if has_only(table, &["image"]) => read_name(alloc, table, "image"),
+        _ => Err(LineFault::BadLine),
+    }
+}
+
+impl From<AllocError> for LineFault {
+    ghost use Rattle.station_text.specs.declared.line_file.LineFault.TheVariants.{Memory};
+
+    ghost from_gives = { λ _ fault. fault ≡ Memory };
+
+    fn from(_: AllocError) -> Self {
+        LineFault::Memory
+    }
+}
+
+impl<T: Drop> From<AllocFailed<T>> for LineFault {
+    ghost use Rattle.station_text.specs.declared.line_file.LineFault.TheVariants.{Memory};
+
+    ghost from_gives = { λ _ fault. fault ≡ Memory };
+
+    fn from(_: AllocFailed<T>) -> Self {
+        LineFault::Memory
+    }
+}
+
+impl From<DocumentFault> for LineFault {
+    fn from(fault: DocumentFault) -> Self {
+        match fault {
+            DocumentFault::Memory => LineFault::Memory,
+            DocumentFault::NoDocument => LineFault::BadLine,
+        }
+    }
+}
