@@ -1,0 +1,15 @@
+pub mod Counting
+pub mod Numbers
+pub mod Payload
+pub mod BatchReading
+pub mod AreaReading
+pub mod Within
+pub mod AreaGrammar
+pub mod Areas
+pub mod Order
+pub mod HalvesGrammar
+pub mod HeaderGrammar
+pub mod JournalGrammar
+pub mod AreaLaws
+pub mod Sizes
+pub mod ShortRuns

@@ -1,0 +1,15 @@
+use Rattle.std.proofs.lemmas.Result.{err_from_is_err_and}
+use Rattle.jrn_format.specs.Reading.{counted, entry_at}
+use Rattle.jrn_format.proofs.Counting.{counts_on, counts_out, count_fails}
+use Rattle.jrn_format.proofs.reading.counted_entries.Goals as goal
+
+pub returns-in_err-entry : goal.returns-in_err-entry
+returns-in_err-entry c =
+    let p = err_from_is_err_and c.from_residual.result c.from_residual.ensures.1 in
+    rw (p.1, p.2) (count_fails entry_at c.in_err-entry.field-0.0 c.loop.entries.items c.args.count c.loop.counter c.loop.rest.now (counted entry_at c.args.count c.args.bytes.now) c.loop-test.true c.in_err-entry.ensures c.loop.invariant)
+
+pub loop-preserved : goal.loop-preserved
+loop-preserved c = rw c.in_ok-push.ensures.items (counts_on entry_at c.loop.entries.items c.args.count c.loop.counter c.loop.rest.now c.in_ok-entry.entry c.in_ok-entry.after.now (counted entry_at c.args.count c.args.bytes.now) c.loop-test.true c.in_ok-entry.ensures c.loop.invariant)
+
+pub returns : goal.returns
+returns c = rw c.from_vec.ensures (counts_out entry_at c.loop.entries.items c.args.count c.loop.counter c.loop.rest.now (counted entry_at c.args.count c.args.bytes.now) c.loop-test.false c.loop.invariant)

@@ -1,0 +1,74 @@
+//! Reading the two halves of an area of version 2.
+
+ghost use Rattle.std.specs.Prelude.{◌≡◌, ◌≤◌, length};
+ghost use Rattle.jrn_format.specs.Reading.{Answers, are_of, halves_of, in_order, is_followed_by, older_generation};
+
+use crate::area::batches;
+use crate::fault::JournalFault;
+use crate::fields::AREA_START;
+use crate::journal::{Batch, Spelling};
+use std::alloc::Global;
+
+/// The generation of the older half, where one of the two is live.
+fn older_generation(older: &[Batch], newer: &[Batch]) -> u8
+    ensures { result ≡ older_generation older.now newer.now }
+{
+    match (older, newer) {
+        ([batch, ..], _) => batch.generation,
+        ([], [batch, ..]) => batch.generation.wrapping_sub(1),
+        ([], []) => 0,
+    }
+}
+
+fn are_of(generation: u8, batches: &[Batch]) -> bool
+    ensures { result ≡ are_of generation batches.now }
+{
+    batches.iter().all(|batch| batch.generation == generation)
+}
+
+/// Whether the batches of the older half are all of one generation, and those of the newer half all
+/// of the next.
+fn is_followed_by(older: &[Batch], newer: &[Batch]) -> bool
+    ensures { result ≡ is_followed_by older.now newer.now }
+{
+    let generation = older_generation(older, newer);
+    are_of(generation, older) && are_of(generation.wrapping_add(1), newer)
+}
+
+/// The batches of both halves, those of the older half in front.
+#[tactic(auto, unfolding(crate::specs::Reading::in_order))]
+fn in_order(mut firsts: Vec<Batch>, mut seconds: Vec<Batch>) -> Result<Vec<Batch>, JournalFault>
+    ensures { Answers (λ v. v.items) result (in_order firsts.items seconds.items) }
+{
+    if is_followed_by(&firsts, &seconds) {
+        firsts.append(&mut seconds)?;
+        return Ok(firsts);
+    }
+    if is_followed_by(&seconds, &firsts) {
+        seconds.append(&mut firsts)?;
+        return Ok(seconds);
+    }
+    Err(JournalFault::BadJournal { at: AREA_START })
+}
+
+/// The batches that are live in the halves of an area, which begins behind the header.
+#[tactic(auto, unfolding(crate::specs::Reading::halves_of))]
+pub(crate) fn halves(alloc: Global, sizes: &[u16], area: &[u8]) -> Result<Vec<Batch>, JournalFault>
+    requires { length area.now ≤ 4194304 }
+    ensures { Answers (λ v. v.items) result (halves_of sizes.now area.now) }
+{
+    let half = area.len() / 2;
+    let (first, behind) = area.split_at(half);
+    let (second, _) = behind.split_at(half);
+    let end = AREA_START + half;
+    let firsts = batches(alloc, Spelling::WithGeneration, 0, sizes, end, first)?;
+    let seconds = batches(
+        alloc,
+        Spelling::WithGeneration,
+        1,
+        sizes,
+        end + half,
+        second,
+    )?;
+    in_order(firsts, seconds)
+}

@@ -1,0 +1,24 @@
+//! The journal's bytes: the batches that are live in a file, and the bytes of a batch.
+#![tactic(auto)]
+
+mod area;
+mod fault;
+mod fields;
+mod halves;
+mod journal;
+pub mod laws;
+mod lists;
+mod reading;
+mod scanning;
+#[cfg(test)]
+mod tests;
+mod writing;
+
+pub use fault::JournalFault;
+pub use fields::{
+    AREA_START, OPEN, capacity, gate, generation, header, payload_length, slave_count, version,
+};
+pub use journal::{Batch, Entry, Form, Journal, Spelling};
+pub use lists::{BatchList, EntryList, RunList};
+pub use scanning::scan;
+pub use writing::{encode_batch, size_of};

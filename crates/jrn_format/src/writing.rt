@@ -1,0 +1,87 @@
+//! The bytes of a batch.
+
+ghost use Rattle.std.specs.Prelude.{◌≡◌, ◌+◌, ◌<◌, ◌^◌, ◌++◌, [], ◌∷◌, ℕ, length, OnOk, IfOk};
+ghost use Rattle.jrn_format.specs.Batch.{AreCounted, AreCountedRuns, IsCountedRun, entry_size, spelt_behind, spelt_entry, spelt_payload, spelt_run};
+ghost use Rattle.jrn_format.specs.declared.journal.Entry.{Entry};
+
+use crate::journal::{Entry, Spelling};
+use sii_edit::Run;
+use std::alloc::{AllocError, Global};
+
+/// The byte that closes a gate.
+const CLOSED: u8 = 0x00;
+
+fn put_run(out: &mut Vec<u8>, run: &Run) -> Result<(), AllocError>
+    requires { IsCountedRun run.now }
+    ensures { OnOk result (out.new.items ≡ out.old.items ++ spelt_run run.now) }
+{
+    let words = run.words.as_slice();
+    out.extend_from_slice(&run.slave.to_le_bytes())?;
+    out.extend_from_slice(&run.first.to_le_bytes())?;
+    out.extend_from_slice(&(words.len() as u16).to_le_bytes())?;
+    for word in words {
+        out.extend_from_slice(&word.to_le_bytes())?;
+    }
+    Ok(())
+}
+
+fn put_entry(out: &mut Vec<u8>, entry: &Entry) -> Result<(), AllocError>
+    requires { AreCountedRuns entry.now.runs }
+    ensures { OnOk result (out.new.items ≡ out.old.items ++ spelt_entry entry.now) }
+{
+    let runs = entry.runs.as_slice();
+    out.extend_from_slice(&entry.number.to_le_bytes())?;
+    out.extend_from_slice(&(runs.len() as u16).to_le_bytes())?;
+    for run in runs {
+        put_run(out, run)?;
+    }
+    Ok(())
+}
+
+fn payload(alloc: Global, entries: &[Entry]) -> Result<Vec<u8>, AllocError>
+    requires { AreCounted entries.now }
+    ensures { IfOk result (λ bytes. bytes.items ≡ spelt_payload entries.now) }
+{
+    let mut bytes = Vec::new(alloc);
+    bytes.extend_from_slice(&(entries.len() as u16).to_le_bytes())?;
+    for entry in entries {
+        put_entry(&mut bytes, entry)?;
+    }
+    Ok(bytes)
+}
+
+/// The bytes of a batch of version 2 behind its gate, with the closed gate behind it.
+pub fn encode_batch(alloc: Global, generation: u8, entries: &[Entry]) -> Result<Vec<u8>, AllocError>
+    requires { AreCounted entries.now }
+    ensures { IfOk result (λ bytes. bytes.items
+        ≡ spelt_behind Spelling.WithGeneration generation entries.now ++ CLOSED ∷ []) }
+{
+    let payload = payload(alloc, entries)?;
+    let mut bytes = Vec::new(alloc);
+    bytes.push(generation)?;
+    bytes.extend_from_slice(&(payload.len() as u32).to_le_bytes())?;
+    bytes.extend_from_slice(&payload)?;
+    bytes.push(CLOSED)?;
+    Ok(bytes)
+}
+
+/// How many bytes the runs take in a payload.
+fn runs_size(runs: &[Run]) -> u32
+    requires counted { AreCountedRuns runs.now }
+    requires fits { entry_size runs.now < 2 ^ 32 }
+    ensures { 10 + result ≡ entry_size runs.now }
+{
+    runs.iter()
+        .map(|run| 6 + 2 * run.words.as_slice().len() as u32)
+        .sum()
+}
+
+/// How many bytes a command with these runs takes in a payload.
+pub fn size_of(runs: &[Run]) -> u32
+    requires counted { AreCountedRuns runs.now }
+    requires fits { entry_size runs.now < 2 ^ 32 }
+    ensures sum { result ≡ entry_size runs.now }
+    ensures spelt { (number : ℕ) → length (spelt_entry (record { number = number; runs = runs.now })) ≡ result }
+{
+    10 + runs_size(runs)
+}
