@@ -21,4 +21,4 @@ pub use fields::{
 pub use journal::{Batch, Entry, Form, Journal, Spelling};
 pub use lists::{BatchList, EntryList, RunList};
 pub use scanning::scan;
-pub use writing::{encode_batch, size_of};
+pub use writing::{CLOSED, encode_batch, size_of};

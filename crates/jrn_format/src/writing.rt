@@ -8,8 +8,8 @@ use crate::journal::{Entry, Spelling};
 use sii_edit::Run;
 use std::alloc::{AllocError, Global};
 
-/// The byte that closes a gate.
-const CLOSED: u8 = 0x00;
+/// A batch is written with this closed gate behind it.
+pub const CLOSED: u8 = 0x00;
 
 fn put_run(out: &mut Vec<u8>, run: &Run) -> Result<(), AllocError>
     requires { IsCountedRun run.now }
