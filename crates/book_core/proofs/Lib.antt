@@ -1,1 +1,18 @@
-mod BookLaws
+pub mod RunLaws
+pub mod SlaveLaws
+pub mod RomLaws
+pub mod WorkLaws
+pub mod OrderLaws
+pub mod InsideLaws
+pub mod LiveLaws
+pub mod LedgerLaws
+pub mod DoneLaws
+pub mod AppliedLaws
+pub mod SubmitLaws
+pub mod ShownLaws
+pub mod AcceptLaws
+pub mod BegunLaws
+pub mod AppendLaws
+pub mod FoundLaws
+pub mod AnswerLaws
+pub mod OpenLaws

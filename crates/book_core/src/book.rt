@@ -1,133 +1,104 @@
-ghost use Rattle.std.specs.Prelude.{◌≡◌, ◌≤◌, [], true, false, None, length, vec_len, IfOk, IfErr, OnOk, OnErr};
+ghost use Rattle.std.specs.Prelude.{◌≡◌};
 
-use crate::refusal::{CoreFault, Fault, SubmitRefusal};
-use crate::status::Status;
-use sii_edit::{Command, changes, redo};
-use sii_image::Layout;
-use sii_words::{Plant, Words};
+use crate::step::Step;
+use book_ledger::{Ledger, Shown};
+use book_model::Fault;
+use book_room::Area;
+use book_slaves::LineWork;
+use history::History;
+use jrn_format::{Entry, Form};
+use sii_edit::Command;
+use sii_words::Plant;
 use std::alloc::Global;
 use std::marker::Model;
 use std::snapshot::Snapshot;
 
-/// How many commands wait at most.
-pub const QUEUE: usize = 1024;
-
-/// A book of commands over the contents of a line, in memory: nothing leaves the queue.
-///
-/// Contracts see the contents that it was opened with, the commands accepted since, and whether it was finished.
+/// A book of commands on a journal, over the contents of a line. Contracts see the book as it is defined, with all that was
+/// accepted; memory holds what isn't durable yet, and the words that aren't settled.
 #[derive(Drop)]
 pub struct Core {
-    alloc: Global,
-    base: Snapshot<Plant>,
-    contents: Plant,
-    layout: Layout,
-    accepted: Vec<Command>,
-    is_finished: bool,
+    pub(crate) alloc: Global,
+    /// The words as they were read at the open.
+    pub(crate) words: Snapshot<Plant>,
+    /// The entries that were live then.
+    pub(crate) found: History<Entry>,
+    pub(crate) area: Area,
+    pub(crate) step: Step,
+    pub(crate) is_handed_out: bool,
+    pub(crate) ledger: Ledger,
+    pub(crate) work: LineWork,
+    pub(crate) shown: Shown,
+    pub(crate) is_finished: bool,
+    pub(crate) is_migrating: bool,
+    pub(crate) fault: Option<Fault>,
 }
 
 impl Model for Core {
-    ghost use Rattle.book_core.specs.Book.{Book, Keeps};
+    ghost use Rattle.book_model.specs.Book.{Book};
 
     ghost Value = { Book };
 
-    ghost view = { λ core. record { base = core.base.value; accepted = core.accepted.items; is_finished = core.is_finished } };
+    ghost use Rattle.book_core.specs.Parts.{book_of};
 
-    ghost invariant = { λ core. Keeps core.base.value core.accepted.items core.contents core.layout };
+    ghost view = { book_of };
+
+    ghost use Rattle.book_core.specs.Stands.{Stands};
+
+    ghost invariant = { Stands };
 }
 
 impl Core {
     ghost use Rattle.sii_edit.specs.Fold.{AreAccepted};
-    ghost use Rattle.book_core.specs.Book.{contents_of};
-    ghost use Rattle.book_core.specs.Submit.{IsAnswer, with_command};
+    ghost use Rattle.book_model.specs.Book.{base_of, contents_of};
+    ghost use Rattle.book_model.specs.Open.{finish, migrate};
+    ghost use Rattle.book_model.specs.Reading.{applied, live_bytes, status};
 
-    /// A book over these contents, with nothing accepted.
-    ///
-    /// # Errors
-    ///
-    /// `Memory`; the words are then dropped.
-    pub fn open(alloc: Global, slaves: Vec<Words>) -> Result<Core, CoreFault>
-        requires some { 1 ≤ vec_len slaves }
-        requires most { vec_len slaves ≤ 64 }
-        ensures opened { IfOk result (λ core. core ≡ record { base = slaves.items; accepted = []; is_finished = false }) }
-        ensures refused { IfErr result (λ fault. fault ≡ CoreFault.Memory) }
+    /// Closes the book for commands: from now on each is refused. What was accepted still becomes durable.
+    pub fn finish(&mut self)
+        ensures { self.new ≡ finish self.old }
     {
-        let accepted = Vec::with_capacity(alloc, QUEUE)?;
-        let contents = Plant::of(slaves);
-        let layout = Layout::of(alloc, &contents)?;
-        Ok(Core {
-            alloc,
-            base: Snapshot::of(&contents),
-            contents,
-            layout,
-            accepted,
-            is_finished: false,
-        })
+        self.is_finished = true;
     }
 
-    /// Accepts the command, and answers its number, counted from 0. It copies and reads the words of the slaves alone that the
-    /// command is about.
-    ///
-    /// # Errors
-    ///
-    /// `Closed`; then what speaks against the command on the contents as they are; then `Full`. Want of memory may be answered
-    /// in place of any of these but the first, and of a number. The book stays as it is.
-    pub fn submit(&mut self, command: &Command) -> Result<u64, SubmitRefusal>
-        ensures answer { IsAnswer self.old command.now result }
-        ensures accepted { OnOk result (self.new ≡ with_command self.old command.now) }
-        ensures refused { OnErr result (self.new ≡ self.old) }
+    /// Asks for a migration of an old journal to version 2, once nothing is live. False, and nothing is asked for, where the book is
+    /// closed or the journal is of version 2.
+    pub fn migrate(&mut self) -> bool
+        ensures answer { result ≡ (migrate self.old).0 }
+        ensures book { self.new ≡ (migrate self.old).1 }
     {
-        if self.is_finished {
-            return Err(SubmitRefusal::Closed);
+        if self.is_finished || self.fault.is_some() || self.area.form() == Form::Two {
+            return false;
         }
-        let change = changes(self.alloc, &self.contents, &self.layout, command)?;
-        if self.accepted.len() >= QUEUE {
-            return Err(SubmitRefusal::Full);
-        }
-        let number = self.accepted.len() as u64;
-        self.accepted.push(command.try_copy()?)?;
-        redo(&mut self.contents, &change.runs);
-        self.layout = change.layout;
-        Ok(number)
+        self.is_migrating = true;
+        true
     }
 
     /// The accepted commands, in order: none of them is refused on the contents that it comes to.
     pub fn accepted(&self) -> &[Command]
         ensures commands { result.now ≡ self.now.accepted }
-        ensures each { AreAccepted self.now.base self.now.accepted }
+        ensures each { AreAccepted (base_of self.now) self.now.accepted }
     {
-        &self.accepted
+        self.ledger.accepted()
     }
 
     /// The contents after all accepted commands.
     pub fn contents(&self) -> &Plant
         ensures { result.now ≡ contents_of self.now }
     {
-        &self.contents
+        self.ledger.contents()
     }
 
-    /// How far the book is. In memory, no command becomes durable or settled.
-    pub fn status(&self) -> Status
-        ensures { result ≡ record { accepted = length self.now.accepted; durable = 0; settled = 0; live_bytes = 0 } }
-    {
-        Status {
-            accepted: self.accepted.len() as u64,
-            durable: 0,
-            settled: 0,
-            live_bytes: 0,
-        }
-    }
-
-    /// Closes the book: from now on each command is refused.
-    pub fn finish(&mut self)
-        ensures { self.new ≡ record self.old { is_finished = true } }
-    {
-        self.is_finished = true;
-    }
-
-    /// What has closed the book, beside `finish`: in memory, nothing does.
+    /// What has closed the book for good, beside `finish`.
     pub fn fault(&self) -> Option<Fault>
-        ensures { result ≡ None }
+        ensures { result ≡ self.now.fault }
     {
-        None
+        self.fault
+    }
+
+    /// How many bytes of the journal are live.
+    pub fn live_bytes(&self) -> u64
+        ensures { result ≡ live_bytes self.now }
+    {
+        self.area.live_bytes()
     }
 }

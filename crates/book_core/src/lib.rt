@@ -1,13 +1,16 @@
-//! The book of commands over the contents of a line: it judges each command, numbers those that it accepts, and keeps them.
+//! The book of commands on a journal: what is accepted, appended to the journal, written to the slaves and retired, one step at a
+//! time. Who calls it carries the steps out.
 #![tactic(auto)]
 
 mod book;
-mod refusal;
-mod status;
+mod disk;
+mod done;
+mod open;
+mod plan;
+mod reading;
+mod rom;
+mod step;
+mod submit;
+mod taking;
 
-pub use book::{Core, QUEUE};
-pub use refusal::{CoreFault, Fault, SubmitRefusal};
-pub use status::Status;
-
-#[cfg(test)]
-mod tests;
+pub use book::Core;

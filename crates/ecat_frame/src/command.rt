@@ -3,7 +3,7 @@
 ghost use Rattle.std.specs.Prelude.{◌≡◌, ◌+◌, ◌*◌, ◌^◌, ◌++◌};
 ghost use Rattle.std.specs.Int.{w16, w32, to_le_bytes};
 
-/// What a slave is asked to do with a datagram.
+/// What a slave is asked to do with a datagram (ETG.1000.4).
 ///
 /// A frame keeps the code alone. `Other` with the code of another variant is spelt as that variant, and a
 /// code that has a variant of its own is always read as that variant.
@@ -52,7 +52,7 @@ impl From<u8> for Command {
     }
 }
 
-/// The address of an FP command: the station address as ADP and the register as ADO.
+/// The address of an FP command (ETG.1000.4): the station address as ADP and the register as ADO.
 pub fn fp(station: u16, register: u16) -> u32
     ensures value { result ≡ station + 2 ^ 16 * register }
     ensures bytes { to_le_bytes w32 result ≡ to_le_bytes w16 station ++ to_le_bytes w16 register }

@@ -2,7 +2,7 @@
 
 use thiserror::Error;
 
-/// A datagram that finds no room, or bytes that are no frame.
+/// A datagram that finds no room, or bytes that are no frame (ETG.1000.4).
 #[derive(Clone, Copy, Debug, PartialEq, Eq, Error)]
 pub enum FrameFault {
     /// The frame would be longer than 1,500 bytes.

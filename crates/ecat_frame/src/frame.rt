@@ -36,7 +36,7 @@ impl Model for Frame {
         (pdus frame.count (drop 2 frame.bytes.items)) };
 }
 
-/// The datagrams of a frame, in order.
+/// The datagrams of a frame (ETG.1000.4), in order.
 #[derive(Debug, Drop)]
 pub struct Datagrams<'a> {
     rest: &'a [u8],

@@ -18,6 +18,3 @@ pub use datagram::Datagram;
 pub use fault::FrameFault;
 pub use frame::{Datagrams, Frame};
 pub use laws::{one_reading, spelling_is_read};
-
-#[cfg(test)]
-mod tests;

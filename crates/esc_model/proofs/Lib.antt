@@ -1,7 +1,9 @@
 pub mod Resting
-pub mod Stored
-pub mod Taking
-pub mod Writes
-pub mod WordWrites
-pub mod WordReads
-pub mod WordQuiet
+pub mod OnlyResting
+pub mod Serving
+pub mod Status
+pub mod Addressing
+pub mod Writing
+pub mod WordTaking
+pub mod WordReading
+pub mod WordWriting

@@ -1,7 +1,8 @@
 -- Coming to rest and stopping, seen from what a stop may leave.
-use Rattle.std.proofs.Common.{◌≡◌, ℕ, inl, inr, List, length, refl, sym, ap, subst, ◌∙◌, slice_index, slice_set, length-set}
+use Rattle.std.proofs.Common.{◌≡◌, ℕ, Bool, false, inl, inr, List, length, refl, sym, ap, subst, ◌∙◌, slice_index, slice_set, length-set}
 use Rattle.std.proofs.lemmas.List.{set-get_or}
-use Rattle.esc_model.specs.SlaveHalf.{SlaveHalf, Activity, Idle, Reading, Writing, MayEnd, MayRest, MayHold, MayLeave, AddsNothing, AddsOnly, IsTorn, MayStop}
+use Rattle.esc_model.specs.Registers.{access_byte}
+use Rattle.esc_model.specs.SlaveHalf.{SlaveHalf, Activity, Idle, Reading, Writing, with_errors, MayEnd, MayRest, MayHold, MayLeave, IsTorn, MayStop}
 
 -- a stop may leave the words as they are
 pub MayHold-same : (activity : Activity) (words : List ℕ) → MayHold activity words words
@@ -21,6 +22,29 @@ MayEnd-idle (Writing word value) half later is ends = absurd cc
 pub MayRest-idle : (half later : SlaveHalf) → half.activity ≡ Idle → MayRest half later → later ≡ half
 MayRest-idle half later is (inl same) = same
 MayRest-idle half later is (inr ends) = MayEnd-idle half.activity half later is ends
+
+-- what is no part of the words, of bits 13 and 14 and of what the half is doing stays as it is
+MayEnd-keeps : {A : Type 0} (f : SlaveHalf → A) (activity : Activity) (half later : SlaveHalf)
+    → ((words : List ℕ) (command_error enable_error : Bool) → f (with_errors (record half { words = words; activity = Idle }) command_error enable_error) ≡ f half)
+    → MayEnd activity half later → f later ≡ f half
+MayEnd-keeps f Idle half later keeps ends = absurd ends
+MayEnd-keeps f Reading half later keeps (inl well) = ap f well ∙ keeps half.words half.registers.command_error half.registers.enable_error
+MayEnd-keeps f Reading half later keeps (inr fails) = ap f fails.rested_is ∙ keeps half.words later.registers.command_error later.registers.enable_error
+MayEnd-keeps f (Writing word value) half later keeps (inl well) = ap f well ∙ keeps (slice_set half.words word value) false false
+MayEnd-keeps f (Writing word value) half later keeps (inr fails) =
+    ap f fails.ends.rested_is ∙ keeps (slice_set half.words word fails.left) later.registers.command_error later.registers.enable_error
+
+MayRest-keeps : {A : Type 0} (f : SlaveHalf → A) (half later : SlaveHalf)
+    → ((words : List ℕ) (command_error enable_error : Bool) → f (with_errors (record half { words = words; activity = Idle }) command_error enable_error) ≡ f half)
+    → MayRest half later → f later ≡ f half
+MayRest-keeps f half later keeps (inl same) = ap f same
+MayRest-keeps f half later keeps (inr ends) = MayEnd-keeps f half.activity half later keeps ends
+
+pub MayRest-station : (half later : SlaveHalf) → MayRest half later → later.station ≡ half.station
+MayRest-station half later rests = MayRest-keeps (λ h. h.station) half later (λ words c e. refl) rests
+
+pub MayRest-access : (half later : SlaveHalf) → MayRest half later → access_byte later.registers ≡ access_byte half.registers
+MayRest-access half later rests = MayRest-keeps (λ h. access_byte h.registers) half later (λ words c e. refl) rests
 
 -- what has ended is idle
 pub MayEnd-is_idle : (activity : Activity) (half later : SlaveHalf) → MayEnd activity half later → later.activity ≡ Idle
@@ -54,17 +78,12 @@ MayHold-idle (Writing word value) words left is holds = absurd cc
 pub MayLeave-idle : (half : SlaveHalf) (left : List ℕ) → half.activity ≡ Idle → MayLeave half left → left ≡ half.words
 MayLeave-idle half left is leaves = MayHold-idle half.activity half.words left is leaves
 
--- the same half
-pub AddsNothing-same : (half later : SlaveHalf) → later ≡ half → AddsNothing half later
-AddsNothing-same half later same = record { leaves = λ left leaves. subst (λ (h : SlaveHalf). MayLeave h left) same leaves }
-
 -- coming to rest adds nothing that a stop may leave
-pub MayRest-adds_nothing : (half later : SlaveHalf) → MayRest half later → AddsNothing half later
-MayRest-adds_nothing half later (inl same) = AddsNothing-same half later same
-MayRest-adds_nothing half later (inr ends) = record {
-  leaves = λ left leaves. let is : left ≡ later.words = MayLeave-idle later left (MayEnd-is_idle half.activity half later ends) leaves in
-      subst (λ (w : List ℕ). MayHold half.activity half.words w) (sym is) (MayEnd-words half.activity half later ends);
-}
+pub MayRest-leaves : (half later : SlaveHalf) (left : List ℕ) → MayRest half later → MayLeave later left → MayLeave half left
+MayRest-leaves half later left (inl same) leaves = subst (λ (h : SlaveHalf). MayLeave h left) same leaves
+MayRest-leaves half later left (inr ends) leaves =
+    let is : left ≡ later.words = MayLeave-idle later left (MayEnd-is_idle half.activity half later ends) leaves in
+    subst (λ (w : List ℕ). MayLeave half w) (sym is) (MayEnd-words half.activity half later ends)
 
 IsTorn-is_idle : (activity : Activity) (half later : SlaveHalf) → IsTorn activity half later → later.activity ≡ Idle
 IsTorn-is_idle Idle half later torn = absurd torn
@@ -77,53 +96,17 @@ IsTorn-words Reading half later torn = absurd torn
 IsTorn-words (Writing word value) half later torn = (torn.0, ap (λ (h : SlaveHalf). h.words) torn.1)
 
 -- nor does a stop add anything
-pub MayStop-adds_nothing : (half later : SlaveHalf) → MayStop half later → AddsNothing half later
-MayStop-adds_nothing half later (inl same) = AddsNothing-same half later same
-MayStop-adds_nothing half later (inr torn) = record {
-  leaves = λ left leaves. let is : left ≡ later.words = MayLeave-idle later left (IsTorn-is_idle half.activity half later torn) leaves in
-      subst (λ (w : List ℕ). MayHold half.activity half.words w) (sym is) (IsTorn-words half.activity half later torn);
-}
+pub MayStop-leaves : (half later : SlaveHalf) (left : List ℕ) → MayStop half later → MayLeave later left → MayLeave half left
+MayStop-leaves half later left (inl same) leaves = subst (λ (h : SlaveHalf). MayLeave h left) same leaves
+MayStop-leaves half later left (inr torn) leaves =
+    let is : left ≡ later.words = MayLeave-idle later left (IsTorn-is_idle half.activity half later torn) leaves in
+    subst (λ (w : List ℕ). MayLeave half w) (sym is) (IsTorn-words half.activity half later torn)
 
--- what adds nothing adds only any word
-pub AddsNothing-only : (word : ℕ) (half later : SlaveHalf) → AddsNothing half later → AddsOnly word half later
-AddsNothing-only word half later adds = record {
-  leaves = λ left leaves. record { prior = left; held = slice_index left word; leaves = adds.leaves left leaves; left_is = sym (set-get_or left word 0) };
-}
-
--- one after another
-pub AddsNothing-then : (half mid later : SlaveHalf) → AddsNothing half mid → AddsNothing mid later → AddsNothing half later
-AddsNothing-then half mid later first second = record { leaves = λ left leaves. first.leaves left (second.leaves left leaves) }
-
-pub AddsOnly-after : (word : ℕ) (half mid later : SlaveHalf) → AddsNothing half mid → AddsOnly word mid later → AddsOnly word half later
-AddsOnly-after word half mid later first second = record {
-  leaves = λ left leaves. let but = second.leaves left leaves in
-      record { prior = but.prior; held = but.held; leaves = first.leaves but.prior but.leaves; left_is = but.left_is };
-}
-
--- the same words, with what was in flight still in flight, or with nothing in flight
-pub goes_on-adds_nothing : (half later : SlaveHalf) → later.words ≡ half.words → later.activity ≡ half.activity → AddsNothing half later
-goes_on-adds_nothing half later words activity = record {
-  leaves = λ left leaves. subst (λ (a : Activity). MayHold a half.words left) activity (subst (λ (w : List ℕ). MayHold later.activity w left) words leaves);
-}
-
-pub reading-adds_nothing : (half later : SlaveHalf) → later.words ≡ half.words → later.activity ≡ Reading → AddsNothing half later
-reading-adds_nothing half later words activity = record {
-  leaves = λ left leaves. let is : left ≡ later.words = subst (λ (a : Activity). MayHold a later.words left) activity leaves in
-      subst (MayLeave half) (sym (is ∙ words)) (MayLeave-same half);
-}
-
--- the same words, with this one in flight
-pub writing-adds_only : (half later : SlaveHalf) (word value : ℕ) → later.words ≡ half.words → later.activity ≡ Writing word value → AddsOnly word half later
-writing-adds_only half later word value words activity = record {
-  leaves = λ left leaves. let holds : MayHold (Writing word value) later.words left = subst (λ (a : Activity). MayHold a later.words left) activity leaves in
-      record { prior = half.words; held = holds.0; leaves = MayLeave-same half; left_is = holds.1 ∙ ap (λ (w : List ℕ). slice_set w word holds.0) words };
-}
-
--- the word in flight aside, all words are those that they were
-MayHold-others : (activity : Activity) (words left : List ℕ) → MayHold activity words left → length left ≡ length words
-MayHold-others Idle words left holds = ap length holds
-MayHold-others Reading words left holds = ap length holds
-MayHold-others (Writing word value) words left holds = ap length holds.1 ∙ simp length-set
+-- a stop keeps the number of words
+MayHold-length : (activity : Activity) (words left : List ℕ) → MayHold activity words left → length left ≡ length words
+MayHold-length Idle words left holds = ap length holds
+MayHold-length Reading words left holds = ap length holds
+MayHold-length (Writing word value) words left holds = ap length holds.1 ∙ simp length-set
 
 pub length-MayLeave : (half : SlaveHalf) (left : List ℕ) → MayLeave half left → length left ≡ length half.words
-length-MayLeave half left leaves = MayHold-others half.activity half.words left leaves
+length-MayLeave half left leaves = MayHold-length half.activity half.words left leaves

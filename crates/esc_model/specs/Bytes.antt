@@ -1,9 +1,9 @@
 -- Bytes in order: a part laid over others, and numbers of 16 and of 32 bits, the low byte first.
 use Rattle.std.specs.Prelude.{ℕ, ◌+◌, ◌*◌, ◌/◌, ◌%◌, List, ◌++◌, length, take, drop, slice_index, nat_lt, nat_le, Bool, ◌&&◌}
 
--- the bytes with others laid over them from this place on
-abbrev pub laid : List ℕ → ℕ → List ℕ → List ℕ
-laid bytes at over = take at bytes ++ (over ++ drop (at + length over) bytes)
+-- the bytes with others laid over them from this place on, past the end too
+abbrev pub overlaid : List ℕ → ℕ → List ℕ → List ℕ
+overlaid bytes at over = take at bytes ++ over ++ drop (at + length over) bytes
 
 -- the number of 16 bits at this place
 abbrev pub word_at : List ℕ → ℕ → ℕ

@@ -2,7 +2,7 @@
 -- memory into the logical address space.
 use Rattle.std.specs.Prelude.{ℕ, ◌+◌, ◌-◌, ◌/◌, ◌%◌, Bool, ◌&&◌, ◌==◌, List, [], ◌∷◌, length, map, filter, fold, slice_index, slice_range, if◌then◌else◌}
 use Rattle.std.specs.List.{list_any}
-use Rattle.esc_model.specs.Bytes.{laid, word_at, double_word_at, lies_in}
+use Rattle.esc_model.specs.Bytes.{overlaid, word_at, double_word_at, lies_in}
 use Rattle.esc_model.specs.declared.fmmu.Fmmu.{Fmmu}
 
 -- logical start u32, length u16, start bit u8, stop bit u8, physical start u16, physical start bit u8, type u8, activate u8
@@ -26,11 +26,11 @@ writes start count fmmu = acts start count fmmu && fmmu.kind / 2 % 2 == 1
 
 -- the content with the bytes of memory that this FMMU reads
 abbrev pub read_by : List ℕ → ℕ → List ℕ → Fmmu → List ℕ
-read_by memory start content fmmu = laid content (fmmu.logical - start) (slice_range memory fmmu.physical (fmmu.physical + fmmu.count))
+read_by memory start content fmmu = overlaid content (fmmu.logical - start) (slice_range memory fmmu.physical (fmmu.physical + fmmu.count))
 
 -- the memory with the bytes of the content that this FMMU writes
 abbrev pub written_by : List ℕ → ℕ → List ℕ → Fmmu → List ℕ
-written_by content start memory fmmu = laid memory fmmu.physical (slice_range content (fmmu.logical - start) (fmmu.logical - start + fmmu.count))
+written_by content start memory fmmu = overlaid memory fmmu.physical (slice_range content (fmmu.logical - start) (fmmu.logical - start + fmmu.count))
 
 -- a read adds 1 to the working counter and a write 2, each once, however many FMMUs do it
 abbrev pub counter_of : List Fmmu → ℕ → ℕ → ℕ

@@ -4,4 +4,7 @@ pub mod SlaveHalf
 pub mod Work
 pub mod Fmmu
 pub mod ProcessHalf
+pub mod Datagrams
+pub mod Orders
 pub mod WordAccess
+pub mod Laws

@@ -4,7 +4,7 @@ use Rattle.std.specs.Prelude.{ℕ, ◌+◌, Bool, ◌&&◌, ◌||◌, ◌==◌, 
 use Rattle.sii_words.specs.Words.{bytes_of, alias_of}
 use Rattle.ecat_frame.specs.declared.Command.{Command}
 use Rattle.ecat_frame.specs.declared.Command.TheVariants.{Fprd, Fpwr, Lrw, Other}
-use Rattle.esc_model.specs.Bytes.{laid, lies_in, station_of, register_of}
+use Rattle.esc_model.specs.Bytes.{overlaid, lies_in, station_of, register_of}
 use Rattle.esc_model.specs.Fmmu.{fmmus, counter_of, all_read, all_written}
 
 pub record ProcessMemory : Type 0 where
@@ -17,7 +17,7 @@ zeros count = replicate count 0
 
 -- at power-up all bytes are 0, but at 0x0010 stand the station address and the alias of word 4
 abbrev pub powered_up : List ℕ → ℕ → ProcessMemory
-powered_up words station = record { station = station; bytes = laid (zeros 0x10000) 0x0010 (bytes_of (station ∷ alias_of words ∷ [])) }
+powered_up words station = record { station = station; bytes = overlaid (zeros 0x10000) 0x0010 (bytes_of (station ∷ alias_of words ∷ [])) }
 
 -- the memory after a datagram, the datagram's content, and what was added to its working counter
 pub record Processed : Type 0 where
@@ -46,7 +46,7 @@ read_for memory address content =
 abbrev pub written_for : ProcessMemory → ℕ → List ℕ → Processed
 written_for memory address content =
     if station_of address == memory.station && is_writable (register_of address) (length content)
-    then record { memory = record memory { bytes = laid memory.bytes (register_of address) content }; content = content; added = 1 }
+    then record { memory = record memory { bytes = overlaid memory.bytes (register_of address) content }; content = content; added = 1 }
     else passed_on memory content
 
 -- An LRW goes through the FMMUs. All reads come before all writes.

@@ -26,9 +26,9 @@ pub record Registers : Type 0 where
   pub third : ℕ
   pub fourth : ℕ
 
--- the byte 0x0503: the command, then a bit for each error, then bit 15, which says that the slave is busy
+-- the byte 0x0503: the three bits of the command, then a bit for each error, then bit 15, which says that the slave is busy
 abbrev pub status_byte : Registers → Bool → ℕ
-status_byte r busy = r.command + (if r.loading_error then 0x18 else 0) + (if r.command_error then 0x20 else 0) + (if r.enable_error then 0x40 else 0) + (if busy then 0x80 else 0)
+status_byte r busy = r.command % 8 + (if r.loading_error then 0x18 else 0) + (if r.command_error then 0x20 else 0) + (if r.enable_error then 0x40 else 0) + (if busy then 0x80 else 0)
 
 -- the byte 0x0500
 abbrev pub access_byte : Registers → ℕ

@@ -4,7 +4,7 @@ use Rattle.std.specs.Prelude.{◌≡◌, ℕ, ◌+◌, ◌-◌, ◌%◌, ◌⊎�
 use Rattle.sii_words.specs.CheckByte.{check_byte_of}
 use Rattle.ecat_frame.specs.declared.Command.{Command}
 use Rattle.ecat_frame.specs.declared.Command.TheVariants.{Fprd, Fpwr, Lrw, Other}
-use Rattle.esc_model.specs.Bytes.{laid, lies_in, station_of, register_of}
+use Rattle.esc_model.specs.Bytes.{overlaid, lies_in, station_of, register_of}
 use Rattle.esc_model.specs.Registers.{Registers, register_bytes, stored, cleared}
 use Rattle.esc_model.specs.declared.rest.WordWrite.{WordWrite}
 use Rattle.esc_model.specs.declared.rest.Rest.{Rest}
@@ -40,12 +40,12 @@ powered_up words station = record { words = words; registers = cleared (not (sli
 -- TAKING A DATAGRAM
 
 -- the half after a datagram, the datagram's content, and what was added to its working counter
-pub record Taken : Type 0 where
+pub record Outcome : Type 0 where
   pub half : SlaveHalf
   pub content : List ℕ
   pub added : ℕ
 
-abbrev pub passed_on : SlaveHalf → List ℕ → Taken
+abbrev pub passed_on : SlaveHalf → List ℕ → Outcome
 passed_on half content = record { half = half; content = content; added = 0 }
 
 -- the datagram is for this station, and it lies wholly in the registers
@@ -57,7 +57,7 @@ abbrev pub shown_bytes : SlaveHalf → List ℕ
 shown_bytes half = register_bytes half.registers (is_busy half.activity)
 
 -- a read gives the registers
-abbrev pub replied : SlaveHalf → ℕ → List ℕ → Taken
+abbrev pub replied : SlaveHalf → ℕ → List ℕ → Outcome
 replied half at content = record { half = half; content = slice_range (shown_bytes half) at (at + length content); added = 1 }
 
 -- the address that a read or a write names is outside the device
@@ -66,8 +66,8 @@ is_outside half = (half.registers.command == 1 && nat_le (length half.words) (ha
 
 -- Each command sets or clears bits 13 and 14 anew. Bit 13: the EEPROM is offered to the PDI, the command isn't one of 000, 001
 -- and 010, or it names an address outside the device. Bit 14: it is a write that the datagram doesn't enable.
-abbrev pub judged : SlaveHalf → SlaveHalf
-judged half = record half { registers = record half.registers { command_error = half.registers.offered || nat_lt 2 half.registers.command || is_outside half; enable_error = half.registers.command == 2 && half.registers.control % 2 == 0 } }
+abbrev pub with_command_errors : SlaveHalf → SlaveHalf
+with_command_errors half = record half { registers = record half.registers { command_error = half.registers.offered || nat_lt 2 half.registers.command || is_outside half; enable_error = half.registers.command == 2 && half.registers.control % 2 == 0 } }
 
 -- the two words at the address are fetched
 abbrev pub fetching : SlaveHalf → SlaveHalf
@@ -87,27 +87,27 @@ begun half =
 
 -- the registers keep what they store of the content, laid over them from this place on
 abbrev pub with_stored : SlaveHalf → ℕ → List ℕ → SlaveHalf
-with_stored half at content = record half { registers = stored half.registers (laid (shown_bytes half) at content) }
+with_stored half at content = record half { registers = stored half.registers (overlaid (shown_bytes half) at content) }
 
 -- a write is stored; where it covers 0x0502 and 0x0503 its command acts
 abbrev pub after_write : SlaveHalf → ℕ → List ℕ → SlaveHalf
 after_write half at content =
-    if nat_le at 2 && nat_le 4 (at + length content) then begun (judged (with_stored half at content))
+    if nat_le at 2 && nat_le 4 (at + length content) then begun (with_command_errors (with_stored half at content))
     else with_stored half at content
 
 -- while the half is busy, a write that touches 0x0502 to 0x050F is ignored
-abbrev pub written : SlaveHalf → ℕ → List ℕ → Taken
+abbrev pub written : SlaveHalf → ℕ → List ℕ → Outcome
 written half at content =
     if is_busy half.activity && nat_lt 2 (at + length content) then passed_on half content
     else record { half = after_write half at content; content = content; added = 1 }
 
 -- A datagram with this command, address and content, taken as the half is: an FPRD gives registers, an FPWR writes them, and
 -- any other is passed on.
-unfoldable pub taken : SlaveHalf → Command → ℕ → List ℕ → Taken
-taken half Fprd address content = if concerns half address (length content) then replied half (register_of address - 0x0500) content else passed_on half content
-taken half Fpwr address content = if concerns half address (length content) then written half (register_of address - 0x0500) content else passed_on half content
-taken half Lrw address content = passed_on half content
-taken half (Other code) address content = passed_on half content
+unfoldable pub served : SlaveHalf → Command → ℕ → List ℕ → Outcome
+served half Fprd address content = if concerns half address (length content) then replied half (register_of address - 0x0500) content else passed_on half content
+served half Fpwr address content = if concerns half address (length content) then written half (register_of address - 0x0500) content else passed_on half content
+served half Lrw address content = passed_on half content
+served half (Other code) address content = passed_on half content
 
 -- COMING TO REST
 
@@ -141,10 +141,10 @@ abbrev pub MayRest : SlaveHalf → SlaveHalf → Type 0
 MayRest half later = (later ≡ half) ⊎ MayEnd half.activity half later
 
 -- a half may come to rest before a datagram, which is then taken as the half is
-pub record Takes (half : SlaveHalf) (command : Command) (address : ℕ) (content : List ℕ) (outcome : Taken) : Type 0 where
+pub record Serves (half : SlaveHalf) (command : Command) (address : ℕ) (content : List ℕ) (outcome : Outcome) : Type 0 where
   pub mid : SlaveHalf
   pub rests : MayRest half mid
-  pub takes : taken mid command address content ≡ outcome
+  pub takes : served mid command address content ≡ outcome
 
 -- A STOP
 
@@ -156,21 +156,6 @@ MayHold (Writing word value) words left = (held : ℕ) × (left ≡ slice_set wo
 
 abbrev pub MayLeave : SlaveHalf → List ℕ → Type 0
 MayLeave half left = MayHold half.activity half.words left
-
--- of the later half a stop leaves nothing that it may not leave of this one
-pub record AddsNothing (half later : SlaveHalf) : Type 0 where
-  pub leaves : (left : List ℕ) → MayLeave later left → MayLeave half left
-
--- what a stop may leave of the half, but that this word holds anything
-pub record MayLeaveBut (word : ℕ) (half : SlaveHalf) (left : List ℕ) : Type 0 where
-  pub prior : List ℕ
-  pub held : ℕ
-  pub leaves : MayLeave half prior
-  pub left_is : left ≡ slice_set prior word held
-
--- nothing else than that
-pub record AddsOnly (word : ℕ) (half later : SlaveHalf) : Type 0 where
-  pub leaves : (left : List ℕ) → MayLeave later left → MayLeaveBut word half left
 
 -- a word in flight is torn by the stop, and its slave is idle
 abbrev pub IsTorn : Activity → SlaveHalf → SlaveHalf → Type 0

@@ -1,6 +1,6 @@
 // Parts of a list of bytes, read and written in place.
 ghost use Rattle.std.specs.Prelude.{◌≡◌, ◌+◌, ◌≤◌, length, slice_range};
-ghost use Rattle.esc_model.specs.Bytes.{laid};
+ghost use Rattle.esc_model.specs.Bytes.{overlaid};
 
 /// Fills the part with the bytes from this place on.
 pub(crate) fn read_part(bytes: &[u8], at: usize, part: &mut [u8])
@@ -14,7 +14,7 @@ pub(crate) fn read_part(bytes: &[u8], at: usize, part: &mut [u8])
 /// Lays the part over the bytes from this place on.
 pub(crate) fn write_part(bytes: &mut [u8], at: usize, part: &[u8])
     requires { at + length part.now ≤ length bytes.old }
-    ensures { bytes.new ≡ laid bytes.old at part.now }
+    ensures { bytes.new ≡ overlaid bytes.old at part.now }
 {
     let end = at + part.len();
     bytes[at..end].copy_from_slice(part);
@@ -24,7 +24,7 @@ pub(crate) fn write_part(bytes: &mut [u8], at: usize, part: &[u8])
 pub(crate) fn copy_part(from: &[u8], at: usize, count: usize, to: &mut [u8], place: usize)
     requires from { at + count ≤ length from.now }
     requires to { place + count ≤ length to.old }
-    ensures { to.new ≡ laid to.old place (slice_range from.now at (at + count)) }
+    ensures { to.new ≡ overlaid to.old place (slice_range from.now at (at + count)) }
 {
     write_part(to, place, &from[at..at + count]);
 }

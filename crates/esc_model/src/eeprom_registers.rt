@@ -4,7 +4,7 @@ ghost use Rattle.esc_model.specs.Registers.{register_bytes, access_byte, status_
 use std::marker::Model;
 
 /// The registers 0x0500 to 0x050F of a slave controller (ETG.1000.4, slave information interface).
-#[derive(Debug, Drop)]
+#[derive(Drop)]
 pub(crate) struct EepromRegisters {
     offered: bool,
     forced: bool,

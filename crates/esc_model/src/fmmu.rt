@@ -5,7 +5,7 @@ ghost use Rattle.esc_model.specs.Fmmu.{fmmu_at, fmmus, acts, reads, writes, coun
 use crate::bytes::copy_part;
 
 /// A fieldbus memory management unit (ETG.1000.4), which maps bytes of a slave's memory into the logical address space.
-#[derive(Clone, Copy, Debug)]
+#[derive(Clone, Copy)]
 pub struct Fmmu {
     pub logical: u32,
     pub count: u16,

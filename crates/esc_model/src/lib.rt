@@ -5,14 +5,14 @@
 mod bytes;
 mod eeprom_registers;
 mod fmmu;
+pub mod laws;
 mod process_half;
 mod rest;
 mod rom_half;
+mod station;
 mod work;
 
 pub use process_half::ProcessHalf;
 pub use rest::{Rest, WordWrite};
 pub use rom_half::RomHalf;
-
-#[cfg(test)]
-mod tests;
+pub use station::station_address;

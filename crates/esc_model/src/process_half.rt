@@ -14,7 +14,7 @@ use std::mem;
 
 /// The half of a slave that holds its process data (ETG.1000.4): 0x10000 bytes, registers below 0x1000 and memory from there
 /// on. A station reads and writes them by address, or through the eight FMMUs at 0x0600.
-#[derive(Debug, Drop)]
+#[derive(Drop)]
 pub struct ProcessHalf {
     station: u16,
     memory: Vec<u8>,

@@ -1,7 +1,6 @@
 ghost use Rattle.std.specs.Prelude.{◌≡◌, ℕ, ◌+◌, ◌<◌, ◌≤◌, ◌==◌, length, slice_range, false, ◌&&◌, nat_lt, IfOk, IfSome, if◌then◌else◌};
-ghost use Rattle.esc_model.specs.Bytes.{laid};
-ghost use Rattle.esc_model.specs.WordAccess.{IsIssue, HasInFlight};
-ghost use Rattle.esc_model.specs.SlaveHalf.{Idle, is_busy, shown_bytes, powered_up, concerns, is_outside, judged, begun, fetching, writing, with_stored, written, taken, MayRest, Takes, rested_by, EndsAs, in_flight};
+ghost use Rattle.esc_model.specs.Bytes.{overlaid};
+ghost use Rattle.esc_model.specs.SlaveHalf.{Idle, is_busy, shown_bytes, powered_up, concerns, is_outside, with_command_errors, begun, fetching, writing, with_stored, written, served, MayRest, Serves, rested_by, EndsAs, in_flight};
 
 use crate::bytes::{read_part, write_part};
 use crate::eeprom_registers::EepromRegisters;
@@ -16,7 +15,7 @@ use std::marker::Model;
 ///
 /// A command that reads or writes keeps it busy for `delay` further datagrams, whatever they ask of it, and the next one
 /// finds it at rest. Contracts don't see that count: to them a busy half may come to rest before any datagram.
-#[derive(Debug, Drop)]
+#[derive(Drop)]
 pub struct RomHalf {
     words: Words,
     registers: EepromRegisters,
@@ -97,9 +96,8 @@ impl RomHalf {
     /// command: the station address in the low 16 bits, the register in the high ones. A read fills the content. A half that
     /// is busy may come to rest first.
     pub fn take(&mut self, command: Command, address: u32, content: &mut [u8]) -> u16
-        ensures step { Takes self.old command address content.old (record { half = self.new; content = content.new; added = result }) }
-        ensures idle { self.old.activity ≡ Idle → taken self.old command address content.old ≡ record { half = self.new; content = content.new; added = result } }
-        ensures issue { (word value : ℕ) → IsIssue self.old command address content.old word value → HasInFlight self.old word value self.new × (result ≡ 1) }
+        ensures step { Serves self.old command address content.old (record { half = self.new; content = content.new; added = result }) }
+        ensures idle { self.old.activity ≡ Idle → served self.old command address content.old ≡ record { half = self.new; content = content.new; added = result } }
     {
         self.pass_datagram();
         self.serve(command, address, content)
@@ -147,9 +145,9 @@ impl RomHalf {
     }
 
     /// Takes a datagram as the half is now.
-    #[tactic(auto, unfolding(crate::specs::SlaveHalf::taken))]
+    #[tactic(auto, unfolding(crate::specs::SlaveHalf::served))]
     fn serve(&mut self, command: Command, address: u32, content: &mut [u8]) -> u16
-        ensures { taken self.old command address content.old ≡ record { half = self.new; content = content.new; added = result } }
+        ensures { served self.old command address content.old ≡ record { half = self.new; content = content.new; added = result } }
     {
         if !self.concerns(address, content.len()) {
             return 0;
@@ -226,7 +224,7 @@ impl RomHalf {
     /// The registers as a read shows them, with the content laid over them from this place on.
     fn bytes_with(&self, at: usize, content: &[u8]) -> [u8; 16]
         requires { at + length content.now ≤ 16 }
-        ensures { result ≡ laid (shown_bytes self.now) at content.now }
+        ensures { result ≡ overlaid (shown_bytes self.now) at content.now }
     {
         let mut bytes = self.shown_bytes();
         write_part(&mut bytes, at, content);
@@ -235,7 +233,7 @@ impl RomHalf {
 
     /// Judges the command, and begins it where there is no error.
     fn act(&mut self)
-        ensures { self.new ≡ begun (judged self.old) }
+        ensures { self.new ≡ begun (with_command_errors self.old) }
     {
         let command = self.registers.command();
         let command_error = self.registers.is_offered() || command > 2 || self.is_outside();

@@ -1,7 +1,7 @@
 use crate::rest::WordWrite;
 
 /// What a half is doing. `left` is how many datagrams more will find it so.
-#[derive(Clone, Copy, Debug)]
+#[derive(Clone, Copy)]
 pub(crate) enum Work {
     Idle,
     Reading { left: u32 },

@@ -1,27 +1,33 @@
 -- A frame of one datagram goes to the half of one slave.
-use Rattle.std.proofs.Common.{◌≡◌, ◌⊎◌, ℕ, ◌+◌, List, [], ◌∷◌, ◌++◌, length, map, Some, slice_get, Result, Ok, Err, refl, sym, ap, subst, ◌∙◌, inl, inr, arith, length-append}
+use Rattle.std.proofs.Common.{◌≡◌, ◌⊎◌, ℕ, List, [], ◌∷◌, ◌++◌, map, Option, Some, None, slice_get, Result, Ok, Err, refl, sym, ap, subst, ◌∙◌, inl, inr, arith}
 use Rattle.std.specs.List.{AllByRecursion}
 use Rattle.ecat_frame.specs.Frame.{Pdu}
 use Rattle.esc_model.specs.SlaveHalf.{SlaveHalf, MayRest}
+use Rattle.esc_model.specs.Datagrams.{served_datagram, reply_of}
+use Rattle.esc_model.specs.WordAccess.{IsGentle}
+use Rattle.esc_model.proofs.OnlyResting.{OnlyRests-leaves, Receives-only}
 use Rattle.site_core.specs.declared.fault.DeviceFault.{DeviceFault}
 use Rattle.site_core.specs.declared.fault.DeviceFault.TheVariants as device
-use Rattle.site_core.specs.State.{State, Pair, Seen, Leaves, clock, with_half, last_of}
-use Rattle.site_core.specs.Exchange.{took, answered, GoesThrough}
+use Rattle.site_core.specs.State.{State, Pair, Seen, HalfGoes, Leaves, with_half, last_of}
+use Rattle.site_core.specs.Exchange.{GoesThrough}
 use Rattle.site_core.specs.Calls.{ExchangesFrame}
 use Rattle.site_core.specs.Passes.{Passes, LeavesOnly}
 use Rattle.site_core.proofs.Moments.{Leaves-less}
-use Rattle.site_core.proofs.Runs.{Passes-call, last_of_all}
+use Rattle.site_core.proofs.Runs.{Passes-call, Passes-stays, last_of_all}
 use Rattle.site_core.proofs.DeviceCalls.{is_stopped_or, LeavesOnly-stopped}
-use Rattle.esc_rom.specs.Runs.{Quiet, IsGentle}
-use Rattle.esc_rom.proofs.Resting.{OnlyRests-leaves, Takes-only}
-use Rattle.esc_rom.proofs.States.{same_some}
+use Rattle.site_core.proofs.Times.{Calls-follows, Calls-clock}
+use Rattle.esc_rom.specs.declared.fault.Stop.{Stop}
+use Rattle.esc_rom.specs.Sending.{Sends}
+use Rattle.esc_rom.specs.Runs.{Quiet, Ran, IsCut, WasLost}
+use Rattle.esc_rom.proofs.States.{same_some, with_half-same}
+use Rattle.esc_rom.proofs.Past.{FailsAt-last}
 
 -- the half took the one datagram
 pub record TookOne (order : Pdu) (half : SlaveHalf) (laters : List SlaveHalf) (replies : List Pdu) : Type 0 where
   pub rested : SlaveHalf
   pub rests : MayRest half rested
-  pub laters_are : laters ≡ (took rested order).half ∷ []
-  pub replies_are : replies ≡ answered order (took rested order) ∷ []
+  pub laters_are : laters ≡ (served_datagram rested order).half ∷ []
+  pub replies_are : replies ≡ reply_of order (served_datagram rested order) ∷ []
 
 no_more : (later : SlaveHalf) (passed : List Pdu) (laters : List SlaveHalf) (replies : List Pdu) → passed ≡ [] → GoesThrough later passed laters replies → (laters ≡ []) × (replies ≡ [])
 no_more later [] [] [] none through = (refl, refl)
@@ -58,7 +64,7 @@ took_none_or_one order half (p ∷ ps) left (l ∷ ls) (r ∷ rs) split through 
 -- what holds of the pairs before, and of those that it leaves once the half took the datagram, holds all the way
 pub exchange_passes : (Q : Pair → Type 0) (old : Seen) (slave : ℕ) (order : Pdu) (result : Result (Unit {0}) DeviceFault) (answer : List Pdu) (new : Seen)
     → LeavesOnly Q old.state
-    → ((half rested : SlaveHalf) → slice_get old.state.halves slave ≡ Some half → MayRest half rested → LeavesOnly Q (with_half old.state slave (took rested order).half))
+    → ((half rested : SlaveHalf) → slice_get old.state.halves slave ≡ Some half → MayRest half rested → LeavesOnly Q (with_half old.state slave (served_datagram rested order).half))
     → ExchangesFrame old slave (order ∷ []) result answer new → Passes (LeavesOnly Q) old new
 exchange_passes Q old slave order result answer new before behind sends =
     Passes-call P old middle result new sends.call before all
@@ -84,62 +90,94 @@ exchange_passes Q old slave order result answer new before behind sends =
     last = last_of_all P old.state middle before all
 
 -- a datagram that brings nothing into flight adds nothing
-pub exchange_quiet : (old : Seen) (slave : ℕ) (order : Pdu) (result : Result (Unit {0}) DeviceFault) (answer : List Pdu) (new : Seen)
+exchange_quiet : (old : Seen) (slave : ℕ) (order : Pdu) (result : Result (Unit {0}) DeviceFault) (answer : List Pdu) (new : Seen)
     → IsGentle order → ExchangesFrame old slave (order ∷ []) result answer new → Quiet old 1 new
 exchange_quiet old slave order result answer new gentle sends = record {
-  passes = exchange_passes (Leaves old.state) old slave order result answer new (λ pair leaves. leaves) behind sends;
-  within = let e = ap length sends.call.past in omega (arith, length-append old.past (record { before = old.state; middle = map (with_half old.state slave) sends.laters } ∷ []));
-  never_fewer = sends.call.never_fewer;
+  adds = Passes-stays (Leaves old.state) old new (exchange_passes (Leaves old.state) old slave order result answer new (λ pair leaves. leaves) behind sends);
+  follows = Calls-follows old (map (with_half old.state slave) sends.laters) result new sends.call;
+  within = let one = Calls-clock old (map (with_half old.state slave) sends.laters) result new sends.call in omega arith;
+  never_fewer = let counted = sends.call.counted in omega arith;
   turns = sends.turns;
 }
   where
-    behind : (half rested : SlaveHalf) → slice_get old.state.halves slave ≡ Some half → MayRest half rested → LeavesOnly (Leaves old.state) (with_half old.state slave (took rested order).half)
+    behind : (half rested : SlaveHalf) → slice_get old.state.halves slave ≡ Some half → MayRest half rested → LeavesOnly (Leaves old.state) (with_half old.state slave (served_datagram rested order).half)
     behind half rested here rests pair leaves =
-        Leaves-less old.state slave half (took rested order).half pair here
-        (λ left. OnlyRests-leaves half (took rested order).half left (Takes-only order half (took rested order).half gentle (record { rested = rested; rests = rests; is = refl }))) leaves
+        Leaves-less old.state slave half (served_datagram rested order).half pair here
+        (λ left. OnlyRests-leaves half (served_datagram rested order).half left (Receives-only order half (served_datagram rested order).half gentle (record { rested = rested; rests = rests; is = refl }))) leaves
 
--- the clock moves on by one
-pub exchange_clock : (old : Seen) (slave : ℕ) (sent : List Pdu) (result : Result (Unit {0}) DeviceFault) (answer : List Pdu) (new : Seen)
-    → ExchangesFrame old slave sent result answer new → clock new ≡ clock old + 1
-exchange_clock old slave sent result answer new sends =
-    ap length sends.call.past ∙ length-append old.past (record { before = old.state; middle = map (with_half old.state slave) sends.laters } ∷ [])
-
--- a frame that came back: the half took its datagram, and this is the answer
-pub record CameBack (order : Pdu) (old : State) (slave : ℕ) (half : SlaveHalf) (answer : List Pdu) (new : State) : Type 0 where
+-- the half took the datagram, and this is what came back
+pub record Answers (order datagram : Pdu) (half later : SlaveHalf) : Type 0 where
   pub rested : SlaveHalf
   pub rests : MayRest half rested
-  pub state_is : new ≡ with_half old slave (took rested order).half
-  pub answer_is : answer ≡ answered order (took rested order) ∷ []
+  pub is : later ≡ (served_datagram rested order).half
+  pub reply : reply_of order (served_datagram rested order) ≡ datagram
 
-pub exchange_back : (old : Seen) (slave : ℕ) (order : Pdu) (answer : List Pdu) (new : Seen) (half : SlaveHalf) → slice_get old.state.halves slave ≡ Some half
-    → ExchangesFrame old slave (order ∷ []) (Ok tt) answer new → CameBack order old.state slave half answer new.state
-exchange_back old slave order answer new half here sends =
+pub back_half : (old : Seen) (slave : ℕ) (order : Pdu) (answer : List Pdu) (new : Seen) (datagram : Pdu) → slice_get answer 0 ≡ Some datagram
+    → ExchangesFrame old slave (order ∷ []) (Ok tt) answer new → HalfGoes (Answers order datagram) old.state slave new.state
+back_half old slave order answer new datagram first sends =
     elim (took_none_or_one order sends.half sends.passed sends.left sends.laters sends.replies sends.split sends.through) [
-      | inl none ↦ absurd (empty none.0)
+      | inl none ↦ absurd (let e : order ∷ [] ≡ [] = sends.split ∙ ap (λ (p : List Pdu). p ++ sends.left) none.0 ∙ sends.ok.0 in absurd cc)
       | inr t ↦ record {
-        rested = t.rested;
-        rests = subst (λ (h : SlaveHalf). MayRest h t.rested) same t.rests;
-        state_is = sends.kept (λ e. absurd cc) ∙ ap (λ (ls : List SlaveHalf). last_of old.state (map (with_half old.state slave) ls)) t.laters_are;
-        answer_is = sends.ok.1 ∙ t.replies_are;
+        half = sends.half;
+        here = sends.here;
+        later = (served_datagram t.rested order).half;
+        new_is = sends.kept (λ e. absurd cc) ∙ ap (λ (ls : List SlaveHalf). last_of old.state (map (with_half old.state slave) ls)) t.laters_are;
+        goes = record {
+          rested = t.rested;
+          rests = t.rests;
+          is = refl;
+          reply = same_some (reply_of order (served_datagram t.rested order)) datagram (sym (ap (λ (ds : List Pdu). slice_get ds 0) (sends.ok.1 ∙ t.replies_are)) ∙ first);
+        };
       }
     ]
-  where
-    same : sends.half ≡ half
-    same = same_some sends.half half (sym sends.here ∙ here)
 
-    empty : sends.passed ≡ [] → ⊥
-    empty none = let e : order ∷ [] ≡ [] = sends.split ∙ ap (λ (p : List Pdu). p ++ sends.left) none ∙ sends.ok.0 in absurd cc
-
--- a lost frame: the half took its datagram or didn't
-pub exchange_lost : (old : Seen) (slave : ℕ) (order : Pdu) (answer : List Pdu) (new : Seen) (half : SlaveHalf) → slice_get old.state.halves slave ≡ Some half
-    → ExchangesFrame old slave (order ∷ []) (Err device.Lost) answer new
-    → (new.state ≡ old.state) ⊎ ((rested : SlaveHalf) × MayRest half rested × (new.state ≡ with_half old.state slave (took rested order).half))
-exchange_lost old slave order answer new half here sends =
+pub lost_half : (old : Seen) (slave : ℕ) (order : Pdu) (new : Seen) → ExchangesFrame old slave (order ∷ []) (Err device.Lost) (order ∷ []) new
+    → HalfGoes (WasLost order old new) old.state slave new.state
+lost_half old slave order new sends =
+    let one = Calls-clock old (map (with_half old.state slave) sends.laters) (Err device.Lost) new sends.call in
+    let follows = Calls-follows old (map (with_half old.state slave) sends.laters) (Err device.Lost) new sends.call in
+    let fails = FailsAt-last old new follows one (let counted = sends.call.counted in omega arith) in
     elim (took_none_or_one order sends.half sends.passed sends.left sends.laters sends.replies sends.split sends.through) [
-      | inl none ↦ inl (sends.kept (λ e. absurd cc) ∙ ap (λ (ls : List SlaveHalf). last_of old.state (map (with_half old.state slave) ls)) none.1)
-      | inr t ↦ inr (
-        t.rested,
-        subst (λ (h : SlaveHalf). MayRest h t.rested) (same_some sends.half half (sym sends.here ∙ here)) t.rests,
-        sends.kept (λ e. absurd cc) ∙ ap (λ (ls : List SlaveHalf). last_of old.state (map (with_half old.state slave) ls)) t.laters_are,
-      )
+      | inl none ↦ record {
+        half = sends.half;
+        here = sends.here;
+        later = sends.half;
+        new_is = sends.kept (λ e. absurd cc) ∙ ap (λ (ls : List SlaveHalf). last_of old.state (map (with_half old.state slave) ls)) none.1
+            ∙ sym (with_half-same old.state slave sends.half sends.here);
+        goes = (one, fails, inl refl);
+      }
+      | inr t ↦ record {
+        half = sends.half;
+        here = sends.here;
+        later = (served_datagram t.rested order).half;
+        new_is = sends.kept (λ e. absurd cc) ∙ ap (λ (ls : List SlaveHalf). last_of old.state (map (with_half old.state slave) ls)) t.laters_are;
+        goes = (one, fails, inr (record { rested = t.rested; rests = t.rests; is = refl }));
+      }
     ]
+
+-- A DATAGRAM THAT BRINGS NO WORD INTO FLIGHT
+
+module _ (old : Seen) (slave : ℕ) (order : Pdu) (new : Seen) (gentle : IsGentle order) where
+  pub back : {came : Option (List Pdu)} {answer : List Pdu} {datagram : Pdu} → came ≡ Some answer → slice_get answer 0 ≡ Some datagram → Sends old slave order (Ok came) new
+      → Ran (Answers order datagram) old slave 1 new
+  back {answer = answer} {datagram = datagram} is first sent =
+      let sends = subst (λ (o : Option (List Pdu)). Sends old slave order (Ok o) new) is sent in
+      record {
+        quiet = exchange_quiet old slave order (Ok tt) answer new gentle sends;
+        some = let one = Calls-clock old (map (with_half old.state slave) sends.laters) (Ok tt) new sends.call in omega arith;
+        going = λ stopped. let e = sends.call.stopped.0 stopped in absurd cc;
+        half = back_half old slave order answer new datagram first sends;
+      }
+
+  pub lost : {came : Option (List Pdu)} → came ≡ None → Sends old slave order (Ok came) new → Ran (WasLost order old new) old slave 1 new
+  lost is sent =
+      let sends = subst (λ (o : Option (List Pdu)). Sends old slave order (Ok o) new) is sent in
+      record {
+        quiet = exchange_quiet old slave order (Err device.Lost) (order ∷ []) new gentle sends;
+        some = let one = Calls-clock old (map (with_half old.state slave) sends.laters) (Err device.Lost) new sends.call in omega arith;
+        going = λ stopped. let e = sends.call.stopped.0 stopped in absurd cc;
+        half = lost_half old slave order new sends;
+      }
+
+  pub cut : {stop : Stop} → Sends old slave order (Err stop) new → IsCut old 1 new
+  cut sends = record { quiet = exchange_quiet old slave order (Err device.Stopped) (order ∷ []) new gentle sends; stopped = sends.call.stopped.1 refl }

@@ -1,163 +1,120 @@
--- Polls, one after the other.
-use Rattle.std.proofs.Common.{◌≡◌, ℕ, ◌<◌, IsErr, List, [], ◌∷◌, length, Option, Some, None, slice_get, Result, Ok, Err, refl, sym, ap, subst, ◌∙◌, inl, inr}
+-- Polls, one and in a row.
+use Rattle.std.proofs.Common.{◌≡◌, ◌⊎◌, ℕ, ◌+◌, ◌<◌, length, Option, Some, None, slice_get, refl, sym, ap, subst, ◌∙◌, inl, inr, arith}
+use Rattle.std.proofs.lemmas.Bool.Decides.{leb_tells}
 use Rattle.ecat_frame.specs.Frame.{Pdu}
-use Rattle.esc_model.specs.SlaveHalf.{SlaveHalf, Taken}
-use Rattle.site_core.specs.declared.fault.DeviceFault.TheVariants as device
-use Rattle.site_core.specs.State.{State, Seen, with_half}
-use Rattle.site_core.specs.Exchange.{took, answered}
-use Rattle.site_core.specs.Calls.{ExchangesFrame}
-use Rattle.esc_rom.specs.declared.fault.Stop.{Stop}
+use Rattle.esc_model.specs.Registers.{status_byte}
+use Rattle.esc_model.specs.SlaveHalf.{SlaveHalf, Outcome, MayRest, is_busy}
+use Rattle.esc_model.specs.Datagrams.{served_datagram, reply_of}
+use Rattle.esc_model.specs.Orders.{poll_order}
+use Rattle.esc_model.specs.WordAccess.{IsAt, IsIdle, OnlyRests, IsGentle}
+use Rattle.esc_model.proofs.Resting.{MayRest-twice, MayRest-station}
+use Rattle.esc_model.proofs.OnlyResting.{OnlyRests-same}
+use Rattle.esc_model.proofs.Status.{shows_idle, shows_well, shows_busy, shows_error}
+use Rattle.esc_model.proofs.Addressing.{here_or_elsewhere, poll_here, poll_elsewhere, poll-same}
+use Rattle.site_core.specs.State.{Seen, clock}
+use Rattle.site_core.specs.Times.{FailsAt, Follows}
 use Rattle.esc_rom.specs.declared.poll.Rested.{Rested}
-use Rattle.esc_rom.specs.Orders.{poll_order}
-use Rattle.esc_rom.specs.Sending.{Sends}
-use Rattle.esc_rom.specs.Halves.{IsAt, OnlyRests, HalfGoes}
-use Rattle.esc_rom.specs.GivingUp.{MissesIdle}
-use Rattle.esc_rom.specs.Runs.{Runs, IsSeen, RestsSeen, IsGentle}
-use Rattle.esc_rom.specs.Status.{found_in}
-use Rattle.esc_rom.proofs.Resting.{OnlyRests-same, MayRest-station}
-use Rattle.esc_rom.proofs.States.{same_some, with_half-same}
-use Rattle.esc_rom.proofs.Times.{exchange_next}
-use Rattle.esc_rom.proofs.Exchanges.{exchange_quiet, exchange_back, exchange_lost}
-use Rattle.esc_rom.proofs.Taking.{here_or_elsewhere, poll_here, poll_elsewhere, poll-same}
-use Rattle.esc_rom.proofs.Polling.{poll-says, poll-misses, poll-at}
+use Rattle.esc_rom.specs.Status.{rest_shown, found_in}
+use Rattle.esc_rom.specs.Past.{PollsInVain}
+use Rattle.esc_rom.specs.Runs.{Ran, IsSeen, Polled, Waited, WasLost}
+use Rattle.esc_rom.proofs.Runs.{Ran-weaker, SoFar, so_over}
+use Rattle.esc_rom.proofs.Past.{HalfAt-then, HalfAt-now, PollsInVain-more}
+use Rattle.esc_rom.proofs.Exchanges.{Answers}
 
--- a run of one exchange, where it came back, was lost, or the site stopped
-pub runs_back : {T : Type 0} (R : T → SlaveHalf → SlaveHalf → Type 0) (old : Seen) (slave : ℕ) (order : Pdu) (answer : List Pdu) (new : Seen) (value : T)
-    → IsGentle order → ExchangesFrame old slave (order ∷ []) (Ok tt) answer new → HalfGoes (R value) old.state slave new.state → Runs R old slave 1 (Ok value) new
-runs_back {T} R old slave order answer new value gentle sends goes = record {
-  quiet = exchange_quiet old slave order (Ok tt) answer new gentle sends;
-  going = λ ok stopped. let e = sends.call.stopped.0 stopped in absurd cc;
-  stopped = λ err. absurd cc;
-  half = λ v is. subst (λ (u : T). HalfGoes (R u) old.state slave new.state) (let e : value ≡ v = cc in e) goes;
-}
+-- WHAT AN ANSWER SAYS
 
-pub runs_lost : {T : Type 0} (R : T → SlaveHalf → SlaveHalf → Type 0) (old : Seen) (slave : ℕ) (order : Pdu) (answer : List Pdu) (new : Seen) (value : T)
-    → IsGentle order → ExchangesFrame old slave (order ∷ []) (Err device.Lost) answer new → HalfGoes (R value) old.state slave new.state → Runs R old slave 1 (Ok value) new
-runs_lost {T} R old slave order answer new value gentle sends goes = record {
-  quiet = exchange_quiet old slave order (Err device.Lost) answer new gentle sends;
-  going = λ ok stopped. let e = sends.call.stopped.0 stopped in absurd cc;
-  stopped = λ err. absurd cc;
-  half = λ v is. subst (λ (u : T). HalfGoes (R u) old.state slave new.state) (let e : value ≡ v = cc in e) goes;
-}
+-- the half is seen idle, or it isn't idle, or is at another station
+abbrev Says : ℕ → Option Rested → SlaveHalf → Type 0
+Says slave None half = (¬ IsIdle half) ⊎ (¬ IsAt slave half)
+Says slave (Some rested) half = IsSeen slave rested half
 
-pub runs_cut : {T : Type 0} (R : T → SlaveHalf → SlaveHalf → Type 0) (old : Seen) (slave : ℕ) (order : Pdu) (answer : List Pdu) (new : Seen) (result : Result T Stop)
-    → IsGentle order → ExchangesFrame old slave (order ∷ []) (Err device.Stopped) answer new → IsErr result → Runs R old slave 1 result new
-runs_cut R old slave order answer new (Ok value) gentle sends is = absurd cc
-runs_cut R old slave order answer new (Err stop) gentle sends is = record {
-  quiet = exchange_quiet old slave order (Err device.Stopped) answer new gentle sends;
-  going = λ ok. absurd cc;
-  stopped = λ err. sends.call.stopped.1 refl;
-  half = λ v was. absurd cc;
-}
+status_says : (slave : ℕ) (half : SlaveHalf) → IsAt slave half → Says slave (rest_shown (status_byte half.registers (is_busy half.activity))) half
+status_says slave half here = elim (leb_tells 0x80 (status_byte half.registers (is_busy half.activity))) [
+  | inl busy ↦ rw busy.0 (inl (shows_busy half busy.1))
+  | inr rests ↦ elim (leb_tells 0x20 (status_byte half.registers (is_busy half.activity))) [
+    | inl failed ↦ rw (rests.0, failed.0) (here, shows_idle half rests.1, shows_error half (shows_idle half rests.1) failed.1)
+    | inr well ↦ rw (rests.0, well.0) (here, shows_well half well.1)
+  ]
+]
+
+poll_says : (slave : ℕ) (half : SlaveHalf) → slave < 64 → Says slave (found_in (reply_of (poll_order slave) (served_datagram half (poll_order slave)))) half
+poll_says slave half near = elim (here_or_elsewhere slave half) [
+  | inl here ↦ subst (λ (t : Outcome). Says slave (found_in (reply_of (poll_order slave) t)) half) (sym (poll_here half slave near here)) (status_says slave half here)
+  | inr elsewhere ↦ subst (λ (t : Outcome). Says slave (found_in (reply_of (poll_order slave) t)) half) (sym (poll_elsewhere half slave near elsewhere)) (inr elsewhere)
+]
 
 pub poll_gentle : (slave : ℕ) → slave < 64 → IsGentle (poll_order slave)
 poll_gentle slave near half = subst (λ (h : SlaveHalf). OnlyRests half h) (sym (poll-same half slave near)) (OnlyRests-same half)
 
--- a half that took a poll only rested
-poll_state : (old : State) (slave : ℕ) (rested : SlaveHalf) (new : State) → slave < 64 → new ≡ with_half old slave (took rested (poll_order slave)).half → new ≡ with_half old slave rested
-poll_state old slave rested new near is = is ∙ ap (λ (h : SlaveHalf). with_half old slave h) (poll-same rested slave near)
+-- ONE POLL
 
--- the answer that came back is this one
-pub sends_some : (old : Seen) (slave : ℕ) (order : Pdu) (came : Option (List Pdu)) (answer : List Pdu) (new : Seen) → came ≡ Some answer
-    → Sends old slave order (Ok came) new → Sends old slave order (Ok (Some answer)) new
-sends_some old slave order came answer new is sends = subst (λ (o : Option (List Pdu)). Sends old slave order (Ok o) new) is sends
+module _ (old : Seen) (slave : ℕ) (new : Seen) (near : slave < 64) where
+  missed : Follows old new → clock new ≡ clock old + 1 → (half later : SlaveHalf) → slice_get old.state.halves slave ≡ Some half → slice_get new.state.halves slave ≡ Some later
+      → MayRest half later → FailsAt new (clock old) ⊎ ((¬ IsIdle later) ⊎ (¬ IsAt slave half)) → Polled old slave new None half later
+  missed follows one half later here there rests why = (
+    rests,
+    one,
+    record { half = half; later = later; first = HalfAt-then old new slave half follows here; last = HalfAt-now new slave (clock old + 1) later (sym one) there; goes = (rests, why) },
+  )
 
-pub sends_none : (old : Seen) (slave : ℕ) (order : Pdu) (came : Option (List Pdu)) (new : Seen) → came ≡ None
-    → Sends old slave order (Ok came) new → Sends old slave order (Ok None) new
-sends_none old slave order came new is sends = subst (λ (o : Option (List Pdu)). Sends old slave order (Ok o) new) is sends
+  said : Follows old new → clock new ≡ clock old + 1 → (found : Option Rested) (half later : SlaveHalf) → slice_get old.state.halves slave ≡ Some half → slice_get new.state.halves slave ≡ Some later
+      → MayRest half later → Says slave found later → Polled old slave new found half later
+  said follows one None half later here there rests (inl busy) = missed follows one half later here there rests (inr (inl busy))
+  said follows one None half later here there rests (inr elsewhere) =
+      missed follows one half later here there rests (inr (inr (λ at. elsewhere (MayRest-station half later rests ∙ at))))
+  said follows one (Some rested) half later here there rests seen = (rests, seen)
 
-pub poll_back : (old : Seen) (slave : ℕ) (answer : List Pdu) (new : Seen) (datagram : Pdu) (found : Option Rested) → slave < 64
-    → Sends old slave (poll_order slave) (Ok (Some answer)) new → slice_get answer 0 ≡ Some datagram → found ≡ found_in datagram → Runs RestsSeen old slave 1 (Ok found) new
-poll_back old slave answer new datagram found near sends first is =
-    runs_back RestsSeen old slave (poll_order slave) answer new found (poll_gentle slave near) sends goes
-  where
-    goes : HalfGoes (RestsSeen found) old.state slave new.state
-    goes half here =
-        let back = exchange_back old slave (poll_order slave) answer new half here sends in
-        let same : answered (poll_order slave) (took back.rested (poll_order slave)) ≡ datagram =
-        same_some (answered (poll_order slave) (took back.rested (poll_order slave))) datagram (sym (ap (λ (ds : List Pdu). slice_get ds 0) back.answer_is) ∙ first) in (
-          back.rested,
-          poll_state old.state slave back.rested new.state near back.state_is,
-          record {
-            rests = back.rests;
-            seen = subst (λ (f : Option Rested). IsSeen f back.rested) (ap found_in same ∙ sym is) (poll-says back.rested slave near);
-          },
-        )
+  pub poll_back : {found : Option Rested} {datagram : Pdu} → found ≡ found_in datagram → Ran (Answers (poll_order slave) datagram) old slave 1 new → Ran (Polled old slave new found) old slave 1 new
+  poll_back {found = found} {datagram = datagram} is ran = Ran-weaker (omega arith) goes ran
+    where
+      one : clock new ≡ clock old + 1
+      one = let more = ran.some in let most = ran.quiet.within in omega arith
 
--- a poll that doesn't see the half idle
-pub poll_misses : (old : Seen) (slave : ℕ) (answer : List Pdu) (new : Seen) (datagram : Pdu) → slave < 64
-    → Sends old slave (poll_order slave) (Ok (Some answer)) new → slice_get answer 0 ≡ Some datagram → found_in datagram ≡ None
-    → HalfGoes (MissesIdle old slave new) old.state slave new.state
-poll_misses old slave answer new datagram near sends first is half here =
-    let back = exchange_back old slave (poll_order slave) answer new half here sends in
-    let same : answered (poll_order slave) (took back.rested (poll_order slave)) ≡ datagram =
-    same_some (answered (poll_order slave) (took back.rested (poll_order slave))) datagram (sym (ap (λ (ds : List Pdu). slice_get ds 0) back.answer_is) ∙ first) in (
-      back.rested,
-      poll_state old.state slave back.rested new.state near back.state_is,
-      record {
-        here = here;
-        next = exchange_next old slave (poll_order slave ∷ []) (Ok tt) answer new sends;
-        rests = back.rests;
-        why = inr (elim (poll-misses back.rested slave near (ap found_in same ∙ is)) [
-          | inl busy ↦ inl busy
-          | inr elsewhere ↦ inr (λ at. elsewhere (MayRest-station half back.rested back.rests ∙ at))
-        ]);
-      },
-    )
+      goes : (half later : SlaveHalf) → slice_get old.state.halves slave ≡ Some half → slice_get new.state.halves slave ≡ Some later → Answers (poll_order slave) datagram half later → Polled old slave new found half later
+      goes half later here there answers =
+          let same : later ≡ answers.rested = answers.is ∙ poll-same answers.rested slave near in
+          let says = subst (λ (f : Option Rested). Says slave f answers.rested) (ap found_in answers.reply ∙ sym is) (poll_says slave answers.rested near) in
+          said ran.quiet.follows one found half later here there (subst (λ (h : SlaveHalf). MayRest half h) (sym same) answers.rests) (subst (λ (h : SlaveHalf). Says slave found h) (sym same) says)
 
--- one that sees it idle
-pub poll_at : (old : Seen) (slave : ℕ) (answer : List Pdu) (new : Seen) (datagram : Pdu) (rested : Rested) → slave < 64
-    → Sends old slave (poll_order slave) (Ok (Some answer)) new → slice_get answer 0 ≡ Some datagram → found_in datagram ≡ Some rested
-    → HalfGoes (λ half later. IsAt slave later) old.state slave new.state
-poll_at old slave answer new datagram rested near sends first is half here =
-    let back = exchange_back old slave (poll_order slave) answer new half here sends in
-    let same : answered (poll_order slave) (took back.rested (poll_order slave)) ≡ datagram =
-    same_some (answered (poll_order slave) (took back.rested (poll_order slave))) datagram (sym (ap (λ (ds : List Pdu). slice_get ds 0) back.answer_is) ∙ first) in
-    (back.rested, poll_state old.state slave back.rested new.state near back.state_is, poll-at back.rested slave rested near (ap found_in same ∙ is))
+  pub poll_lost : Ran (WasLost (poll_order slave) old new) old slave 1 new → Ran (Polled old slave new None) old slave 1 new
+  poll_lost ran = Ran-weaker (omega arith) (λ half later here there lost. missed ran.quiet.follows lost.0 half later here there (elim lost.2 [
+    | inl same ↦ inl same
+    | inr took ↦ subst (λ (h : SlaveHalf). MayRest half h) (sym (took.is ∙ poll-same took.rested slave near)) took.rests
+  ]) (inl lost.1)) ran
 
-pub poll_lost_misses : (old : Seen) (slave : ℕ) (new : Seen) → slave < 64 → Sends old slave (poll_order slave) (Ok None) new
-    → HalfGoes (MissesIdle old slave new) old.state slave new.state
-poll_lost_misses old slave new near sends half here =
-    let next = exchange_next old slave (poll_order slave ∷ []) (Err device.Lost) (poll_order slave ∷ []) new sends in
-    elim (exchange_lost old slave (poll_order slave) (poll_order slave ∷ []) new half here sends) [
-      | inl same ↦ (
-        half,
-        same ∙ sym (with_half-same old.state slave half here),
-        record { here = here; next = next; rests = inl refl; why = inl (sends.call.lost refl) },
-      )
-      | inr t ↦ (
-        t.0,
-        poll_state old.state slave t.0 new.state near t.2,
-        record { here = here; next = next; rests = t.1; why = inl (sends.call.lost refl) },
-      )
+-- POLLS IN A ROW
+
+-- so many polls missed it
+pub record InVain (old : Seen) (slave times : ℕ) (now : Seen) (half later : SlaveHalf) : Type 0 where
+  pub rests : MayRest half later
+  pub polls : PollsInVain now slave (clock old) times
+  pub clock : clock now ≡ clock old + times
+
+pub vain_none : (seen : Seen) (slave : ℕ) (half : SlaveHalf) → InVain seen slave 0 seen half half
+vain_none seen slave half = record { rests = inl refl; clock = omega arith; polls = λ k below. absurd (omega arith) }
+
+pub vain_more : (a b c : Seen) (slave times : ℕ) → Follows b c → (half mid later : SlaveHalf) → InVain a slave times b half mid → Polled b slave c None mid later → InVain a slave (times + 1) c half later
+vain_more a b c slave times follows half mid later vain polled = record {
+  rests = MayRest-twice half mid later vain.rests polled.0;
+  clock = let first = vain.clock in let second = polled.1 in omega arith;
+  polls = PollsInVain-more b c slave (clock a) times follows vain.clock vain.polls polled.2;
+}
+
+pub vain_seen : (a b c : Seen) (slave times : ℕ) (rested : Rested) (half mid later : SlaveHalf) → InVain a slave times b half mid → Polled b slave c (Some rested) mid later → Waited a slave c (Some rested) half later
+vain_seen a b c slave times rested half mid later vain polled = (MayRest-twice half mid later vain.rests polled.0, polled.1)
+
+-- an answer has the two bytes of a poll
+pub poll_length : (slave : ℕ) {datagram : Pdu} {old new : Seen} → slave < 64 → Ran (Answers (poll_order slave) datagram) old slave 1 new → length datagram.content ≡ 2
+poll_length slave near ran =
+    let answers = ran.half.goes in
+    sym (ap (λ (d : Pdu). length d.content) answers.reply) ∙ elim (here_or_elsewhere slave answers.rested) [
+      | inl here ↦ ap (λ (t : Outcome). length t.content) (poll_here answers.rested slave near here)
+      | inr elsewhere ↦ ap (λ (t : Outcome). length t.content) (poll_elsewhere answers.rested slave near elsewhere)
     ]
 
-pub poll_lost : (old : Seen) (slave : ℕ) (new : Seen) → slave < 64 → Sends old slave (poll_order slave) (Ok None) new → Runs RestsSeen old slave 1 (Ok None) new
-poll_lost old slave new near sends =
-    runs_lost RestsSeen old slave (poll_order slave) (poll_order slave ∷ []) new None (poll_gentle slave near) sends goes
-  where
-    goes : HalfGoes (RestsSeen None) old.state slave new.state
-    goes half here = elim (exchange_lost old slave (poll_order slave) (poll_order slave ∷ []) new half here sends) [
-      | inl same ↦ (half, same ∙ sym (with_half-same old.state slave half here), record { rests = inl refl; seen = tt })
-      | inr t ↦ (t.0, poll_state old.state slave t.0 new.state near t.2, record { rests = t.1; seen = tt })
-    ]
-
-pub poll_cut : (old : Seen) (slave : ℕ) (new : Seen) (result : Result (Option Rested) Stop) (stop : Stop) → slave < 64
-    → Sends old slave (poll_order slave) (Err stop) new → IsErr result → Runs RestsSeen old slave 1 result new
-poll_cut old slave new result stop near sends is =
-    runs_cut RestsSeen old slave (poll_order slave) (poll_order slave ∷ []) new result (poll_gentle slave near) sends is
-
--- the answer has the two bytes that were asked for
-poll_content : (half : SlaveHalf) (slave : ℕ) → slave < 64 → length (took half (poll_order slave)).content ≡ 2
-poll_content half slave near = elim (here_or_elsewhere slave half) [
-  | inl here ↦ ap (λ (t : Taken). length t.content) (poll_here half slave near here)
-  | inr elsewhere ↦ ap (λ (t : Taken). length t.content) (poll_elsewhere half slave near elsewhere)
-]
-
-pub poll_length : (old : Seen) (slave : ℕ) (answer : List Pdu) (new : Seen) (datagram : Pdu) → slave < 64
-    → Sends old slave (poll_order slave) (Ok (Some answer)) new → slice_get answer 0 ≡ Some datagram → length datagram.content ≡ 2
-poll_length old slave answer new datagram near sends first =
-    let back = exchange_back old slave (poll_order slave) answer new sends.half sends.here sends in
-    let same : answered (poll_order slave) (took back.rested (poll_order slave)) ≡ datagram =
-    same_some (answered (poll_order slave) (took back.rested (poll_order slave))) datagram (sym (ap (λ (ds : List Pdu). slice_get ds 0) back.answer_is) ∙ first) in
-    sym (ap (λ (d : Pdu). length d.content) same) ∙ poll_content back.rested slave near
+pub vain_all : (a : Seen) (slave times : ℕ) (b : Seen) → times ≡ 10000 → SoFar (InVain a slave times b) a slave times b → Ran (Waited a slave b None) a slave 10000 b
+vain_all a slave times b all so =
+    Ran-weaker (omega arith) (λ half later here there vain. (
+      vain.rests,
+      record { clock = let late = vain.clock in omega arith; polls = subst (λ (n : ℕ). PollsInVain b slave (clock a) n) all vain.polls },
+    )) (so_over (omega arith) so)

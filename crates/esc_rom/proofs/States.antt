@@ -2,8 +2,7 @@
 use Rattle.std.proofs.Common.{◌≡◌, ℕ, zero, suc, List, [], ◌∷◌, Some, slice_get, slice_set, refl, sym, ap, subst, ◌∙◌}
 use Rattle.std.proofs.lemmas.List.{set-set}
 use Rattle.esc_model.specs.SlaveHalf.{SlaveHalf}
-use Rattle.site_core.specs.State.{State, with_half}
-use Rattle.esc_rom.specs.Halves.{HalfGoes}
+use Rattle.site_core.specs.State.{State, HalfGoes, with_half}
 
 pub same_some : {A : Type 0} (x y : A) → Some x ≡ Some y → x ≡ y
 same_some x y e = cc
@@ -22,48 +21,26 @@ slice_get-set (z ∷ zs) (suc i) x y here = slice_get-set zs i x y here
 pub with_half-same : (state : State) (slave : ℕ) (half : SlaveHalf) → slice_get state.halves slave ≡ Some half → with_half state slave half ≡ state
 with_half-same state slave half here = ap (λ (hs : List SlaveHalf). record state { halves = hs }) (slice_set-same state.halves slave half here)
 
-pub with_half-here : (state : State) (slave : ℕ) (half later : SlaveHalf) → slice_get state.halves slave ≡ Some half
-    → slice_get (with_half state slave later).halves slave ≡ Some later
-with_half-here state slave half later here = slice_get-set state.halves slave half later here
+module _ {R : SlaveHalf → SlaveHalf → Type 0} {old new : State} {slave : ℕ} (goes : HalfGoes R old slave new) where
+  -- behind it the half is there
+  pub HalfGoes-there : slice_get new.halves slave ≡ Some goes.later
+  HalfGoes-there = ap (λ (s : State). slice_get s.halves slave) goes.new_is ∙ slice_get-set old.halves slave goes.half goes.later goes.here
 
--- of two in a row the last stays
-pub with_half-twice : (state : State) (slave : ℕ) (mid later : SlaveHalf) → with_half (with_half state slave mid) slave later ≡ with_half state slave later
-with_half-twice state slave mid later = ap (λ (hs : List SlaveHalf). record state { halves = hs }) (set-set state.halves slave mid later)
-
--- nothing has changed
-pub HalfGoes-same : (R : SlaveHalf → SlaveHalf → Type 0) (state : State) (slave : ℕ) → ((half : SlaveHalf) → R half half) → HalfGoes R state slave state
-HalfGoes-same R state slave same half here = (half, sym (with_half-same state slave half here), same half)
-
-pub HalfGoes-weaker : (R W : SlaveHalf → SlaveHalf → Type 0) (old : State) (slave : ℕ) (new : State)
-    → ((half later : SlaveHalf) → R half later → W half later) → HalfGoes R old slave new → HalfGoes W old slave new
-HalfGoes-weaker R W old slave new weaker goes half here =
-    let g = goes half here in (g.0, g.1, weaker half g.0 g.2)
-
--- the half that goes is the one that the state has
-pub HalfGoes-tied : (R : SlaveHalf → SlaveHalf → Type 0) (old : State) (slave : ℕ) (new : State) → HalfGoes R old slave new
-    → HalfGoes (λ half later. (slice_get old.halves slave ≡ Some half) × R half later) old slave new
-HalfGoes-tied R old slave new goes half here =
-    let g = goes half here in (g.0, g.1, (here, g.2))
-
--- the half that goes is one
-pub HalfGoes-both : (R W : SlaveHalf → SlaveHalf → Type 0) (old : State) (slave : ℕ) (new : State) → HalfGoes R old slave new → HalfGoes W old slave new
-    → HalfGoes (λ half later. R half later × W half later) old slave new
-HalfGoes-both R W old slave new first second half here =
-    let f = first half here in
-    let s = second half here in
-    let same : s.0 ≡ f.0 = same_some s.0 f.0 (sym (with_half-here old slave half s.0 here)
-    ∙ ap (λ (t : State). slice_get t.halves slave) (sym s.1 ∙ f.1)
-    ∙ with_half-here old slave half f.0 here) in
-    (f.0, f.1, (f.2, subst (λ (h : SlaveHalf). W half h) same s.2))
+  pub HalfGoes-weaker : {W : SlaveHalf → SlaveHalf → Type 0} → ((half later : SlaveHalf) → slice_get old.halves slave ≡ Some half → slice_get new.halves slave ≡ Some later → R half later → W half later)
+      → HalfGoes W old slave new
+  HalfGoes-weaker weaker =
+      record { half = goes.half; here = goes.here; later = goes.later; new_is = goes.new_is; goes = weaker goes.half goes.later goes.here HalfGoes-there goes.goes }
 
 -- one after the other
-pub HalfGoes-then : (R W V : SlaveHalf → SlaveHalf → Type 0) (a : State) (slave : ℕ) (b c : State)
-    → ((half mid later : SlaveHalf) → R half mid → W mid later → V half later)
-    → HalfGoes R a slave b → HalfGoes W b slave c → HalfGoes V a slave c
-HalfGoes-then R W V a slave b c both first second half here =
-    let f = first half here in
-    let there : slice_get b.halves slave ≡ Some f.0 =
-    subst (λ (s : State). slice_get s.halves slave ≡ Some f.0) (sym f.1) (with_half-here a slave half f.0 here) in
-    let s = second f.0 there in
-    let is : c ≡ with_half a slave s.0 = s.1 ∙ ap (λ (t : State). with_half t slave s.0) f.1 ∙ with_half-twice a slave f.0 s.0 in
-    (s.0, is, both half f.0 s.0 f.2 s.2)
+pub HalfGoes-then : {R W : SlaveHalf → SlaveHalf → Type 0} {V : SlaveHalf → SlaveHalf → Type 0} {a b c : State} {slave : ℕ}
+    → ((half mid later : SlaveHalf) → R half mid → W mid later → V half later) → HalfGoes R a slave b → HalfGoes W b slave c → HalfGoes V a slave c
+HalfGoes-then {R} {W} {V} {a} {b} {c} {slave} both first second =
+    let same : second.half ≡ first.later = same_some second.half first.later (sym second.here ∙ HalfGoes-there first) in
+    record {
+      half = first.half;
+      here = first.here;
+      later = second.later;
+      new_is = second.new_is ∙ ap (λ (s : State). with_half s slave second.later) first.new_is
+          ∙ ap (λ (hs : List SlaveHalf). record a { halves = hs }) (set-set a.halves slave first.later second.later);
+      goes = both first.half first.later second.later first.goes (subst (λ (h : SlaveHalf). W h second.later) same second.goes);
+    }

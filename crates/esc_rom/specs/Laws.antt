@@ -1,12 +1,11 @@
--- What a read of control and status shows is what the half is. Its command has three bits.
-use Rattle.std.specs.Prelude.{◌<◌}
-use Rattle.esc_model.specs.SlaveHalf.{SlaveHalf}
-use Rattle.esc_rom.specs.Halves.{IsIdle, HasError, ShowsBusy, ShowsError}
+-- A word that is issued and settled.
+use Rattle.std.specs.Prelude.{◌≡◌, ℕ, List, true, Some, Ok, slice_get}
+use Rattle.site_core.specs.declared.answers.Issued.TheVariants as issued
+use Rattle.site_core.specs.declared.answers.Settled.TheVariants as settled
+use Rattle.site_core.specs.State.{Pair, Seen, Leaves}
+use Rattle.esc_rom.specs.Access.{IssuesWord, SettlesSlave}
 
--- a half that shows that it is busy is busy
-abbrev pub BusyIsShown : Type 0
-BusyIsShown = (half : SlaveHalf) → half.registers.command < 8 → ShowsBusy half → ¬ IsIdle half
-
--- the error that an idle half shows is bit 13 or 14
-abbrev pub ErrorIsShown : Type 0
-ErrorIsShown = (half : SlaveHalf) → half.registers.command < 8 → ShowsError half → HasError half
+-- Where a slave took a word, and it is then written, a stop leaves its value in each pair.
+abbrev pub WrittenStays : Type 0
+WrittenStays = (a b c : Seen) (slave word value : ℕ) (pair : Pair) → IssuesWord a slave word value (Ok issued.Taken) b → SettlesSlave b slave true (Ok settled.Written) c
+    → Leaves c.state pair → (words : List ℕ) × (slice_get pair.words slave ≡ Some words) × (slice_get words word ≡ Some value)

@@ -1,10 +1,7 @@
-pub mod Orders
 pub mod Sending
-pub mod Halves
-pub mod Times
-pub mod GivingUp
-pub mod Runs
 pub mod Status
-pub mod Laws
-pub mod Access
+pub mod Past
+pub mod Runs
 pub mod WordPairs
+pub mod Access
+pub mod Laws

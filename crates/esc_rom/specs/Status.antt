@@ -5,9 +5,9 @@ use Rattle.esc_rom.specs.declared.poll.Rested.{Rested}
 use Rattle.esc_rom.specs.declared.poll.Rested.TheVariants.{Well, Failed}
 
 -- of bits 15, 14 and 13 the first decides: the slave is busy, or it is idle with an error, or well
-abbrev pub rested_by : ℕ → Option Rested
-rested_by status = if nat_le 0x80 status then None else if nat_le 0x20 status then Some Failed else Some Well
+abbrev pub rest_shown : ℕ → Option Rested
+rest_shown status = if nat_le 0x80 status then None else if nat_le 0x20 status then Some Failed else Some Well
 
 -- nothing was read where the slave didn't count the datagram
 abbrev pub found_in : Pdu → Option Rested
-found_in answer = if answer.counter == 1 then rested_by (slice_index answer.content 1) else None
+found_in answer = if answer.counter == 1 then rest_shown (slice_index answer.content 1) else None

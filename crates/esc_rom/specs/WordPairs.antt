@@ -2,13 +2,13 @@
 use Rattle.std.specs.Prelude.{◌≡◌, ◌⊎◌, ℕ, ◌+◌, ◌*◌, ◌==◌, if◌then◌else◌, Bool, true, false, List, length, Option, Some, None, slice_index}
 use Rattle.ecat_frame.specs.Frame.{Pdu}
 use Rattle.esc_model.specs.SlaveHalf.{SlaveHalf, MayRest}
-use Rattle.site_core.specs.State.{Seen}
+use Rattle.esc_model.specs.WordAccess.{IsAt, IsIdle, OnlyRests}
+use Rattle.site_core.specs.State.{Seen, clock}
+use Rattle.site_core.specs.Times.{FailsAt}
 use Rattle.esc_rom.specs.declared.reading.WordPair.{WordPair}
 use Rattle.esc_rom.specs.declared.reading.Tried.{Tried}
 use Rattle.esc_rom.specs.declared.reading.Tried.TheVariants as tried
-use Rattle.esc_rom.specs.Halves.{IsAt, IsIdle, OnlyRests}
-use Rattle.esc_rom.specs.Times.{Loses}
-use Rattle.esc_rom.specs.GivingUp.{NeverIdle, FailsTry, FailTries, GivesUpReading}
+use Rattle.esc_rom.specs.Past.{NeverIdle, EndsTry, FailTries, GivesUpReading}
 
 -- the two words in an answer, each with its low byte first
 abbrev pub pair_of : Pdu → Option WordPair
@@ -17,14 +17,10 @@ pair_of answer =
     then Some (record { first = slice_index answer.content 0 + 256 * slice_index answer.content 1; second = slice_index answer.content 2 + 256 * slice_index answer.content 3 })
     else None
 
--- they are those that the half has fetched, or the datagram was lost, or the half is at another station
-abbrev pub IsFetched : Seen → (slave : ℕ) → Seen → Option WordPair → SlaveHalf → Type 0
-IsFetched old slave new None half = Loses old new ⊎ (¬ IsAt slave half)
-IsFetched old slave new (Some pair) half = (pair.first ≡ half.registers.first) × (pair.second ≡ half.registers.second)
-
-pub record Fetches (old : Seen) (slave : ℕ) (new : Seen) (found : Option WordPair) (half later : SlaveHalf) : Type 0 where
-  pub rests : MayRest half later
-  pub fetched : IsFetched old slave new found later
+-- the words are those that the half has fetched, or the datagram was lost, or the half is at another station
+abbrev pub Fetched : Seen → (slave : ℕ) → Seen → Option WordPair → SlaveHalf → SlaveHalf → Type 0
+Fetched old slave new None half later = MayRest half later × (((clock new ≡ clock old + 1) × FailsAt new (clock old)) ⊎ (¬ IsAt slave half))
+Fetched old slave new (Some pair) half later = MayRest half later × (pair.first ≡ later.registers.first) × (pair.second ≡ later.registers.second)
 
 -- The pair was read: the half is idle, and it has these words from there on.
 pub record IsRead (pair : WordPair) (word : ℕ) (half later : SlaveHalf) : Type 0 where
@@ -36,20 +32,15 @@ pub record IsRead (pair : WordPair) (word : ℕ) (half later : SlaveHalf) : Type
 -- the pair was read, or the try failed, or the half wasn't seen idle
 abbrev pub TriesRead : Seen → (slave word : ℕ) → Seen → Tried → SlaveHalf → SlaveHalf → Type 0
 TriesRead old slave word new (tried.Read pair) half later = IsRead pair word half later
-TriesRead old slave word new tried.Failed half later = OnlyRests half later × (IsAt slave half → FailsTry slave word old new half later)
-TriesRead old slave word new tried.Dead half later = OnlyRests half later × NeverIdle old slave new half later
+TriesRead old slave word new tried.Failed half later = OnlyRests half later × (IsAt slave half → EndsTry new slave word (clock old) (clock new) half later)
+TriesRead old slave word new tried.Dead half later = OnlyRests half later × NeverIdle old slave new
 
 abbrev pub ReadsPair : Seen → (slave word : ℕ) → Seen → Option WordPair → SlaveHalf → SlaveHalf → Type 0
 ReadsPair old slave word new (Some pair) half later = IsRead pair word half later
 ReadsPair old slave word new None half later =
-    OnlyRests half later × (NeverIdle old slave new half later ⊎ (IsAt slave half → FailTries slave word old half 3 new later))
-
--- of an idle half these are all words, and it is idle still
-abbrev pub Fills : Seen → (slave : ℕ) → Seen → List ℕ → Bool → SlaveHalf → SlaveHalf → Type 0
-Fills old slave new words true half later = OnlyRests half later × (IsIdle half → length words ≡ length half.words → IsIdle later × (later.words ≡ words))
-Fills old slave new words false half later = OnlyRests half later × (IsIdle half → IsAt slave half → GivesUpReading old slave (length words) new half later)
+    OnlyRests half later × (NeverIdle old slave new ⊎ (IsAt slave half → FailTries new slave word (clock old) 3 (clock new)))
 
 -- the half is idle, and these are its words
 abbrev pub ReadsAll : Seen → (slave : ℕ) → Seen → List ℕ → Bool → SlaveHalf → SlaveHalf → Type 0
 ReadsAll old slave new words true half later = OnlyRests half later × (length words ≡ length half.words → IsIdle later × (later.words ≡ words))
-ReadsAll old slave new words false half later = OnlyRests half later × GivesUpReading old slave (length words) new half later
+ReadsAll old slave new words false half later = OnlyRests half later × GivesUpReading old slave (length words) new

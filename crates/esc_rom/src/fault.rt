@@ -8,7 +8,7 @@ use site_core::DeviceFault;
 use std::alloc::{AllocError, AllocFailed};
 use thiserror::Error;
 
-/// Why a slave's EEPROM could not be opened or read.
+/// Why a slave's EEPROM (ETG.1000.4, slave information interface) could not be opened or read.
 #[derive(Clone, Copy, Debug, PartialEq, Eq, Error)]
 pub enum RomFault {
     /// Out of memory.
@@ -39,7 +39,7 @@ impl<T: Drop> From<AllocFailed<T>> for RomFault {
 }
 
 /// The site has stopped, which is all that can end the sending of datagrams.
-#[derive(Clone, Copy, Debug)]
+#[derive(Clone, Copy)]
 pub(crate) struct Stop;
 
 impl From<Stop> for RomFault {

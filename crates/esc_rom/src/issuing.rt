@@ -23,7 +23,7 @@ fn write_content(word: u16, value: u16) -> [u8; 8]
     [enable, command, a, b, c, d, low, high]
 }
 
-/// Asks a slave to write a word of its EEPROM.
+/// Asks a slave to write a word of its EEPROM (ETG.1000.4, slave information interface).
 ///
 /// # Errors
 ///

@@ -1,9 +1,8 @@
-//! Laws of every half that a slave may have. A function here does nothing: its contract is the law.
+//! Laws over calls in a row. A function here does nothing: its contract is the law.
 
-ghost use Rattle.esc_rom.specs.Laws.{BusyIsShown, ErrorIsShown};
+ghost use Rattle.esc_rom.specs.Laws.{WrittenStays};
 
-/// What a poll reads is so: a slave that shows that it is busy is busy, and an error that it shows is bit 13 or 14.
-pub fn shows_what_it_is()
-    ensures busy { BusyIsShown }
-    ensures error { ErrorIsShown }
+/// A word that was issued and taken, and then written, holds its value after each stop.
+pub fn written_stays()
+    ensures { WrittenStays }
 {}

@@ -18,5 +18,5 @@ pub use fault::RomFault;
 pub use issuing::issue;
 pub use opening::open_slave;
 pub use reading::read_all;
-pub use registers::{ACCESS, ADDRESS, CONTENT, CONTROL, FIRST_STATION, POLLS, TRIES};
+pub use registers::{ACCESS, ADDRESS, CONTENT, CONTROL, POLLS, TRIES};
 pub use settling::settle;

@@ -29,7 +29,7 @@ fn take_over<S: Site>(site: &mut S, slave: u16) -> Result<bool, Stop>
     insist(site, slave, CONTROL, &[0, 0])
 }
 
-/// Opens the EEPROM of a slave for word access.
+/// Opens the EEPROM of a slave for word access (ETG.1000.4, slave information interface).
 ///
 /// # Errors
 ///

@@ -1,14 +1,10 @@
 //! Polling a slave until it is idle.
 
-ghost use Rattle.std.specs.Prelude.{◌≡◌, ◌+◌, ◌≤◌, [], ◌∷◌, length, slice_get, Some, None, Ok, IsOk};
-ghost use Rattle.std.specs.Option.{ForSome};
-ghost use Rattle.ecat_frame.specs.Frame.{Pdu, pdu};
+ghost use Rattle.std.specs.Prelude.{◌≡◌, length};
+ghost use Rattle.ecat_frame.specs.Frame.{pdu};
 ghost use Rattle.site_core.specs.Line.{Owns};
-ghost use Rattle.site_core.specs.State.{clock};
-ghost use Rattle.esc_rom.specs.Status.{rested_by, found_in};
-ghost use Rattle.esc_rom.specs.Halves.{IsAt, HalfGoes};
-ghost use Rattle.esc_rom.specs.GivingUp.{MissesIdle, WaitsInVain};
-ghost use Rattle.esc_rom.specs.Runs.{Runs, RestsSeen};
+ghost use Rattle.esc_rom.specs.Status.{rest_shown, found_in};
+ghost use Rattle.esc_rom.specs.Runs.{Runs, Polled, Waited};
 
 use crate::fault::Stop;
 use crate::registers::{CONTROL, POLLS};
@@ -17,7 +13,7 @@ use ecat_frame::{Command, Datagram};
 use site_core::Site;
 
 /// How an idle slave came to rest.
-#[derive(Clone, Copy, Debug, PartialEq, Eq)]
+#[derive(Clone, Copy)]
 pub(crate) enum Rested {
     /// Bits 13 and 14 of control and status are clear.
     Well,
@@ -27,7 +23,7 @@ pub(crate) enum Rested {
 
 /// What the high byte of control and status says. None where the slave is busy.
 fn read_status(status: u8) -> Option<Rested>
-    ensures { result ≡ rested_by status }
+    ensures { result ≡ rest_shown status }
 {
     match status {
         0x80.. => None,
@@ -50,10 +46,7 @@ fn found(answer: Datagram<'_>) -> Option<Rested>
 /// Polls a slave once. None where it isn't seen idle: it is busy, or the frame is lost, or it isn't counted.
 pub(crate) fn poll<S: Site>(site: &mut S, slave: u16) -> Result<Option<Rested>, Stop>
     requires { Owns (S.line site.old) slave }
-    ensures runs { Runs RestsSeen (S.seen site.old) slave 1 result (S.seen site.new) }
-    ensures clock { clock (S.seen site.new) ≡ clock (S.seen site.old) + 1 }
-    ensures missed { result ≡ Ok None → HalfGoes (MissesIdle (S.seen site.old) slave (S.seen site.new)) (S.seen site.old).state slave (S.seen site.new).state }
-    ensures at { (rested : Rested) → result ≡ Ok (Some rested) → HalfGoes (λ half later. IsAt slave later) (S.seen site.old).state slave (S.seen site.new).state }
+    ensures runs { Runs (Polled (S.seen site.old) slave (S.seen site.new)) (S.seen site.old) slave 1 result (S.seen site.new) }
     ensures line { S.line site.new ≡ S.line site.old }
 {
     match send(site, slave, Command::Fprd, CONTROL, &[0, 0])? {
@@ -65,9 +58,7 @@ pub(crate) fn poll<S: Site>(site: &mut S, slave: u16) -> Result<Option<Rested>, 
 /// Polls a slave until it is idle. None where it isn't after the last poll.
 pub(crate) fn wait_idle<S: Site>(site: &mut S, slave: u16) -> Result<Option<Rested>, Stop>
     requires { Owns (S.line site.old) slave }
-    ensures runs { Runs RestsSeen (S.seen site.old) slave POLLS result (S.seen site.new) }
-    ensures never { result ≡ Ok None → HalfGoes (WaitsInVain (S.seen site.old) slave (S.seen site.new)) (S.seen site.old).state slave (S.seen site.new).state }
-    ensures at { (rested : Rested) → result ≡ Ok (Some rested) → HalfGoes (λ half later. IsAt slave later) (S.seen site.old).state slave (S.seen site.new).state }
+    ensures runs { Runs (Waited (S.seen site.old) slave (S.seen site.new)) (S.seen site.old) slave 10000 result (S.seen site.new) }
     ensures line { S.line site.new ≡ S.line site.old }
 {
     for _poll in 0..POLLS {

@@ -5,9 +5,8 @@ ghost use Rattle.sii_words.specs.Words.{IsDeviceSize};
 ghost use Rattle.std.specs.Int.{w16, w32, to_le_bytes};
 ghost use Rattle.ecat_frame.specs.Frame.{pdu};
 ghost use Rattle.site_core.specs.Line.{Owns};
-ghost use Rattle.esc_rom.specs.Times.{IsNext};
 ghost use Rattle.esc_rom.specs.Runs.{Runs};
-ghost use Rattle.esc_rom.specs.WordPairs.{pair_of, Fetches, TriesRead, ReadsPair, Fills, ReadsAll};
+ghost use Rattle.esc_rom.specs.WordPairs.{pair_of, Fetched, TriesRead, ReadsPair, ReadsAll};
 ghost use Rattle.esc_rom.specs.Access.{ReadsWords};
 
 use crate::fault::{RomFault, Stop};
@@ -24,14 +23,14 @@ use std::alloc::Global;
 const READ: u16 = 0x0100;
 
 /// Two words, one behind the other.
-#[derive(Clone, Copy, Debug)]
+#[derive(Clone, Copy)]
 pub(crate) struct WordPair {
     first: u16,
     second: u16,
 }
 
 /// What came of one try to read two words.
-#[derive(Clone, Copy, Debug)]
+#[derive(Clone, Copy)]
 pub(crate) enum Tried {
     Read(WordPair),
     /// A datagram was lost or not counted, or the slave showed an error.
@@ -67,8 +66,7 @@ fn pair_in(answer: Datagram<'_>) -> Option<WordPair>
 /// Asks for the two words that a slave has read. None where the frame is lost or isn't counted.
 fn fetch<S: Site>(site: &mut S, slave: u16) -> Result<Option<WordPair>, Stop>
     requires { Owns (S.line site.old) slave }
-    ensures runs { Runs (Fetches (S.seen site.old) slave (S.seen site.new)) (S.seen site.old) slave 1 result (S.seen site.new) }
-    ensures next { IsNext (S.seen site.old) (S.seen site.new) }
+    ensures runs { Runs (Fetched (S.seen site.old) slave (S.seen site.new)) (S.seen site.old) slave 1 result (S.seen site.new) }
     ensures line { S.line site.new ≡ S.line site.old }
 {
     match send(site, slave, Command::Fprd, CONTENT, &[0, 0, 0, 0])? {
@@ -115,24 +113,7 @@ fn read_pair<S: Site>(site: &mut S, slave: u16, word: u16) -> Result<Option<Word
     Ok(None)
 }
 
-/// Reads the words of a slave, two by two, into the place of those that are there. Tells whether all were read.
-fn fill<S: Site>(site: &mut S, slave: u16, words: &mut Words) -> Result<bool, Stop>
-    requires { Owns (S.line site.old) slave }
-    ensures runs { Runs (Fills (S.seen site.old) slave (S.seen site.new) words.new) (S.seen site.old) slave (30006 * (length words.old / 2)) result (S.seen site.new) }
-    ensures length { length words.new ≡ length words.old }
-    ensures line { S.line site.new ≡ S.line site.old }
-{
-    for pair in 0..words.len() / 2 {
-        let Some(found) = read_pair(site, slave, (2 * pair) as u16)? else {
-            return Ok(false);
-        };
-        words.set(2 * pair, found.first);
-        words.set(2 * pair + 1, found.second);
-    }
-    Ok(true)
-}
-
-/// Waits until a slave is idle, and reads its words. Tells whether all were read.
+/// Waits until a slave is idle, and reads its words, two by two, into the place of those that are there. Tells whether all were read.
 fn wait_and_fill<S: Site>(site: &mut S, slave: u16, words: &mut Words) -> Result<bool, Stop>
     requires { Owns (S.line site.old) slave }
     ensures runs { Runs (ReadsAll (S.seen site.old) slave (S.seen site.new) words.new) (S.seen site.old) slave (10000 + 30006 * (length words.old / 2)) result (S.seen site.new) }
@@ -142,7 +123,14 @@ fn wait_and_fill<S: Site>(site: &mut S, slave: u16, words: &mut Words) -> Result
     let Some(_rested) = wait_idle(site, slave)? else {
         return Ok(false);
     };
-    fill(site, slave, words)
+    for pair in 0..words.len() / 2 {
+        let Some(found) = read_pair(site, slave, (2 * pair) as u16)? else {
+            return Ok(false);
+        };
+        words.set(2 * pair, found.first);
+        words.set(2 * pair + 1, found.second);
+    }
+    Ok(true)
 }
 
 /// As many words as a slave has, all 0.
@@ -159,7 +147,7 @@ fn blank(alloc: Global, count: u16) -> Result<Words, RomFault>
     }
 }
 
-/// Reads all words of a slave, once it is idle.
+/// Reads all words of a slave (ETG.1000.4, slave information interface), once it is idle.
 ///
 /// # Errors
 ///

@@ -12,9 +12,6 @@ pub const ADDRESS: u16 = 0x0504;
 /// The words that a read fetched, or the word that a write is to put in place.
 pub const CONTENT: u16 = 0x0508;
 
-/// The station address of the first slave of the line. Those behind it have the next ones.
-pub const FIRST_STATION: u16 = 0x1001;
-
 /// How often a slave is polled before it counts as dead.
 pub const POLLS: u32 = 10_000;
 

@@ -3,13 +3,12 @@
 ghost use Rattle.std.specs.Prelude.{◌≡◌, ◌≤◌, length};
 ghost use Rattle.ecat_frame.specs.Frame.{sent};
 ghost use Rattle.site_core.specs.Line.{Owns};
-ghost use Rattle.esc_rom.specs.Orders.{address_of};
+ghost use Rattle.esc_model.specs.Orders.{address_of};
 ghost use Rattle.esc_rom.specs.Sending.{Sends};
-ghost use Rattle.esc_rom.specs.Times.{IsNext};
 
 use crate::fault::Stop;
-use crate::registers::FIRST_STATION;
 use ecat_frame::{Command, Frame, fp};
+use esc_model::station_address;
 use site_core::{DeviceFault, Site};
 
 /// Sends one datagram to a slave. None where the frame is lost.
@@ -23,10 +22,9 @@ pub(crate) fn send<S: Site>(
     requires owned { Owns (S.line site.old) slave }
     requires short { length content.now ≤ 16 }
     ensures sends { Sends (S.seen site.old) slave (sent command 0 (address_of slave register) content.now) result (S.seen site.new) }
-    ensures next { IsNext (S.seen site.old) (S.seen site.new) }
     ensures line { S.line site.new ≡ S.line site.old }
 {
-    let address = fp(FIRST_STATION + slave, register);
+    let address = fp(station_address(slave), register);
     let mut frame = Frame::new();
     match frame.push(command, 0, address, content) {
         Ok(()) => {}

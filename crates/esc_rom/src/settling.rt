@@ -27,7 +27,8 @@ fn rest<S: Site>(site: &mut S, slave: u16, taken: bool) -> Result<Settled, Stop>
     Ok(Settled::Again)
 }
 
-/// Finds out what became of a word that was issued to a slave, `taken` if the slave is known to have taken it.
+/// Finds out what became of a word that was issued to a slave (ETG.1000.4, slave information interface), `taken` if the slave is
+/// known to have taken it.
 ///
 /// # Errors
 ///

@@ -4,9 +4,9 @@ ghost use Rattle.std.specs.Prelude.{◌≡◌, ◌+◌, ◌≤◌, length};
 ghost use Rattle.ecat_frame.specs.Frame.{sent};
 ghost use Rattle.ecat_frame.specs.declared.command.Command.TheVariants.{Fpwr};
 ghost use Rattle.site_core.specs.Line.{Owns};
-ghost use Rattle.esc_rom.specs.Orders.{address_of};
-ghost use Rattle.esc_rom.specs.Times.{IsNext};
-ghost use Rattle.esc_rom.specs.Runs.{Runs, Wrote, Insists, IsGentle};
+ghost use Rattle.esc_model.specs.Orders.{address_of};
+ghost use Rattle.esc_model.specs.WordAccess.{IsGentle};
+ghost use Rattle.esc_rom.specs.Runs.{Runs, Wrote, Insists};
 
 use crate::fault::Stop;
 use crate::registers::TRIES;
@@ -25,7 +25,6 @@ pub(crate) fn write<S: Site>(
     requires short { length content.now ≤ 16 }
     requires gentle { IsGentle (sent Fpwr 0 (address_of slave register) content.now) }
     ensures runs { Runs (Wrote (sent Fpwr 0 (address_of slave register) content.now) (S.seen site.old) (S.seen site.new)) (S.seen site.old) slave 1 result (S.seen site.new) }
-    ensures next { IsNext (S.seen site.old) (S.seen site.new) }
     ensures line { S.line site.new ≡ S.line site.old }
 {
     match send(site, slave, Command::Fpwr, register, content)? {
@@ -44,7 +43,7 @@ pub(crate) fn insist<S: Site>(
     requires owned { Owns (S.line site.old) slave }
     requires short { length content.now ≤ 16 }
     requires gentle { IsGentle (sent Fpwr 0 (address_of slave register) content.now) }
-    ensures runs { Runs (Insists (sent Fpwr 0 (address_of slave register) content.now) 3 (S.seen site.old) (S.seen site.new)) (S.seen site.old) slave 3 result (S.seen site.new) }
+    ensures runs { Runs (Insists (sent Fpwr 0 (address_of slave register) content.now) (S.seen site.old) (S.seen site.new)) (S.seen site.old) slave 3 result (S.seen site.new) }
     ensures line { S.line site.new ≡ S.line site.old }
 {
     for _try in 0..TRIES {

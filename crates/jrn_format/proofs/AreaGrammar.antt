@@ -7,8 +7,8 @@ use Rattle.jrn_format.specs.declared.fault.JournalFault.{JournalFault}
 use Rattle.jrn_format.specs.declared.fault.JournalFault.TheVariants.{WrongLine, BadJournal}
 use Rattle.jrn_format.specs.Batch.{spelt_behind, spelt_batch, CanStand, IsWithin}
 use Rattle.jrn_format.specs.Area.{IsClosed, IsOpen, HasBatch}
-use Rattle.jrn_format.specs.Reading.{Front, batch_at, batch_is_within, judged, front_of}
-use Rattle.jrn_format.specs.Reading.Front.{Closed, Live, Bad}
+use Rattle.jrn_format.specs.steps.Reading.{Front, batch_at, batch_is_within, judged, front_of}
+use Rattle.jrn_format.specs.steps.Reading.Front.{Closed, Live, Bad}
 use Rattle.jrn_format.proofs.Numbers.{IsBytes}
 use Rattle.jrn_format.proofs.BatchReading.{batch_takes, batch_again}
 use Rattle.jrn_format.proofs.AreaReading.{judged_live, opened_live}

@@ -8,7 +8,7 @@ use Rattle.jrn_format.specs.declared.journal.Batch.{Batch}
 use Rattle.jrn_format.specs.declared.journal.Spelling.{Spelling}
 use Rattle.jrn_format.specs.Batch.{spelt_behind, spelt_batch, CanStand}
 use Rattle.jrn_format.specs.Area.{spelt_batches, IsClosed, IsLive}
-use Rattle.jrn_format.specs.Reading.{batch_at}
+use Rattle.jrn_format.specs.steps.Reading.{batch_at}
 use Rattle.jrn_format.proofs.Numbers.{some_is}
 use Rattle.jrn_format.proofs.BatchReading.{batch_again}
 use Rattle.jrn_format.proofs.Areas.{starts_cons}

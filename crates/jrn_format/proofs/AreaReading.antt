@@ -8,8 +8,8 @@ use Rattle.jrn_format.specs.declared.journal.Spelling.TheVariants.{Plain, WithGe
 use Rattle.jrn_format.specs.declared.fault.JournalFault.{JournalFault}
 use Rattle.jrn_format.specs.declared.fault.JournalFault.TheVariants.{Memory, NotAJournal, BadVersion, WrongLine, BadJournal}
 use Rattle.jrn_format.specs.Memory.{UnlessMemory}
-use Rattle.jrn_format.specs.Reading.{◌>>=◌, ◌>>>◌, Front, number_at, entries_of, generation_at, batch_at, batch_is_within, judged, front_of, batches_behind, batches_below, batches_of}
-use Rattle.jrn_format.specs.Reading.Front.{Closed, Live, Bad}
+use Rattle.jrn_format.specs.steps.Reading.{◌>>=◌, ◌>>>◌, Front, number_at, entries_of, generation_at, batch_at, batch_is_within, judged, front_of, batches_behind, batches_below, batches_of}
+use Rattle.jrn_format.specs.steps.Reading.Front.{Closed, Live, Bad}
 use Rattle.jrn_format.proofs.Numbers.{bind_some, some_is, guard_some}
 
 -- ---- what is left behind a batch is shorter

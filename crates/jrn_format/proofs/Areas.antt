@@ -9,8 +9,8 @@ use Rattle.jrn_format.specs.declared.fault.JournalFault.TheVariants.{WrongLine, 
 use Rattle.jrn_format.specs.Batch.{spelt_batch, CanStand, IsWithin}
 use Rattle.jrn_format.specs.Area.{spelt_batches, IsClosed, StartsWith, IsLive, IsCut}
 use Rattle.jrn_format.specs.Area.IsCut.{malformed, outside}
-use Rattle.jrn_format.specs.Reading.{◌>>>◌, Front, front_of, batches_of}
-use Rattle.jrn_format.specs.Reading.Front.{Closed, Live, Bad}
+use Rattle.jrn_format.specs.steps.Reading.{◌>>>◌, Front, front_of, batches_of}
+use Rattle.jrn_format.specs.steps.Reading.Front.{Closed, Live, Bad}
 use Rattle.jrn_format.proofs.Numbers.{IsBytes}
 use Rattle.jrn_format.proofs.AreaReading.{front_shorter, batches_of-live, batches_of-closed, batches_of-bad}
 use Rattle.jrn_format.proofs.AreaGrammar.{IsBadFront, front_closed, closed_front, front_live, live_front, front_bad, malformed_front, outside_front}

@@ -8,7 +8,7 @@ use Rattle.jrn_format.specs.declared.journal.Batch.{Batch}
 use Rattle.jrn_format.specs.declared.journal.Spelling.{Spelling}
 use Rattle.jrn_format.specs.declared.journal.Spelling.TheVariants.{Plain, WithGeneration}
 use Rattle.jrn_format.specs.Batch.{spelt_payload, spelt_generation, spelt_behind, GenerationFits, CanStand}
-use Rattle.jrn_format.specs.Reading.{◌>>=◌, number_at, entries_of, generation_at, batch_at}
+use Rattle.jrn_format.specs.steps.Reading.{◌>>=◌, number_at, entries_of, generation_at, batch_at}
 use Rattle.jrn_format.proofs.Numbers.{IsBytes, IsBytes-take, IsBytes-drop, bind_some, some_is, Takes, Takes-then, reader32}
 use Rattle.jrn_format.proofs.Payload.{payload_takes, payload_again}
 

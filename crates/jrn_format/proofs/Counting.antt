@@ -3,7 +3,7 @@ use Rattle.std.proofs.Common.{◌≡◌, ℕ, suc, ◌-◌, ◌+◌, ◌≤◌, 
 use Rattle.std.proofs.lemmas.List.{append-nil}
 use Rattle.jrn_format.specs.declared.fault.ReadFault.{ReadFault}
 use Rattle.jrn_format.specs.declared.fault.ReadFault.TheVariants as reading
-use Rattle.jrn_format.specs.Reading.{◌>>=◌, Fails, counted}
+use Rattle.jrn_format.specs.steps.Reading.{◌>>=◌, Fails, counted}
 
 -- what was read before, and what is still read
 abbrev pub with_front : {X : Type 0} → List X → Option (List X × List ℕ) → Option (List X × List ℕ)

@@ -10,7 +10,7 @@ use Rattle.jrn_format.specs.Area.{IsLive}
 use Rattle.jrn_format.specs.Journal.{AreHalves, IsInOrder, AreLive}
 use Rattle.jrn_format.specs.Fault.{AreCut}
 use Rattle.jrn_format.specs.Fault.AreCut.{cut_first, cut_second, disordered}
-use Rattle.jrn_format.specs.Reading.{◌>>>◌, batches_of, in_order, halves_of}
+use Rattle.jrn_format.specs.steps.Reading.{◌>>>◌, batches_of, in_order, halves_of}
 use Rattle.jrn_format.proofs.Numbers.{IsBytes, IsBytes-take, IsBytes-drop}
 use Rattle.jrn_format.proofs.Areas.{bind_ok, area_live, area_cut, live_area, cut_area}
 use Rattle.jrn_format.proofs.Order.{order_is, order_again, order_fault, no_order}

@@ -9,7 +9,7 @@ use Rattle.jrn_format.specs.declared.fault.JournalFault.{JournalFault}
 use Rattle.jrn_format.specs.declared.fault.JournalFault.TheVariants.{NotAJournal, BadVersion, WrongLine, BadJournal}
 use Rattle.jrn_format.specs.Header.{field_at, HasHeader, IsCapacity, IsMarked, IsForm, HasArea, HasNoArea}
 use Rattle.jrn_format.specs.Header.HasNoArea.{no_header, other_version, other_line, other_capacity, cut_off}
-use Rattle.jrn_format.specs.Reading.{◌>>>◌, is_marked, is_capacity, form_of, area_behind, area_of}
+use Rattle.jrn_format.specs.steps.Reading.{◌>>>◌, is_marked, is_capacity, form_of, area_behind, area_of}
 use Rattle.jrn_format.proofs.Numbers.{IsBytes, IsBytes-take, IsBytes-drop, wide16, wide32}
 use Rattle.jrn_format.proofs.Areas.{bind_ok, ok_is}
 

@@ -16,7 +16,7 @@ use Rattle.jrn_format.specs.Header.{header_bytes, HasArea}
 use Rattle.jrn_format.specs.Journal.{HasLive, IsJournal}
 use Rattle.jrn_format.specs.Fault.{IsNoJournal, IsFaultOf}
 use Rattle.jrn_format.specs.Fault.IsNoJournal.{no_area, plain_cut, halved_cut}
-use Rattle.jrn_format.specs.Reading.{◌>>>◌, Answers, area_of, live_in, journal_of}
+use Rattle.jrn_format.specs.steps.Reading.{◌>>>◌, Answers, area_of, live_in, journal_of}
 use Rattle.jrn_format.proofs.Numbers.{IsBytes, IsBytes-take}
 use Rattle.jrn_format.proofs.Areas.{ok_is, bind_ok, IsBytes-behind, area_live, area_cut, live_area, cut_area}
 use Rattle.jrn_format.proofs.AreaReading.{UnlessMemory-weaker}

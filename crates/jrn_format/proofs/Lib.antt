@@ -12,4 +12,4 @@ pub mod HeaderGrammar
 pub mod JournalGrammar
 pub mod AreaLaws
 pub mod Sizes
-pub mod ShortRuns
+pub mod Fitting

@@ -7,7 +7,7 @@ use Rattle.jrn_format.specs.declared.journal.Batch.{Batch}
 use Rattle.jrn_format.specs.declared.fault.JournalFault.{JournalFault}
 use Rattle.jrn_format.specs.declared.fault.JournalFault.TheVariants.{BadJournal}
 use Rattle.jrn_format.specs.Journal.{AreOf, IsFollowedBy, IsInOrder}
-use Rattle.jrn_format.specs.Reading.{older_generation, is_followed_by, in_order}
+use Rattle.jrn_format.specs.steps.Reading.{older_generation, is_followed_by, in_order}
 use Rattle.jrn_format.proofs.Within.{Tests, all_sound, all_complete}
 
 of_tests : (generation : ℕ) → Tests (λ (batch : Batch). eqb batch.generation generation) (λ batch. batch.generation ≡ generation)

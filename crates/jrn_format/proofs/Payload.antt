@@ -4,10 +4,10 @@ use Rattle.std.specs.List.{flat_map, AllByRecursion}
 use Rattle.std.specs.Int.{w16, w64, to_le_bytes}
 use Rattle.std.proofs.lemmas.Bool.{eqb-true, eqb-false, ne_eqb}
 use Rattle.std.proofs.lemmas.List.{append-nil, nil_from_length}
-use Rattle.sii_edit.specs.declared.run.Run.{Run}
+use Rattle.sii_runs.specs.declared.run.Run.{Run}
 use Rattle.jrn_format.specs.declared.journal.Entry.{Entry}
 use Rattle.jrn_format.specs.Batch.{spelt_run, spelt_entry, spelt_payload, RunFits, EntryFits, PayloadFits}
-use Rattle.jrn_format.specs.Reading.{◌>>=◌, number_at, counted, run_at, entry_at, entries_of}
+use Rattle.jrn_format.specs.steps.Reading.{◌>>=◌, number_at, counted, run_at, entry_at, entries_of}
 use Rattle.jrn_format.proofs.Numbers.{IsBytes, bind_some, guard_some, some_is, Takes, Takes-then, IsReader, reader16, reader64}
 
 counted_takes : {X : Type 0} (one : List ℕ → Option (X × List ℕ)) (spell : X → List ℕ) (Fits : X → Type 0) → IsReader one spell Fits

@@ -4,4 +4,4 @@ pub mod Area
 pub mod Header
 pub mod Journal
 pub mod Fault
-pub mod Reading
+pub mod steps

@@ -2,13 +2,13 @@
 
 ghost use Rattle.std.specs.Prelude.{◌≡◌, ◌^◌, ◌<◌, ◌≤◌, length};
 ghost use Rattle.std.specs.List.{list_all};
-ghost use Rattle.jrn_format.specs.Reading.{Answers, Finds, batch_is_within, batches_of, entry_is_within, front_of, run_is_within};
+ghost use Rattle.jrn_format.specs.steps.Reading.{Answers, Finds, batch_is_within, batches_of, entry_is_within, front_of, run_is_within};
 
 use crate::fault::JournalFault;
 use crate::fields::OPEN;
 use crate::journal::{Batch, Entry, Spelling};
 use crate::reading::batch_of;
-use sii_edit::Run;
+use sii_runs::Run;
 use std::alloc::Global;
 
 /// Whether the slave is there, and has the words that the run names.
@@ -45,7 +45,7 @@ fn batch_is_within(sizes: &[u16], batch: &Batch) -> bool
 
 /// The batch in front and the bytes from the next gate on, or `None` at a closed gate. Behind the
 /// bytes the file goes on with byte `end`.
-#[tactic(auto, unfolding(crate::specs::Reading::front_of))]
+#[tactic(auto, unfolding(crate::specs::steps::Reading::front_of))]
 fn front<'a>(
     alloc: Global,
     spelling: Spelling,

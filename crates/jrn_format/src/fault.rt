@@ -25,7 +25,7 @@ pub enum JournalFault {
 }
 
 /// Why no batch can be read.
-#[derive(Clone, Copy, Debug, PartialEq, Eq)]
+#[derive(Clone, Copy)]
 pub(crate) enum ReadFault {
     Memory,
     /// The bytes aren't spelt as they should be.
@@ -33,7 +33,7 @@ pub(crate) enum ReadFault {
 }
 
 impl ReadFault {
-    ghost use Rattle.jrn_format.specs.Reading.{fault_at};
+    ghost use Rattle.jrn_format.specs.steps.Reading.{fault_at};
 
     /// The fault of a journal whose batch at byte `at` can't be read.
     pub(crate) fn at(self, at: usize) -> JournalFault

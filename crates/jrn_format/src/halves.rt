@@ -1,7 +1,7 @@
 //! Reading the two halves of an area of version 2.
 
 ghost use Rattle.std.specs.Prelude.{◌≡◌, ◌≤◌, length};
-ghost use Rattle.jrn_format.specs.Reading.{Answers, are_of, halves_of, in_order, is_followed_by, older_generation};
+ghost use Rattle.jrn_format.specs.steps.Reading.{Answers, are_of, halves_of, in_order, is_followed_by, older_generation};
 
 use crate::area::batches;
 use crate::fault::JournalFault;
@@ -36,7 +36,7 @@ fn is_followed_by(older: &[Batch], newer: &[Batch]) -> bool
 }
 
 /// The batches of both halves, those of the older half in front.
-#[tactic(auto, unfolding(crate::specs::Reading::in_order))]
+#[tactic(auto, unfolding(crate::specs::steps::Reading::in_order))]
 fn in_order(mut firsts: Vec<Batch>, mut seconds: Vec<Batch>) -> Result<Vec<Batch>, JournalFault>
     ensures { Answers (λ v. v.items) result (in_order firsts.items seconds.items) }
 {
@@ -52,7 +52,7 @@ fn in_order(mut firsts: Vec<Batch>, mut seconds: Vec<Batch>) -> Result<Vec<Batch
 }
 
 /// The batches that are live in the halves of an area, which begins behind the header.
-#[tactic(auto, unfolding(crate::specs::Reading::halves_of))]
+#[tactic(auto, unfolding(crate::specs::steps::Reading::halves_of))]
 pub(crate) fn halves(alloc: Global, sizes: &[u16], area: &[u8]) -> Result<Vec<Batch>, JournalFault>
     requires { length area.now ≤ 4194304 }
     ensures { Answers (λ v. v.items) result (halves_of sizes.now area.now) }

@@ -1,9 +1,19 @@
 //! What a journal says.
 
-use crate::lists::{BatchList, EntryList, RunList};
+use item_list::ItemList;
+use sii_runs::Run;
+
+/// Some runs.
+pub type RunList = ItemList<Run>;
+
+/// Some commands.
+pub type EntryList = ItemList<Entry>;
+
+/// Some batches.
+pub type BatchList = ItemList<Batch>;
 
 /// How the bytes of a journal are laid out.
-#[derive(Clone, Copy, Debug, PartialEq, Eq)]
+#[derive(Clone, Copy, PartialEq, Eq)]
 pub enum Form {
     /// Version 1: one area.
     One,
@@ -14,7 +24,7 @@ pub enum Form {
 }
 
 /// How the batches of an area are spelt.
-#[derive(Clone, Copy, Debug, PartialEq, Eq)]
+#[derive(Clone, Copy)]
 pub enum Spelling {
     /// As in version 1.
     Plain,
@@ -23,14 +33,14 @@ pub enum Spelling {
 }
 
 /// An accepted command: its number, and the words that it changes.
-#[derive(Debug, Drop)]
+#[derive(Drop)]
 pub struct Entry {
     pub number: u64,
     pub runs: RunList,
 }
 
 /// Commands that are written, and retired, as one.
-#[derive(Debug, Drop)]
+#[derive(Drop)]
 pub struct Batch {
     /// The half of the area that it stands in, 0 or 1. In version 1 it is 0.
     pub half: u8,
@@ -40,7 +50,7 @@ pub struct Batch {
 }
 
 /// What is live in a journal: the batches of the older half, and then those of the newer.
-#[derive(Debug, Drop)]
+#[derive(Drop)]
 pub struct Journal {
     pub form: Form,
     pub batches: BatchList,

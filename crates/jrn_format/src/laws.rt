@@ -1,8 +1,8 @@
 //! What holds of journals, apart from any code. Each function's contract is a law, and its body does nothing.
 
 ghost use Rattle.std.specs.Prelude.{◌≡◌, ◌≢◌, ◌<◌, ◌↔◌, ℕ, List, [], ◌∷◌, ◌++◌, length, map, All};
-ghost use Rattle.sii_edit.specs.Redo.{LiesInside};
-ghost use Rattle.sii_edit.specs.declared.run.Run.{Run};
+ghost use Rattle.sii_runs.specs.Redo.{LiesInside};
+ghost use Rattle.sii_runs.specs.declared.run.Run.{Run};
 ghost use Rattle.jrn_format.specs.Area.{spelt_batches, IsClosed, IsLive};
 ghost use Rattle.jrn_format.specs.Batch.{spelt_batch, spelt_behind, CanStand, LiesWithin};
 ghost use Rattle.jrn_format.specs.Fault.{IsNoJournal};

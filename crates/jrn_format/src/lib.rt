@@ -7,18 +7,14 @@ mod fields;
 mod halves;
 mod journal;
 pub mod laws;
-mod lists;
 mod reading;
 mod scanning;
-#[cfg(test)]
-mod tests;
 mod writing;
 
 pub use fault::JournalFault;
 pub use fields::{
     AREA_START, OPEN, capacity, gate, generation, header, payload_length, slave_count, version,
 };
-pub use journal::{Batch, Entry, Form, Journal, Spelling};
-pub use lists::{BatchList, EntryList, RunList};
+pub use journal::{Batch, BatchList, Entry, EntryList, Form, Journal, RunList, Spelling};
 pub use scanning::scan;
 pub use writing::{CLOSED, encode_batch, size_of};

@@ -2,12 +2,11 @@
 
 ghost use Rattle.std.specs.Prelude.{◌≡◌};
 ghost use Rattle.std.specs.Int.{w16, w32, w64};
-ghost use Rattle.jrn_format.specs.Reading.{Gives, batch_at, counted, entries_of, entry_at, generation_at, number_at, run_at};
+ghost use Rattle.jrn_format.specs.steps.Reading.{Gives, batch_at, counted, entries_of, entry_at, generation_at, number_at, run_at};
 
 use crate::fault::ReadFault;
-use crate::journal::{Batch, Entry, Spelling};
-use crate::lists::{EntryList, RunList};
-use sii_edit::{Run, WordList};
+use crate::journal::{Batch, Entry, EntryList, RunList, Spelling};
+use sii_runs::{Run, WordList};
 use std::alloc::Global;
 
 fn u16_at(bytes: &[u8]) -> Result<(u16, &[u8]), ReadFault>
@@ -57,7 +56,7 @@ fn words_of(alloc: Global, count: u16, bytes: &[u8]) -> Result<(WordList, &[u8])
     Ok((WordList::from_vec(words), rest))
 }
 
-#[tactic(auto, unfolding(crate::specs::Reading::run_at))]
+#[tactic(auto, unfolding(crate::specs::steps::Reading::run_at))]
 fn run_of(alloc: Global, bytes: &[u8]) -> Result<(Run, &[u8]), ReadFault>
     ensures { Gives (λ x. (x.0, x.1.now)) result (run_at bytes.now) }
 {
@@ -89,7 +88,7 @@ fn runs_of(alloc: Global, count: u16, bytes: &[u8]) -> Result<(RunList, &[u8]), 
     Ok((RunList::from_vec(runs), rest))
 }
 
-#[tactic(auto, unfolding(crate::specs::Reading::entry_at))]
+#[tactic(auto, unfolding(crate::specs::steps::Reading::entry_at))]
 fn entry_of(alloc: Global, bytes: &[u8]) -> Result<(Entry, &[u8]), ReadFault>
     ensures { Gives (λ x. (x.0, x.1.now)) result (entry_at bytes.now) }
 {
@@ -113,7 +112,7 @@ fn counted_entries(alloc: Global, count: u16, bytes: &[u8]) -> Result<(EntryList
 }
 
 /// The commands that a payload spells, all of its bytes.
-#[tactic(auto, unfolding(crate::specs::Reading::entries_of))]
+#[tactic(auto, unfolding(crate::specs::steps::Reading::entries_of))]
 fn entries(alloc: Global, payload: &[u8]) -> Result<EntryList, ReadFault>
     ensures { Gives (λ entries. entries) result (entries_of payload.now) }
 {
@@ -126,7 +125,7 @@ fn entries(alloc: Global, payload: &[u8]) -> Result<EntryList, ReadFault>
 }
 
 /// The generation byte, where the spelling has one, and the bytes behind it.
-#[tactic(auto, unfolding(crate::specs::Reading::generation_at))]
+#[tactic(auto, unfolding(crate::specs::steps::Reading::generation_at))]
 fn generation_of(spelling: Spelling, bytes: &[u8]) -> Result<(u8, &[u8]), ReadFault>
     ensures { Gives (λ x. (x.0, x.1.now)) result (generation_at spelling bytes.now) }
 {
@@ -138,7 +137,7 @@ fn generation_of(spelling: Spelling, bytes: &[u8]) -> Result<(u8, &[u8]), ReadFa
 }
 
 /// The batch behind an open gate, and the bytes from the next gate on, of which there is one at least.
-#[tactic(auto, unfolding(crate::specs::Reading::batch_at))]
+#[tactic(auto, unfolding(crate::specs::steps::Reading::batch_at))]
 pub(crate) fn batch_of(
     alloc: Global,
     spelling: Spelling,

@@ -5,14 +5,13 @@ ghost use Rattle.std.specs.Int.{w16, w32};
 ghost use Rattle.jrn_format.specs.Fault.{IsFaultOf};
 ghost use Rattle.jrn_format.specs.Header.{field_at};
 ghost use Rattle.jrn_format.specs.Journal.{IsJournal};
-ghost use Rattle.jrn_format.specs.Reading.{Answers, area_behind, area_of, form_of, is_capacity, is_marked, journal_of, live_in};
+ghost use Rattle.jrn_format.specs.steps.Reading.{Answers, area_behind, area_of, form_of, is_capacity, is_marked, journal_of, live_in};
 
 use crate::area::batches;
 use crate::fault::JournalFault;
 use crate::fields::{AREA_START, OPEN, capacity, gate, slave_count, version};
 use crate::halves::halves;
-use crate::journal::{Batch, Form, Journal, Spelling};
-use crate::lists::BatchList;
+use crate::journal::{Batch, BatchList, Form, Journal, Spelling};
 use std::alloc::Global;
 
 /// The fewest bytes that an area may have.
@@ -31,7 +30,7 @@ fn is_marked(behind: &[u8]) -> bool
     }
 }
 
-#[tactic(auto, unfolding(crate::specs::Reading::form_of))]
+#[tactic(auto, unfolding(crate::specs::steps::Reading::form_of))]
 fn form_of(version: u8, behind: &[u8]) -> Result<Form, JournalFault>
     ensures { Answers (λ form. form) result (form_of version behind.now) }
 {
@@ -51,7 +50,7 @@ fn is_capacity(capacity: usize) -> bool
 }
 
 /// The area in the bytes behind a file's header.
-#[tactic(auto, unfolding(crate::specs::Reading::area_behind))]
+#[tactic(auto, unfolding(crate::specs::steps::Reading::area_behind))]
 fn area_behind<'a>(
     file: &[u8],
     slaves: usize,
@@ -77,7 +76,7 @@ fn area_behind<'a>(
 }
 
 /// The form and the area of a journal of a line of so many slaves.
-#[tactic(auto, unfolding(crate::specs::Reading::area_of))]
+#[tactic(auto, unfolding(crate::specs::steps::Reading::area_of))]
 fn area_of(file: &[u8], slaves: usize) -> Result<(Form, &[u8]), JournalFault>
     ensures { Answers (λ x. (x.0, x.1.now)) result (area_of file.now slaves) }
 {
@@ -89,7 +88,7 @@ fn area_of(file: &[u8], slaves: usize) -> Result<(Form, &[u8]), JournalFault>
     area_behind(file, slaves, behind, form)
 }
 
-#[tactic(auto, unfolding(crate::specs::Reading::live_in))]
+#[tactic(auto, unfolding(crate::specs::steps::Reading::live_in))]
 fn live_in(
     alloc: Global,
     form: Form,
@@ -113,7 +112,7 @@ fn live_in(
     }
 }
 
-#[tactic(auto, unfolding(crate::specs::Reading::journal_of))]
+#[tactic(auto, unfolding(crate::specs::steps::Reading::journal_of))]
 fn journal(alloc: Global, file: &[u8], sizes: &[u16]) -> Result<Journal, JournalFault>
     ensures { Answers (λ journal. journal) result (journal_of file.now sizes.now) }
 {

@@ -1,11 +1,11 @@
 //! The bytes of a batch.
 
-ghost use Rattle.std.specs.Prelude.{◌≡◌, ◌+◌, ◌<◌, ◌^◌, ◌++◌, [], ◌∷◌, ℕ, length, OnOk, IfOk};
-ghost use Rattle.jrn_format.specs.Batch.{AreCounted, AreCountedRuns, IsCountedRun, entry_size, spelt_behind, spelt_entry, spelt_payload, spelt_run};
+ghost use Rattle.std.specs.Prelude.{◌≡◌, ◌+◌, ◌<◌, ◌^◌, ◌++◌, [], ◌∷◌, ℕ, length, OnOk, IfOk, All};
+ghost use Rattle.jrn_format.specs.Batch.{AreCounted, AreCountedRuns, IsCountedRun, EntryFits, PayloadFits, RunFits, entry_size, spelt_behind, spelt_entry, spelt_payload, spelt_run};
 ghost use Rattle.jrn_format.specs.declared.journal.Entry.{Entry};
 
 use crate::journal::{Entry, Spelling};
-use sii_edit::Run;
+use sii_runs::Run;
 use std::alloc::{AllocError, Global};
 
 /// A batch is written with this closed gate behind it.
@@ -13,7 +13,8 @@ pub const CLOSED: u8 = 0x00;
 
 fn put_run(out: &mut Vec<u8>, run: &Run) -> Result<(), AllocError>
     requires { IsCountedRun run.now }
-    ensures { OnOk result (out.new.items ≡ out.old.items ++ spelt_run run.now) }
+    ensures spelt { OnOk result (out.new.items ≡ out.old.items ++ spelt_run run.now) }
+    ensures fits { OnOk result (RunFits run.now) }
 {
     let words = run.words.as_slice();
     out.extend_from_slice(&run.slave.to_le_bytes())?;
@@ -27,7 +28,8 @@ fn put_run(out: &mut Vec<u8>, run: &Run) -> Result<(), AllocError>
 
 fn put_entry(out: &mut Vec<u8>, entry: &Entry) -> Result<(), AllocError>
     requires { AreCountedRuns entry.now.runs }
-    ensures { OnOk result (out.new.items ≡ out.old.items ++ spelt_entry entry.now) }
+    ensures spelt { OnOk result (out.new.items ≡ out.old.items ++ spelt_entry entry.now) }
+    ensures fits { OnOk result (EntryFits entry.now) }
 {
     let runs = entry.runs.as_slice();
     out.extend_from_slice(&entry.number.to_le_bytes())?;
@@ -40,7 +42,8 @@ fn put_entry(out: &mut Vec<u8>, entry: &Entry) -> Result<(), AllocError>
 
 fn payload(alloc: Global, entries: &[Entry]) -> Result<Vec<u8>, AllocError>
     requires { AreCounted entries.now }
-    ensures { IfOk result (λ bytes. bytes.items ≡ spelt_payload entries.now) }
+    ensures spelt { IfOk result (λ bytes. bytes.items ≡ spelt_payload entries.now) }
+    ensures fit { OnOk result (PayloadFits entries.now) }
 {
     let mut bytes = Vec::new(alloc);
     bytes.extend_from_slice(&(entries.len() as u16).to_le_bytes())?;
@@ -50,11 +53,13 @@ fn payload(alloc: Global, entries: &[Entry]) -> Result<Vec<u8>, AllocError>
     Ok(bytes)
 }
 
-/// The bytes of a batch of version 2 behind its gate, with the closed gate behind it.
+/// The bytes of a batch of version 2 behind its gate, with the closed gate behind it. Each value fits
+/// into its field, so the batch may stand in a journal.
 pub fn encode_batch(alloc: Global, generation: u8, entries: &[Entry]) -> Result<Vec<u8>, AllocError>
     requires { AreCounted entries.now }
-    ensures { IfOk result (λ bytes. bytes.items
+    ensures spelt { IfOk result (λ bytes. bytes.items
         ≡ spelt_behind Spelling.WithGeneration generation entries.now ++ CLOSED ∷ []) }
+    ensures fits { OnOk result (PayloadFits entries.now) }
 {
     let payload = payload(alloc, entries)?;
     let mut bytes = Vec::new(alloc);

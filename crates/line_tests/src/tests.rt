@@ -1,4 +1,9 @@
 mod cycle;
+mod frames;
+mod process_data;
+mod process_half;
+mod rom_half;
+mod site_faults;
 
 use ecat_frame::{Command, Frame, FrameFault, fp};
 use esc_model::RomHalf;
@@ -15,6 +20,12 @@ fn zero_words(alloc: Global) -> Result<Words, Fail> {
     let mut bytes = [0u8; 128];
     bytes[14] = 0x30;
     Ok(Words::from_bytes(alloc, &bytes)?)
+}
+
+// The site of these parts.
+fn site_of(rt: &impl Abort, alloc: Global, parts: Parts) -> MemSite {
+    assert!(rt; parts.is_whole());
+    MemSite::of_parts(alloc, parts)
 }
 
 // A line of one slave of 64 words. It stays busy for so many datagrams.
@@ -37,8 +48,7 @@ fn line_of(rt: &impl Abort, alloc: Global, stations: &[u16], delay: u32) -> Resu
         halves,
         process: None,
     };
-    assert!(rt; parts.is_whole());
-    Ok(MemSite::of_parts(alloc, parts))
+    Ok(site_of(rt, alloc, parts))
 }
 
 // The alias that the slave has, as a station reads it.

@@ -2,9 +2,10 @@
 use Rattle.std.proofs.Common.{◌≡◌, ℕ, ◌<◌, ◌≤◌, Bool, true, false, cond, ltb, eqb, List, [], ◌∷◌, ◌++◌, length, take, drop, refl, sym, ap, ◌∙◌, arith}
 use Rattle.std.proofs.lemmas.Bool.{ltb-true, ltb-false, le-ltb, lt-ltb, eqb-true, eqb-false, eq-eqb, ne_eqb}
 use Rattle.std.proofs.lemmas.List.{take_at, drop_at, take-append-drop, length-append, length-take}
-use Rattle.sii_cats.specs.Items.{Front}
-use Rattle.sii_cats.specs.Items.Front.{Ended, Item, Broken}
-use Rattle.sii_cats.specs.Chain.{Member, member_words, Begins, IsEnd, IsCut, content_at, member_at}
+use Rattle.sii_cats.specs.steps.Items.{Front}
+use Rattle.sii_cats.specs.steps.Items.Front.{Ended, Item, Broken}
+use Rattle.sii_cats.specs.Chain.{Member, member_words, Begins, IsEnd, IsCut}
+use Rattle.sii_cats.specs.steps.Chain.{content_at, member_at}
 use Rattle.sii_cats.proofs.Items.{Shrinks, IsFront}
 
 -- any words do

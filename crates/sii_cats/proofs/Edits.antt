@@ -6,8 +6,10 @@ use Rattle.std.proofs.lemmas.List.{append-nil, length-append, length-drop, take-
 use Rattle.std.proofs.lemmas.List.Elements.{All-nil, All-cons, All-head, All-tail, All-append, All-take, All-drop, All-set, All-push}
 use Rattle.sii_cats.specs.Items.{AreItems}
 use Rattle.sii_cats.specs.declared.categories.Category.{Category}
-use Rattle.sii_cats.specs.Chain.{Member, member_words, chain_words, members_of, member_of, end_of, categories_from, Begins, IsEnd, IsChain, IsWalked}
-use Rattle.sii_cats.specs.Splice.{edited, chain_end, closing, with_chain, IsEdit, IsCategoryEdit, GivesRebuilt, RebuiltFails, GivesSplice, SpliceFails, new_words}
+use Rattle.sii_cats.specs.Chain.{Member, member_words, chain_words, member_of, end_of, categories_from, Begins, IsEnd, IsChain}
+use Rattle.sii_cats.specs.steps.Chain.{members_of, IsWalked}
+use Rattle.sii_cats.specs.Splice.{spliced, chain_end, closing, with_chain, IsEdit, IsCategoryEdit, GivesSplice, SpliceFails, new_words}
+use Rattle.sii_cats.specs.steps.Splice.{GivesRebuilt, RebuiltFails}
 use Rattle.sii_cats.specs.declared.fault.CatFault.{CatFault}
 use Rattle.sii_cats.specs.declared.fault.CatFault.TheVariants.{Memory, RunsOut, BadCategory, NoRoom}
 use Rattle.sii_cats.proofs.Walk.{chain_is}
@@ -125,7 +127,7 @@ gap_is words end member ms gap long chain e h =
 
 -- its words
 pub edited_words : (member : Option ℕ) (kind : ℕ) (content : List ℕ) (ms : List Member) → IfSome member (λ i. i < length ms) → (member ≡ None → content ≢ [])
-    → chain_words (edited member kind content ms) ≡ (chain_words (before member ms) ++ new_words kind content) ++ chain_words (behind member ms)
+    → chain_words (spliced member kind content ms) ≡ (chain_words (before member ms) ++ new_words kind content) ++ chain_words (behind member ms)
 edited_words None kind [] ms inside some = absurd (some refl refl)
 edited_words None kind (word ∷ words) ms inside some =
     let m : Member = record { kind = kind; content = word ∷ words } in
@@ -137,10 +139,10 @@ edited_words (Some i) kind (word ∷ words) ms inside some =
     ap chain_words (set_split ms i m inside) ∙ flat_map-append member_words (take i ms) (m ∷ drop (suc i) ms)
     ∙ sym (append_assoc (chain_words (take i ms)) (member_words m) (chain_words (drop (suc i) ms)))
 
-pub edited_typed : (member : Option ℕ) (kind : ℕ) (content : List ℕ) (ms : List Member) → (content ≢ [] → kind ≢ 0xFFFF) → (member ≡ None → content ≢ []) → AreTyped ms → AreTyped (edited member kind content ms)
-edited_typed None kind content ms typed some h = All-push (λ m. m.kind ≢ 0xFFFF) ms (record { kind = kind; content = content }) h (typed (some refl))
-edited_typed (Some i) kind [] ms typed some h = All-append (λ m. m.kind ≢ 0xFFFF) (take i ms) (drop (suc i) ms) (All-take (λ m. m.kind ≢ 0xFFFF) i ms h) (All-drop (λ m. m.kind ≢ 0xFFFF) (suc i) ms h)
-edited_typed (Some i) kind (word ∷ words) ms typed some h = All-set (λ m. m.kind ≢ 0xFFFF) ms i (record { kind = kind; content = word ∷ words }) (typed (λ e. cc)) h
+pub spliced_typed : (member : Option ℕ) (kind : ℕ) (content : List ℕ) (ms : List Member) → (content ≢ [] → kind ≢ 0xFFFF) → (member ≡ None → content ≢ []) → AreTyped ms → AreTyped (spliced member kind content ms)
+spliced_typed None kind content ms typed some h = All-push (λ m. m.kind ≢ 0xFFFF) ms (record { kind = kind; content = content }) h (typed (some refl))
+spliced_typed (Some i) kind [] ms typed some h = All-append (λ m. m.kind ≢ 0xFFFF) (take i ms) (drop (suc i) ms) (All-take (λ m. m.kind ≢ 0xFFFF) i ms h) (All-drop (λ m. m.kind ≢ 0xFFFF) (suc i) ms h)
+spliced_typed (Some i) kind (word ∷ words) ms typed some h = All-set (λ m. m.kind ≢ 0xFFFF) ms i (record { kind = kind; content = word ∷ words }) (typed (λ e. cc)) h
 
 -- ---- the new words
 
@@ -199,7 +201,7 @@ regroup_front h c n d = simp append_assoc
 
 pub front_is : (words : List ℕ) (end : ℕ) (member : Option ℕ) (ms : List Member) (gap : ℕ × ℕ) (kind : ℕ) (content : List ℕ) → IsGap words end member ms gap
     → IfSome member (λ i. i < length ms) → (member ≡ None → content ≢ [])
-    → take gap.0 words ++ new_words kind content ++ take (end - gap.1) (drop gap.1 words) ≡ take 64 words ++ chain_words (edited member kind content ms)
+    → take gap.0 words ++ new_words kind content ++ take (end - gap.1) (drop gap.1 words) ≡ take 64 words ++ chain_words (spliced member kind content ms)
 front_is words end member ms gap kind content g inside some =
     let new = new_words kind content in
     ap (λ (t : List ℕ). t ++ new ++ take (end - gap.1) (drop gap.1 words)) g.front
@@ -210,7 +212,7 @@ front_is words end member ms gap kind content g inside some =
 length_front : (words : List ℕ) (ds : List Member) (front : List ℕ) → 64 ≤ length words → front ≡ take 64 words ++ chain_words ds → length front ≡ chain_end ds
 length_front words ds front long e = ap length e ∙ length-append (take 64 words) (chain_words ds) ∙ ap (λ (n : ℕ). n + length (chain_words ds)) (length-take-le 64 words long)
 
-splice_fault : (words : List ℕ) (member : Option ℕ) (kind : ℕ) (content : List ℕ) (ms : List Member) (front : List ℕ) (fault : CatFault) → members_of words ≡ Ok ms → length front ≡ chain_end (edited member kind content ms)
+splice_fault : (words : List ℕ) (member : Option ℕ) (kind : ℕ) (content : List ℕ) (ms : List Member) (front : List ℕ) (fault : CatFault) → members_of words ≡ Ok ms → length front ≡ chain_end (spliced member kind content ms)
     → RebuiltFails words front fault → SpliceFails words member kind content fault
 splice_fault words member kind content ms front Memory read len h = tt
 splice_fault words member kind content ms front (RunsOut at) read len h = absurd h
@@ -218,12 +220,12 @@ splice_fault words member kind content ms front (BadCategory k) read len h = h
 splice_fault words member kind content ms front NoRoom read len h = (ms, read, omega (arith, len, h))
 
 pub splice_is : {V : Type 0} (view : V → List ℕ) (words : List ℕ) (member : Option ℕ) (kind : ℕ) (content : List ℕ) (ms : List Member) (front : List ℕ) (result : Result V CatFault) → 64 ≤ length words
-    → members_of words ≡ Ok ms → front ≡ take 64 words ++ chain_words (edited member kind content ms) → GivesRebuilt view words front result → GivesSplice view words member kind content result
+    → members_of words ≡ Ok ms → front ≡ take 64 words ++ chain_words (spliced member kind content ms) → GivesRebuilt view words front result → GivesSplice view words member kind content result
 splice_is view words member kind content ms front (Ok v) long read e h =
-    let len = length_front words (edited member kind content ms) front long e in
+    let len = length_front words (spliced member kind content ms) front long e in
     (ms, read, omega (arith, len, h.0), h.1 ∙ ap (λ (f : List ℕ). f ++ closing (drop (length f) words)) e)
 splice_is view words member kind content ms front (Err fault) long read e h =
-    splice_fault words member kind content ms front fault read (length_front words (edited member kind content ms) front long e) h
+    splice_fault words member kind content ms front fault read (length_front words (spliced member kind content ms) front long e) h
 
 pub splice_edits : {V : Type 0} (view : V → List ℕ) (words : List ℕ) (member : Option ℕ) (kind : ℕ) (content : List ℕ) (result : Result V CatFault) → 64 ≤ length words
     → (content ≢ [] → kind ≢ 0xFFFF) → (member ≡ None → content ≢ []) → GivesSplice view words member kind content result → IfOk result (λ v. IsCategoryEdit words (view v) member kind content)
@@ -231,5 +233,5 @@ splice_edits view words member kind content (Ok v) long typed some h =
     let ms = h.0 in
     let chain = chain_is words ms h.1 in
     let parts = chain_parts (drop 64 words) ms chain in
-    (ms, chain, edit_is words (view v) (edited member kind content ms) long h.2 (edited_typed member kind content ms typed some parts.3) h.3)
+    (ms, chain, edit_is words (view v) (spliced member kind content ms) long h.2 (spliced_typed member kind content ms typed some parts.3) h.3)
 splice_edits view words member kind content (Err fault) long typed some h = tt

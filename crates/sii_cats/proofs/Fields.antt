@@ -1,12 +1,14 @@
 -- Sync managers and PDOs: what is left behind one is shorter.
 use Rattle.std.proofs.Common.{◌≡◌, ℕ, zero, suc, ◌/◌, ◌%◌, ◌<◌, ◌≤◌, List, [], ◌∷◌, ◌++◌, length, map, Result, Ok, Err, refl, sym, ap, subst, ◌∙◌, append_assoc, arith}
 use Rattle.std.specs.List.{flat_map}
-use Rattle.sii_cats.specs.Items.{◌>>=◌, items_of, counted}
-use Rattle.sii_cats.specs.Items.Front.{Ended, Item}
-use Rattle.sii_cats.specs.Contents.{AreManagers, manager_at, manager_bytes, unit_bytes}
+use Rattle.sii_cats.specs.steps.Items.{◌>>=◌, items_of, counted}
+use Rattle.sii_cats.specs.steps.Items.Front.{Ended, Item}
+use Rattle.sii_cats.specs.Contents.{AreManagers, manager_bytes, unit_bytes}
+use Rattle.sii_cats.specs.steps.Contents.{manager_at}
 use Rattle.sii_cats.specs.declared.managers.Manager.{Manager}
 use Rattle.sii_cats.specs.declared.mappings.PdoEntry.{PdoEntry}
-use Rattle.sii_cats.specs.Pdos.{ArePdos, Mapping, entry_at, entry_bytes, head_bytes, pdo_bytes, pdo_at, with_entries}
+use Rattle.sii_cats.specs.Pdos.{ArePdos, Mapping, entry_bytes, head_bytes, pdo_bytes}
+use Rattle.sii_cats.specs.steps.Pdos.{entry_at, pdo_at, with_entries}
 use Rattle.sii_cats.specs.Bytes.{low_first, number, bytes_of}
 use Rattle.sii_cats.proofs.Items.{Shrinks, ok_is, bind_ok, IsFront, IsReader, items_are, items_again, counted_takes, counted_again}
 use Rattle.sii_cats.proofs.WordBytes.{IsBytes, IsBytes-rest, number-low, number-high, number_again}

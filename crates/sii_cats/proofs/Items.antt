@@ -3,8 +3,9 @@ use Rattle.std.proofs.Common.{◌≡◌, ℕ, zero, suc, ◌-◌, ◌+◌, ◌<�
 use Rattle.std.specs.Prelude.{IsErr}
 use Rattle.std.specs.List.{flat_map}
 use Rattle.std.proofs.lemmas.List.{append-nil}
-use Rattle.sii_cats.specs.Items.{AreItems, Front, ◌>>=◌, items_behind, items_below, items_of, counted}
-use Rattle.sii_cats.specs.Items.Front.{Ended, Item, Broken}
+use Rattle.sii_cats.specs.Items.{AreItems}
+use Rattle.sii_cats.specs.steps.Items.{Front, ◌>>=◌, items_behind, items_below, items_of, counted}
+use Rattle.sii_cats.specs.steps.Items.Front.{Ended, Item, Broken}
 
 abbrev done : {A : Type 0} → A → Result A (List ℕ)
 done x = Ok x

@@ -1,7 +1,8 @@
 -- A fault that is passed on.
 use Rattle.std.proofs.Common.{◌≡◌, ℕ, Result, Ok, Err}
 use Rattle.std.specs.Prelude.{IsErr}
-use Rattle.sii_cats.specs.Reading.{Refuses, Answers, Gives}
+use Rattle.sii_cats.specs.Reading.{Refuses, Answers}
+use Rattle.sii_cats.specs.steps.Reading.{Gives}
 use Rattle.sii_cats.specs.declared.fault.CatFault.{CatFault}
 use Rattle.sii_cats.specs.declared.fault.CatFault.TheVariants.{Memory, RunsOut, BadCategory, NoRoom}
 

@@ -3,8 +3,9 @@ use Rattle.std.proofs.Common.{◌≡◌, ℕ, ◌≤◌, Bool, true, false, cond
 use Rattle.std.proofs.lemmas.Bool.{ltb-false, le-ltb}
 use Rattle.std.proofs.lemmas.List.{take_at, drop_at, take-append-drop, length-append, length-take}
 use Rattle.std.specs.List.{flat_map}
-use Rattle.sii_cats.specs.Items.{◌>>=◌, counted}
-use Rattle.sii_cats.specs.Strings.{AreStrings, string_at, string_bytes, strings_in}
+use Rattle.sii_cats.specs.steps.Items.{◌>>=◌, counted}
+use Rattle.sii_cats.specs.Strings.{AreStrings, string_bytes}
+use Rattle.sii_cats.specs.steps.Strings.{string_at, strings_in}
 use Rattle.sii_cats.proofs.Items.{ok_is, bind_ok, IsReader, counted_takes, counted_again}
 
 abbrev Anything : List ℕ → Type 0

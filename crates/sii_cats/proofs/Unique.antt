@@ -3,11 +3,13 @@ use Rattle.std.proofs.Common.{◌≡◌, ℕ, ◌<◌, ◌^◌, List, [], ◌∷
 use Rattle.std.proofs.lemmas.List.{get_or_past, length-drop}
 use Rattle.std.proofs.lemmas.Bool.{cases_lt}
 use Rattle.sii_cats.specs.Bytes.{bytes_of}
-use Rattle.sii_cats.specs.Items.{items_of}
-use Rattle.sii_cats.specs.Contents.{manager_at, unit_bytes}
-use Rattle.sii_cats.specs.Pdos.{pdo_at}
-use Rattle.sii_cats.specs.Strings.{strings_in}
-use Rattle.sii_cats.specs.Chain.{Member, members_of}
+use Rattle.sii_cats.specs.steps.Items.{items_of}
+use Rattle.sii_cats.specs.Contents.{unit_bytes}
+use Rattle.sii_cats.specs.steps.Contents.{manager_at}
+use Rattle.sii_cats.specs.steps.Pdos.{pdo_at}
+use Rattle.sii_cats.specs.steps.Strings.{strings_in}
+use Rattle.sii_cats.specs.Chain.{Member}
+use Rattle.sii_cats.specs.steps.Chain.{members_of}
 use Rattle.sii_cats.specs.Laws.{UniqueContents, UniqueChain, CutsAreUnique, ReadingsAgree, AreWords}
 use Rattle.sii_cats.specs.declared.units.FmmuUnit.{FmmuUnit}
 use Rattle.sii_cats.proofs.Fields.{managers_are, managers_again, pdos_are, pdos_again}

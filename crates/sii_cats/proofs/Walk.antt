@@ -2,10 +2,12 @@
 use Rattle.std.proofs.Common.{◌≡◌, ℕ, ◌+◌, ◌≤◌, List, [], ◌∷◌, ◌++◌, length, map, drop, Result, Ok, Err, refl, sym, ap, subst, ◌∙◌, arith}
 use Rattle.std.proofs.lemmas.List.{map_push, length-append, length-take, length-drop, flat_map_more}
 use Rattle.std.proofs.lemmas.List.Elements.{All-push, All-nil}
-use Rattle.sii_cats.specs.Items.{AreItems, items_of}
-use Rattle.sii_cats.specs.Items.Front.{Ended, Item, Broken}
+use Rattle.sii_cats.specs.Items.{AreItems}
+use Rattle.sii_cats.specs.steps.Items.{items_of}
+use Rattle.sii_cats.specs.steps.Items.Front.{Ended, Item, Broken}
 use Rattle.sii_cats.specs.declared.categories.Category.{Category}
-use Rattle.sii_cats.specs.Chain.{Member, member_words, chain_words, member_at, members_of, end_of, content_of, member_of, categories_from, ArePlaced, IsWalked, Begins, IsEnd, IsCut, IsChain, IsCutAt, RunsOutAt, ChainFails}
+use Rattle.sii_cats.specs.Chain.{Member, member_words, chain_words, end_of, content_of, member_of, categories_from, ArePlaced, Begins, IsEnd, IsCut, IsChain, IsCutAt, ChainFails}
+use Rattle.sii_cats.specs.steps.Chain.{member_at, members_of, IsWalked, RunsOutAt}
 use Rattle.sii_cats.specs.declared.fault.ChainFault.{ChainFault}
 use Rattle.sii_cats.specs.declared.fault.ChainFault.TheVariants.{Memory, RunsOut}
 use Rattle.sii_cats.proofs.Items.{with_front, goes_on, is_done, breaks, items_are, items_again, items_break, items_break_again, AreItems-ends, BreaksAt}

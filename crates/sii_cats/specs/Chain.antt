@@ -1,9 +1,8 @@
 -- The chain of categories, from word 0x40 on (ETG.1000.6, slave information interface): for each a type word, a word with
 -- the length of its content in words, and the content. The type 0xFFFF ends the chain, and so does the end of the words.
-use Rattle.std.specs.Prelude.{◌≡◌, ◌≢◌, ℕ, ◌+◌, ◌<◌, ◌≤◌, List, [], ◌∷◌, ◌++◌, length, map, take, drop, All, Option, Some, None, Result, Ok, Err, nat_lt, ◌==◌, if◌then◌else◌}
+use Rattle.std.specs.Prelude.{◌≡◌, ◌≢◌, ℕ, ◌+◌, ◌<◌, ◌≤◌, List, [], ◌∷◌, ◌++◌, length, map, take, drop, All, Result, Ok, Err}
 use Rattle.std.specs.List.{flat_map}
-use Rattle.sii_cats.specs.Items.{AreItems, Front, items_of}
-use Rattle.sii_cats.specs.Items.Front.{Ended, Item, Broken}
+use Rattle.sii_cats.specs.Items.{AreItems}
 use Rattle.sii_cats.specs.declared.categories.Category.{Category}
 use Rattle.sii_cats.specs.declared.fault.ChainFault.{ChainFault}
 use Rattle.sii_cats.specs.declared.fault.ChainFault.TheVariants.{Memory, RunsOut}
@@ -43,19 +42,6 @@ IsChain words ms = AreItems Begins IsEnd (drop 64 words) ms
 abbrev pub IsCutAt : List ℕ → ℕ → Type 0
 IsCutAt words at = (ms : List Member) × AreItems Begins (λ rest. IsCut rest × (rest ≡ drop at words) × (at ≤ length words)) (drop 64 words) ms
 
--- the same, as it is read
-abbrev pub content_at : ℕ → List ℕ → Front Member
-content_at kind [] = Broken
-content_at kind (count ∷ words) = if nat_lt (length words) count then Broken else Item (record { kind = kind; content = take count words }) (drop count words)
-
-abbrev pub member_at : List ℕ → Front Member
-member_at [] = Ended
-member_at (kind ∷ words) = if kind == 0xFFFF then Ended else content_at kind words
-
--- the chain, or what is left where it can't be read
-abbrev pub members_of : List ℕ → Result (List Member) (List ℕ)
-members_of words = items_of member_at (drop 64 words)
-
 -- the word behind a category
 abbrev pub end_of : Category → ℕ
 end_of c = c.at + 2 + c.count
@@ -78,33 +64,11 @@ pub record ArePlaced (words : List ℕ) (categories : List Category) : Type 0 wh
   pub inside : All (λ c. end_of c ≤ length words) categories
   pub placed : categories ≡ categories_from 64 (map (member_of words) categories)
 
--- The chain can't be read from the header at this word on.
-abbrev pub RunsOutAt : List ℕ → ℕ → Type 0
-RunsOutAt words at = (members_of words ≡ Err (drop at words)) × (at ≤ length words)
-
 abbrev pub ChainFails : (ℕ → Type 0) → ChainFault → Type 0
 ChainFails Cut Memory = Unit {0}
 ChainFails Cut (RunsOut at) = Cut at
 
 -- What reading the chain answers.
-abbrev pub GivesChain : {V : Type 0} → (V → List Member) → List ℕ → Result V ChainFault → Type 0
-GivesChain view words (Ok v) = members_of words ≡ Ok (view v)
-GivesChain view words (Err fault) = ChainFails (RunsOutAt words) fault
-
--- The same by the grammar.
 abbrev pub AnswersChain : {V : Type 0} → (V → List Member) → List ℕ → Result V ChainFault → Type 0
 AnswersChain view words (Ok v) = IsChain words (view v)
 AnswersChain view words (Err fault) = ChainFails (IsCutAt words) fault
-
--- What reading the header at a word answers: a category, or None at an end.
-abbrev pub HeaderGives : List ℕ → ℕ → Result (Option Category) ChainFault → Type 0
-HeaderGives words at (Ok (Some c)) = (c.at ≡ at) × (end_of c ≤ length words) × (member_at (drop at words) ≡ Item (member_of words c) (drop (end_of c) words))
-HeaderGives words at (Ok None) = member_at (drop at words) ≡ Ended
-HeaderGives words at (Err fault) = ChainFails (λ k. (k ≡ at) × (member_at (drop at words) ≡ Broken)) fault
-
--- The chain was read to its end, at this word.
-pub record IsWalked (words : List ℕ) (categories : List Category) (at : ℕ) : Type 0 where
-  pub read : members_of words ≡ Ok (map (member_of words) categories)
-  pub placed : ArePlaced words categories
-  pub ended : at ≡ 64 + length (chain_words (map (member_of words) categories))
-  pub low : at ≤ length words

@@ -1,8 +1,7 @@
 -- FMMU and SyncM categories (types 40 and 41): a byte for each unit, eight bytes for each sync manager.
-use Rattle.std.specs.Prelude.{◌≡◌, ℕ, ◌<◌, List, [], ◌∷◌, ◌++◌, length, map, Result, ◌==◌, if◌then◌else◌}
-use Rattle.sii_cats.specs.Bytes.{low_first, number, bytes_of}
-use Rattle.sii_cats.specs.Items.{AreItems, Front, items_of}
-use Rattle.sii_cats.specs.Items.Front.{Ended, Item}
+use Rattle.std.specs.Prelude.{◌≡◌, ℕ, ◌<◌, List, [], ◌∷◌, ◌++◌, length, map, ◌==◌, if◌then◌else◌}
+use Rattle.sii_cats.specs.Bytes.{low_first}
+use Rattle.sii_cats.specs.Items.{AreItems}
 use Rattle.sii_cats.specs.declared.units.FmmuUnit.{FmmuUnit}
 use Rattle.sii_cats.specs.declared.units.FmmuUse.{FmmuUse}
 use Rattle.sii_cats.specs.declared.units.FmmuUse.TheVariants.{Unused, Outputs, Inputs, SyncManagerStatus, Other}
@@ -34,12 +33,3 @@ manager_bytes m = low_first m.start ++ low_first m.length ++ (m.control ∷ m.st
 -- one manager after another; fewer bytes than a manager's are ignored at the end
 abbrev pub AreManagers : List ℕ → List Manager → Type 0
 AreManagers bytes managers = AreItems (λ cells m rest. cells ≡ manager_bytes m ++ rest) (λ rest. length rest < 8) bytes managers
-
--- the same, as it is read
-abbrev pub manager_at : List ℕ → Front Manager
-manager_at (s0 ∷ s1 ∷ l0 ∷ l1 ∷ control ∷ status ∷ enable ∷ kind ∷ rest) =
-    Item (record { start = number s0 s1; length = number l0 l1; control = control; status = status; enable = enable; kind = kind }) rest
-manager_at short = Ended
-
-abbrev pub managers_of : List ℕ → Result (List Manager) (List ℕ)
-managers_of words = items_of manager_at (bytes_of words)

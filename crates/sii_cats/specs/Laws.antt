@@ -1,10 +1,14 @@
 -- Laws of the grammars.
 use Rattle.std.specs.Prelude.{◌≡◌, ℕ, ◌<◌, ◌^◌, ◌↔◌, List, All, Ok}
 use Rattle.sii_cats.specs.Bytes.{bytes_of}
-use Rattle.sii_cats.specs.Contents.{AreUnits, AreManagers, managers_of}
-use Rattle.sii_cats.specs.Pdos.{Mapping, ArePdos, pdos_of}
-use Rattle.sii_cats.specs.Strings.{AreStrings, strings_of}
-use Rattle.sii_cats.specs.Chain.{Member, IsChain, IsCutAt, members_of}
+use Rattle.sii_cats.specs.Contents.{AreUnits, AreManagers}
+use Rattle.sii_cats.specs.steps.Contents.{managers_of}
+use Rattle.sii_cats.specs.Pdos.{Mapping, ArePdos}
+use Rattle.sii_cats.specs.steps.Pdos.{pdos_of}
+use Rattle.sii_cats.specs.Strings.{AreStrings}
+use Rattle.sii_cats.specs.steps.Strings.{strings_of}
+use Rattle.sii_cats.specs.Chain.{Member, IsChain, IsCutAt}
+use Rattle.sii_cats.specs.steps.Chain.{members_of}
 use Rattle.sii_cats.specs.declared.units.FmmuUnit.{FmmuUnit}
 use Rattle.sii_cats.specs.declared.managers.Manager.{Manager}
 

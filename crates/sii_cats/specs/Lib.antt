@@ -7,3 +7,4 @@ pub mod Reading
 pub mod Chain
 pub mod Splice
 pub mod Laws
+pub mod steps

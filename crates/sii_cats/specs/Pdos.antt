@@ -1,9 +1,8 @@
 -- TXPDO and RXPDO categories (types 50 and 51): a head of eight bytes for each PDO, and eight bytes for each of its entries.
-use Rattle.std.specs.Prelude.{◌≡◌, ℕ, ◌<◌, List, [], ◌∷◌, ◌++◌, length, map, Result, Ok, Err}
+use Rattle.std.specs.Prelude.{◌≡◌, ℕ, ◌<◌, List, [], ◌∷◌, ◌++◌, length, map}
 use Rattle.std.specs.List.{flat_map}
-use Rattle.sii_cats.specs.Bytes.{low_first, number, bytes_of}
-use Rattle.sii_cats.specs.Items.{AreItems, Front, items_of, counted}
-use Rattle.sii_cats.specs.Items.Front.{Ended, Item, Broken}
+use Rattle.sii_cats.specs.Bytes.{low_first}
+use Rattle.sii_cats.specs.Items.{AreItems}
 use Rattle.sii_cats.specs.declared.mappings.PdoEntry.{PdoEntry}
 use Rattle.sii_cats.specs.declared.mappings.Pdo.{Pdo}
 
@@ -36,25 +35,6 @@ pdo_bytes p = head_bytes p ++ flat_map entry_bytes p.entries
 -- one PDO after another; fewer bytes than a head's are ignored at the end
 abbrev pub ArePdos : List ℕ → List Mapping → Type 0
 ArePdos bytes pdos = AreItems (λ cells p rest. cells ≡ pdo_bytes p ++ rest) (λ rest. length rest < 8) bytes pdos
-
--- the same, as it is read: an entry and what is left behind it, or what is left where none can be read
-abbrev pub entry_at : List ℕ → Result (PdoEntry × List ℕ) (List ℕ)
-entry_at (i0 ∷ i1 ∷ subindex ∷ name ∷ data_type ∷ bit_length ∷ f0 ∷ f1 ∷ rest) =
-    Ok (record { index = number i0 i1; subindex = subindex; name = name; data_type = data_type; bit_length = bit_length; flags = number f0 f1 }, rest)
-entry_at short = Err short
-
-abbrev pub with_entries : (List PdoEntry → Mapping) → Result (List PdoEntry × List ℕ) (List ℕ) → Front Mapping
-with_entries pdo (Ok x) = Item (pdo x.0) x.1
-with_entries pdo (Err rest) = Broken
-
-abbrev pub pdo_at : List ℕ → Front Mapping
-pdo_at (i0 ∷ i1 ∷ count ∷ manager ∷ synchronization ∷ name ∷ f0 ∷ f1 ∷ rest) = with_entries
-    (λ entries. record { index = number i0 i1; entries = entries; manager = manager; synchronization = synchronization; name = name; flags = number f0 f1 })
-    (counted entry_at count rest)
-pdo_at short = Ended
-
-abbrev pub pdos_of : List ℕ → Result (List Mapping) (List ℕ)
-pdos_of words = items_of pdo_at (bytes_of words)
 
 -- the number of entries is a byte
 abbrev pub IsWritable : Mapping → Type 0

@@ -1,7 +1,5 @@
 -- What the readers and writers of a content answer.
-use Rattle.std.specs.Prelude.{◌≡◌, ℕ, List, Option, Some, None, Result, Ok, Err, IsErr}
-use Rattle.sii_cats.specs.Items.{Front}
-use Rattle.sii_cats.specs.Items.Front.{Ended, Item, Broken}
+use Rattle.std.specs.Prelude.{◌≡◌, ℕ, List, Result, Ok, Err}
 use Rattle.sii_cats.specs.declared.fault.CatFault.{CatFault}
 use Rattle.sii_cats.specs.declared.fault.CatFault.TheVariants.{Memory, RunsOut, BadCategory, NoRoom}
 
@@ -16,17 +14,6 @@ Refuses kind NoRoom Bad = ⊥
 abbrev pub Answers : {V X : Type 0} → (V → X) → (X → Type 0) → ℕ → Result V CatFault → Type 0
 Answers view Spells kind (Ok v) = Spells (view v)
 Answers {V} {X} view Spells kind (Err fault) = Refuses kind fault ((x : X) → Spells x → ⊥)
-
--- The value that reading gives; BadCategory where it gives none.
-abbrev pub Gives : {V X E : Type 0} → (V → X) → ℕ → Result V CatFault → Result X E → Type 0
-Gives view kind (Ok v) read = read ≡ Ok (view v)
-Gives view kind (Err fault) read = Refuses kind fault (IsErr read)
-
--- The item in front and what is left behind it, or None at the end; BadCategory where neither stands there.
-abbrev pub Takes : {V X : Type 0} → (V → X × List ℕ) → ℕ → Result (Option V) CatFault → Front X → Type 0
-Takes view kind (Ok (Some v)) front = front ≡ Item (view v).0 (view v).1
-Takes view kind (Ok None) front = front ≡ Ended
-Takes view kind (Err fault) front = Refuses kind fault (front ≡ Broken)
 
 -- What is written where it can be; BadCategory where it can't.
 abbrev pub Writes : {V : Type 0} → (V → List ℕ) → Type 0 → ℕ → Result V CatFault → List ℕ → Type 0

@@ -1,16 +1,17 @@
 -- One category of a device exchanged, added or taken out.
 use Rattle.std.specs.Prelude.{◌≡◌, ℕ, suc, ◌+◌, ◌<◌, ◌≤◌, List, [], ◌∷◌, ◌++◌, length, take, drop, remove, slice_get, slice_set, Option, Some, None, Result, Ok, Err}
-use Rattle.sii_cats.specs.Chain.{Member, chain_words, members_of, IsChain, RunsOutAt}
+use Rattle.sii_cats.specs.Chain.{Member, chain_words, IsChain}
+use Rattle.sii_cats.specs.steps.Chain.{members_of, RunsOutAt}
 use Rattle.sii_cats.specs.declared.fault.ChainFault.{ChainFault}
 use Rattle.sii_cats.specs.declared.fault.ChainFault.TheVariants as chain
 use Rattle.sii_cats.specs.declared.fault.CatFault.{CatFault}
 use Rattle.sii_cats.specs.declared.fault.CatFault.TheVariants.{Memory, RunsOut, BadCategory, NoRoom}
 
 -- the chain with a category added last, taken out (by an empty content) or exchanged
-abbrev pub edited : Option ℕ → ℕ → List ℕ → List Member → List Member
-edited None kind content ms = ms ++ record { kind = kind; content = content } ∷ []
-edited (Some i) kind [] ms = remove ms i
-edited (Some i) kind (word ∷ words) ms = slice_set ms i (record { kind = kind; content = word ∷ words })
+abbrev pub spliced : Option ℕ → ℕ → List ℕ → List Member → List Member
+spliced None kind content ms = ms ++ record { kind = kind; content = content } ∷ []
+spliced (Some i) kind [] ms = remove ms i
+spliced (Some i) kind (word ∷ words) ms = slice_set ms i (record { kind = kind; content = word ∷ words })
 
 -- the word behind a chain
 abbrev pub chain_end : List Member → ℕ
@@ -35,19 +36,19 @@ pub record IsEdit (old new : List ℕ) (ms : List Member) : Type 0 where
 
 -- The old chain can be read, and the new words are this edit of it.
 abbrev pub IsCategoryEdit : List ℕ → List ℕ → Option ℕ → ℕ → List ℕ → Type 0
-IsCategoryEdit old new member kind content = (ms : List Member) × IsChain old ms × IsEdit old new (edited member kind content ms)
+IsCategoryEdit old new member kind content = (ms : List Member) × IsChain old ms × IsEdit old new (spliced member kind content ms)
 
 -- Which fault comes: the old chain can't be read, or the new one passes the end.
 abbrev pub SpliceFails : List ℕ → Option ℕ → ℕ → List ℕ → CatFault → Type 0
 SpliceFails words member kind content Memory = Unit {0}
 SpliceFails words member kind content (RunsOut at) = RunsOutAt words at
 SpliceFails words member kind content (BadCategory k) = ⊥
-SpliceFails words member kind content NoRoom = (ms : List Member) × (members_of words ≡ Ok ms) × (length words < chain_end (edited member kind content ms))
+SpliceFails words member kind content NoRoom = (ms : List Member) × (members_of words ≡ Ok ms) × (length words < chain_end (spliced member kind content ms))
 
 -- What splicing answers.
 abbrev pub GivesSplice : {V : Type 0} → (V → List ℕ) → List ℕ → Option ℕ → ℕ → List ℕ → Result V CatFault → Type 0
 GivesSplice view words member kind content (Ok v) = (ms : List Member) × (members_of words ≡ Ok ms)
-    × (chain_end (edited member kind content ms) ≤ length words) × (view v ≡ with_chain words (edited member kind content ms))
+    × (chain_end (spliced member kind content ms) ≤ length words) × (view v ≡ with_chain words (spliced member kind content ms))
 GivesSplice view words member kind content (Err fault) = SpliceFails words member kind content fault
 
 -- ---- the parts
@@ -61,14 +62,3 @@ cat_fault (chain.RunsOut at) = RunsOut at
 abbrev pub new_words : ℕ → List ℕ → List ℕ
 new_words kind [] = []
 new_words kind (word ∷ words) = kind ∷ length (word ∷ words) ∷ word ∷ words
-
--- What putting the front before the words behind it answers.
-abbrev pub RebuiltFails : List ℕ → List ℕ → CatFault → Type 0
-RebuiltFails words front Memory = Unit {0}
-RebuiltFails words front (RunsOut at) = ⊥
-RebuiltFails words front (BadCategory k) = ⊥
-RebuiltFails words front NoRoom = length words < length front
-
-abbrev pub GivesRebuilt : {V : Type 0} → (V → List ℕ) → List ℕ → List ℕ → Result V CatFault → Type 0
-GivesRebuilt view words front (Ok v) = (length front ≤ length words) × (view v ≡ front ++ closing (drop (length front) words))
-GivesRebuilt view words front (Err fault) = RebuiltFails words front fault

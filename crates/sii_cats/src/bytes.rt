@@ -12,17 +12,6 @@ pub fn pair(low: u8, high: u8) -> u16
     u16::from_le_bytes([low, high])
 }
 
-/// The bytes of these words.
-pub fn unpacked(alloc: Global, words: &[u16]) -> Result<Vec<u8>, AllocError>
-    ensures { IfOk result (λ v. v.items ≡ bytes_of words.now) }
-{
-    let mut bytes = Vec::new(alloc);
-    for word in words {
-        bytes.extend_from_slice(&word.to_le_bytes())?;
-    }
-    Ok(bytes)
-}
-
 /// The word that the next two bytes are, or the last one alone, and the bytes behind it.
 fn word_of(bytes: &[u8]) -> Option<(u16, &[u8])>
     ensures { MatchOption result (bytes.now ≡ [])

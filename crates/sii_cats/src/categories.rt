@@ -1,18 +1,18 @@
 //! The chain of categories.
 
 ghost use Rattle.std.specs.Prelude.{◌≡◌, ◌<◌, ◌≤◌, ◌+◌, ◌^◌, length, map, IfOk};
-ghost use Rattle.sii_cats.specs.Chain.{AnswersChain, ArePlaced, GivesChain, HeaderGives, IsWalked, content_of, end_of, member_of};
+ghost use Rattle.sii_cats.specs.Chain.{AnswersChain, ArePlaced, content_of, end_of, member_of};
+ghost use Rattle.sii_cats.specs.steps.Chain.{GivesChain, HeaderGives, IsWalked};
 
 use crate::fault::ChainFault;
+use crate::kind::END;
 use std::alloc::Global;
 
-/// The word of the first category's header.
+/// The word of the first category's header (ETG.1000.6, slave information interface categories).
 pub const FIRST_HEADER: usize = 0x40;
 
-/// The type word that ends the chain.
-pub const END: u16 = 0xFFFF;
-
-/// A category of a chain, by its place among the words.
+/// A category of a chain, by its place among the words (ETG.1000.6): a word with its type, a word with the length of its content
+/// in words, and the content.
 #[derive(Clone, Copy, Debug, PartialEq, Eq)]
 pub struct Category {
     /// The type.

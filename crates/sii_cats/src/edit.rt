@@ -2,11 +2,14 @@
 
 ghost use Rattle.std.specs.Prelude.{◌≡◌, ◌≢◌, ◌<◌, ◌≤◌, ◌^◌, ◌++◌, [], length, take, drop, All, IfOk, IfSome, OnOk, MatchOption, slice_get, Some};
 ghost use Rattle.sii_cats.specs.declared.categories.Category.{Category};
-ghost use Rattle.sii_cats.specs.Chain.{end_of, members_of};
-ghost use Rattle.sii_cats.specs.Splice.{GivesRebuilt, GivesSplice, IsCategoryEdit, closing, new_words};
+ghost use Rattle.sii_cats.specs.Chain.{end_of};
+ghost use Rattle.sii_cats.specs.steps.Chain.{members_of};
+ghost use Rattle.sii_cats.specs.Splice.{GivesSplice, IsCategoryEdit, closing, new_words};
+ghost use Rattle.sii_cats.specs.steps.Splice.{GivesRebuilt};
 
-use crate::categories::{Category, END, walk};
+use crate::categories::{Category, walk};
 use crate::fault::{CatFault, ChainFault};
+use crate::kind::END;
 use std::alloc::{AllocError, Global};
 
 impl From<ChainFault> for CatFault {

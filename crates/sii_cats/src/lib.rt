@@ -7,20 +7,19 @@ mod bytes;
 mod categories;
 mod edit;
 mod fault;
+pub mod kind;
 mod laws;
 mod managers;
 mod mappings;
 mod text;
 mod units;
 
-pub use categories::{Category, END, FIRST_HEADER, chain};
+pub use categories::{Category, FIRST_HEADER, chain};
 pub use edit::splice;
 pub use fault::{CatFault, ChainFault};
+pub use kind::END;
 pub use laws::{one_chain, one_content, readings};
 pub use managers::{Manager, syncms, write_syncms};
 pub use mappings::{Pdo, PdoEntry, pdos, write_pdos};
 pub use text::{strings, write_strings};
 pub use units::{FmmuUnit, FmmuUse, fmmus, write_fmmus};
-
-#[cfg(test)]
-mod tests;

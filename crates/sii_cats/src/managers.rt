@@ -1,16 +1,18 @@
-//! SyncM categories (type 41).
+//! SyncM categories (type 41; ETG.1000.6 and ETG.2010).
 
 ghost use Rattle.std.specs.Prelude.{◌≡◌, IfOk, MatchOption, Ok};
 ghost use Rattle.std.specs.List.{flat_map};
 ghost use Rattle.sii_cats.specs.Bytes.{bytes_of};
-ghost use Rattle.sii_cats.specs.Items.{items_of};
-ghost use Rattle.sii_cats.specs.Items.Front.{Ended, Item};
-ghost use Rattle.sii_cats.specs.Contents.{AreManagers, manager_at, manager_bytes, managers_of};
+ghost use Rattle.sii_cats.specs.steps.Items.{items_of};
+ghost use Rattle.sii_cats.specs.steps.Items.Front.{Ended, Item};
+ghost use Rattle.sii_cats.specs.Contents.{AreManagers, manager_bytes};
+ghost use Rattle.sii_cats.specs.steps.Contents.{manager_at, managers_of};
 
-use crate::bytes::{pair, unpacked};
+use crate::bytes::pair;
+use sii_words::bytes_of_words;
 use std::alloc::{AllocError, Global};
 
-/// A sync manager in a SyncM category.
+/// A sync manager in a SyncM category (ETG.1000.6 and ETG.2010, category SyncM): eight bytes.
 #[derive(Clone, Copy, Debug, PartialEq, Eq)]
 pub struct Manager {
     /// Physical start address.
@@ -65,7 +67,7 @@ pub fn syncms(alloc: Global, words: &[u16]) -> Result<Vec<Manager>, AllocError>
     ensures grammar { IfOk result (λ v. AreManagers (bytes_of words.now) v.items) }
     ensures exact { IfOk result (λ v. managers_of words.now ≡ Ok v.items) }
 {
-    read_managers(alloc, &unpacked(alloc, words)?)
+    read_managers(alloc, &bytes_of_words(alloc, words)?)
 }
 
 /// The words of a sync manager.

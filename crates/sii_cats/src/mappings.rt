@@ -1,17 +1,20 @@
-//! TXPDO and RXPDO categories (types 50 and 51).
+//! TXPDO and RXPDO categories (types 50 and 51; ETG.1000.6 and ETG.2010).
 
 ghost use Rattle.std.specs.Prelude.{◌≡◌, ◌<◌, ◌++◌, ◌↔◌, length, IsTrue, All, IfOk, OnOk};
 ghost use Rattle.std.specs.List.{flat_map};
 ghost use Rattle.sii_cats.specs.Bytes.{bytes_of};
-ghost use Rattle.sii_cats.specs.Items.{counted, items_of};
-ghost use Rattle.sii_cats.specs.Pdos.{ArePdos, entry_at, entry_bytes, head_bytes, pdo_at, pdo_bytes, pdos_of, view, views, IsWritable};
-ghost use Rattle.sii_cats.specs.Reading.{Answers, Gives, Takes, Writes};
+ghost use Rattle.sii_cats.specs.steps.Items.{counted, items_of};
+ghost use Rattle.sii_cats.specs.Pdos.{ArePdos, entry_bytes, head_bytes, pdo_bytes, view, views, IsWritable};
+ghost use Rattle.sii_cats.specs.steps.Pdos.{entry_at, pdo_at, pdos_of};
+ghost use Rattle.sii_cats.specs.Reading.{Answers, Writes};
+ghost use Rattle.sii_cats.specs.steps.Reading.{Gives, Takes};
 
-use crate::bytes::{pair, unpacked};
+use crate::bytes::pair;
 use crate::fault::CatFault;
+use sii_words::bytes_of_words;
 use std::alloc::{AllocError, Global};
 
-/// An entry of a PDO.
+/// An entry of a PDO (ETG.1000.6 and ETG.2010, categories TXPDO and RXPDO): eight bytes.
 #[derive(Clone, Copy, Debug, PartialEq, Eq)]
 pub struct PdoEntry {
     /// Index of the object.
@@ -25,7 +28,8 @@ pub struct PdoEntry {
     pub flags: u16,
 }
 
-/// A process data object and its entries, 255 at most in a content.
+/// A process data object and its entries, 255 at most in a content (ETG.1000.6 and ETG.2010, categories TXPDO and RXPDO): a
+/// head of eight bytes, and the entries behind it.
 #[derive(Debug, Drop)]
 pub struct Pdo {
     pub index: u16,
@@ -135,7 +139,7 @@ pub fn pdos(alloc: Global, kind: u16, words: &[u16]) -> Result<Vec<Pdo>, CatFaul
     ensures grammar { Answers (λ v. views v.items) (ArePdos (bytes_of words.now)) kind result }
     ensures exact { Gives (λ v. views v.items) kind result (pdos_of words.now) }
 {
-    read_pdos(alloc, kind, &unpacked(alloc, words)?)
+    read_pdos(alloc, kind, &bytes_of_words(alloc, words)?)
 }
 
 /// The words of an entry.

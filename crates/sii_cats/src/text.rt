@@ -1,18 +1,19 @@
-//! STRINGS categories (type 10).
+//! STRINGS categories (type 10; ETG.1000.6 and ETG.2010).
 
 ghost use Rattle.std.specs.Prelude.{◌≡◌, ◌<◌, ◌++◌, ◌∷◌, ◌↔◌, length, IsTrue, All, IfOk, Ok};
 ghost use Rattle.std.specs.List.{flat_map};
 ghost use Rattle.sii_cats.specs.Bytes.{bytes_of, padded};
-ghost use Rattle.sii_cats.specs.Items.{counted};
-ghost use Rattle.sii_cats.specs.Strings.{AreStrings, string_at, strings_in, strings_of, texts, AreWritable, all_bytes};
-ghost use Rattle.sii_cats.specs.Reading.{Answers, Gives, Writes};
+ghost use Rattle.sii_cats.specs.steps.Items.{counted};
+ghost use Rattle.sii_cats.specs.Strings.{AreStrings, texts, AreWritable, all_bytes};
+ghost use Rattle.sii_cats.specs.steps.Strings.{string_at, strings_in, strings_of};
+ghost use Rattle.sii_cats.specs.Reading.{Answers, Writes};
+ghost use Rattle.sii_cats.specs.steps.Reading.{Gives};
 
-use crate::bytes::{packed, unpacked};
+use crate::bytes::packed;
 use crate::fault::CatFault;
+use crate::kind::STRINGS;
+use sii_words::bytes_of_words;
 use std::alloc::{AllocError, Global};
-
-/// The type of STRINGS categories.
-const STRINGS: u16 = 10;
 
 const MALFORMED: CatFault = CatFault::BadCategory { kind: STRINGS };
 
@@ -54,7 +55,7 @@ fn all_strings(alloc: Global, bytes: &[u8]) -> Result<Vec<Vec<u8>>, CatFault>
     }
 }
 
-/// The strings of a STRINGS category with this content, string 1 first. An empty content is no
+/// The strings of a STRINGS category with this content (ETG.1000.6 and ETG.2010), string 1 first. An empty content is no
 /// strings, and what follows the last string is ignored.
 ///
 /// `BadCategory`: the bytes end before the last string.
@@ -62,7 +63,7 @@ pub fn strings(alloc: Global, words: &[u16]) -> Result<Vec<Vec<u8>>, CatFault>
     ensures grammar { Answers (λ v. texts v.items) (AreStrings (bytes_of words.now)) 10 result }
     ensures exact { Gives (λ v. texts v.items) 10 result (strings_of words.now) }
 {
-    all_strings(alloc, &unpacked(alloc, words)?)
+    all_strings(alloc, &bytes_of_words(alloc, words)?)
 }
 
 fn are_writable(strings: &[Vec<u8>]) -> bool

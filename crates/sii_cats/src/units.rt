@@ -1,19 +1,20 @@
-//! FMMU categories (type 40).
+//! FMMU categories (type 40; ETG.1000.6 and ETG.2010).
 
 ghost use Rattle.std.specs.Prelude.{◌≡◌, map, IfOk};
 ghost use Rattle.sii_cats.specs.Bytes.{bytes_of, padded};
 ghost use Rattle.sii_cats.specs.Contents.{AreUnits, in_pairs, unit_bytes, use_of};
 
-use crate::bytes::{packed, unpacked};
+use crate::bytes::packed;
+use sii_words::bytes_of_words;
 use std::alloc::{AllocError, Global};
 
-/// A unit's byte in an FMMU category, kept as it is.
+/// A unit's byte in an FMMU category (ETG.1000.6 and ETG.2010), kept as it is.
 #[derive(Clone, Copy, Debug, PartialEq, Eq)]
 pub struct FmmuUnit {
     pub byte: u8,
 }
 
-/// What an FMMU is used for.
+/// What an FMMU is used for (ETG.1000.6 and ETG.2010, category FMMU).
 #[derive(Clone, Copy, Debug, PartialEq, Eq)]
 pub enum FmmuUse {
     /// 0x00 or 0xFF.
@@ -56,7 +57,7 @@ fn units_of(alloc: Global, bytes: &[u8]) -> Result<Vec<FmmuUnit>, AllocError>
 pub fn fmmus(alloc: Global, words: &[u16]) -> Result<Vec<FmmuUnit>, AllocError>
     ensures { IfOk result (λ v. AreUnits (bytes_of words.now) v.items) }
 {
-    units_of(alloc, &unpacked(alloc, words)?)
+    units_of(alloc, &bytes_of_words(alloc, words)?)
 }
 
 fn bytes_of_units(alloc: Global, units: &[FmmuUnit]) -> Result<Vec<u8>, AllocError>

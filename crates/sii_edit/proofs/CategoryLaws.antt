@@ -8,9 +8,9 @@ use Rattle.std.proofs.lemmas.Bool.Decides.{nat_tests}
 use Rattle.sii_cats.specs.declared.categories.Category.{Category}
 use Rattle.sii_cats.specs.declared.fault.CatFault.{CatFault}
 use Rattle.sii_cats.specs.declared.fault.CatFault.TheVariants as fault
-use Rattle.sii_cats.specs.Chain.{Member, member_of, members_of}
-use Rattle.sii_cats.specs.Splice.{chain_end, with_chain, SpliceFails}
-use Rattle.sii_cats.specs.Splice.{edited as spliced}
+use Rattle.sii_cats.specs.Chain.{Member, member_of}
+use Rattle.sii_cats.specs.steps.Chain.{members_of}
+use Rattle.sii_cats.specs.Splice.{chain_end, spliced, with_chain, SpliceFails}
 use Rattle.sii_edit.specs.declared.command.Expect.{Expect}
 use Rattle.sii_edit.specs.declared.refusal.Cause.{Cause}
 use Rattle.sii_edit.specs.declared.refusal.Cause.TheVariants.{WrongIdentity, NoSuchCategory, SeveralCategories, BadCategory, NoRoom, BadChain}
@@ -82,7 +82,7 @@ not_repeated kind count ms few same = let most : count_of kind ms ≤ 1 = omega 
 
 -- the causes that are left then
 abbrev pub left_causes : List ℕ → ℕ → List ℕ → List Member → List (Bool × Cause)
-left_causes words kind content ms = (is_unfit kind content, BadCategory) ∷ (is_too_long words kind content ms, NoRoom) ∷ []
+left_causes words kind content ms = (is_unfit kind content, BadCategory kind) ∷ (is_too_long words kind content ms, NoRoom) ∷ []
 
 pub judged_left : (words : List ℕ) (kind : ℕ) (content : List ℕ) (ms : List Member) → members_of words ≡ Ok ms → is_absent kind content ms ≡ false → is_repeated kind ms ≡ false
     → unless (category_causes None words kind content) (with_category words kind content) ≡ unless (left_causes words kind content ms) (with_chain words (exchanged kind content ms))
@@ -91,7 +91,7 @@ judged_left words kind content ms read there once =
     ap (λ (r : Result (List Member) (List ℕ)). unless (
     (if_read r (is_absent kind content), NoSuchCategory)
     ∷ (if_read r (is_repeated kind), SeveralCategories)
-    ∷ (is_unfit kind content, BadCategory)
+    ∷ (is_unfit kind content, BadCategory kind)
     ∷ (if_read r (is_too_long words kind content), NoRoom)
     ∷ (is_err r, BadChain)
     ∷ []) (rechained kind content words r)) read
@@ -113,9 +113,9 @@ answered judged (Err error) cause gave is = rw gave is
 
 -- a content that is refused
 pub content_refused : (judged : Result (List ℕ) Cause) (words : List ℕ) (kind : ℕ) (content : List ℕ) (ms : List Member) (new : List ℕ) (cause : Cause)
-    → judged ≡ unless (left_causes words kind content ms) new → IsJudgement ((is_unfit kind content, BadCategory) ∷ []) (Err cause) → IsCauseOf judged cause
+    → judged ≡ unless (left_causes words kind content ms) new → IsJudgement ((is_unfit kind content, BadCategory kind) ∷ []) (Err cause) → IsCauseOf judged cause
 content_refused judged words kind content ms new cause left (inl is) =
-    let nothing : Unit {0} = tt in inl (left ∙ first_found (is_unfit kind content) BadCategory cause ((is_too_long words kind content ms, NoRoom) ∷ []) nothing new is)
+    let nothing : Unit {0} = tt in inl (left ∙ first_found (is_unfit kind content) (BadCategory kind) cause ((is_too_long words kind content ms, NoRoom) ∷ []) nothing new is)
 content_refused judged words kind content ms new cause left (inr memory) = inr memory
 
 -- a chain that doesn't fit
@@ -128,7 +128,7 @@ splice_refused judged words kind content ms new place (fault.BadCategory k) left
 splice_refused judged words kind content ms new place fault.NoRoom left fit read here fails =
     let same : fails.0 ≡ ms = let other = fails.1 in cc in
     let long : length words < chain_end (exchanged kind content ms) = rw (same, here) at fails.2 in
-    inl (left ∙ unless-pass (is_unfit kind content) BadCategory ((is_too_long words kind content ms, NoRoom) ∷ []) new fit
+    inl (left ∙ unless-pass (is_unfit kind content) (BadCategory kind) ((is_too_long words kind content ms, NoRoom) ∷ []) new fit
     ∙ unless-stop (is_too_long words kind content ms) NoRoom [] new (grind (arith, nat_tests)))
 
 -- the words with the new chain
@@ -142,28 +142,28 @@ splice_accepted judged words kind content ms others place new copy left fit read
     let room' : chain_end (exchanged kind content ms) ≤ length words = rw (same, here) at room in
     let size : length new ≡ length words = ap length made' ∙ length-with_chain words (exchanged kind content ms) room' in
     let whole : copy ≡ new = copied ∙ ap (λ (rest : List ℕ). new ++ rest) (drop_all (length new) words (omega arith)) ∙ append-nil new in
-    left ∙ unless-pass (is_unfit kind content) BadCategory ((is_too_long words kind content ms, NoRoom) ∷ []) (with_chain words (exchanged kind content ms)) fit
+    left ∙ unless-pass (is_unfit kind content) (BadCategory kind) ((is_too_long words kind content ms, NoRoom) ∷ []) (with_chain words (exchanged kind content ms)) fit
     ∙ unless-pass (is_too_long words kind content ms) NoRoom [] (with_chain words (exchanged kind content ms)) (grind (arith, nat_tests))
     ∙ ap (λ (w : List ℕ). Ok w) (sym (whole ∙ made'))
 
 -- what is left of the causes where the chain can't be read
 pub judged_unread : (expect : Option Expect) (words : List ℕ) (kind : ℕ) (content rest : List ℕ) → members_of words ≡ Err rest → is_other expect words ≡ false
-    → unless (category_causes expect words kind content) (with_category words kind content) ≡ unless ((is_unfit kind content, BadCategory) ∷ (true, BadChain) ∷ []) words
+    → unless (category_causes expect words kind content) (with_category words kind content) ≡ unless ((is_unfit kind content, BadCategory kind) ∷ (true, BadChain) ∷ []) words
 judged_unread expect words kind content rest unread same =
     ap (λ (r : Result (List Member) (List ℕ)). unless (
     (is_other expect words, WrongIdentity)
     ∷ (if_read r (is_absent kind content), NoSuchCategory)
     ∷ (if_read r (is_repeated kind), SeveralCategories)
-    ∷ (is_unfit kind content, BadCategory)
+    ∷ (is_unfit kind content, BadCategory kind)
     ∷ (if_read r (is_too_long words kind content), NoRoom)
     ∷ (is_err r, BadChain)
     ∷ []) (rechained kind content words r)) unread
-    ∙ unless-pass (is_other expect words) WrongIdentity ((is_unfit kind content, BadCategory) ∷ (true, BadChain) ∷ []) words same
+    ∙ unless-pass (is_other expect words) WrongIdentity ((is_unfit kind content, BadCategory kind) ∷ (true, BadChain) ∷ []) words same
 
 -- a content that is refused before the chain is
 pub content_unread : (expect : Option Expect) (words : List ℕ) (kind : ℕ) (content rest : List ℕ) (cause : Cause) → members_of words ≡ Err rest → is_other expect words ≡ false
-    → IsJudgement ((is_unfit kind content, BadCategory) ∷ []) (Err cause) → IsCauseOf (unless (category_causes expect words kind content) (with_category words kind content)) cause
+    → IsJudgement ((is_unfit kind content, BadCategory kind) ∷ []) (Err cause) → IsCauseOf (unless (category_causes expect words kind content) (with_category words kind content)) cause
 content_unread expect words kind content rest cause unread same (inl is) =
     let nothing : Unit {0} = tt in
-    inl (judged_unread expect words kind content rest unread same ∙ first_found (is_unfit kind content) BadCategory cause ((true, BadChain) ∷ []) nothing words is)
+    inl (judged_unread expect words kind content rest unread same ∙ first_found (is_unfit kind content) (BadCategory kind) cause ((true, BadChain) ∷ []) nothing words is)
 content_unread expect words kind content rest cause unread same (inr memory) = inr memory

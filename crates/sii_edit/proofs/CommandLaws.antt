@@ -16,16 +16,16 @@ use Rattle.sii_edit.specs.declared.refusal.Cause.{Cause}
 use Rattle.sii_edit.specs.declared.refusal.Cause.TheVariants.{NoSlave, SameSlave, BadCheck, ImageOverLimit, Memory}
 use Rattle.sii_edit.specs.declared.refusal.Refusal.{Refusal}
 use Rattle.sii_edit.specs.Alias.{with_alias}
-use Rattle.sii_edit.specs.Redo.{SameShape, LiesInside, redone}
-use Rattle.sii_edit.specs.Run.{runs_between}
-use Rattle.sii_edit.specs.declared.run.Run.{Run}
+use Rattle.sii_runs.specs.Redo.{SameShape, LiesInside, redone}
+use Rattle.sii_runs.specs.Run.{runs_between}
+use Rattle.sii_runs.specs.declared.run.Run.{Run}
 use Rattle.sii_edit.specs.Refusal.{unless, whole, of_whole, of_place, IsCauseOf}
-use Rattle.sii_edit.specs.Command.{slave_of, causes_against, words_after, edited_words, edited, edits_from, group_causes, grouped, is_missing, swap_causes, swapped, carried_out, has_image, with_image, outcome, unguarded}
+use Rattle.sii_edit.specs.Command.{slave_of, causes_against, words_after, edited_words, edited, edits_from, group_causes, grouped, is_missing, swap_causes, swapped, carried_out, has_process_image, with_process_image, outcome, unguarded}
 use Rattle.sii_edit.proofs.AliasLaws.{length-with_alias}
 use Rattle.sii_edit.proofs.ShapeLaws.{length-words_after}
 use Rattle.sii_edit.proofs.UnlessLaws.{unless-ok, unless-change, unless-err, unless-stop, unless-pass, none_holds, NamesNoMemory, unless-not_memory, whole_ok, whole_err, place_ok, place_err, then_ok, then_err}
-use Rattle.sii_edit.proofs.ImageLaws.{with_image-has, with_image_accepts, with_image_refuses}
-use Rattle.sii_edit.proofs.RunLaws.{redone-runs_between, LiesInside-runs_between}
+use Rattle.sii_edit.proofs.ProcessImageLaws.{with_process_image-has, with_process_image_accepts, with_process_image_refuses}
+use Rattle.sii_runs.proofs.RunLaws.{redone-runs_between, LiesInside-runs_between}
 
 -- an edit of a slave that isn't there, and of one that is
 pub edited-missing : (plant : List (List ℕ)) (expect : Option Expect) (edit : Edit) → length plant ≤ slave_of edit → edited plant expect edit ≡ Err NoSlave
@@ -131,7 +131,7 @@ shape_carried_out plant new (Guarded edits) judged = shape_grouped plant new edi
 
 -- an accepted command keeps the shape of the plant
 pub SameShape-outcome : (plant new : List (List ℕ)) (command : Command) → outcome plant command ≡ Ok new → SameShape plant new
-SameShape-outcome plant new command judged = shape_carried_out plant new command (with_image_accepts (carried_out plant command) new judged)
+SameShape-outcome plant new command judged = shape_carried_out plant new command (with_process_image_accepts (carried_out plant command) new judged)
 
 -- the runs to the new contents lie inside the old ones, and redo of them gives the new ones
 pub record Accepted (plant new : List (List ℕ)) (command : Command) (runs : List Run) : Type 0 where
@@ -140,10 +140,10 @@ pub record Accepted (plant new : List (List ℕ)) (command : Command) (runs : Li
   pub between : runs ≡ runs_between plant (redone plant runs)
   pub inside : All (LiesInside plant) runs
 
-pub accepted : (plant new : List (List ℕ)) (command : Command) (runs : List Run) → carried_out plant command ≡ Ok new → has_image new ≡ true → runs ≡ runs_between plant new
+pub accepted : (plant new : List (List ℕ)) (command : Command) (runs : List Run) → carried_out plant command ≡ Ok new → has_process_image new ≡ true → runs ≡ runs_between plant new
     → Accepted plant new command runs
 accepted plant new command runs carried has between =
-    let judged : outcome plant command ≡ Ok new = ap with_image carried ∙ with_image-has new has in
+    let judged : outcome plant command ≡ Ok new = ap with_process_image carried ∙ with_process_image-has new has in
     let there : redone plant runs ≡ new = rw between (redone-runs_between plant new (SameShape-outcome plant new command judged)) in
     record { reached = there; judged = rw there judged; between = rw there between; inside = rw between (LiesInside-runs_between plant new) }
 
@@ -201,7 +201,7 @@ over_limit refusal is = λ memory. let never : ImageOverLimit ≡ Memory = sym (
 -- want of memory is no part of what a command does
 pub not_memory : (plant : List (List ℕ)) (command : Command) (refusal : Refusal) → outcome plant command ≡ Err refusal → refusal.cause ≢ Memory
 not_memory plant command refusal is =
-    elim (with_image_refuses (carried_out plant command) refusal is) [
+    elim (with_process_image_refuses (carried_out plant command) refusal is) [
       | inl before ↦ not_memory_carried_out plant command refusal before
       | inr over ↦ over_limit refusal over
     ]

@@ -6,9 +6,9 @@ use Rattle.std.proofs.lemmas.List.Quantifiers.{position-Some}
 use Rattle.std.proofs.lemmas.List.Elements.{All-nil, All-cons, All-head, All-tail, All-append, All-take, All-drop, All-set, All-push}
 use Rattle.std.proofs.lemmas.Bool.Decides.{nat_tests}
 use Rattle.sii_cats.specs.Items.{AreItems}
-use Rattle.sii_cats.specs.Chain.{Member, member_words, chain_words, members_of, Begins, IsEnd, IsChain}
-use Rattle.sii_cats.specs.Splice.{chain_end, closing, with_chain, IsEdit}
-use Rattle.sii_cats.specs.Splice.{edited as spliced}
+use Rattle.sii_cats.specs.Chain.{Member, member_words, chain_words, Begins, IsEnd, IsChain}
+use Rattle.sii_cats.specs.steps.Chain.{members_of}
+use Rattle.sii_cats.specs.Splice.{chain_end, closing, spliced, with_chain, IsEdit}
 use Rattle.sii_cats.specs.Laws.{ReadingsAgree}
 use Rattle.sii_edit.specs.declared.command.Expect.{Expect}
 use Rattle.sii_edit.specs.Category.{has_kind, count_of, exchanged, rechained, if_read, is_malformed, is_repeated, is_too_long, is_unfit, with_category, IsPlaceOf, ChangesCategory}

@@ -1,14 +1,11 @@
 pub mod AliasLaws
-mod UnlessLaws
-mod ShapeLaws
+mod NameLaws
+pub mod UnlessLaws
+pub mod ShapeLaws
 mod CategoryLaws
 mod ExchangeLaws
-pub mod RedoLaws
-mod GivenLaws
-mod StretchLaws
-pub mod RunLaws
 pub mod CommandLaws
 mod DraftLaws
-mod ImageLaws
+pub mod ProcessImageLaws
 mod LayoutLaws
 pub mod FoldLaws

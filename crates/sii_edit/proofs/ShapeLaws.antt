@@ -2,7 +2,8 @@
 use Rattle.std.proofs.Common.{◌≡◌, ◌≤◌, ℕ, nat_lt, false, List, [], ◌∷◌, ◌++◌, length, take, drop, Result, Ok, Err, Option, refl, arith, length-append, length-drop}
 use Rattle.std.proofs.lemmas.List.{length-take-le}
 use Rattle.std.proofs.lemmas.Bool.Decides.{nat_tests}
-use Rattle.sii_cats.specs.Chain.{Member, chain_words, members_of}
+use Rattle.sii_cats.specs.Chain.{Member, chain_words}
+use Rattle.sii_cats.specs.steps.Chain.{members_of}
 use Rattle.sii_cats.specs.Splice.{chain_end, closing, with_chain}
 use Rattle.sii_edit.specs.declared.command.Expect.{Expect}
 use Rattle.sii_edit.specs.declared.command.Edit.{Edit}

@@ -1,10 +1,10 @@
 -- What exchanging the content of the one category of a type does to the words of a slave, and what speaks against it.
 use Rattle.std.specs.Prelude.{◌≡◌, ◌≢◌, ℕ, ◌==◌, ◌&&◌, ◌||◌, Bool, false, nat_lt, List, [], ◌∷◌, length, count_by, position, slice_get, All, Option, Some, None, Result, Ok, Err, is_err, if◌then◌else◌}
-use Rattle.sii_cats.specs.Chain.{Member, members_of, IsChain}
-use Rattle.sii_cats.specs.Strings.{strings_of}
-use Rattle.sii_cats.specs.Pdos.{pdos_of}
-use Rattle.sii_cats.specs.Splice.{chain_end, with_chain, IsEdit}
-use Rattle.sii_cats.specs.Splice.{edited as spliced}
+use Rattle.sii_cats.specs.Chain.{Member, IsChain}
+use Rattle.sii_cats.specs.steps.Chain.{members_of}
+use Rattle.sii_cats.specs.steps.Strings.{strings_of}
+use Rattle.sii_cats.specs.steps.Pdos.{pdos_of}
+use Rattle.sii_cats.specs.Splice.{chain_end, spliced, with_chain, IsEdit}
 
 -- a content that isn't what its type asks for: strings in type 10, PDOs in types 50 and 51; other contents aren't looked into
 abbrev pub is_malformed : ℕ → List ℕ → Bool
@@ -15,10 +15,10 @@ is_malformed kind content =
 abbrev pub is_unfit : ℕ → List ℕ → Bool
 is_unfit kind content = kind == 0xFFFF || is_malformed kind content
 
--- a chain has a category whose content is malformed
-abbrev pub has_malformed : List Member → Bool
-has_malformed [] = false
-has_malformed (m ∷ ms) = is_malformed m.kind m.content || has_malformed ms
+-- the type of the first category of a chain whose content is malformed
+abbrev pub first_malformed : List Member → Option ℕ
+first_malformed [] = None
+first_malformed (m ∷ ms) = if is_malformed m.kind m.content then Some m.kind else first_malformed ms
 
 abbrev pub has_kind : ℕ → Member → Bool
 has_kind kind m = m.kind == kind
@@ -46,6 +46,11 @@ is_too_long words kind content ms = nat_lt (length words) (chain_end (exchanged 
 abbrev pub if_read : Result (List Member) (List ℕ) → (List Member → Bool) → Bool
 if_read (Ok ms) test = test ms
 if_read (Err rest) test = false
+
+-- the same of words; there is none where their chain can't be read
+abbrev pub malformed_in : Result (List Member) (List ℕ) → Option ℕ
+malformed_in (Ok ms) = first_malformed ms
+malformed_in (Err rest) = None
 
 -- the words with the new chain
 abbrev pub rechained : ℕ → List ℕ → List ℕ → Result (List Member) (List ℕ) → List ℕ

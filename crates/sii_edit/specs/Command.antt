@@ -1,12 +1,12 @@
 -- What a command does to a plant: it gives a new one, or it is refused for the first cause that applies. The last cause is that the new
 -- plant has no process image, whatever the command did to get there.
-use Rattle.std.specs.Prelude.{ℕ, suc, ◌==◌, ◌||◌, Bool, nat_le, nat_lt, List, [], ◌∷◌, length, map, Option, None, is_some, Result, Ok, Err, is_err, slice_set, if◌then◌else◌}
+use Rattle.std.specs.Prelude.{ℕ, suc, ◌==◌, ◌||◌, Bool, nat_le, nat_lt, List, [], ◌∷◌, length, map, Option, None, is_some, unwrap_or, Result, Ok, Err, is_err, slice_set, if◌then◌else◌}
 use Rattle.sii_words.specs.Words.{alias_of}
 use Rattle.sii_words.specs.Plant.{words_of}
-use Rattle.sii_cats.specs.Chain.{members_of}
+use Rattle.sii_cats.specs.steps.Chain.{members_of}
 use Rattle.sii_image.specs.ProcessImage.{process_image}
 use Rattle.sii_edit.specs.Alias.{with_alias, is_unchecked}
-use Rattle.sii_edit.specs.Category.{is_absent, is_repeated, is_unfit, is_too_long, has_malformed, if_read, with_category}
+use Rattle.sii_edit.specs.Category.{is_absent, is_repeated, is_unfit, is_too_long, malformed_in, if_read, with_category}
 use Rattle.sii_edit.specs.Image.{with_front}
 use Rattle.sii_edit.specs.Guard.{is_other}
 use Rattle.sii_edit.specs.Refusal.{unless, whole, of_whole, of_place, then_judged}
@@ -39,18 +39,19 @@ category_causes expect words kind content =
     (is_other expect words, WrongIdentity)
     ∷ (if_read (members_of words) (is_absent kind content), NoSuchCategory)
     ∷ (if_read (members_of words) (is_repeated kind), SeveralCategories)
-    ∷ (is_unfit kind content, BadCategory)
+    ∷ (is_unfit kind content, BadCategory kind)
     ∷ (if_read (members_of words) (is_too_long words kind content), NoRoom)
     ∷ (is_err (members_of words), BadChain)
     ∷ []
 
--- what speaks against an image, in order; the chain that it leaves is judged
+-- what speaks against an image, in order; the chain that it leaves is judged, and the first malformed category is named
 abbrev pub image_causes : Option Expect → List ℕ → List ℕ → List (Bool × Cause)
 image_causes expect words image =
+    let malformed = malformed_in (members_of (with_front words image)) in
     (nat_lt (length words) (length image), ImageTooLong)
     ∷ (is_unchecked image, BadCheck)
     ∷ (is_other expect words, WrongIdentity)
-    ∷ (if_read (members_of (with_front words image)) has_malformed, BadCategory)
+    ∷ (is_some malformed, BadCategory (unwrap_or malformed 0))
     ∷ (is_err (members_of (with_front words image)), BadChain)
     ∷ []
 
@@ -124,14 +125,14 @@ carried_out plant (Group edits) = grouped plant (map unguarded edits)
 carried_out plant (Guarded edits) = grouped plant edits
 
 -- the line has a process image
-unfoldable pub has_image : List (List ℕ) → Bool
-has_image plant = is_some (process_image plant)
+unfoldable pub has_process_image : List (List ℕ) → Bool
+has_process_image plant = is_some (process_image plant)
 
 -- the new plant, which has to have a process image
-abbrev pub with_image : Result (List (List ℕ)) Refusal → Result (List (List ℕ)) Refusal
-with_image (Ok new) = if has_image new then Ok new else Err (whole ImageOverLimit)
-with_image (Err refusal) = Err refusal
+abbrev pub with_process_image : Result (List (List ℕ)) Refusal → Result (List (List ℕ)) Refusal
+with_process_image (Ok new) = if has_process_image new then Ok new else Err (whole ImageOverLimit)
+with_process_image (Err refusal) = Err refusal
 
 -- the new plant, or the refusal
 abbrev pub outcome : List (List ℕ) → Command → Result (List (List ℕ)) Refusal
-outcome plant command = with_image (carried_out plant command)
+outcome plant command = with_process_image (carried_out plant command)

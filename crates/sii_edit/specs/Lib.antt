@@ -2,9 +2,8 @@ pub mod Alias
 pub mod Category
 pub mod Image
 pub mod Guard
-pub mod Run
-pub mod Redo
 pub mod Refusal
+pub mod Codes
 pub mod Command
 pub mod Fold
 pub mod Draft

@@ -17,7 +17,7 @@ cause_of_chain (chain.RunsOut at) = BadChain
 abbrev pub cause_of_category : CatFault → Cause
 cause_of_category category.Memory = Memory
 cause_of_category (category.RunsOut at) = BadChain
-cause_of_category (category.BadCategory kind) = BadCategory
+cause_of_category (category.BadCategory kind) = BadCategory kind
 cause_of_category category.NoRoom = NoRoom
 
 -- the first cause whose test holds, else what there is

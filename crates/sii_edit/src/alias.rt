@@ -1,17 +1,18 @@
-ghost use Rattle.std.specs.Prelude.{◌≡◌, ◌↔◌, IsOk, IfOk, OnOk, OnErr, IsOkUnless};
+ghost use Rattle.std.specs.Prelude.{◌≡◌, ◌↔◌, IsOk, OnOk, OnErr, IsOkUnless};
 ghost use Rattle.sii_words.specs.CheckByte.{IsChecked};
 ghost use Rattle.sii_edit.specs.Alias.{ChangesAlias, with_alias, with_low_byte};
 ghost use Rattle.sii_edit.specs.Command.{alias_causes};
-ghost use Rattle.sii_edit.specs.Refusal.{unless, whole, IsAnswer};
+ghost use Rattle.sii_edit.specs.Draft.{Renews};
+ghost use Rattle.sii_edit.specs.Refusal.{unless, whole};
 
 use crate::command::Expect;
-use crate::guard::is_other;
+use crate::draft::NewWords;
 use crate::refusal::{Cause, Refusal};
-use sii_words::{ImageFile, Words};
-use std::alloc::AllocError;
+use crate::slave_words::SlaveWords;
+use sii_words::ImageFile;
 
 /// A word with another low byte.
-fn with_low_byte(word: u16, byte: u8) -> u16
+pub(crate) fn with_low_byte(word: u16, byte: u8) -> u16
     ensures { result ≡ with_low_byte word byte }
 {
     word / 256 * 256 + u16::from(byte)
@@ -34,25 +35,19 @@ pub fn alias_image(image: &mut ImageFile, value: u16) -> Result<(), Refusal>
     Ok(())
 }
 
-/// A copy of the words of a slave with another alias, and the check byte that goes with it.
-pub(crate) fn aliased(words: &Words, value: u16) -> Result<Words, AllocError>
-    ensures { IfOk result (λ new. new ≡ with_alias words.now value) }
-{
-    let mut new = words.try_copy()?;
-    new.set(4, value);
-    new.set(7, with_low_byte(words.get(7), new.check_byte()));
-    Ok(new)
-}
-
-/// The words of a slave with another alias, where its check byte is right.
-pub(crate) fn renamed(expect: Option<Expect>, words: &Words, value: u16) -> Result<Words, Cause>
-    ensures { IsAnswer (unless (alias_causes expect words.now) (with_alias words.now value)) result }
+/// Another alias of a slave, where its check byte is right.
+pub(crate) fn renamed(
+    expect: Option<Expect>,
+    words: &SlaveWords,
+    value: u16,
+) -> Result<NewWords, Cause>
+    ensures { Renews (unless (alias_causes expect words.now) (with_alias words.now value)) words.now result }
 {
     if !words.check_ok() {
         return Err(Cause::BadCheck);
     }
-    if is_other(expect, words) {
+    if words.is_other(expect) {
         return Err(Cause::WrongIdentity);
     }
-    Ok(aliased(words, value)?)
+    Ok(NewWords::Renamed(words.with_alias(value)))
 }

@@ -1,33 +1,35 @@
 ghost use Rattle.std.specs.Prelude.{◌≡◌, All, IfOk, IfErr};
 ghost use Rattle.sii_edit.specs.Command.{carried_out, outcome};
 ghost use Rattle.sii_edit.specs.Draft.{drafted, IsCarriedOut, IsDraftOf};
-ghost use Rattle.sii_edit.specs.Redo.{redone, LiesInside};
+ghost use Rattle.sii_runs.specs.Redo.{redone, LiesInside};
 ghost use Rattle.sii_edit.specs.Refusal.{IsRefusalOf};
-ghost use Rattle.sii_edit.specs.Run.{runs_between};
-ghost use Rattle.sii_image.specs.ProcessImage.{layout_of};
+ghost use Rattle.sii_runs.specs.Run.{runs_between};
+ghost use Rattle.sii_words.specs.Plant.{with_new};
 
 use crate::command::Command;
 use crate::draft::Draft;
 use crate::group::{edit_all, edit_guarded};
-use crate::redoing::redo;
+use crate::layouts::judged_layouts;
 use crate::refusal::Refusal;
-use crate::run::Run;
-use sii_image::Layout;
+use sii_image::{Layout, SlaveLayout};
+use sii_runs::{Run, redo};
 use sii_words::Plant;
 use std::alloc::Global;
 
-/// What a command changes: the runs, and the layout of the new contents.
-#[derive(Debug, Drop)]
+/// What a command changes: the runs, and the layouts of the slaves that it is about.
+#[derive(Drop)]
 pub struct Change {
     /// The longest stretches of words that change, in rising order of slave and word. Redo of them over the plant gives the
     /// new contents.
     pub runs: Vec<Run>,
-    /// What the process image of the new contents is made from.
-    pub layout: Layout,
+    /// For each slave that has new words what it adds to the process image. The plant's layout takes them in, which takes no
+    /// memory, and is then that of the new contents.
+    pub layouts: Vec<Option<SlaveLayout>>,
 }
 
-/// What a command changes in a plant with this layout. It copies and reads the words of the slaves alone that the command is
-/// about.
+/// What a command changes in a plant with this layout. It costs what the command may change: of a slave that gets another
+/// alias the words are neither read nor copied, and no categories are read; of a slave that gets a category or an image, its
+/// own words are; of other slaves nothing is.
 ///
 /// # Errors
 ///
@@ -39,20 +41,18 @@ pub fn changes(
     layout: &Layout,
     command: &Command,
 ) -> Result<Change, Refusal>
-    requires { layout.now ≡ layout_of plant.now }
+    requires { layout.now ≡ plant.now }
     ensures accepted { IfOk result (λ change. outcome plant.now command.now ≡ Ok (redone plant.now change.runs.items)) }
     ensures runs { IfOk result (λ change. change.runs.items ≡ runs_between plant.now (redone plant.now change.runs.items)) }
     ensures inside { IfOk result (λ change. All (LiesInside plant.now) change.runs.items) }
-    ensures layout { IfOk result (λ change. change.layout ≡ layout_of (redone plant.now change.runs.items)) }
+    ensures layouts { IfOk result (λ change. with_new plant.now change.layouts.items ≡ redone plant.now change.runs.items) }
     ensures refused { IfErr result (λ refusal. IsRefusalOf (outcome plant.now command.now) refusal) }
 {
     let mut draft = Draft::of(alloc, plant)?;
     carry_out(&mut draft, alloc, plant, command)?;
-    let new = draft.judged_layout(plant, layout)?;
-    Ok(Change {
-        runs: draft.runs(alloc, plant)?,
-        layout: new,
-    })
+    let layouts = judged_layouts(alloc, &draft, plant, layout)?;
+    let runs = draft.runs(alloc, plant)?;
+    Ok(Change { runs, layouts })
 }
 
 /// The plant once a command is carried out, and the runs that lead there.

@@ -1,6 +1,7 @@
-ghost use Rattle.std.specs.Prelude.{◌≡◌, ◌≢◌, ◌≤◌, ◌==◌, ◌∷◌, [], None, Ok, Err, is_err, length, map, count_by, position, All, IfOk, IfErr, OnOk};
-ghost use Rattle.sii_cats.specs.Chain.{end_of, members_of, member_of};
-ghost use Rattle.sii_edit.specs.Category.{has_malformed, if_read, is_malformed, is_unfit, with_category};
+ghost use Rattle.std.specs.Prelude.{◌≡◌, ◌≢◌, ◌≤◌, ◌==◌, ◌∷◌, [], None, Ok, Err, is_err, is_some, unwrap_or, length, map, count_by, position, All, IfOk, IfErr, OnOk};
+ghost use Rattle.sii_cats.specs.Chain.{end_of, member_of};
+ghost use Rattle.sii_cats.specs.steps.Chain.{members_of};
+ghost use Rattle.sii_edit.specs.Category.{first_malformed, malformed_in, is_malformed, is_unfit, with_category};
 ghost use Rattle.sii_edit.specs.Command.{category_causes};
 ghost use Rattle.sii_edit.specs.Refusal.{unless, IsAnswer, IsJudgement};
 
@@ -8,16 +9,10 @@ use crate::command::Expect;
 use crate::guard::is_other;
 use crate::image::overwritten;
 use crate::refusal::Cause;
-use sii_cats::{CatFault, Category, ChainFault, END, chain, pdos, splice, strings};
+use sii_cats::kind::{END, RXPDOS, STRINGS, TXPDOS};
+use sii_cats::{CatFault, Category, ChainFault, chain, pdos, splice, strings};
 use sii_words::Words;
 use std::alloc::Global;
-
-/// The types of the categories whose contents are judged.
-const STRINGS: u16 = 10;
-
-const TXPDO: u16 = 50;
-
-const RXPDO: u16 = 51;
 
 /// Whether what was read is refused as malformed.
 fn is_refused<T: Drop>(read: Result<T, CatFault>) -> Result<bool, Cause>
@@ -39,17 +34,17 @@ fn is_malformed(alloc: Global, kind: u16, content: &[u16]) -> Result<bool, Cause
 {
     match kind {
         STRINGS => is_refused(strings(alloc, content)),
-        TXPDO | RXPDO => is_refused(pdos(alloc, kind, content)),
+        TXPDOS | RXPDOS => is_refused(pdos(alloc, kind, content)),
         _ => Ok(false),
     }
 }
 
 /// Judges the content and the type that a category is to have.
 fn judge_content(alloc: Global, kind: u16, content: &[u16]) -> Result<(), Cause>
-    ensures { IsJudgement ((is_unfit kind content.now, Cause.BadCategory) ∷ []) result }
+    ensures { IsJudgement ((is_unfit kind content.now, Cause.BadCategory kind) ∷ []) result }
 {
     if kind == END || is_malformed(alloc, kind, content)? {
-        return Err(Cause::BadCategory);
+        return Err(Cause::BadCategory { kind });
     }
     Ok(())
 }
@@ -57,11 +52,14 @@ fn judge_content(alloc: Global, kind: u16, content: &[u16]) -> Result<(), Cause>
 /// Judges the contents of categories that stand among these words.
 fn judge_contents(alloc: Global, words: &[u16], categories: &[Category]) -> Result<(), Cause>
     requires { All (λ c. end_of c ≤ length words.now) categories.now }
-    ensures { IsJudgement ((has_malformed (map (member_of words.now) categories.now), Cause.BadCategory) ∷ []) result }
+    ensures { let malformed = first_malformed (map (member_of words.now) categories.now) in
+        IsJudgement ((is_some malformed, Cause.BadCategory (unwrap_or malformed 0)) ∷ []) result }
 {
     for category in categories {
         if is_malformed(alloc, category.kind, category.content(words))? {
-            return Err(Cause::BadCategory);
+            return Err(Cause::BadCategory {
+                kind: category.kind,
+            });
         }
     }
     Ok(())
@@ -70,7 +68,8 @@ fn judge_contents(alloc: Global, words: &[u16], categories: &[Category]) -> Resu
 /// Judges the chain of categories of these words, and their contents.
 pub(crate) fn judge_chain(alloc: Global, words: &[u16]) -> Result<(), Cause>
     requires { 64 ≤ length words.now }
-    ensures { IsJudgement ((if_read (members_of words.now) has_malformed, Cause.BadCategory) ∷ (is_err (members_of words.now), Cause.BadChain) ∷ []) result }
+    ensures { let malformed = malformed_in (members_of words.now) in
+        IsJudgement ((is_some malformed, Cause.BadCategory (unwrap_or malformed 0)) ∷ (is_err (members_of words.now), Cause.BadChain) ∷ []) result }
 {
     let categories = chain(alloc, words)?;
     judge_contents(alloc, words, &categories)
@@ -93,13 +92,13 @@ fn place_of(categories: &[Category], kind: u16) -> Option<usize>
 /// The words of a slave whose chain has these categories, with the one of a type exchanged, added last or taken out.
 fn exchanged(
     alloc: Global,
-    words: &Words,
+    words: Words,
     categories: &[Category],
     kind: u16,
     content: &[u16],
 ) -> Result<Words, Cause>
-    requires { members_of words.now ≡ Ok (map (member_of words.now) categories.now) }
-    ensures { IsAnswer (unless (category_causes None words.now kind content.now) (with_category words.now kind content.now)) result }
+    requires { members_of words ≡ Ok (map (member_of words) categories.now) }
+    ensures { IsAnswer (unless (category_causes None words kind content.now) (with_category words kind content.now)) result }
 {
     let count = count_of(categories, kind);
     if content.is_empty() && count == 0 {
@@ -111,7 +110,7 @@ fn exchanged(
     judge_content(alloc, kind, content)?;
     let place = place_of(categories, kind);
     let new = splice(alloc, words.as_slice(), place, kind, content)?;
-    Ok(overwritten(words, &new)?)
+    Ok(overwritten(words, &new))
 }
 
 /// The words of a slave with the one category of a type exchanged, added last where there is none, or taken out where the
@@ -119,13 +118,13 @@ fn exchanged(
 pub(crate) fn recategorized(
     alloc: Global,
     expect: Option<Expect>,
-    words: &Words,
+    words: Words,
     kind: u16,
     content: &[u16],
 ) -> Result<Words, Cause>
-    ensures { IsAnswer (unless (category_causes expect words.now kind content.now) (with_category words.now kind content.now)) result }
+    ensures { IsAnswer (unless (category_causes expect words kind content.now) (with_category words kind content.now)) result }
 {
-    if is_other(expect, words) {
+    if is_other(expect, &words) {
         return Err(Cause::WrongIdentity);
     }
     match chain(alloc, words.as_slice()) {

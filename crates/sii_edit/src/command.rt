@@ -1,13 +1,16 @@
 ghost use Rattle.std.specs.Prelude.{◌≡◌, IfOk};
 ghost use Rattle.sii_edit.specs.Command.{slave_of, edited_words};
-ghost use Rattle.sii_edit.specs.Refusal.{IsAnswer};
+ghost use Rattle.sii_edit.specs.Draft.{Renews};
 
 use crate::alias::renamed;
 use crate::category::recategorized;
+use crate::draft::NewWords;
 use crate::image::imaged;
-use crate::lists::{EditList, GuardedEditList};
+use crate::lists::{EditList, GuardedEditList, copied_edits, copied_guarded};
 use crate::refusal::Cause;
-use sii_words::{ImageFile, WordList, Words};
+use crate::slave_words::SlaveWords;
+use sii_runs::WordList;
+use sii_words::ImageFile;
 use std::alloc::{AllocError, Global};
 
 /// A change of one slave's EEPROM. Slaves are numbered from 0, in the order of the line.
@@ -75,14 +78,14 @@ impl Edit {
         }
     }
 
-    /// The words of that slave once it is edited.
-    pub(crate) fn edited(
+    /// What it makes of the words of that slave.
+    pub(crate) fn new_words(
         &self,
         alloc: Global,
         expect: Option<Expect>,
-        words: &Words,
-    ) -> Result<Words, Cause>
-        ensures { IsAnswer (edited_words expect self.now words.now) result }
+        words: &SlaveWords,
+    ) -> Result<NewWords, Cause>
+        ensures { Renews (edited_words expect self.now words.now) words.now result }
     {
         match self {
             Edit::Alias { value, .. } => renamed(expect, words, *value),
@@ -90,8 +93,15 @@ impl Edit {
                 kind,
                 words: content,
                 ..
-            } => recategorized(alloc, expect, words, *kind, content.as_slice()),
-            Edit::Image { image, .. } => imaged(alloc, expect, words, image),
+            } => {
+                let whole = words.to_words()?;
+                let new = recategorized(alloc, expect, whole, *kind, content.as_slice())?;
+                Ok(NewWords::Rewritten(new))
+            }
+            Edit::Image { image, .. } => {
+                let new = imaged(alloc, expect, words.to_words()?, image)?;
+                Ok(NewWords::Rewritten(new))
+            }
         }
     }
 
@@ -137,8 +147,14 @@ impl Command {
         match self {
             Command::One(edit) => Ok(Command::One(edit.try_copy()?)),
             Command::Swap { a, b } => Ok(Command::Swap { a: *a, b: *b }),
-            Command::Group(edits) => Ok(Command::Group(edits.try_copy()?)),
-            Command::Guarded(edits) => Ok(Command::Guarded(edits.try_copy()?)),
+            Command::Group(edits) => Ok(Command::Group(copied_edits(
+                edits.allocator(),
+                edits.as_slice(),
+            )?)),
+            Command::Guarded(edits) => Ok(Command::Guarded(copied_guarded(
+                edits.allocator(),
+                edits.as_slice(),
+            )?)),
         }
     }
 }

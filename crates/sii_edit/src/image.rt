@@ -1,4 +1,4 @@
-ghost use Rattle.std.specs.Prelude.{◌≡◌, ◌≤◌, length, IfOk};
+ghost use Rattle.std.specs.Prelude.{◌≡◌, ◌≤◌, length};
 ghost use Rattle.sii_edit.specs.Command.{image_causes};
 ghost use Rattle.sii_edit.specs.Image.{with_front};
 ghost use Rattle.sii_edit.specs.Refusal.{unless, IsAnswer};
@@ -8,28 +8,27 @@ use crate::command::Expect;
 use crate::guard::is_other;
 use crate::refusal::Cause;
 use sii_words::{ImageFile, Words};
-use std::alloc::{AllocError, Global};
+use std::alloc::Global;
 
-/// A copy of the words of a slave with others in front.
-pub(crate) fn overwritten(words: &Words, front: &[u16]) -> Result<Words, AllocError>
-    requires { length front.now ≤ length words.now }
-    ensures { IfOk result (λ new. new ≡ with_front words.now front.now) }
+/// The words of a slave with others in front.
+pub(crate) fn overwritten(mut words: Words, front: &[u16]) -> Words
+    requires { length front.now ≤ length words }
+    ensures { result ≡ with_front words front.now }
 {
-    let mut new = words.try_copy()?;
     for (at, word) in front.iter().enumerate() {
-        new.set(at, *word);
+        words.set(at, *word);
     }
-    Ok(new)
+    words
 }
 
 /// The words of a slave with an image in front, behind which the old words stay.
 pub(crate) fn imaged(
     alloc: Global,
     expect: Option<Expect>,
-    words: &Words,
+    words: Words,
     image: &ImageFile,
 ) -> Result<Words, Cause>
-    ensures { IsAnswer (unless (image_causes expect words.now image.now) (with_front words.now image.now)) result }
+    ensures { IsAnswer (unless (image_causes expect words image.now) (with_front words image.now)) result }
 {
     if image.as_slice().len() > words.len() {
         return Err(Cause::ImageTooLong);
@@ -37,10 +36,10 @@ pub(crate) fn imaged(
     if !image.check_ok() {
         return Err(Cause::BadCheck);
     }
-    if is_other(expect, words) {
+    if is_other(expect, &words) {
         return Err(Cause::WrongIdentity);
     }
-    let new = overwritten(words, image.as_slice())?;
+    let new = overwritten(words, image.as_slice());
     judge_chain(alloc, new.as_slice())?;
     Ok(new)
 }

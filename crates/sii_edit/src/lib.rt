@@ -10,19 +10,14 @@ mod group;
 mod guard;
 mod image;
 pub mod laws;
+mod layouts;
 mod lists;
-mod redoing;
 mod refusal;
-mod run;
-mod stretches;
-#[cfg(test)]
-mod tests;
+mod slave_words;
 
 pub use alias::alias_image;
 pub use applying::{Change, apply, changes};
 pub use command::{Command, Edit, Expect, GuardedEdit};
 pub use lists::{EditList, GuardedEditList};
-pub use redoing::redo;
 pub use refusal::{Cause, Refusal};
-pub use run::Run;
-pub use sii_words::WordList;
+pub use sii_runs::WordList;

@@ -1,49 +1,114 @@
 ghost use Rattle.std.specs.Prelude.{◌≡◌};
+ghost use Rattle.sii_edit.specs.Codes.{code_of, name_of};
 ghost use Rattle.sii_edit.specs.Refusal.{placed, whole};
 
 use sii_cats::{CatFault, ChainFault};
 use std::alloc::{AllocError, AllocFailed};
-use thiserror::Error;
+use std::fmt;
 
-/// Why a command isn't carried out.
-#[derive(Clone, Copy, Debug, PartialEq, Eq, Error)]
+/// Why a command isn't carried out. It is printed as its code and its name.
+#[derive(Clone, Copy, Debug, PartialEq, Eq)]
 pub enum Cause {
-    #[error("the line has no such slave")]
+    /// The line has no such slave.
     NoSlave,
-    #[error("both slaves are the same")]
+    /// Both slaves of a swap are the same.
     SameSlave,
-    #[error("the group has no edits")]
+    /// The group has no edits.
     EmptyGroup,
-    #[error("the group has more than 64 edits")]
+    /// The group has more than 64 edits.
     GroupTooLong,
-    #[error("the image is longer than the device")]
+    /// The image is longer than the device.
     ImageTooLong,
-    #[error("the check byte is wrong")]
+    /// The check byte is wrong.
     BadCheck,
-    #[error("the slave has another identity than expected")]
+    /// The slave has another identity than expected.
     WrongIdentity,
-    #[error("there is no category of this type")]
+    /// There is no category of this type to be removed.
     NoSuchCategory,
-    #[error("there are several categories of this type")]
+    /// There are several categories of this type.
     SeveralCategories,
-    #[error("the content of a category is malformed")]
-    BadCategory,
-    #[error("the categories do not fit into the device")]
+    /// The content of a category of this type is malformed, or no category may have this type. Of an image it is the first
+    /// such category of the result.
+    BadCategory { kind: u16 },
+    /// The categories do not fit into the device.
     NoRoom,
-    #[error("the chain of categories can not be read")]
+    /// The chain of categories can not be read.
     BadChain,
-    #[error("the process image is over its limits")]
+    /// The process image would be over its limits.
     ImageOverLimit,
-    #[error("out of memory")]
+    /// There was no memory.
     Memory,
 }
 
-/// A command that isn't carried out: why, and for an edit of a group, which edit it was, counted from 0.
-#[derive(Clone, Copy, Debug, PartialEq, Eq, Error)]
-#[error("{cause}")]
+/// A command that isn't carried out: why, and for an edit of a group, which edit it was, counted from 0. It is printed as the
+/// cause, and the position behind it.
+#[derive(Clone, Copy, Debug, PartialEq, Eq)]
 pub struct Refusal {
     pub cause: Cause,
     pub position: Option<u8>,
+}
+
+impl Cause {
+    /// The code of the table of codes: 4, 5 or 10 to 21.
+    pub fn code(self) -> u8
+        ensures { result ≡ code_of self }
+    {
+        match self {
+            Cause::BadCategory { .. } => 4,
+            Cause::NoRoom => 5,
+            Cause::NoSlave => 10,
+            Cause::SameSlave => 11,
+            Cause::EmptyGroup => 12,
+            Cause::GroupTooLong => 13,
+            Cause::ImageTooLong => 14,
+            Cause::BadCheck => 15,
+            Cause::NoSuchCategory => 16,
+            Cause::SeveralCategories => 17,
+            Cause::BadChain => 18,
+            Cause::ImageOverLimit => 19,
+            Cause::Memory => 20,
+            Cause::WrongIdentity => 21,
+        }
+    }
+
+    /// The name that goes with the code.
+    pub fn name(self) -> &'static str
+        ensures { result.now ≡ name_of self }
+    {
+        match self {
+            Cause::BadCategory { .. } => "BadCategory",
+            Cause::NoRoom => "NoRoom",
+            Cause::NoSlave => "NoSlave",
+            Cause::SameSlave => "SameSlave",
+            Cause::EmptyGroup => "EmptyGroup",
+            Cause::GroupTooLong => "GroupTooLong",
+            Cause::ImageTooLong => "ImageTooLong",
+            Cause::BadCheck => "BadCheck",
+            Cause::NoSuchCategory => "NoSuchCategory",
+            Cause::SeveralCategories => "SeveralCategories",
+            Cause::BadChain => "BadChain",
+            Cause::ImageOverLimit => "ImageOverLimit",
+            Cause::Memory => "Memory",
+            Cause::WrongIdentity => "WrongIdentity",
+        }
+    }
+}
+
+impl fmt::Display for Cause {
+    fn fmt<W: fmt::Write>(&self, f: &mut fmt::Formatter<W>) -> fmt::Result {
+        let (code, name) = (self.code(), self.name());
+        write!(f, "{code} {name}")
+    }
+}
+
+impl fmt::Display for Refusal {
+    fn fmt<W: fmt::Write>(&self, f: &mut fmt::Formatter<W>) -> fmt::Result {
+        let cause = self.cause;
+        match self.position {
+            Some(position) => write!(f, "{cause} at {position}"),
+            None => write!(f, "{cause}"),
+        }
+    }
 }
 
 impl Refusal {
@@ -113,7 +178,7 @@ impl From<CatFault> for Cause {
         match fault {
             CatFault::Memory => Cause::Memory,
             CatFault::RunsOut { .. } => Cause::BadChain,
-            CatFault::BadCategory { .. } => Cause::BadCategory,
+            CatFault::BadCategory { kind } => Cause::BadCategory { kind },
             CatFault::NoRoom => Cause::NoRoom,
         }
     }

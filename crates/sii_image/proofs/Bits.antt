@@ -2,7 +2,8 @@
 use Rattle.std.proofs.Common.{◌≡◌, ℕ, ◌+◌, ◌*◌, ◌≤◌, List}
 use Rattle.sii_cats.specs.Pdos.{views}
 use Rattle.sii_cats.specs.declared.mappings.Pdo.{Pdo}
-use Rattle.sii_image.specs.ProcessData.{bits_for, entry_count}
+use Rattle.sii_image.specs.ProcessData.{bits_for}
+use Rattle.sii_image.specs.steps.Contents.{entry_count}
 
 -- The bits of the PDOs before the rest are added up; each entry has 255 at most.
 pub record Adding (pdos : List Pdo) (number bits : ℕ) (rest : List Pdo) : Type 0 where

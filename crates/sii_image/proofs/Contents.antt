@@ -5,10 +5,12 @@ use Rattle.std.proofs.lemmas.Bool.{eq-eqb, ne_eqb}
 use Rattle.std.proofs.lemmas.List.{drop_more}
 use Rattle.std.proofs.lemmas.List.Sums.{sum_by-cons, sum_by-append}
 use Rattle.sii_cats.specs.Chain.{Member, content_of, member_of}
-use Rattle.sii_cats.specs.Items.{◌>>=◌}
-use Rattle.sii_cats.specs.Pdos.{Mapping, pdos_of}
+use Rattle.sii_cats.specs.steps.Items.{◌>>=◌}
+use Rattle.sii_cats.specs.Pdos.{Mapping}
+use Rattle.sii_cats.specs.steps.Pdos.{pdos_of}
 use Rattle.sii_cats.specs.declared.categories.Category.{Category}
-use Rattle.sii_image.specs.ProcessData.{content_sizes, contents_among, entry_count, pdos_in}
+use Rattle.sii_image.specs.ProcessData.{pdos_in}
+use Rattle.sii_image.specs.steps.Contents.{content_sizes, contents_among, entry_count}
 
 abbrev pub with_front : List Mapping → Result (List Mapping) (List ℕ) → Result (List Mapping) (List ℕ)
 with_front before read = read >>= λ pdos. Ok (before ++ pdos)

@@ -11,7 +11,7 @@ use Rattle.sii_cats.specs.Pdos.{ArePdos, Mapping, entry_bytes, head_bytes, pdo_b
 use Rattle.sii_cats.specs.declared.mappings.PdoEntry.{PdoEntry}
 use Rattle.sii_cats.specs.declared.categories.Category.{Category}
 use Rattle.sii_cats.specs.declared.fault.ChainFault.{ChainFault}
-use Rattle.sii_image.specs.ProcessData.{content_sizes, entry_count}
+use Rattle.sii_image.specs.steps.Contents.{content_sizes, entry_count}
 
 abbrev Shortens : {X : Type 0} → (List ℕ → X → List ℕ → Type 0) → (X → ℕ) → Type 0
 Shortens {X} Begins size = (cells : List ℕ) (x : X) (rest : List ℕ) → Begins cells x rest → size x + length rest ≤ length cells

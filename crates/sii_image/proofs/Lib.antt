@@ -4,4 +4,6 @@ pub mod Fits
 pub mod RowsMade
 pub mod Placing
 pub mod Segments
-pub mod KeptLaw
+pub mod SameRows
+pub mod WithNew
+pub mod Fitting

@@ -6,9 +6,10 @@ use Rattle.std.proofs.Common.{◌≡◌, ℕ, ◌+◌, ◌<◌, Bool, true, fals
 use Rattle.std.proofs.lemmas.List.{append-nil, drop_more}
 use Rattle.std.proofs.lemmas.List.Sums.{sum_by-append, sum_by-cons}
 use Rattle.sii_image.specs.declared.rows.Row.{Row}
-use Rattle.sii_image.specs.declared.image.Segment.{Segment}
+use Rattle.sii_image.specs.declared.process_image.Segment.{Segment}
 use Rattle.sii_image.specs.declared.placement.Placement.{Placement}
-use Rattle.sii_image.specs.Placement.{AreAdded, segments_from}
+use Rattle.sii_image.specs.ProcessData.{rows_of}
+use Rattle.sii_image.specs.steps.Placement.{AreAdded, segments_from}
 use Rattle.sii_image.specs.ProcessImage.{is_towards, segment_at, size_of, slave_rows, total}
 
 -- All rows but the rest are placed.
@@ -71,9 +72,10 @@ slave_rows-left output slave rows i d h e =
     ap (λ (rest : List Row). slave_rows output (slave, rest)) (drop_more rows i d h)
     ∙ ap (rows_if output slave (get_or rows i d) (drop (i + 1) rows)) (towards_is output (get_or rows i d).output ∙ e)
 
-abbrev pub rows_behind : Bool → ℕ → List (List Row) → List (ℕ × Row)
-rows_behind output slave slaves = flat_map (slave_rows output) (enumerate_from slave slaves)
+-- the outputs or the inputs of these slaves, the first with this number
+abbrev pub rows_behind : Bool → ℕ → List (List ℕ) → List (ℕ × Row)
+rows_behind output number slaves = flat_map (λ slave. slave_rows output (slave.0, rows_of slave.1)) (enumerate_from number slaves)
 
-pub rows_behind-next : (output : Bool) (slaves : List (List Row)) (i : ℕ) (d : List Row) → i < length slaves
-    → rows_behind output i (drop i slaves) ≡ slave_rows output (i, get_or slaves i d) ++ rows_behind output (i + 1) (drop (i + 1) slaves)
+pub rows_behind-next : (output : Bool) (slaves : List (List ℕ)) (i : ℕ) (d : List ℕ) → i < length slaves
+    → rows_behind output i (drop i slaves) ≡ slave_rows output (i, rows_of (get_or slaves i d)) ++ rows_behind output (i + 1) (drop (i + 1) slaves)
 rows_behind-next output slaves i d h = ap (rows_behind output i) (drop_more slaves i d h)

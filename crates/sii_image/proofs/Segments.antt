@@ -6,10 +6,11 @@ use Rattle.std.proofs.lemmas.List.{take_at, length_push}
 use Rattle.std.proofs.lemmas.Bool.{le-leb}
 use Rattle.std.proofs.lemmas.List.Sums.{sum_by_push}
 use Rattle.sii_image.specs.declared.rows.Row.{Row}
-use Rattle.sii_image.specs.declared.image.Segment.{Segment}
+use Rattle.sii_image.specs.declared.process_image.Segment.{Segment}
 use Rattle.sii_image.specs.declared.placement.Placement.{Placement}
-use Rattle.sii_image.specs.Placement.{AreAdded, segments_from}
-use Rattle.sii_image.specs.ProcessImage.{Image, all_rows, counter_of, image_of_layout, image_within, rows_towards, segment_at, segments_of, size_of, total}
+use Rattle.sii_image.specs.ProcessData.{rows_of}
+use Rattle.sii_image.specs.steps.Placement.{AreAdded, segments_from}
+use Rattle.sii_image.specs.ProcessImage.{ProcessImageParts, all_rows, counter_of, has_few_rows, placed, process_image, rows_towards, segment_at, segments_of, size_of, total}
 use Rattle.sii_image.proofs.Placing.{segments_from-append, total-append}
 
 -- each of these rows where its number says, among all rows
@@ -31,37 +32,33 @@ placed_behind before (r ∷ rows) =
 pub segments_of-from : (rows : List (ℕ × Row)) → segments_from 0 rows ≡ segments_of rows
 segments_of-from rows = sym (placed_behind [] rows)
 
--- every slave has few rows
-abbrev pub are_few : List (List Row) → Bool
-are_few layout = list_all (λ rows. nat_le (length rows) 8) layout
+image_if : List (List ℕ) → Bool → Option ProcessImageParts
+image_if plant b = cond b (Some (placed plant)) None
 
-image_if : List (List Row) → Bool → Option Image
-image_if layout b = cond b (Some (image_of_layout layout)) None
-
-pub image_within-some : (layout : List (List Row)) → are_few layout ≡ true → total (all_rows layout) ≤ 1486 → image_within layout ≡ Some (image_of_layout layout)
+pub process_image-some : (plant : List (List ℕ)) → list_all has_few_rows plant ≡ true → total (all_rows plant) ≤ 1486 → process_image plant ≡ Some (placed plant)
 unfolding image_if
-image_within-some layout few fits =
-    ap (λ (b : Bool). image_if layout (b && nat_le (total (all_rows layout)) 1486)) few
-    ∙ ap (image_if layout) (le-leb (total (all_rows layout)) 1486 fits)
+process_image-some plant few fits =
+    ap (λ (b : Bool). image_if plant (b && nat_le (total (all_rows plant)) 1486)) few
+    ∙ ap (image_if plant) (le-leb (total (all_rows plant)) 1486 fits)
 
-abbrev made : List (List Row) → List Segment → ℕ → ℕ → Image
-made layout segments outputs inputs = record { segments = segments; outputs = outputs; inputs = inputs; counter = sum_by counter_of layout }
+abbrev pub made : List (List ℕ) → List Segment → ℕ → ℕ → ProcessImageParts
+made plant segments outputs inputs = record { segments = segments; outputs = outputs; inputs = inputs; counter = sum_by (λ words. counter_of (rows_of words)) plant }
 
 -- the outputs placed, and then the inputs
-pub image_within-placed : (layout : List (List Row)) (start first last : Placement) → are_few layout ≡ true → start.segments.items ≡ [] → start.size ≡ 0
-    → AreAdded start first (rows_towards true layout) → AreAdded first last (rows_towards false layout) → last.size ≤ 1486
-    → image_within layout ≡ Some (record { segments = last.segments.items; outputs = first.size; inputs = last.size - first.size; counter = sum_by counter_of layout })
-image_within-placed layout start first last few nothing zero outputs inputs fits =
-    let outs : List (ℕ × Row) = rows_towards true layout in
-    let ins : List (ℕ × Row) = rows_towards false layout in
+pub process_image-placed : (plant : List (List ℕ)) (start first last : Placement) → list_all has_few_rows plant ≡ true → start.segments.items ≡ [] → start.size ≡ 0
+    → AreAdded start first (rows_towards true plant) → AreAdded first last (rows_towards false plant) → last.size ≤ 1486
+    → process_image plant ≡ Some (made plant last.segments.items first.size (last.size - first.size))
+process_image-placed plant start first last few nothing zero outputs inputs fits =
+    let outs : List (ℕ × Row) = rows_towards true plant in
+    let ins : List (ℕ × Row) = rows_towards false plant in
     let first_size : first.size ≡ total outs = omega (arith, outputs.size) in
-    let segments : last.segments.items ≡ segments_of (all_rows layout) =
+    let segments : last.segments.items ≡ segments_of (all_rows plant) =
     inputs.segments
     ∙ ap (λ (o : ℕ). first.segments.items ++ segments_from o ins) first_size
     ∙ ap (λ (s : List Segment). s ++ segments_from (total outs) ins) (outputs.segments ∙ ap (λ (s : List Segment). s ++ segments_from start.size outs) nothing ∙ ap (λ (o : ℕ). segments_from o outs) zero)
-    ∙ sym (segments_from-append 0 outs ins ∙ ap (λ (o : ℕ). segments_from 0 outs ++ segments_from o ins) (omega arith)) ∙ segments_of-from (all_rows layout) in
+    ∙ sym (segments_from-append 0 outs ins ∙ ap (λ (o : ℕ). segments_from 0 outs ++ segments_from o ins) (omega arith)) ∙ segments_of-from (all_rows plant) in
     let inputs_size : last.size - first.size ≡ total ins = omega (arith, inputs.size) in
-    image_within-some layout few (omega (arith, inputs.size, total-append outs ins))
-    ∙ ap (λ (s : List Segment). Some (made layout s (total outs) (total ins))) (sym segments)
-    ∙ ap (λ (o : ℕ). Some (made layout last.segments.items o (total ins))) (sym first_size)
-    ∙ ap (λ (i : ℕ). Some (made layout last.segments.items first.size i)) (sym inputs_size)
+    process_image-some plant few (omega (arith, inputs.size, total-append outs ins))
+    ∙ ap (λ (s : List Segment). Some (made plant s (total outs) (total ins))) (sym segments)
+    ∙ ap (λ (o : ℕ). Some (made plant last.segments.items o (total ins))) (sym first_size)
+    ∙ ap (λ (i : ℕ). Some (made plant last.segments.items first.size i)) (sym inputs_size)

@@ -1,11 +1,12 @@
 -- What the categories of a slave say about its process data (ETG.1000.6 and ETG.2010, SyncM, TXPDO and RXPDO categories).
-use Rattle.std.specs.Prelude.{ℕ, List, [], ◌∷◌, ◌++◌, Result, Ok, Err, length, map, filter, sum_by, take, nat_lt, ◌==◌, if◌then◌else◌}
+use Rattle.std.specs.Prelude.{ℕ, List, [], ◌∷◌, ◌++◌, Result, Ok, Err, map, filter, sum_by, take, nat_lt, ◌==◌, if◌then◌else◌}
 use Rattle.std.specs.List.{enumerate_from}
-use Rattle.sii_cats.specs.Chain.{Member, content_of, member_of, members_of}
-use Rattle.sii_cats.specs.declared.categories.Category.{Category}
-use Rattle.sii_cats.specs.Contents.{managers_of}
-use Rattle.sii_cats.specs.Items.{◌>>=◌}
-use Rattle.sii_cats.specs.Pdos.{Mapping, pdos_of}
+use Rattle.sii_cats.specs.Chain.{Member}
+use Rattle.sii_cats.specs.steps.Chain.{members_of}
+use Rattle.sii_cats.specs.steps.Contents.{managers_of}
+use Rattle.sii_cats.specs.steps.Items.{◌>>=◌}
+use Rattle.sii_cats.specs.Pdos.{Mapping}
+use Rattle.sii_cats.specs.steps.Pdos.{pdos_of}
 use Rattle.sii_cats.specs.declared.managers.Manager.{Manager}
 use Rattle.sii_image.specs.declared.rows.Row.{Row}
 
@@ -16,16 +17,8 @@ pub record Description : Type 0 where
   pub inputs : List Mapping
 
 -- the contents of all categories of a type
-abbrev pub contents_of : ℕ → List Member → List (List ℕ)
-contents_of kind members = map (λ m. m.content) (filter (λ m. m.kind == kind) members)
-
--- the same, where the categories stand among words
-abbrev pub contents_among : List ℕ → ℕ → List Category → List (List ℕ)
-contents_among words kind categories = contents_of kind (map (member_of words) categories)
-
--- how many words the contents of categories have
-abbrev pub content_sizes : List ℕ → List Category → ℕ
-content_sizes words categories = sum_by (λ c. length (content_of words c)) categories
+abbrev pub contents_of_kind : ℕ → List Member → List (List ℕ)
+contents_of_kind kind members = map (λ m. m.content) (filter (λ m. m.kind == kind) members)
 
 -- The managers of the first SyncM category, or none where there is none. Such a category can always be read.
 abbrev pub managers_in : List (List ℕ) → Result (List Manager) (List ℕ)
@@ -42,18 +35,14 @@ pdos_in (content ∷ contents) = pdos_of content >>= λ pdos. pdos_in contents >
 abbrev pub described : List ℕ → Result Description (List ℕ)
 described words = do
   members ← members_of words
-  managers ← managers_in (contents_of 41 members)
-  outputs ← pdos_in (contents_of 51 members)
-  inputs ← pdos_in (contents_of 50 members)
+  managers ← managers_in (contents_of_kind 41 members)
+  outputs ← pdos_in (contents_of_kind 51 members)
+  inputs ← pdos_in (contents_of_kind 50 members)
   Ok (record { managers = take 16 managers; outputs = outputs; inputs = inputs })
 
 -- the bits of a PDO
 abbrev pub pdo_bits : Mapping → ℕ
 pdo_bits pdo = sum_by (λ entry. entry.bit_length) pdo.entries
-
--- the entries of PDOs
-abbrev pub entry_count : List Mapping → ℕ
-entry_count pdos = sum_by (λ pdo. length pdo.entries) pdos
 
 -- the bits of all PDOs that name a manager
 abbrev pub bits_for : List Mapping → ℕ → ℕ
@@ -76,5 +65,5 @@ rows_read (Ok d) = rows_described d
 rows_read (Err words) = []
 
 -- the rows of a slave with these words; none where they can't be read
-abbrev pub rows_of : List ℕ → List Row
+unfoldable pub rows_of : List ℕ → List Row
 rows_of words = rows_read (described words)

@@ -1,42 +1,44 @@
-//! The rows of all slaves, kept up while contents change.
+//! What a process image is made from, kept up while contents change.
 
-ghost use Rattle.std.specs.Prelude.{◌≡◌, ◌≤◌, length, nat_le, slice_set, sum_by, IfOk, OnOk, OnErr};
+ghost use Rattle.std.specs.Prelude.{◌≡◌, ◌<◌, ◌≤◌, ◌↔◌, length, map, slice_set, sum_by, IsTrue, IsSome, IfOk, OnOk, OnErr};
 ghost use Rattle.std.specs.List.{list_all};
+ghost use Rattle.sii_words.specs.Plant.{with_new, words_of};
 ghost use Rattle.sii_image.specs.ProcessData.{rows_of};
-ghost use Rattle.sii_image.specs.ProcessImage.{counter_of, image_within, layout_of, process_image};
-ghost use Rattle.sii_image.specs.Answer.{GivesImage};
+ghost use Rattle.sii_image.specs.ProcessImage.{counter_of, has_few_rows, process_image};
+ghost use Rattle.sii_image.specs.Answer.{GivesProcessImage};
 
 use crate::fault::ImageFault;
-use crate::image::ProcessImage;
+use crate::limits::are_within_limits;
 use crate::placement::Placement;
-use crate::process_data::rows_of_words;
-use crate::rows::{SlaveRows, expected_counter};
+use crate::process_image::ProcessImage;
+use crate::rows::{MOST_ROWS, expected_counter};
+use crate::slave_layout::SlaveLayout;
 use sii_words::{Plant, Words};
 use std::alloc::{AllocError, Global};
 use std::marker::Model;
 
-/// How many rows a slave has at most: one for each of its FMMUs.
-const MOST_ROWS: usize = 8;
-
-fn have_few_rows(slaves: &[SlaveRows]) -> bool
-    ensures { result ≡ list_all (λ rows. nat_le (length rows) 8) slaves.now }
+fn have_few_rows(slaves: &[SlaveLayout]) -> bool
+    ensures { result ≡ list_all has_few_rows slaves.now }
 {
-    slaves.iter().all(|rows| rows.as_slice().len() <= MOST_ROWS)
+    slaves.iter().all(|slave| slave.rows().len() <= MOST_ROWS)
 }
 
-fn expected_counter_of_all(slaves: &[SlaveRows]) -> u16
+fn expected_counter_of_all(slaves: &[SlaveLayout]) -> u16
     requires { length slaves.now ≤ 64 }
-    ensures { result ≡ sum_by counter_of slaves.now }
+    ensures { result ≡ sum_by (λ words. counter_of (rows_of words)) slaves.now }
 {
     slaves
         .iter()
-        .map(|rows| expected_counter(rows.as_slice()))
+        .map(|slave| expected_counter(slave.rows()))
         .sum()
 }
 
-fn image_of_slaves(alloc: Global, slaves: &[SlaveRows]) -> Result<ProcessImage, ImageFault>
+fn process_image_of_slaves(
+    alloc: Global,
+    slaves: &[SlaveLayout],
+) -> Result<ProcessImage, ImageFault>
     requires { length slaves.now ≤ 64 }
-    ensures { GivesImage result (image_within slaves.now) }
+    ensures { GivesProcessImage result (process_image slaves.now) }
 {
     if !have_few_rows(slaves) {
         return Err(ImageFault::ImageOverLimit);
@@ -54,18 +56,32 @@ fn image_of_slaves(alloc: Global, slaves: &[SlaveRows]) -> Result<ProcessImage, 
     ))
 }
 
-/// What the process image of a line is made from, kept up while the contents of its slaves change. Contracts see the list
-/// of each slave's rows.
-#[derive(Debug, Drop)]
+/// Puts each new layout in the place of the old one.
+fn put_each(slaves: &mut [SlaveLayout], new: Vec<Option<SlaveLayout>>)
+    ensures { slaves.new ≡ with_new slaves.old new.items }
+{
+    let mut left = new;
+    while let Some(last) = left.pop() {
+        let slave = left.len();
+        if let Some(layout) = last {
+            if slave < slaves.len() {
+                slaves[slave] = layout;
+            }
+        }
+    }
+}
+
+/// What the process image of a line is made from, kept up while the contents of its slaves change. Contracts see these
+/// contents as they are now; the layout holds none of their words.
+#[derive(Drop)]
 pub struct Layout {
-    slaves: Vec<SlaveRows>,
+    slaves: Vec<SlaveLayout>,
 }
 
 impl Model for Layout {
-    ghost use Rattle.std.specs.Prelude.{List, length, ◌≤◌};
-    ghost use Rattle.sii_image.specs.declared.rows.Row.{Row};
+    ghost use Rattle.std.specs.Prelude.{ℕ, List, length, ◌≤◌};
 
-    ghost Value = { List (List Row) };
+    ghost Value = { List (List ℕ) };
 
     ghost view = { λ layout. layout.slaves.items };
 
@@ -75,50 +91,62 @@ impl Model for Layout {
 impl Layout {
     /// The layout of these contents.
     pub fn of(alloc: Global, plant: &Plant) -> Result<Layout, AllocError>
-        ensures { IfOk result (λ layout. layout ≡ layout_of plant.now) }
+        ensures { IfOk result (λ layout. layout ≡ plant.now) }
     {
         let mut slaves = Vec::with_capacity(alloc, plant.len())?;
         for slave in 0..plant.len() {
-            slaves.push(rows_of_words(alloc, plant.slave(slave).as_slice())?)?;
+            slaves.push(SlaveLayout::of(alloc, plant.slave(slave))?)?;
         }
         Ok(Layout { slaves })
+    }
+
+    /// The layout of one slave.
+    pub fn slave(&self, slave: usize) -> &SlaveLayout
+        requires { slave < length self.now }
+        ensures { result.now ≡ words_of self.now slave }
+    {
+        &self.slaves[slave]
     }
 
     /// Takes in the new contents of one slave. A slave that isn't there changes nothing.
     pub fn change(&mut self, slave: u16, words: &Words) -> Result<(), AllocError>
-        ensures ok { OnOk result (self.new ≡ slice_set self.old slave (rows_of words.now)) }
+        ensures ok { OnOk result (self.new ≡ slice_set self.old slave words.now) }
         ensures err { OnErr result (self.new ≡ self.old) }
     {
-        let rows = rows_of_words(*self.slaves.allocator(), words.as_slice())?;
+        let new = SlaveLayout::of(*self.slaves.allocator(), words)?;
         if usize::from(slave) < self.slaves.len() {
-            self.slaves[usize::from(slave)] = rows;
+            self.slaves[usize::from(slave)] = new;
         }
         Ok(())
     }
 
-    /// The process image. `ImageOverLimit`: it would have more than 1,486 bytes, or a slave more than 8 segments.
-    pub fn image(&self) -> Result<ProcessImage, ImageFault>
-        ensures { GivesImage result (image_within self.now) }
+    /// Takes in the new contents of each slave that has any. It takes no memory.
+    pub fn put_all(&mut self, new: Vec<Option<SlaveLayout>>)
+        ensures { self.new ≡ with_new self.old new.items }
     {
-        image_of_slaves(*self.slaves.allocator(), &self.slaves)
+        put_each(&mut self.slaves, new);
     }
 
-    /// A copy with the same rows.
-    pub fn try_copy(&self) -> Result<Layout, AllocError>
-        ensures { IfOk result (λ copy. copy ≡ self.now) }
+    /// The process image of the contents as they are now. `ImageOverLimit`: it would have more than 1,486 bytes, or a slave
+    /// more than 8 segments.
+    pub fn image(&self) -> Result<ProcessImage, ImageFault>
+        ensures { GivesProcessImage result (process_image self.now) }
     {
-        let mut slaves = Vec::with_capacity(*self.slaves.allocator(), self.slaves.len())?;
-        for rows in &self.slaves {
-            slaves.push(rows.try_copy()?)?;
-        }
-        Ok(Layout { slaves })
+        process_image_of_slaves(*self.slaves.allocator(), &self.slaves)
+    }
+
+    /// Whether there is a process image once each slave that has new contents has them. It takes no memory.
+    pub fn has_process_image_with(&self, new: &[Option<SlaveLayout>]) -> bool
+        ensures { IsTrue result ↔ IsSome (process_image (with_new self.now new.now)) }
+    {
+        are_within_limits(&self.slaves, new)
     }
 }
 
 /// The process image of a line with these contents. `ImageOverLimit`: it would have more than 1,486 bytes, or a slave more
 /// than 8 segments.
 pub fn image_of(alloc: Global, plant: &Plant) -> Result<ProcessImage, ImageFault>
-    ensures { GivesImage result (process_image plant.now) }
+    ensures { GivesProcessImage result (process_image plant.now) }
 {
     Layout::of(alloc, plant)?.image()
 }

@@ -2,17 +2,17 @@
 #![tactic(auto)]
 
 mod fault;
-mod image;
-mod laws;
 mod layout;
+mod limits;
 mod placement;
+mod plan;
 mod process_data;
+mod process_image;
 mod rows;
-#[cfg(test)]
-mod tests;
+mod slave_layout;
 
 pub use fault::ImageFault;
-pub use image::{ProcessImage, Segment};
-pub use laws::layout_is_kept;
 pub use layout::{Layout, image_of};
-pub use rows::Row;
+pub use plan::Plan;
+pub use process_image::{ProcessImage, Segment};
+pub use slave_layout::SlaveLayout;

@@ -4,15 +4,16 @@ ghost use Rattle.std.specs.Prelude.{◌≡◌, ◌≤◌, [], ◌∷◌, length}
 ghost use Rattle.sii_image.specs.ProcessImage.{slave_rows, rows_towards};
 
 use crate::fault::ImageFault;
-use crate::image::Segment;
-use crate::rows::{Row, SlaveRows};
+use crate::process_image::Segment;
+use crate::rows::Row;
+use crate::slave_layout::SlaveLayout;
 use std::alloc::Global;
 
 /// The most bytes that a process image has.
-const MOST_BYTES: u32 = 1486;
+pub(crate) const MOST_BYTES: u32 = 1486;
 
 /// The segments of the rows placed so far, and their size in bytes.
-#[derive(Debug, Drop)]
+#[derive(Drop)]
 pub(crate) struct Placement {
     pub(crate) segments: Vec<Segment>,
     pub(crate) size: u32,
@@ -20,7 +21,7 @@ pub(crate) struct Placement {
 }
 
 impl Placement {
-    ghost use Rattle.sii_image.specs.Placement.{Places};
+    ghost use Rattle.sii_image.specs.steps.Placement.{Places};
 
     /// Nothing is placed yet.
     pub(crate) fn new(alloc: Global) -> Self
@@ -68,12 +69,12 @@ impl Placement {
     }
 
     /// Places the outputs or the inputs of all slaves.
-    pub(crate) fn add_all(&mut self, slaves: &[SlaveRows], output: bool) -> Result<(), ImageFault>
+    pub(crate) fn add_all(&mut self, slaves: &[SlaveLayout], output: bool) -> Result<(), ImageFault>
         requires { length slaves.now ≤ 64 }
         ensures { Places self.old self.new (rows_towards output slaves.now) result }
     {
-        for (slave, rows) in slaves.iter().enumerate() {
-            self.add_slave(slave as u16, rows.as_slice(), output)?;
+        for (number, slave) in slaves.iter().enumerate() {
+            self.add_slave(number as u16, slave.rows(), output)?;
         }
         Ok(())
     }

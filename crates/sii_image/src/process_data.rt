@@ -1,23 +1,17 @@
 //! What the categories of a slave say about its process data.
 
 ghost use Rattle.std.specs.Prelude.{◌≡◌, ◌≤◌, ◌*◌, length, map, All, IfOk, Ok};
-ghost use Rattle.sii_cats.specs.Chain.{GivesChain, end_of, member_of};
+ghost use Rattle.sii_cats.specs.Chain.{end_of, member_of};
+ghost use Rattle.sii_cats.specs.steps.Chain.{GivesChain};
 ghost use Rattle.sii_cats.specs.Pdos.{view, views};
-ghost use Rattle.sii_cats.specs.Reading.{Gives};
-ghost use Rattle.sii_image.specs.ProcessData.{bits_for, content_sizes, contents_among, described, entry_count, manager_bits, managers_in, pdo_bits, pdos_in, rows_described, rows_of};
+ghost use Rattle.sii_cats.specs.steps.Reading.{Gives};
+ghost use Rattle.sii_image.specs.ProcessData.{bits_for, described, manager_bits, managers_in, pdo_bits, pdos_in, rows_described, rows_of};
+ghost use Rattle.sii_image.specs.steps.Contents.{content_sizes, contents_among, entry_count};
 
-use crate::rows::{Row, SlaveRows};
+use crate::rows::Row;
+use sii_cats::kind::{RXPDOS, SYNC_MANAGERS, TXPDOS};
 use sii_cats::{CatFault, Category, ChainFault, Manager, Pdo, chain, pdos, syncms};
 use std::alloc::{AllocError, Global};
-
-/// The type of a SyncM category.
-const SYNC_MANAGERS: u16 = 41;
-
-/// The type of a TXPDO category: PDOs that the master receives.
-const TXPDOS: u16 = 50;
-
-/// The type of an RXPDO category: PDOs that the master sends.
-const RXPDOS: u16 = 51;
 
 /// The type of a sync manager with process data that the master sends.
 const PROCESS_DATA_OUT: u8 = 3;
@@ -29,7 +23,7 @@ const PROCESS_DATA_IN: u8 = 4;
 const MOST_MANAGERS: usize = 16;
 
 /// The managers that a slave has, and the PDOs that its master sends and receives.
-#[derive(Debug, Drop)]
+#[derive(Drop)]
 struct ProcessData {
     managers: Vec<Manager>,
     outputs: Vec<Pdo>,
@@ -117,8 +111,8 @@ fn bits_of_pdos(pdos: &[Pdo], number: u8) -> u32
 }
 
 impl ProcessData {
-    ghost use Rattle.sii_image.specs.Described.{as_described};
-    ghost use Rattle.sii_image.specs.Reading.{Reads};
+    ghost use Rattle.sii_image.specs.steps.Described.{as_described};
+    ghost use Rattle.sii_image.specs.steps.Reading.{Reads};
 
     /// Reads the categories of a slave.
     fn read(alloc: Global, words: &[u16]) -> Result<Self, CatFault>
@@ -172,14 +166,15 @@ impl ProcessData {
 }
 
 /// The rows of a slave with these words; none where they can't be read.
-pub(crate) fn rows_of_words(alloc: Global, words: &[u16]) -> Result<SlaveRows, AllocError>
+#[tactic(auto, unfolding(crate::specs::ProcessData::rows_of))]
+pub(crate) fn rows_of_words(alloc: Global, words: &[u16]) -> Result<Vec<Row>, AllocError>
     requires least { 64 ≤ length words.now }
     requires most { length words.now ≤ 4096 }
-    ensures { IfOk result (λ rows. rows ≡ rows_of words.now) }
+    ensures { IfOk result (λ rows. rows.items ≡ rows_of words.now) }
 {
     match ProcessData::read(alloc, words) {
-        Ok(data) => Ok(SlaveRows::of(data.rows(alloc)?)),
+        Ok(data) => data.rows(alloc),
         Err(CatFault::Memory) => Err(AllocError),
-        Err(_) => Ok(SlaveRows::of(Vec::new(alloc))),
+        Err(_) => Ok(Vec::new(alloc)),
     }
 }

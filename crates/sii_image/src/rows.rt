@@ -1,14 +1,14 @@
 //! The rows of a slave: its sync managers that have process data.
 
-ghost use Rattle.std.specs.Prelude.{◌≡◌, ◌≤◌, IfOk};
+ghost use Rattle.std.specs.Prelude.{◌≡◌, ◌≤◌};
 ghost use Rattle.std.specs.List.{list_any};
 ghost use Rattle.sii_image.specs.ProcessImage.{counter_of, is_towards, size_of};
 
-use std::alloc::AllocError;
-use std::marker::Model;
+/// How many rows a slave has at most: one for each of its FMMUs.
+pub(crate) const MOST_ROWS: usize = 8;
 
-/// A sync manager that has process data.
-#[derive(Clone, Copy, Debug, PartialEq, Eq)]
+/// A sync manager that has process data (ETG.1000.6 and ETG.2010, SyncM, TXPDO and RXPDO categories).
+#[derive(Clone, Copy)]
 pub struct Row {
     /// Its number among the slave's sync managers, 0 to 15.
     pub manager: u8,
@@ -28,43 +28,6 @@ impl Row {
         ensures { result ≡ size_of self }
     {
         self.bits.div_ceil(8)
-    }
-}
-
-/// The rows of one slave. Contracts see the list of them.
-#[derive(Debug, Drop)]
-pub(crate) struct SlaveRows {
-    rows: Vec<Row>,
-}
-
-impl Model for SlaveRows {
-    ghost use Rattle.std.specs.Prelude.{List};
-    ghost use Rattle.sii_image.specs.declared.rows.Row.{Row};
-
-    ghost Value = { List Row };
-
-    ghost view = { λ slave. slave.rows.items };
-}
-
-impl SlaveRows {
-    pub(crate) fn of(rows: Vec<Row>) -> Self
-        ensures { result ≡ rows.items }
-    {
-        SlaveRows { rows }
-    }
-
-    pub(crate) fn as_slice(&self) -> &[Row]
-        ensures { result.now ≡ self.now }
-    {
-        &self.rows
-    }
-
-    pub(crate) fn try_copy(&self) -> Result<SlaveRows, AllocError>
-        ensures { IfOk result (λ copy. copy ≡ self.now) }
-    {
-        Ok(SlaveRows {
-            rows: self.rows.clone()?,
-        })
     }
 }
 

@@ -1,42 +1,16 @@
-//! The commissioning station's program: reads its arguments, does one subcommand's work, and ends with its status.
+//! The commissioning station's program: hands its arguments and streams to the library, and ends with the status that it
+//! answers.
 #![tactic(auto)]
 
-mod alias;
-mod arguments;
-mod content;
-mod faults;
-mod image;
-mod layout;
-mod layout_listing;
-mod line;
-mod listing;
-mod reading;
-mod run;
-mod script_images;
-mod serve;
-mod show;
-mod store;
-#[cfg(test)]
-mod tests;
-
-use faults::{Failure, Fault, Status};
-use serve::{report, serve};
-pub use station_text::{read_hex, read_line, read_script};
+use station_serve::{FileStore, refuse_words, serve};
+use std::io::BufWriter;
 use std::process::ExitCode;
 use std::{env, io};
-use store::FileStore;
 
 fn main(rt: HostRuntime) -> ExitCode {
     let status = match words(&rt) {
-        Ok(words) => serve(
-            rt.alloc(),
-            words.as_slice(),
-            &mut rt.reader(),
-            &mut FileStore { files: &rt },
-            &mut io::writer(&rt),
-            &mut rt.stderr(),
-        ),
-        Err(error) => refuse(&error, &mut rt.stderr()) as u8,
+        Ok(words) => serve_words(&rt, &words),
+        Err(error) => refuse_words(&error, &mut rt.stderr()),
     };
     ExitCode::from(status)
 }
@@ -47,11 +21,18 @@ fn words(rt: &HostRuntime) -> io::Result<Vec<String>> {
     Ok(words)
 }
 
-/// Ends a run whose words couldn't be had: for want of memory, or since one is no UTF-8.
-fn refuse<E: io::Write>(error: &io::Error, faults: &mut E) -> Status {
-    if error.kind() == io::ErrorKind::OutOfMemory {
-        return report(Failure::Fault(Fault::Memory), faults);
+/// Does what the words ask for, with the output in a buffer.
+fn serve_words(rt: &HostRuntime, words: &[String]) -> u8 {
+    let mut files = FileStore { files: rt };
+    match BufWriter::new(rt.alloc(), io::writer(rt)) {
+        Ok(mut output) => serve(
+            rt.alloc(),
+            words,
+            &mut rt.reader(),
+            &mut files,
+            &mut output,
+            &mut rt.stderr(),
+        ),
+        Err(error) => refuse_words(&error, &mut rt.stderr()),
     }
-    let _ = writeln!(faults, "error: an argument is not UTF-8");
-    Status::Usage
 }

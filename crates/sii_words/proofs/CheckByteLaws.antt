@@ -1,6 +1,7 @@
 -- What those who change words need to know of the check byte.
-use Rattle.std.proofs.Common.{◌≡◌, ℕ, zero, suc, ◌+◌, ◌-◌, ◌*◌, ◌%◌, ◌^◌, ◌<◌, ◌≤◌, Bool, true, false, if◌then◌else◌, List, [], ◌∷◌, ◌++◌, length, get_or, take, set, get_or-set_same, fold, flat_map, refl, ap, length-append, arith}
-use Rattle.std.proofs.lemmas.List.{length-take, take-set-le}
+use Rattle.std.proofs.Common.{◌≡◌, ℕ, zero, suc, ◌+◌, ◌-◌, ◌*◌, ◌%◌, ◌^◌, ◌<◌, ◌≤◌, Bool, true, false, if◌then◌else◌, List, [], ◌∷◌, ◌++◌, length, get_or, take, set, get_or-set_same, fold, flat_map, refl, sym, ap, ◌∙◌, length-append, arith}
+use Rattle.std.proofs.lemmas.List.{length-take, take-set-le, take-take}
+use Rattle.std.proofs.Math.Seq.{take-set-lt}
 use Rattle.std.proofs.Math.Nat.{pow-succ', pow-le-pow_right}
 use Rattle.sii_words.specs.Words.{bytes_of}
 use Rattle.sii_words.specs.CheckByte.{bits_of_byte, number_of, minus, divisor, divided, complemented, dividend, check_byte_of, IsChecked}
@@ -16,6 +17,13 @@ check_byte_same words others same =
 -- so words from 7 on may change
 pub check_byte_of-set : (words : List ℕ) (at value : ℕ) → 7 ≤ at → check_byte_of (set words at value) ≡ check_byte_of words
 check_byte_of-set words at value behind = check_byte_same (set words at value) words (take-set-le 7 words at value behind)
+
+-- words 0 to 6 with another word 4 are enough
+pub check_byte_of-front : (words front : List ℕ) (alias : ℕ) → front ≡ take 7 words → check_byte_of (set front 4 alias) ≡ check_byte_of (set words 4 alias)
+check_byte_of-front words front alias is =
+    check_byte_same (set front 4 alias) (set words 4 alias) (
+    take-set-lt 7 front 4 alias (omega arith) ∙ ap (λ (seven : List ℕ). set seven 4 alias) (ap (take 7) is ∙ take-take 7 7 words (omega arith)) ∙ sym (take-set-lt 7 words 4 alias (omega arith))
+    )
 
 -- and a word 7 with that low byte makes the check right
 pub checked_by_word_7 : (words : List ℕ) (value : ℕ) → 7 < length words → value % 256 ≡ check_byte_of words → IsChecked (set words 7 value)

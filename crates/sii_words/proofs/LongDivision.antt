@@ -1,7 +1,7 @@
 -- Long division by a register: what is taken away from the bits one after the other can be taken away at once.
 use Rattle.std.proofs.Common.{◌≡◌, ℕ, suc, ◌+◌, Bool, true, false, not, List, [], ◌∷◌, ◌++◌, length, refl, ap, ◌∙◌, append_assoc, length-append, arith}
 use Rattle.sii_words.specs.CheckByte.{minus, divisor, divided}
-use Rattle.sii_words.specs.ShiftRegister.{ShiftsThrough}
+use Rattle.sii_words.specs.steps.ShiftRegister.{ShiftsThrough}
 
 pub minus-twice : (bits more less : List Bool) → length more ≡ length less → minus (minus bits more) less ≡ minus bits (minus more less)
 unfolding minus

@@ -5,7 +5,7 @@ use Rattle.std.proofs.lemmas.Grind.{flat_map-append}
 use Rattle.std.proofs.lemmas.List.{length-take, replicate_more}
 use Rattle.sii_words.specs.Words.{bytes_of}
 use Rattle.sii_words.specs.CheckByte.{bits_of_byte, minus, divided, dividend, check_byte_of}
-use Rattle.sii_words.specs.ShiftRegister.{ShiftsThrough}
+use Rattle.sii_words.specs.steps.ShiftRegister.{ShiftsThrough}
 use Rattle.sii_words.proofs.WordBytes.{length-bytes_of, bytes_of-more}
 use Rattle.sii_words.proofs.LongDivision.{minus-twice, digit_zero, digit_one, shifts_on}
 use Rattle.sii_words.proofs.ByteBits.{low_bits, bits_of-xor, bits_of-small, bits_of-large, bits_of-double, number_of-bits}

@@ -1,5 +1,5 @@
 pub mod Words
 pub mod Identity
 pub mod CheckByte
-pub mod ShiftRegister
 pub mod Plant
+pub mod steps

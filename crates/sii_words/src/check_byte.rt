@@ -1,6 +1,6 @@
-ghost use Rattle.std.specs.Prelude.{◌≡◌, ◌≤◌, length, false, [], ◌∷◌};
+ghost use Rattle.std.specs.Prelude.{◌≡◌, ◌≤◌, length, slice_set, false, [], ◌∷◌};
 ghost use Rattle.sii_words.specs.CheckByte.{bits_of_byte, check_byte_of};
-ghost use Rattle.sii_words.specs.ShiftRegister.{ShiftsThrough};
+ghost use Rattle.sii_words.specs.steps.ShiftRegister.{ShiftsThrough};
 
 /// The divisor `x^8 + x^2 + x + 1` without its leading one.
 const DIVISOR: u8 = 0x07;
@@ -38,4 +38,15 @@ pub(crate) fn check_byte(words: &[u16]) -> u8
         remainder = folded(folded(remainder, low), high);
     }
     remainder
+}
+
+/// The check byte of words 0 to 6 with another word 4.
+pub(crate) fn check_byte_with(words: &[u16], alias: u16) -> u8
+    requires { 7 ≤ length words.now }
+    ensures { result ≡ check_byte_of (slice_set words.now 4 alias) }
+{
+    let mut front = [0; 7];
+    front.copy_from_slice(&words[..7]);
+    front[4] = alias;
+    check_byte(&front)
 }

@@ -5,11 +5,13 @@ ghost use Rattle.sii_words.specs.CheckByte.{check_byte_of, IsChecked};
 
 use crate::fault::WordsFault;
 use crate::identity::Identity;
+use crate::size::is_image_size;
 use crate::{check_byte, layout};
 use std::alloc::{AllocError, Global};
 use std::marker::Model;
 
-/// The words of a file with an image: 64 to 4,096 of them. Contracts see the list of the words.
+/// The words of a file with an image of an EEPROM (ETG.1000.6, slave information interface): 64 to 4,096 of them. Contracts see
+/// the list of the words.
 #[derive(Debug, Drop)]
 pub struct ImageFile {
     words: Vec<u16>,
@@ -40,7 +42,7 @@ impl ImageFile {
             return Err(WordsFault::OddLength);
         }
         let count = bytes.len() / 2;
-        if count < 64 || count > 4096 {
+        if !is_image_size(count) {
             return Err(WordsFault::BadSize);
         }
         Ok(ImageFile {
@@ -81,21 +83,22 @@ impl ImageFile {
         layout::write_bytes(&self.words, out)
     }
 
-    /// The configured station alias: word 4.
+    /// The configured station alias: word 4 (ETG.1000.6).
     pub fn alias(&self) -> u16
         ensures { result ≡ alias_of self.now }
     {
         self.words[4]
     }
 
-    /// Who made the slave, and which one it is: words 8 to 15.
+    /// Who made the slave, and which one it is: words 8 to 15 (ETG.1000.6).
     pub fn identity(&self) -> Identity
         ensures { result ≡ identity_of self.now }
     {
         layout::identity(&self.words)
     }
 
-    /// The check byte that words 0 to 6 want.
+    /// The check byte that words 0 to 6 want: the remainder in a division by `x^8 + x^2 + x + 1`, with the initial value 0xFF
+    /// (ETG.1000.6).
     pub fn check_byte(&self) -> u8
         ensures { result ≡ check_byte_of self.now }
     {

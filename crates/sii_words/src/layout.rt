@@ -24,7 +24,7 @@ pub fn words_of_bytes(alloc: Global, bytes: &[u8]) -> Result<Vec<u16>, AllocErro
 }
 
 /// The bytes of the words, each low byte first.
-pub(crate) fn bytes_of_words(alloc: Global, words: &[u16]) -> Result<Vec<u8>, AllocError>
+pub fn bytes_of_words(alloc: Global, words: &[u16]) -> Result<Vec<u8>, AllocError>
     ensures { IfOk result (λ bytes. bytes.items ≡ bytes_of words.now) }
 {
     let mut bytes = Vec::with_capacity(alloc, words.len() * 2)?;

@@ -7,15 +7,16 @@ mod identity;
 mod image_file;
 mod layout;
 mod plant;
-#[cfg(test)]
-mod tests;
-mod word_list;
+mod size;
 mod words;
 
 pub use fault::WordsFault;
 pub use identity::Identity;
 pub use image_file::ImageFile;
-pub use layout::words_of_bytes;
+pub use layout::{bytes_of_words, words_of_bytes};
 pub use plant::Plant;
-pub use word_list::WordList;
+pub use size::{is_device_size, is_image_size};
 pub use words::Words;
+
+/// Some words.
+pub type WordList = item_list::ItemList<u16>;

@@ -5,11 +5,13 @@ ghost use Rattle.sii_words.specs.CheckByte.{check_byte_of, IsChecked};
 
 use crate::fault::WordsFault;
 use crate::identity::Identity;
+use crate::size::is_device_size;
 use crate::{check_byte, layout};
 use std::alloc::{AllocError, Global};
 use std::marker::Model;
 
-/// All words of a device's EEPROM: 64 to 4,096 of them, a multiple of 64. Contracts see the list of the words.
+/// All words of a device's EEPROM (ETG.1000.6, slave information interface): 64 to 4,096 of them, a multiple of 64. Contracts
+/// see the list of the words.
 #[derive(Debug, Drop)]
 pub struct Words {
     words: Vec<u16>,
@@ -40,7 +42,7 @@ impl Words {
             return Err(WordsFault::OddLength);
         }
         let count = bytes.len() / 2;
-        if count < 64 || count > 4096 || count % 64 != 0 {
+        if !is_device_size(count) {
             return Err(WordsFault::BadSize);
         }
         Ok(Words {
@@ -96,25 +98,33 @@ impl Words {
         &self.words
     }
 
-    /// The configured station alias: word 4.
+    /// The configured station alias: word 4 (ETG.1000.6).
     pub fn alias(&self) -> u16
         ensures { result ≡ alias_of self.now }
     {
         self.words[4]
     }
 
-    /// Who made the slave, and which one it is: words 8 to 15.
+    /// Who made the slave, and which one it is: words 8 to 15 (ETG.1000.6).
     pub fn identity(&self) -> Identity
         ensures { result ≡ identity_of self.now }
     {
         layout::identity(&self.words)
     }
 
-    /// The check byte that words 0 to 6 want.
+    /// The check byte that words 0 to 6 want: the remainder in a division by `x^8 + x^2 + x + 1`, with the initial value 0xFF
+    /// (ETG.1000.6).
     pub fn check_byte(&self) -> u8
         ensures { result ≡ check_byte_of self.now }
     {
         check_byte::check_byte(&self.words)
+    }
+
+    /// The check byte that words 0 to 6 would want with this alias in word 4.
+    pub fn check_byte_with(&self, alias: u16) -> u8
+        ensures { result ≡ check_byte_of (slice_set self.now 4 alias) }
+    {
+        check_byte::check_byte_with(&self.words, alias)
     }
 
     /// Whether the low byte of word 7 is that check byte.

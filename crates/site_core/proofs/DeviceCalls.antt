@@ -4,16 +4,15 @@ use Rattle.std.specs.List.{AllByRecursion}
 use Rattle.ecat_frame.specs.Frame.{Pdu}
 use Rattle.site_core.specs.declared.fault.DeviceFault.{DeviceFault}
 use Rattle.site_core.specs.declared.fault.DeviceFault.TheVariants as faults
-use Rattle.site_core.specs.Disk.{Disk, written, synced, StopImage}
+use Rattle.site_core.specs.Disk.{Disk, written, write_begun, synced, StopImage}
 use Rattle.esc_model.specs.SlaveHalf.{SlaveHalf}
 use Rattle.site_core.specs.State.{EachMayLeave, State, Pair, Leaves, Stopped, Seen, last_of}
-use Rattle.site_core.specs.Calls.{Calls, Reads, WritesDisk, SyncsDisk, CyclesFrame}
-use Rattle.site_core.specs.Laws.{write_begun_in}
-use Rattle.site_core.specs.Passes.{Passes, LeavesOnly, LeftOnly, AddsNothing}
+use Rattle.site_core.specs.Calls.{Calls, Reads, WritesDisk, SyncsDisk, CyclesFrame, begin_write}
+use Rattle.site_core.specs.Passes.{Passes, LeavesOnly, StaysWithin, AddsNothing}
 use Rattle.site_core.proofs.StopImages.{StopImage-same, StopImage-synced, StopImage-write_begun}
 use Rattle.site_core.proofs.Overlays.{StopImage-written, StopImage-failed}
 use Rattle.site_core.proofs.Moments.{Leaves-stopped}
-use Rattle.site_core.proofs.Runs.{Passes-call, Passes-left, last_of_all}
+use Rattle.site_core.proofs.Runs.{Passes-call, Passes-stays, last_of_all}
 
 -- a call is stopped or isn't
 pub is_stopped_or : {T : Type 0} (result : Result T DeviceFault) → (result ≡ Err faults.Stopped) ⊎ (result ≢ Err faults.Stopped)
@@ -48,14 +47,14 @@ all_of_it state pair leaves = leaves
 
 pub Reads-adds_nothing : {T : Type 0} (old : Seen) (result : Result T DeviceFault) (new : Seen) → Reads old result new → AddsNothing old new
 Reads-adds_nothing old result new reads =
-    Passes-left (Leaves old.state) old new
+    Passes-stays (Leaves old.state) old new
     (Reads-passes (Leaves old.state) old result new reads.call
     (λ not. same_leaves (Leaves old.state) old.state new.state (reads.same not) (all_of_it old.state)) (all_of_it old.state))
 
 pub CyclesFrame-adds_nothing : (old : Seen) (sent : List Pdu) (result : Result (Unit {0}) DeviceFault) (answer : List Pdu) (new : Seen)
     → CyclesFrame old sent result answer new → AddsNothing old new
 CyclesFrame-adds_nothing old sent result answer new cycles =
-    Passes-left (Leaves old.state) old new
+    Passes-stays (Leaves old.state) old new
     (Reads-passes (Leaves old.state) old result new cycles.call
     (λ not. same_leaves (Leaves old.state) old.state new.state (cycles.same not) (all_of_it old.state)) (all_of_it old.state))
 
@@ -77,19 +76,19 @@ after_sync old (Err faults.Stopped) new syncs not = absurd (not refl)
 
 pub SyncsDisk-adds_nothing : (old : Seen) (result : Result (Unit {0}) DeviceFault) (new : Seen) → SyncsDisk old result new → AddsNothing old new
 SyncsDisk-adds_nothing old result new syncs =
-    Passes-left (Leaves old.state) old new
+    Passes-stays (Leaves old.state) old new
     (Reads-passes (Leaves old.state) old result new syncs.call (after_sync old result new syncs) (all_of_it old.state))
 
 -- what was left before is left by a write that begins
-pub Leaves-begun : (state : State) (at : ℕ) (bytes : List ℕ) (pair : Pair) → Leaves state pair → Leaves (write_begun_in state at bytes) pair
-Leaves-begun state at bytes pair leaves = record { disk = StopImage-write_begun state.disk at (length bytes) pair.disk leaves.disk; words = leaves.words }
+pub Leaves-begun : (state : State) (at count : ℕ) (pair : Pair) → Leaves state pair → Leaves (begin_write state at count) pair
+Leaves-begun state at count pair leaves = record { disk = StopImage-write_begun state.disk at count pair.disk leaves.disk; words = leaves.words }
 
 after_write : (old : Seen) (at : ℕ) (bytes : List ℕ) (result : Result (Unit {0}) DeviceFault) (new : Seen) → at ≤ length old.state.disk.bytes
-    → WritesDisk old at bytes result new → result ≢ Err faults.Stopped → LeavesOnly (Leaves (write_begun_in old.state at bytes)) new.state
+    → WritesDisk old at bytes result new → result ≢ Err faults.Stopped → LeavesOnly (Leaves (begin_write old.state at (length bytes))) new.state
 after_write old at bytes (Ok done) new within writes not =
-    let is : new.state ≡ record old.state { disk = written old.state.disk at bytes } = writes.ok in
+    let is : new.state ≡ record old.state { disk = written (write_begun old.state.disk at (length bytes)) at bytes } = writes.ok in
     λ pair leaves.
-    let there : Leaves (record old.state { disk = written old.state.disk at bytes }) pair = subst (λ (s : State). Leaves s pair) is leaves in
+    let there : Leaves (record old.state { disk = written (write_begun old.state.disk at (length bytes)) at bytes }) pair = subst (λ (s : State). Leaves s pair) is leaves in
     record { disk = StopImage-written old.state.disk at bytes pair.disk within there.disk; words = there.words }
 after_write old at bytes (Err faults.Disk) new within writes not =
     let failed = writes.failed refl in
@@ -102,7 +101,7 @@ after_write old at bytes (Err faults.Stopped) new within writes not = absurd (no
 
 -- A write, all the way, leaves only what a stop in its middle leaves.
 pub WritesDisk-passes : (old : Seen) (at : ℕ) (bytes : List ℕ) (result : Result (Unit {0}) DeviceFault) (new : Seen) → at ≤ length old.state.disk.bytes
-    → WritesDisk old at bytes result new → Passes (LeavesOnly (Leaves (write_begun_in old.state at bytes))) old new
+    → WritesDisk old at bytes result new → Passes (LeavesOnly (Leaves (begin_write old.state at (length bytes)))) old new
 WritesDisk-passes old at bytes result new within writes =
     Passes-call P old writes.middle result new writes.call before all
     (elim (is_stopped_or result) [
@@ -111,24 +110,24 @@ WritesDisk-passes old at bytes result new within writes =
     ])
   where
     Q : Pair → Type 0
-    Q = Leaves (write_begun_in old.state at bytes)
+    Q = Leaves (begin_write old.state at (length bytes))
 
     P : State → Type 0
     P = LeavesOnly Q
 
     before : P old.state
-    before pair leaves = Leaves-begun old.state at bytes pair leaves
+    before pair leaves = Leaves-begun old.state at (length bytes) pair leaves
 
     all : AllByRecursion P writes.middle
     all = elim (is_true_or old.is_stopped) [
       | inl stopped ↦ subst (λ (states : List State). AllByRecursion P states) (sym (writes.call.stays_stopped stopped).1) tt
-      | inr going ↦ subst (λ (states : List State). AllByRecursion P states) (sym (writes.begun going)) (all_of_it (write_begun_in old.state at bytes), tt)
+      | inr going ↦ subst (λ (states : List State). AllByRecursion P states) (sym (writes.begun going)) (all_of_it (begin_write old.state at (length bytes)), tt)
     ]
 
 pub WritesDisk-left : (old : Seen) (at : ℕ) (bytes : List ℕ) (result : Result (Unit {0}) DeviceFault) (new : Seen) → at ≤ length old.state.disk.bytes
-    → WritesDisk old at bytes result new → LeftOnly (Leaves (write_begun_in old.state at bytes)) old new
+    → WritesDisk old at bytes result new → StaysWithin (Leaves (begin_write old.state at (length bytes))) old new
 WritesDisk-left old at bytes result new within writes =
-    Passes-left (Leaves (write_begun_in old.state at bytes)) old new (WritesDisk-passes old at bytes result new within writes)
+    Passes-stays (Leaves (begin_write old.state at (length bytes))) old new (WritesDisk-passes old at bytes result new within writes)
 
 -- behind a sync that is Ok the disk's bytes are the only image
 pub SyncsDisk-bytes : (old new : Seen) (image : List ℕ) → SyncsDisk old (Ok tt) new → StopImage new.state.disk image → image ≡ new.state.disk.bytes

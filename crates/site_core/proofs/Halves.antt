@@ -2,7 +2,7 @@
 use Rattle.std.proofs.Common.{◌≡◌, ℕ, zero, suc, List, [], ◌∷◌, Some, slice_get, slice_set, refl, subst}
 use Rattle.esc_model.specs.SlaveHalf.{SlaveHalf, MayLeave}
 use Rattle.site_core.specs.State.{EachMayLeave, EachMayStop}
-use Rattle.site_core.proofs.Resting.{MayStop-leaves}
+use Rattle.esc_model.proofs.Resting.{MayStop-leaves}
 
 -- a stop adds nothing that a stop may leave
 pub EachMayLeave-stopped : (halves later : List SlaveHalf) (words : List (List ℕ)) → EachMayStop halves later → EachMayLeave later words → EachMayLeave halves words

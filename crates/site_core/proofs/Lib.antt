@@ -1,7 +1,9 @@
-pub mod Resting
 pub mod StopImages
 pub mod Halves
 pub mod Moments
 pub mod Runs
 pub mod Overlays
+pub mod Times
+pub mod Unions
 pub mod DeviceCalls
+pub mod Counts

@@ -1,5 +1,5 @@
 -- What a stop may leave of a state, and of the moments that have passed.
-use Rattle.std.proofs.Common.{◌≡◌, ◌⊎◌, ℕ, zero, suc, ◌<◌, List, [], ◌∷◌, ◌++◌, length, drop, Any, Some, slice_get, refl, sym, ap, subst, ◌∙◌, inl, inr, arith, append_assoc}
+use Rattle.std.proofs.Common.{◌≡◌, ◌⊎◌, ℕ, zero, suc, ◌<◌, List, [], ◌∷◌, ◌++◌, length, drop, Any, Some, slice_get, refl, sym, ap, subst, ◌∙◌, inl, inr, arith}
 use Rattle.std.proofs.Math.Seq.{drop-append_seam}
 use Rattle.esc_model.specs.SlaveHalf.{SlaveHalf, MayLeave}
 use Rattle.site_core.specs.State.{State, Pair, Leaves, Stopped, Moment, Seen, clock, with_half, LeftAt, LeftSince}
@@ -50,17 +50,3 @@ LeftSince-added old new calls pair past (inl now) = inl now
 LeftSince-added old new calls pair past (inr was) =
     let e : drop (length old.past) new.past ≡ calls = ap (λ (p : List Moment). drop (length old.past) p) past ∙ drop-append_seam old.past calls in
     inr (subst (λ (ms : List Moment). Any (LeftAt pair) ms) e was)
-
--- over calls in a row it is the union
-pub LeftSince-union : (a b c : Seen) (first second : List Moment) (pair : Pair) → b.past ≡ a.past ++ first → c.past ≡ b.past ++ second
-    → LeftSince c (clock a) pair → LeftSince b (clock a) pair ⊎ LeftSince c (clock b) pair
-LeftSince-union a b c first second pair before behind (inl now) = inr (inl now)
-LeftSince-union a b c first second pair before behind (inr was) =
-    let whole : c.past ≡ a.past ++ (first ++ second) = behind ∙ ap (λ (p : List Moment). p ++ second) before ∙ append_assoc a.past first second in
-    let added : drop (clock a) c.past ≡ first ++ second = ap (λ (p : List Moment). drop (clock a) p) whole ∙ drop-append_seam a.past (first ++ second) in
-    let to_b : drop (clock a) b.past ≡ first = ap (λ (p : List Moment). drop (clock a) p) before ∙ drop-append_seam a.past first in
-    let to_c : drop (clock b) c.past ≡ second = ap (λ (p : List Moment). drop (clock b) p) behind ∙ drop-append_seam b.past second in
-    elim (Any-append (LeftAt pair) first second (subst (λ (ms : List Moment). Any (LeftAt pair) ms) added was)) [
-      | inl early ↦ inl (inr (subst (λ (ms : List Moment). Any (LeftAt pair) ms) (sym to_b) early))
-      | inr late ↦ inr (inr (subst (λ (ms : List Moment). Any (LeftAt pair) ms) (sym to_c) late))
-    ]

@@ -50,7 +50,7 @@ length-overlaid bytes over at within =
     omega (arith, length-append (take at bytes ++ over) (drop (at + length over) bytes), length-append (take at bytes) over, length-take at bytes, length-drop (at + length over) bytes)
 
 -- an image of a disk that was written is one of the disk whose write has begun
-pub StopImage-written : (disk : Disk) (at : ℕ) (over image : List ℕ) → at ≤ length disk.bytes → StopImage (written disk at over) image
+pub StopImage-written : (disk : Disk) (at : ℕ) (over image : List ℕ) → at ≤ length disk.bytes → StopImage (written (write_begun disk at (length over)) at over) image
     → StopImage (write_begun disk at (length over)) image
 StopImage-written disk at over image within stop = record {
   bytes = λ place is. stop.bytes place is ∙ overlaid-outside disk.bytes over at place within is.0;
@@ -59,7 +59,7 @@ StopImage-written disk at over image within stop = record {
 }
 
 -- and so is one of a disk whose write has failed
-pub StopImage-failed : (disk later : Disk) (at count : ℕ) (image : List ℕ) → WriteFailed disk at count later → StopImage later image
+pub StopImage-failed : (disk later : Disk) (at count : ℕ) (image : List ℕ) → WriteFailed (write_begun disk at count) at count later → StopImage later image
     → StopImage (write_begun disk at count) image
 StopImage-failed disk later at count image failed stop = record {
   bytes = λ place is. stop.bytes place (synced_there place is) ∙ failed.bytes place is.0;

@@ -5,7 +5,7 @@ use Rattle.std.proofs.lemmas.List.{append-nil}
 use Rattle.site_core.specs.declared.fault.DeviceFault.{DeviceFault}
 use Rattle.site_core.specs.State.{State, Pair, Leaves, Moment, Seen, last_of, LeftAt}
 use Rattle.site_core.specs.Calls.{Calls}
-use Rattle.site_core.specs.Passes.{Passes, LeavesOnly, LeftOnly}
+use Rattle.site_core.specs.Passes.{Passes, LeavesOnly, LeftOnly, StaysWithin}
 use Rattle.site_core.proofs.Moments.{Any-nil, Any-split, LeftSince-added}
 
 -- each element of two lists, one behind the other
@@ -29,7 +29,7 @@ Passes-none P seen now = record { calls = []; past = sym (append-nil seen.past);
 pub Passes-call : {T : Type 0} (P : State → Type 0) (old : Seen) (middle : List State) (result : Result T DeviceFault) (new : Seen)
     → Calls old middle result new → P old.state → AllByRecursion P middle → P new.state → Passes P old new
 Passes-call P old middle result new call before within now =
-    record { calls = record { before = old.state; middle = middle } ∷ []; past = call.past; on_the_way = ((before, within), tt); now = now }
+    record { calls = record { before = old.state; faults = old.faults; middle = middle } ∷ []; past = call.past; on_the_way = ((before, within), tt); now = now }
 
 -- one run after another
 pub Passes-then : (P : State → Type 0) (a b c : Seen) → Passes P a b → Passes P b c → Passes P a c
@@ -79,3 +79,6 @@ Passes-left Q old new passes pair since =
       | inl now ↦ passes.now pair now
       | inr was ↦ moments_left Q passes.calls pair passes.on_the_way was
     ]
+
+pub Passes-stays : (Q : Pair → Type 0) (old new : Seen) → Passes (LeavesOnly Q) old new → StaysWithin Q old new
+Passes-stays Q old new passes = record { passes = passes; left = Passes-left Q old new passes }

@@ -1,5 +1,5 @@
 -- What each device call does to a site. Each adds its moment to the past, also one that fails.
-use Rattle.std.specs.Prelude.{◌≡◌, ◌≢◌, ℕ, ◌+◌, ◌<◌, ◌≤◌, ◌↔◌, ◌++◌, List, [], ◌∷◌, length, map, slice_range, slice_get, Some, Result, Ok, Err, IsErrOf, IfOk, OnOk, OnErr, IsTrue}
+use Rattle.std.specs.Prelude.{◌≡◌, ◌≢◌, ℕ, ◌+◌, ◌↔◌, ◌++◌, List, [], ◌∷◌, length, map, slice_range, slice_get, Some, Result, Ok, Err, IsErrOf, IfOk, OnOk, OnErr, IsTrue}
 use Rattle.ecat_frame.specs.Frame.{Pdu}
 use Rattle.esc_model.specs.SlaveHalf.{SlaveHalf}
 use Rattle.site_core.specs.declared.fault.DeviceFault.{DeviceFault}
@@ -8,13 +8,18 @@ use Rattle.site_core.specs.Disk.{write_begun, written, synced, WriteFailed}
 use Rattle.site_core.specs.State.{State, Seen, Stopped, with_half, last_of}
 use Rattle.site_core.specs.Exchange.{GoesThrough, AreReplies}
 
--- One device call with these states in its middle. A fault of the disk or of the line is counted. A stop comes behind the last
--- of these states, and after it nothing changes any more.
+-- a fault of the disk or of the line is counted, and a stop isn't
+abbrev pub faults_of : {T : Type 0} → Result T DeviceFault → ℕ
+faults_of (Ok value) = 0
+faults_of (Err faults.Disk) = 1
+faults_of (Err faults.Lost) = 1
+faults_of (Err faults.Stopped) = 0
+
+-- One device call with these states in its middle. The past keeps it, with the faults that were counted before it. A stop comes
+-- behind the last of these states, and after it nothing changes any more.
 pub record Calls {T : Type 0} (old : Seen) (middle : List State) (result : Result T DeviceFault) (new : Seen) : Type 0 where
-  pub past : new.past ≡ old.past ++ record { before = old.state; middle = middle } ∷ []
-  pub never_fewer : old.faults ≤ new.faults
-  pub disk : IsErrOf result faults.Disk → old.faults < new.faults
-  pub lost : IsErrOf result faults.Lost → old.faults < new.faults
+  pub past : new.past ≡ old.past ++ record { before = old.state; faults = old.faults; middle = middle } ∷ []
+  pub counted : new.faults ≡ old.faults + faults_of result
   pub stopped : IsTrue new.is_stopped ↔ IsErrOf result faults.Stopped
   pub at_stop : IsErrOf result faults.Stopped → Stopped (last_of old.state middle) new.state
   pub stays_stopped : IsTrue old.is_stopped → IsErrOf result faults.Stopped × (middle ≡ []) × (new.state ≡ old.state)
@@ -37,13 +42,17 @@ pub record ReadsDisk (old : Seen) (at count : ℕ) (result : Result (Unit {0}) D
   pub bytes_read : OnOk result (bytes ≡ slice_range old.state.disk.bytes at (at + count))
   pub not_lost : result ≢ Err faults.Lost
 
--- A write: in its middle the range is unsynced.
+-- a write of so many bytes to the disk begins
+abbrev pub begin_write : State → ℕ → ℕ → State
+begin_write state at count = record state { disk = write_begun state.disk at count }
+
+-- A write: in its middle it has begun, and the range is unsynced. It is done, or has failed, from there.
 pub record WritesDisk (old : Seen) (at : ℕ) (bytes : List ℕ) (result : Result (Unit {0}) DeviceFault) (new : Seen) : Type 0 where
   pub middle : List State
   pub call : Calls old middle result new
-  pub begun : ¬ IsTrue old.is_stopped → middle ≡ record old.state { disk = write_begun old.state.disk at (length bytes) } ∷ []
-  pub ok : OnOk result (new.state ≡ record old.state { disk = written old.state.disk at bytes })
-  pub failed : IsErrOf result faults.Disk → WriteFailed old.state.disk at (length bytes) new.state.disk × (new.state.halves ≡ old.state.halves)
+  pub begun : ¬ IsTrue old.is_stopped → middle ≡ begin_write old.state at (length bytes) ∷ []
+  pub ok : OnOk result (new.state ≡ record old.state { disk = written (write_begun old.state.disk at (length bytes)) at bytes })
+  pub failed : IsErrOf result faults.Disk → WriteFailed (write_begun old.state.disk at (length bytes)) at (length bytes) new.state.disk × (new.state.halves ≡ old.state.halves)
   pub not_lost : result ≢ Err faults.Lost
   pub turns : new.turns ≡ old.turns
 

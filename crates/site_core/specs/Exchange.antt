@@ -1,17 +1,9 @@
 -- A frame goes through the half of one slave: datagram by datagram, in order, each taken whole. A busy half may come to rest
 -- before any of them. What it may do behind the last one waits for the next frame: a word in flight may hold anything until then.
-use Rattle.std.specs.Prelude.{◌≡◌, ◌+◌, ◌%◌, List, [], ◌∷◌, length}
+use Rattle.std.specs.Prelude.{◌≡◌, List, [], ◌∷◌, length}
 use Rattle.ecat_frame.specs.Frame.{Pdu}
-use Rattle.ecat_frame.specs.Command.{command_of}
-use Rattle.esc_model.specs.SlaveHalf.{SlaveHalf, Taken, taken, MayRest}
-
--- what the half makes of a datagram
-abbrev pub took : SlaveHalf → Pdu → Taken
-took half datagram = taken half (command_of datagram.command) datagram.address datagram.content
-
--- the datagram after a half took it
-abbrev pub answered : Pdu → Taken → Pdu
-answered datagram took = record datagram { content = took.content; counter = (datagram.counter + took.added) % 65536 }
+use Rattle.esc_model.specs.SlaveHalf.{SlaveHalf, MayRest}
+use Rattle.esc_model.specs.Datagrams.{served_datagram, reply_of}
 
 -- The datagrams go through the half, and this is what it is after each of them, and what comes back.
 abbrev pub GoesThrough : SlaveHalf → List Pdu → List SlaveHalf → List Pdu → Type 0
@@ -19,8 +11,8 @@ GoesThrough half [] [] [] = Unit {0}
 GoesThrough half (datagram ∷ datagrams) (later ∷ laters) (reply ∷ replies) =
     (rested : SlaveHalf)
     × MayRest half rested
-    × (later ≡ (took rested datagram).half)
-    × (reply ≡ answered datagram (took rested datagram))
+    × (later ≡ (served_datagram rested datagram).half)
+    × (reply ≡ reply_of datagram (served_datagram rested datagram))
     × GoesThrough later datagrams laters replies
 GoesThrough half datagrams laters replies = ⊥
 

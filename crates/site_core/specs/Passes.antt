@@ -18,6 +18,11 @@ LeavesOnly Q state = (pair : Pair) → Leaves state pair → Q pair
 abbrev pub LeftOnly : (Pair → Type 0) → Seen → Seen → Type 0
 LeftOnly Q old new = (pair : Pair) → LeftSince new (clock old) pair → Q pair
 
--- a stop could have left nothing that it couldn't have left before
+-- all the way a stop leaves such pairs alone, and so everything that it could have left since is one
+pub record StaysWithin (Q : Pair → Type 0) (old new : Seen) : Type 0 where
+  pub passes : Passes (LeavesOnly Q) old new
+  pub left : LeftOnly Q old new
+
+-- all the way a stop could have left nothing that it couldn't have left before
 abbrev pub AddsNothing : Seen → Seen → Type 0
-AddsNothing old new = LeftOnly (Leaves old.state) old new
+AddsNothing old new = StaysWithin (Leaves old.state) old new

@@ -1,12 +1,12 @@
 -- A disk and the halves of the slaves together, what a stop may leave of them, and the moments that have passed.
-use Rattle.std.specs.Prelude.{◌⊎◌, ℕ, Bool, List, [], ◌∷◌, length, drop, Any, Result, slice_get, slice_set, unwrap_or}
+use Rattle.std.specs.Prelude.{◌≡◌, ◌⊎◌, ℕ, Bool, List, [], ◌∷◌, length, map, drop, Any, Result, Some, slice_get, slice_set, unwrap_or}
 use Rattle.std.specs.Option.{option_map}
 use Rattle.ecat_frame.specs.Frame.{Pdu}
 use Rattle.esc_model.specs.SlaveHalf.{SlaveHalf, MayLeave, MayStop}
 use Rattle.site_core.specs.declared.fault.DeviceFault.{DeviceFault}
 use Rattle.site_core.specs.Disk.{Disk, StopImage, DiskStopped}
 
--- A slave whose half isn't owned has no words here, and a disk that isn't owned has no bytes.
+-- A slave whose half isn't owned has no words here, and a disk that isn't owned is `no_disk`.
 pub record State : Type 0 where
   pub disk : Disk
   pub halves : List SlaveHalf
@@ -14,6 +14,18 @@ pub record State : Type 0 where
 -- the same but for this slave's half
 abbrev pub with_half : State → ℕ → SlaveHalf → State
 with_half state slave half = record state { halves = slice_set state.halves slave half }
+
+-- This slave's half is there, and it alone changes, and so.
+pub record HalfGoes (R : SlaveHalf → SlaveHalf → Type 0) (old : State) (slave : ℕ) (new : State) : Type 0 where
+  pub half : SlaveHalf
+  pub here : slice_get old.halves slave ≡ Some half
+  pub later : SlaveHalf
+  pub new_is : new ≡ with_half old slave later
+  pub goes : R half later
+
+-- how many words each half has
+abbrev pub word_counts : List SlaveHalf → List ℕ
+word_counts halves = map (λ half. length half.words) halves
 
 -- what a stop leaves: the bytes of the disk, and the words of each slave
 pub record Pair : Type 0 where
@@ -42,9 +54,10 @@ pub record Stopped (old new : State) : Type 0 where
   pub disk : DiskStopped old.disk new.disk
   pub halves : EachMayStop old.halves new.halves
 
--- one device call: the state before it, and those in its middle, one after another
+-- one device call: the state before it, how often a call had failed by then, and the states in its middle, one after another
 pub record Moment : Type 0 where
   pub before : State
+  pub faults : ℕ
   pub middle : List State
 
 -- the last of the states, or this one where there is none

@@ -1,6 +1,7 @@
 ghost use Rattle.std.specs.Prelude.{◌≡◌, ℕ, ◌+◌, ◌<◌, ◌≤◌, ◌↔◌, length, slice_index, IsTrue};
 ghost use Rattle.sii_words.specs.Words.{IsDeviceSize};
 ghost use Rattle.site_core.specs.Line.{Line, Owns};
+ghost use Rattle.site_core.specs.Disk.{no_disk};
 ghost use Rattle.site_core.specs.State.{Seen, words_held};
 ghost use Rattle.site_core.specs.Calls.{GivesLength, ReadsDisk, WritesDisk, SyncsDisk, ExchangesFrame, CyclesFrame};
 
@@ -31,12 +32,15 @@ pub trait Site {
         ensures device { IsDeviceSize result }
         ensures words { Owns (line self.now) slave → result ≡ words_held (seen self.now) slave };
 
+    /// Whether the site owns the disk. One that it doesn't own has no bytes.
     fn has_disk(&self) -> bool
-        ensures { result ≡ (line self.now).has_disk };
+        ensures owned { result ≡ (line self.now).has_disk }
+        ensures absent { ¬ IsTrue result → (seen self.now).state.disk ≡ no_disk };
 
-    /// Whether the site owns the half of this slave that serves its EEPROM.
+    /// Whether the site owns the half of this slave that serves its EEPROM. One that it doesn't own has no words.
     fn owns(&self, slave: u16) -> bool
-        ensures { IsTrue result ↔ Owns (line self.now) slave };
+        ensures owned { IsTrue result ↔ Owns (line self.now) slave }
+        ensures absent { ¬ IsTrue result → words_held (seen self.now) slave ≡ 0 };
 
     /// Whether the site owns the process halves of all slaves.
     fn has_process(&self) -> bool

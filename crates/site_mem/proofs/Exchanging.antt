@@ -7,9 +7,9 @@ use Rattle.site_core.specs.declared.fault.DeviceFault.TheVariants as faults
 use Rattle.site_core.specs.Disk.{synced}
 use Rattle.site_core.specs.State.{State, Seen, last_of}
 use Rattle.site_core.specs.Calls.{Calls, ExchangesFrame}
-use Rattle.site_mem.specs.Stopping.{noted, HasStopped, Fails}
+use Rattle.site_mem.specs.Stopping.{noted, HasStopped, CountsFault}
 use Rattle.site_mem.specs.Going.{Went}
-use Rattle.site_mem.proofs.Calling.{Calls-ok, Calls-stays, Calls-stopped, Calls-fails, Fails-state, Fails-turns, Fails-which, never}
+use Rattle.site_mem.proofs.Calling.{Calls-ok, Calls-stays, Calls-stopped, Calls-fails, CountsFault-state, CountsFault-turns, CountsFault-which, never}
 
 pub ExchangesFrame-stays : (old : Seen) (slave : ℕ) (sent : List Pdu) (half : SlaveHalf) → slice_get old.state.halves slave ≡ Some half → IsTrue old.is_stopped → old.state.disk ≡ synced old.state.disk
     → ExchangesFrame old slave sent (Err faults.Stopped) sent (noted old [] old.state)
@@ -31,9 +31,9 @@ ExchangesFrame-stays old slave sent half here stopped all = record {
 }
 
 pub ExchangesFrame-fails : (old : Seen) (slave : ℕ) (sent : List Pdu) (half : SlaveHalf) (given : DeviceFault) (new : Seen) → slice_get old.state.halves slave ≡ Some half → old.is_stopped ≡ false
-    → Fails (noted old [] old.state) faults.Lost given new → ExchangesFrame old slave sent (Err given) sent new
+    → CountsFault (noted old [] old.state) faults.Lost given new → ExchangesFrame old slave sent (Err given) sent new
 ExchangesFrame-fails old slave sent half given new here going fails =
-    let which = Fails-which (noted old [] old.state) faults.Lost given new fails in
+    let which = CountsFault-which (noted old [] old.state) faults.Lost given new fails in
     record {
       half = half;
       here = here;
@@ -46,14 +46,14 @@ ExchangesFrame-fails old slave sent half given new here going fails =
       call = Calls-fails old [] faults.Lost given new going (λ e. absurd cc) fails;
       ok = tt;
       failed = refl;
-      kept = λ not. Fails-state (noted old [] old.state) faults.Lost given new fails (λ e. not (ap Err e));
+      kept = λ not. CountsFault-state (noted old [] old.state) faults.Lost given new fails (λ e. not (ap Err e));
       no_disk = λ e. let is : given ≡ faults.Disk = cc in never faults.Lost faults.Disk given (λ e2. absurd cc) (λ e2. absurd cc) which is;
-      turns = Fails-turns (noted old [] old.state) faults.Lost given new fails;
+      turns = CountsFault-turns (noted old [] old.state) faults.Lost given new fails;
     }
 
 -- the call that went so is noted
 abbrev pub noted_after : Seen → List State → Seen → Seen
-noted_after old middle mid = record mid { past = mid.past ++ record { before = old.state; middle = middle } ∷ [] }
+noted_after old middle mid = record mid { past = mid.past ++ record { before = old.state; faults = mid.faults; middle = middle } ∷ [] }
 
 noted_is : (old : Seen) (slave : ℕ) (sent : List Pdu) (count : ℕ) (middle : List State) (answer : List Pdu) (mid : Seen) → Went old slave sent count middle answer mid
     → noted_after old middle mid ≡ noted old middle (last_of old.state middle)

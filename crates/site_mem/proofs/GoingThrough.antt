@@ -4,16 +4,16 @@ use Rattle.std.proofs.lemmas.List.{map-append}
 use Rattle.ecat_frame.specs.Frame.{Pdu}
 use Rattle.ecat_frame.specs.Command.{command_of}
 use Rattle.ecat_frame.specs.Answer.{answered}
-use Rattle.esc_model.specs.SlaveHalf.{SlaveHalf, Taken, taken, MayRest}
+use Rattle.esc_model.specs.SlaveHalf.{SlaveHalf, Outcome, served, MayRest}
 use Rattle.site_core.specs.State.{State, Seen, with_half, last_of}
-use Rattle.site_core.specs.Exchange.{GoesThrough, took}
-use Rattle.site_core.specs.Exchange as exchange
+use Rattle.site_core.specs.Exchange.{GoesThrough}
+use Rattle.esc_model.specs.Datagrams.{served_datagram, reply_of}
 use Rattle.site_mem.specs.declared.frames.Header.{Header}
 use Rattle.site_mem.specs.Line.{halves_of, word_counts, KeepsCounts}
 use Rattle.ecat_frame.specs.declared.Command.{Command}
 use Rattle.site_mem.specs.Headers.{IsHeaderOf}
 use Rattle.site_mem.specs.Going.{HalfTakes, TakesOne, Went}
-use Rattle.site_mem.proofs.LineHalves.{halves_of-get, halves_of-set, word_counts-set, MayRest-length, taken-length}
+use Rattle.site_mem.proofs.LineHalves.{halves_of-get, halves_of-set, word_counts-set, MayRest-length, served-length}
 
 -- ONE DATAGRAM
 
@@ -25,30 +25,30 @@ pub TakesOne-of : (old : Seen) (items new : List (Option SlaveHalf)) (slave k : 
 TakesOne-of old items new slave k sent answer header buffer content reply added are is_header content_is takes answer_is =
     let d : Pdu = is_header.datagram in
     let same_content : d.content ≡ content = sym is_header.content ∙ sym content_is in
-    let same : took takes.takes.mid d ≡ taken takes.takes.mid header.command header.address content =
-    ap (λ (c : Command). taken takes.takes.mid c d.address d.content) is_header.command
-    ∙ ap (λ (a : ℕ). taken takes.takes.mid header.command a d.content) is_header.address
-    ∙ ap (λ (b : List ℕ). taken takes.takes.mid header.command header.address b) same_content in
-    let is : took takes.takes.mid d ≡ record { half = takes.later; content = reply; added = added } = same ∙ takes.takes.takes in
+    let same : served_datagram takes.serves.mid d ≡ served takes.serves.mid header.command header.address content =
+    ap (λ (c : Command). served takes.serves.mid c d.address d.content) is_header.command
+    ∙ ap (λ (a : ℕ). served takes.serves.mid header.command a d.content) is_header.address
+    ∙ ap (λ (b : List ℕ). served takes.serves.mid header.command header.address b) same_content in
+    let is : served_datagram takes.serves.mid d ≡ record { half = takes.later; content = reply; added = added } = same ∙ takes.serves.takes in
     let halves_are : halves_of new ≡ slice_set old.state.halves slave takes.later = ap halves_of takes.new_is ∙ halves_of-set items slave takes.later ∙ ap (λ (hs : List SlaveHalf). slice_set hs slave takes.later) (sym are) in
     record {
       half = takes.half;
       here = ap (λ (hs : List SlaveHalf). slice_get hs slave) are ∙ halves_of-get items slave takes.half takes.here;
-      rested = takes.takes.mid;
-      rests = takes.takes.rests;
+      rested = takes.serves.mid;
+      rests = takes.serves.rests;
       datagram = d;
       at = is_header.at;
       answer_is = answer_is
           ∙ ap (λ (n : ℕ). answered sent k reply ((n + added) % 65536)) (sym is_header.counter)
-          ∙ ap (λ (t : Taken). answered sent k t.content ((d.counter + t.added) % 65536)) (sym is);
-      new_is = ap (λ (hs : List SlaveHalf). record old { state = record old.state { halves = hs } }) (halves_are ∙ ap (λ (t : Taken). slice_set old.state.halves slave t.half) (sym is));
+          ∙ ap (λ (t : Outcome). answered sent k t.content ((d.counter + t.added) % 65536)) (sym is);
+      new_is = ap (λ (hs : List SlaveHalf). record old { state = record old.state { halves = hs } }) (halves_are ∙ ap (λ (t : Outcome). slice_set old.state.halves slave t.half) (sym is));
     }
 
 pub TakesOne-counts : (old : Seen) (slave k : ℕ) (sent answer : List Pdu) (new : Seen) → TakesOne old slave k sent answer new → KeepsCounts old new
 TakesOne-counts old slave k sent answer new takes =
     ap (λ (s : Seen). word_counts s.state.halves) takes.new_is
-    ∙ word_counts-set old.state.halves slave takes.half (took takes.rested takes.datagram).half takes.here
-    (taken-length takes.rested (command_of takes.datagram.command) takes.datagram.address takes.datagram.content ∙ MayRest-length takes.half takes.rested takes.rests)
+    ∙ word_counts-set old.state.halves slave takes.half (served_datagram takes.rested takes.datagram).half takes.here
+    (served-length takes.rested (command_of takes.datagram.command) takes.datagram.address takes.datagram.content ∙ MayRest-length takes.half takes.rested takes.rests)
 
 -- ONE AFTER ANOTHER
 
@@ -59,7 +59,7 @@ last_half half (later ∷ laters) = last_half later laters
 
 GoesThrough-more : (half : SlaveHalf) (passed : List Pdu) (laters : List SlaveHalf) (replies : List Pdu) (d : Pdu) (rested : SlaveHalf)
     → GoesThrough half passed laters replies → MayRest (last_half half laters) rested
-    → GoesThrough half (passed ++ d ∷ []) (laters ++ (took rested d).half ∷ []) (replies ++ exchange.answered d (took rested d) ∷ [])
+    → GoesThrough half (passed ++ d ∷ []) (laters ++ (served_datagram rested d).half ∷ []) (replies ++ reply_of d (served_datagram rested d) ∷ [])
 unfolding last_half
 GoesThrough-more half [] [] [] d rested through rests = (rested, rests, refl, refl, tt)
 GoesThrough-more half [] [] (r ∷ rs) d rested through rests = absurd through
@@ -156,15 +156,15 @@ Went-more old slave sent k middle answer mid later new inside went takes =
     let answer_now : answer ≡ went.replies ++ d ∷ rest = went.answer_is ∙ ap (λ (xs : List Pdu). went.replies ++ xs) next.1 in
     let some_d : Some takes.datagram ≡ Some d = sym takes.at ∙ ap (λ (a : List Pdu). slice_get a k) answer_now ∙ ap (λ (n : ℕ). slice_get (went.replies ++ d ∷ rest) n) (sym rl) ∙ slice_get-next went.replies (d ∷ rest) in
     let d_is : takes.datagram ≡ d = cc in
-    let t : Taken = took takes.rested d in
+    let t : Outcome = served_datagram takes.rested d in
     let counter : ℕ = (d.counter + t.added) % 65536 in
-    let later_is : later ≡ went.replies ++ exchange.answered d t ∷ rest = takes.answer_is
-    ∙ ap (λ (x : Pdu). answered answer k (took takes.rested x).content ((x.counter + (took takes.rested x).added) % 65536)) d_is
+    let later_is : later ≡ went.replies ++ reply_of d t ∷ rest = takes.answer_is
+    ∙ ap (λ (x : Pdu). answered answer k (served_datagram takes.rested x).content ((x.counter + (served_datagram takes.rested x).added) % 65536)) d_is
     ∙ ap (λ (a : List Pdu). answered a k t.content counter) answer_now
     ∙ ap (λ (n : ℕ). answered (went.replies ++ d ∷ rest) n t.content counter) (sym rl)
     ∙ answered-next went.replies rest d t.content counter in
     let state_is : new.state ≡ with_half old.state slave t.half = ap (λ (s : Seen). s.state) takes.new_is
-    ∙ ap (λ (x : Pdu). with_half mid.state slave (took takes.rested x).half) d_is
+    ∙ ap (λ (x : Pdu). with_half mid.state slave (served_datagram takes.rested x).half) d_is
     ∙ ap (λ (st : State). with_half st slave t.half) mid_state
     ∙ ap (λ (hs : List SlaveHalf). record old.state { halves = hs }) (set-twice old.state.halves slave lh t.half) in
     let by_mid : new ≡ record mid { state = new.state } = takes.new_is ∙ ap (λ (st : State). record mid { state = st }) (sym (ap (λ (s : Seen). s.state) takes.new_is)) in
@@ -172,13 +172,13 @@ Went-more old slave sent k middle answer mid later new inside went takes =
       half = went.half;
       here = went.here;
       laters = went.laters ++ t.half ∷ [];
-      replies = went.replies ++ exchange.answered d t ∷ [];
-      through = subst (λ (p : List Pdu). GoesThrough went.half p (went.laters ++ t.half ∷ []) (went.replies ++ exchange.answered d t ∷ [])) (sym next.2)
+      replies = went.replies ++ reply_of d t ∷ [];
+      through = subst (λ (p : List Pdu). GoesThrough went.half p (went.laters ++ t.half ∷ []) (went.replies ++ reply_of d t ∷ [])) (sym next.2)
           (GoesThrough-more went.half (take k sent) went.laters went.replies d takes.rested went.through rests);
       middle_is = ap (λ (m : List State). m ++ new.state ∷ []) went.middle_is
           ∙ ap (λ (st : State). map (with_half old.state slave) went.laters ++ st ∷ []) state_is
           ∙ sym (map-append (with_half old.state slave) went.laters (t.half ∷ []));
-      answer_is = later_is ∙ sym (append_assoc went.replies (exchange.answered d t ∷ []) rest);
+      answer_is = later_is ∙ sym (append_assoc went.replies (reply_of d t ∷ []) rest);
       new_is = by_mid ∙ ap (λ (m : Seen). record m { state = new.state }) went.new_is ∙ ap (λ (st : State). record old { state = st }) (sym (last_of-append old.state new.state middle));
       within = omega arith;
     }

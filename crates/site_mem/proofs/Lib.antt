@@ -8,3 +8,4 @@ pub mod Replies
 pub mod Passing
 pub mod Owning
 pub mod Wholes
+mod Absent

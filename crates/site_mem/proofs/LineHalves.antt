@@ -3,8 +3,8 @@ use Rattle.std.proofs.Common.{◌≡◌, ℕ, zero, suc, ◌<◌, true, List, []
 use Rattle.std.specs.Option.{option_map}
 use Rattle.std.proofs.lemmas.List.{map-set}
 use Rattle.std.proofs.lemmas.Option.{slice_get-map}
-use Rattle.esc_model.specs.SlaveHalf.{SlaveHalf, Activity, Idle, Reading, Writing, MayRest, MayEnd, MayStop, IsTorn, taken}
-use Rattle.esc_model.proofs.Taking.{Goes-taken}
+use Rattle.esc_model.specs.SlaveHalf.{SlaveHalf, Activity, Idle, Reading, Writing, MayRest, MayEnd, MayStop, IsTorn, served}
+use Rattle.esc_model.proofs.Serving.{Goes-served}
 use Rattle.ecat_frame.specs.declared.Command.{Command}
 use Rattle.site_core.specs.Disk.{Disk, DiskStopped}
 use Rattle.site_core.specs.State.{Seen, EachMayStop, words_held}
@@ -35,8 +35,8 @@ pub MayRest-length : (half later : SlaveHalf) → MayRest half later → length 
 MayRest-length half later (inl same) = ap (λ (h : SlaveHalf). length h.words) same
 MayRest-length half later (inr ends) = MayEnd-length half.activity half later ends
 
-pub taken-length : (half : SlaveHalf) (command : Command) (address : ℕ) (content : List ℕ) → length (taken half command address content).half.words ≡ length half.words
-taken-length half command address content = ap length (Goes-taken half command address content).words
+pub served-length : (half : SlaveHalf) (command : Command) (address : ℕ) (content : List ℕ) → length (served half command address content).half.words ≡ length half.words
+served-length half command address content = ap length (Goes-served half command address content).words
 
 -- ONE HALF EXCHANGED
 

@@ -4,6 +4,7 @@ use Rattle.std.specs.Prelude.{◌==◌}
 use Rattle.std.proofs.lemmas.Bool.Decides.{nat_tests}
 use Rattle.std.proofs.lemmas.Option.{slice_get-map}
 use Rattle.esc_model.specs.SlaveHalf.{SlaveHalf}
+use Rattle.esc_model.specs.ProcessHalf.{ProcessMemory}
 use Rattle.site_core.specs.State.{Seen, words_held}
 use Rattle.site_mem.specs.Line.{word_counts, owned}
 use Rattle.site_mem.specs.Site.{IsWhole}
@@ -18,9 +19,9 @@ held_by : (seen : Seen) (slave : ℕ) → words_held seen slave ≡ unwrap_or (s
 held_by seen slave = ap (λ (o : Option ℕ). unwrap_or o 0) (sym (slice_get-map (λ (half : SlaveHalf). length half.words) seen.state.halves slave))
 
 -- a half that is owned has as many words as its slave
-pub owned-size : (sizes : List ℕ) (seen : Seen) (slave : ℕ) → IsWhole sizes (word_counts seen.state.halves) → slice_get (owned seen.state.halves) slave ≡ Some true
+pub owned-size : (sizes : List ℕ) (process : Option (List ProcessMemory)) (seen : Seen) (slave : ℕ) → IsWhole sizes (word_counts seen.state.halves) process → slice_get (owned seen.state.halves) slave ≡ Some true
     → words_held seen slave ≡ slice_index sizes slave
-owned-size sizes seen slave whole is =
+owned-size sizes process seen slave whole is =
     let own = owned-get (word_counts seen.state.halves) slave is in
     held_by seen slave ∙ ap (λ (o : Option ℕ). unwrap_or o 0) own.1 ∙ whole.words slave own.0 own.1 own.2
 

@@ -1,12 +1,13 @@
 -- A frame goes through the process halves, half by half and datagram by datagram.
-use Rattle.std.proofs.Common.{◌≡◌, ℕ, zero, suc, ◌+◌, ◌%◌, Bool, List, [], ◌∷◌, ◌++◌, length, take, drop, Some, slice_get, slice_set, refl, sym, ap, subst, ◌∙◌, arith}
+use Rattle.std.proofs.Common.{◌≡◌, ℕ, zero, suc, ◌+◌, ◌%◌, Bool, List, [], ◌∷◌, ◌++◌, length, take, drop, Some, slice_get, slice_set, Result, Ok, Err, refl, sym, ap, subst, ◌∙◌, arith}
 use Rattle.ecat_frame.specs.Frame.{Pdu}
 use Rattle.ecat_frame.specs.Answer.{answered}
 use Rattle.ecat_frame.specs.declared.Command.{Command}
 use Rattle.esc_model.specs.ProcessHalf.{ProcessMemory, Processed, processed}
+use Rattle.site_core.specs.declared.fault.DeviceFault.{DeviceFault}
 use Rattle.site_mem.specs.declared.frames.Header.{Header}
 use Rattle.site_mem.specs.Headers.{IsHeaderOf}
-use Rattle.site_mem.specs.Process.{worked, returned, PassesThrough, Passes, is_muted, PassesFrom, WorksOne}
+use Rattle.site_mem.specs.Process.{worked, returned, PassesThrough, PassesUnlessMuted, is_muted, PassesFrom, CyclesHalves, WorksOne}
 
 -- ONE DATAGRAM
 
@@ -110,7 +111,7 @@ PassedSoFar-none muted halves sent = record { left = λ laters answer passes. pa
 
 pub PassedSoFar-more : (muted : List Bool) (halves : List ProcessMemory) (sent : List Pdu) (place : ℕ) (now : List ProcessMemory) (frame : List Pdu)
     (half later : ProcessMemory) (next : List Pdu) → slice_get now place ≡ Some half → PassedSoFar muted halves sent place now frame
-    → Passes (is_muted muted place) half frame later next → PassedSoFar muted halves sent (place + 1) (slice_set now place later) next
+    → PassesUnlessMuted (is_muted muted place) half frame later next → PassedSoFar muted halves sent (place + 1) (slice_set now place later) next
 PassedSoFar-more muted halves sent place now frame half later next here so_far passes =
     let one : suc place ≡ place + 1 = omega arith in
     let after : List ProcessMemory = slice_set now place later in
@@ -128,3 +129,17 @@ PassesFrom-all muted halves sent place now frame end so_far =
     let at_end : PassedSoFar muted halves sent (length now) now frame = subst (λ (n : ℕ). PassedSoFar muted halves sent n now frame) end so_far in
     subst (λ (hs : List ProcessMemory). PassesFrom 0 muted halves sent hs frame) (take-end now)
     (at_end.left [] frame (subst (λ (hs : List ProcessMemory). PassesFrom (length now) muted hs frame [] frame) (sym (drop-end now)) refl))
+
+-- as many halves come out as went in
+PassesFrom-length : (slave : ℕ) (muted : List Bool) (halves : List ProcessMemory) (sent : List Pdu) (laters : List ProcessMemory) (answer : List Pdu)
+    → PassesFrom slave muted halves sent laters answer → length laters ≡ length halves
+PassesFrom-length slave muted [] sent [] answer passes = refl
+PassesFrom-length slave muted [] sent (later ∷ laters) answer passes = absurd passes
+PassesFrom-length slave muted (half ∷ halves) sent [] answer passes = absurd passes
+PassesFrom-length slave muted (half ∷ halves) sent (later ∷ laters) answer passes =
+    ap suc (PassesFrom-length (suc slave) muted halves passes.0 laters answer passes.2)
+
+pub CyclesHalves-length : (muted : List Bool) (halves : List ProcessMemory) (sent : List Pdu) (result : Result (Unit {0}) DeviceFault) (laters : List ProcessMemory) (answer : List Pdu)
+    → CyclesHalves muted halves sent result laters answer → length laters ≡ length halves
+CyclesHalves-length muted halves sent (Ok done) laters answer cycles = PassesFrom-length 0 muted halves sent laters answer cycles.ok
+CyclesHalves-length muted halves sent (Err fault) laters answer cycles = ap length cycles.failed

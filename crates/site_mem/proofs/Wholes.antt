@@ -1,8 +1,9 @@
 -- Parts that fit together.
-use Rattle.std.proofs.Common.{◌≡◌, ℕ, zero, suc, ◌+◌, ◌<◌, ◌≤◌, List, [], ◌∷◌, length, Option, Some, slice_get, slice_index, refl, sym, ap, subst, ◌∙◌, arith}
+use Rattle.std.proofs.Common.{◌≡◌, ℕ, zero, suc, ◌+◌, ◌<◌, ◌≤◌, List, [], ◌∷◌, length, Option, Some, IfSome, slice_get, slice_index, refl, sym, ap, subst, ◌∙◌, arith}
 use Rattle.std.proofs.lemmas.Option.{slice_get_within}
 use borrow.Author.Count.{below_more}
 use Rattle.esc_model.specs.SlaveHalf.{SlaveHalf}
+use Rattle.esc_model.specs.ProcessHalf.{ProcessMemory}
 use Rattle.site_mem.specs.Line.{half_of, halves_of, word_counts}
 use Rattle.site_mem.specs.Site.{IsWhole, HasSize, SizesFit}
 
@@ -21,9 +22,9 @@ counts-get [] slave count is = absurd cc
 counts-get (h ∷ hs) zero count is = (h, refl, cc)
 counts-get (h ∷ hs) (suc slave) count is = counts-get hs slave count is
 
-pub IsWhole-all : (halves : List (Option SlaveHalf)) (sizes : List ℕ) → 1 ≤ length sizes → length sizes ≤ 64 → length halves ≡ length sizes
-    → SizesFit halves sizes (length sizes) → IsWhole sizes (word_counts (halves_of halves))
-IsWhole-all halves sizes some most each fit = record {
+pub IsWhole-all : (halves : List (Option SlaveHalf)) (sizes : List ℕ) (process : Option (List ProcessMemory)) → 1 ≤ length sizes → length sizes ≤ 64 → length halves ≡ length sizes
+    → SizesFit halves sizes (length sizes) → IfSome process (λ memories. length memories ≡ length sizes) → IsWhole sizes (word_counts (halves_of halves)) process
+IsWhole-all halves sizes process some most each fit processes = record {
   some = some;
   most = most;
   each = length-counts halves ∙ each;
@@ -33,7 +34,22 @@ IsWhole-all halves sizes some most each fit = record {
       let below : slave < length halves = slice_get_within halves slave at.0 at.1 in
       let held : 0 < length (half_of at.0).words = subst (λ (n : ℕ). 0 < n) (sym at.2) positive in
       sym at.2 ∙ (fit slave at.0 (omega arith) at.1).words held;
+  processes = processes;
 }
+
+-- a line stays whole where its halves keep their words, and it has as many process halves as before
+pub IsWhole-kept : (sizes counts later_counts : List ℕ) (memories laters : List ProcessMemory) → IsWhole sizes counts (Some memories)
+    → later_counts ≡ counts → length laters ≡ length memories → IsWhole sizes later_counts (Some laters)
+IsWhole-kept sizes counts later_counts memories laters whole same as_many =
+    let all : IsWhole sizes counts (Some laters) = record {
+      some = whole.some;
+      most = whole.most;
+      each = whole.each;
+      devices = whole.devices;
+      words = whole.words;
+      processes = as_many ∙ whole.processes;
+    } in
+    subst (λ (ns : List ℕ). IsWhole sizes ns (Some laters)) (sym same) all
 
 counts-at : (halves : List (Option SlaveHalf)) (slave : ℕ) (half : Option SlaveHalf) → slice_get halves slave ≡ Some half
     → slice_get (word_counts (halves_of halves)) slave ≡ Some (length (half_of half).words)
@@ -42,9 +58,9 @@ counts-at (h ∷ hs) zero half here = let e : h ≡ half = cc in ap (λ (x : Opt
 counts-at (h ∷ hs) (suc slave) half here = counts-at hs slave half here
 
 -- on a whole line each half has the size of its slave
-pub IsWhole-half : (halves : List (Option SlaveHalf)) (sizes : List ℕ) (slave : ℕ) (half : Option SlaveHalf) → IsWhole sizes (word_counts (halves_of halves))
+pub IsWhole-half : (halves : List (Option SlaveHalf)) (sizes : List ℕ) (process : Option (List ProcessMemory)) (slave : ℕ) (half : Option SlaveHalf) → IsWhole sizes (word_counts (halves_of halves)) process
     → slice_get halves slave ≡ Some half → HasSize half (slice_index sizes slave)
-IsWhole-half halves sizes slave half whole here =
+IsWhole-half halves sizes process slave half whole here =
     let below : slave < length halves = slice_get_within halves slave half here in
     let each : length halves ≡ length sizes = sym (length-counts halves) ∙ whole.each in
     record {

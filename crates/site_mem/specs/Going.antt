@@ -3,9 +3,10 @@ use Rattle.std.specs.Prelude.{◌≡◌, ℕ, ◌+◌, ◌%◌, ◌≤◌, List,
 use Rattle.ecat_frame.specs.declared.Command.{Command}
 use Rattle.ecat_frame.specs.Frame.{Pdu}
 use Rattle.ecat_frame.specs.Answer.{answered}
-use Rattle.esc_model.specs.SlaveHalf.{SlaveHalf, Takes, MayRest, MayStop}
+use Rattle.esc_model.specs.SlaveHalf.{SlaveHalf, Serves, MayRest, MayStop}
 use Rattle.site_core.specs.State.{State, Seen, with_half, last_of}
-use Rattle.site_core.specs.Exchange.{GoesThrough, took}
+use Rattle.site_core.specs.Exchange.{GoesThrough}
+use Rattle.esc_model.specs.Datagrams.{served_datagram}
 use Rattle.site_mem.specs.Line.{KeepsCounts}
 
 -- the half of this slave is there
@@ -18,7 +19,7 @@ pub record HalfTakes (old : List (Option SlaveHalf)) (slave : ℕ) (command : Co
   pub half : SlaveHalf
   pub here : slice_get old slave ≡ Some (Some half)
   pub later : SlaveHalf
-  pub takes : Takes half command address content (record { half = later; content = reply; added = added })
+  pub serves : Serves half command address content (record { half = later; content = reply; added = added })
   pub new_is : new ≡ slice_set old slave (Some later)
 
 -- The word in flight of this slave, if there is one, is torn.
@@ -37,8 +38,8 @@ pub record TakesOne (old : Seen) (slave k : ℕ) (sent answer : List Pdu) (new :
   pub rests : MayRest half rested
   pub datagram : Pdu
   pub at : slice_get sent k ≡ Some datagram
-  pub answer_is : answer ≡ answered sent k (took rested datagram).content ((datagram.counter + (took rested datagram).added) % 65536)
-  pub new_is : new ≡ record old { state = with_half old.state slave (took rested datagram).half }
+  pub answer_is : answer ≡ answered sent k (served_datagram rested datagram).content ((datagram.counter + (served_datagram rested datagram).added) % 65536)
+  pub new_is : new ≡ record old { state = with_half old.state slave (served_datagram rested datagram).half }
 
 -- So many datagrams of a frame have gone through it, and these states lay on the way.
 pub record Went (old : Seen) (slave : ℕ) (sent : List Pdu) (count : ℕ) (middle : List State) (answer : List Pdu) (new : Seen) : Type 0 where

@@ -4,13 +4,17 @@ use Rattle.std.specs.Global.{Vec}
 use Rattle.site_core.specs.Disk.{StopImage}
 use Rattle.site_mem.specs.declared.site.Parts.{Parts}
 use Rattle.site_mem.specs.Unsynced.{of_bytes}
-use Rattle.site_mem.specs.Line.{halves_of}
+use Rattle.site_mem.specs.Line.{halves_of, word_counts}
 use Rattle.site_mem.specs.Process.{memories_of}
-use Rattle.site_mem.specs.Site.{SiteValue, value_of}
+use Rattle.site_mem.specs.Site.{SiteValue, value_of, IsWhole}
 
 abbrev pub bytes_or_none : Option (Vec ℕ) → List ℕ
 bytes_or_none (Some bytes) = bytes.items
 bytes_or_none None = []
+
+-- The parts make a site.
+pub record AreWhole (parts : Parts) : Type 0 where
+  pub line : IsWhole parts.sizes.items (word_counts (halves_of parts.halves.items)) (memories_of parts.process)
 
 -- the site with these sizes, bytes and halves, none of them muted, of which no call was made yet
 abbrev pub site_of : Parts → SiteValue

@@ -15,7 +15,7 @@ abbrev pub IsUnmarked : List (Option ℕ) → ℕ → Type 0
 IsUnmarked before place = (byte : ℕ) → slice_get before place ≡ Some (Some byte) → ⊥
 
 -- Only of unsynced places something is remembered, and a place behind what was synced is unsynced.
-pub record Keeps (before : List (Option ℕ)) (disk : Disk) : Type 0 where
+pub record Remembers (before : List (Option ℕ)) (disk : Disk) : Type 0 where
   pub unmarked : (place : ℕ) → IsSynced disk place → IsUnmarked before place
   pub behind : (place : ℕ) → IsSynced disk place → place < length disk.bytes → place < disk.synced_length
 
@@ -24,6 +24,6 @@ abbrev pub MarksOnly : List (Option ℕ) → ℕ → ℕ → List (Option ℕ) �
 MarksOnly old start end new = (place : ℕ) → ((place < start) ⊎ (end ≤ place)) → IsUnmarked old place → IsUnmarked new place
 
 -- The bytes differ in marked places alone.
-pub record IsTorn (before : List (Option ℕ)) (old new : List ℕ) : Type 0 where
+pub record DiffersAtMarks (before : List (Option ℕ)) (old new : List ℕ) : Type 0 where
   pub long : length new ≡ length old
   pub same : (place : ℕ) → IsUnmarked before place → slice_get new place ≡ slice_get old place

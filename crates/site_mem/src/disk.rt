@@ -1,6 +1,6 @@
 ghost use Rattle.std.specs.Prelude.{◌≡◌, ℕ, ◌+◌, ◌<◌, ◌≤◌, ◌^◌, List, length, slice_get, OnOk, OnErr, IfOk, take};
 ghost use Rattle.site_core.specs.Disk.{Disk, IsSynced, overlaid, write_begun, synced, DiskStopped, StopImage};
-ghost use Rattle.site_mem.specs.Unsynced.{Covers, IsUnmarked, Keeps, of_bytes};
+ghost use Rattle.site_mem.specs.Unsynced.{Covers, IsUnmarked, Remembers, of_bytes};
 
 use crate::faults::Pattern;
 use crate::marks::{hold, lay_over, leave};
@@ -39,11 +39,11 @@ impl Model for MemDisk {
     ghost Value = { Disk };
 
     ghost use Rattle.std.specs.Prelude.{reverse};
-    ghost use Rattle.site_mem.specs.Unsynced.{Keeps};
+    ghost use Rattle.site_mem.specs.Unsynced.{Remembers};
 
     ghost view = { λ d. record { bytes = d.bytes.items; unsynced = reverse d.unsynced; synced_length = d.synced_length } };
 
-    ghost invariant = { λ d. Keeps d.before.items (record { bytes = d.bytes.items; unsynced = reverse d.unsynced; synced_length = d.synced_length }) };
+    ghost invariant = { λ d. Remembers d.before.items (record { bytes = d.bytes.items; unsynced = reverse d.unsynced; synced_length = d.synced_length }) };
 }
 
 impl MemDisk {

@@ -1,6 +1,6 @@
 // The halves of a line that serve the EEPROMs.
 ghost use Rattle.std.specs.Prelude.{◌≡◌, length, IfOk};
-ghost use Rattle.esc_model.specs.SlaveHalf.{MayRest, MayStop, Takes};
+ghost use Rattle.esc_model.specs.SlaveHalf.{MayRest, MayStop, Serves};
 ghost use Rattle.site_mem.specs.Going.{HasHalf, HalfTakes, HalfTears};
 
 use crate::faults::Pattern;
@@ -34,7 +34,7 @@ fn take_half(
     address: u32,
     content: &mut [u8],
 ) -> u16
-    ensures { Takes half.old command address content.old (record { half = half.new; content = content.new; added = result }) }
+    ensures { Serves half.old command address content.old (record { half = half.new; content = content.new; added = result }) }
 {
     fail_word(half, fails);
     half.take(command, address, content)

@@ -13,6 +13,3 @@ mod track;
 
 pub use faults::Pattern;
 pub use site::{MemSite, Parts};
-
-#[cfg(test)]
-mod tests;

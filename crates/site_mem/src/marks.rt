@@ -1,7 +1,7 @@
 // Bytes of a disk, and what is remembered of them until a sync.
 ghost use Rattle.std.specs.Prelude.{◌≡◌, ℕ, ◌+◌, ◌<◌, ◌≤◌, ◌^◌, length, slice_get, OnOk, OnErr};
 ghost use Rattle.site_core.specs.Disk.{Disk, StopImage, overlaid};
-ghost use Rattle.site_mem.specs.Unsynced.{IsTorn, Keeps, MarksOnly};
+ghost use Rattle.site_mem.specs.Unsynced.{DiffersAtMarks, Remembers, MarksOnly};
 
 use crate::faults::Pattern;
 use std::alloc::AllocError;
@@ -57,7 +57,7 @@ pub(crate) fn leave(
     synced_length: usize,
     pattern: Pattern,
 )
-    ensures { (disk : Disk) → disk.bytes ≡ bytes.old.items → disk.synced_length ≡ synced_length → Keeps before.now disk → StopImage disk bytes.new.items }
+    ensures { (disk : Disk) → disk.bytes ≡ bytes.old.items → disk.synced_length ≡ synced_length → Remembers before.now disk → StopImage disk bytes.new.items }
 {
     match pattern {
         Pattern::Old => {
@@ -75,7 +75,7 @@ pub(crate) fn leave(
 
 /// Puts what is remembered, or the fill, into the places of which something is remembered.
 fn tear(bytes: &mut Vec<u8>, before: &[Option<u8>], fill: Option<u8>)
-    ensures { IsTorn before.now bytes.old.items bytes.new.items }
+    ensures { DiffersAtMarks before.now bytes.old.items bytes.new.items }
 {
     for place in 0..bytes.len().min(before.len()) {
         if let Some(byte) = before[place] {

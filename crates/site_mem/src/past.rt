@@ -41,6 +41,8 @@ impl Instant {
 #[derive(Drop)]
 pub(crate) struct Step {
     before: Instant,
+    /// How many faults had been counted before it.
+    faults: Snapshot<u64>,
     middle: History<Instant>,
 }
 
@@ -49,14 +51,18 @@ impl Model for Step {
 
     ghost Value = { Moment };
 
-    ghost view = { λ s. record { before = s.before; middle = s.middle } };
+    ghost view = { λ s. record { before = s.before; faults = s.faults.value; middle = s.middle } };
 }
 
 impl Step {
-    pub(crate) fn of(before: Instant, middle: History<Instant>) -> Step
-        ensures { result ≡ record { before = before; middle = middle } }
+    pub(crate) fn of(before: Instant, faults: u64, middle: History<Instant>) -> Step
+        ensures { result ≡ record { before = before; faults = faults; middle = middle } }
     {
-        Step { before, middle }
+        Step {
+            before,
+            faults: Snapshot::of(&faults),
+            middle,
+        }
     }
 }
 

@@ -1,7 +1,7 @@
 // The process halves of a line.
 ghost use Rattle.std.specs.Prelude.{◌≡◌, ◌<◌, length, IfOk};
 ghost use Rattle.site_core.specs.Exchange.{AreReplies};
-ghost use Rattle.site_mem.specs.Process.{Passes, PassesFrom, WorksOne, is_muted};
+ghost use Rattle.site_mem.specs.Process.{PassesUnlessMuted, PassesFrom, WorksOne, is_muted};
 
 use crate::frames::copy_content;
 use ecat_frame::{Frame, MAX_LEN};
@@ -29,7 +29,7 @@ fn is_muted(muted: &[bool; 64], place: usize) -> bool
 /// A frame goes through one half, unless it is muted.
 fn pass(half: &mut ProcessHalf, is_muted: bool, frame: &mut Frame)
     ensures replies { AreReplies frame.old frame.new }
-    ensures passes { Passes is_muted half.old frame.old half.new frame.new }
+    ensures passes { PassesUnlessMuted is_muted half.old frame.old half.new frame.new }
 {
     if is_muted {
         return;

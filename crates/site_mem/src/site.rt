@@ -1,10 +1,10 @@
 ghost use Rattle.std.specs.Prelude.{◌≡◌, ◌<◌, ◌≤◌, ◌↔◌, length, is_some, slice_set, IsTrue, IfOk, IfSome};
 ghost use Rattle.site_core.specs.Line.{Owns};
 ghost use Rattle.site_core.specs.Calls.{CyclesFrame};
-ghost use Rattle.site_mem.specs.Site.{SiteValue, IsWhole, HasSize, CyclesProcess};
-ghost use Rattle.site_mem.specs.Parts.{site_of, bytes_or_none, IsLeftOf};
+ghost use Rattle.site_mem.specs.Site.{SiteValue, HasSize, CyclesProcess};
+ghost use Rattle.site_mem.specs.Parts.{AreWhole, site_of, bytes_or_none, IsLeftOf};
 ghost use Rattle.site_mem.specs.Process.{memories_of};
-ghost use Rattle.site_mem.specs.Line.{halves_of, word_counts};
+ghost use Rattle.site_mem.specs.Line.{halves_of};
 
 use crate::disk::MemDisk;
 use crate::faults::Pattern;
@@ -43,23 +43,26 @@ impl Model for MemSite {
     ghost use Rattle.std.specs.Prelude.{is_some};
     ghost use Rattle.site_mem.specs.Line.{word_counts};
     ghost use Rattle.site_mem.specs.Process.{memories_of};
-    ghost use Rattle.site_mem.specs.Site.{SiteValue, value_of, IsWhole};
+    ghost use Rattle.site_mem.specs.Site.{SiteValue, value_of, StandsWhole};
 
     ghost Value = { SiteValue };
 
     ghost view = { λ s. value_of s.sizes.items s.has_disk (is_some s.process) (memories_of s.process) s.muted s.track };
 
-    ghost invariant = { λ s. IsWhole s.sizes.items (word_counts s.track.state.halves) };
+    ghost invariant = { λ s. StandsWhole s.sizes.items (word_counts s.track.state.halves) (memories_of s.process) s.has_disk s.track.state.disk };
 }
 
 impl Parts {
-    /// Whether the line has 1 to 64 slaves, each of a size that a device may have, and a place for the half of each, and
-    /// whether each half has as many words as its slave.
+    /// Whether the line has 1 to 64 slaves, each of a size that a device may have, and a place for the half of each, whether each
+    /// half has as many words as its slave, and whether there is a process half for each slave, or none at all.
     pub fn is_whole(&self) -> bool
-        ensures { IsTrue result ↔ IsWhole self.now.sizes.items (word_counts (halves_of self.now.halves.items)) }
+        ensures { IsTrue result ↔ AreWhole self.now }
     {
         let count = self.sizes.len();
         if count == 0 || count > 64 || self.halves.len() != count {
+            return false;
+        }
+        if !are_so_many(&self.process, count) {
             return false;
         }
         for slave in 0..count {
@@ -84,10 +87,20 @@ fn has_size(half: &Option<RomHalf>, size: u16) -> bool
     }
 }
 
+/// Whether there is a process half for each of so many slaves, or none at all.
+fn are_so_many(process: &Option<Vec<ProcessHalf>>, slaves: usize) -> bool
+    ensures { IsTrue result ↔ IfSome (memories_of process.now) (λ halves. length halves ≡ slaves) }
+{
+    match process {
+        Some(halves) => halves.len() == slaves,
+        None => true,
+    }
+}
+
 impl MemSite {
     /// A site of these parts, which are whole. All bytes of the disk are synced, and no fault is to come.
     pub fn of_parts(alloc: Global, parts: Parts) -> MemSite
-        requires { IsWhole parts.sizes.items (word_counts (halves_of parts.halves.items)) }
+        requires { AreWhole parts }
         ensures { result ≡ site_of parts }
     {
         let Parts {

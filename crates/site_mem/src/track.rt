@@ -6,7 +6,7 @@ ghost use Rattle.site_core.specs.Calls.{Reads, GivesLength, ReadsDisk, WritesDis
 ghost use Rattle.site_mem.specs.Line.{halves_of, KeepsCounts};
 ghost use Rattle.site_mem.specs.Process.{CyclesHalves};
 ghost use Rattle.site_mem.specs.Going.{TakesOne, Went};
-ghost use Rattle.site_mem.specs.Stopping.{HasStopped, Fails, noted, begun, laid};
+ghost use Rattle.site_mem.specs.Stopping.{HasStopped, CountsFault, noted, begun, with_bytes_over};
 
 use crate::disk::MemDisk;
 use crate::faults::{FaultPlan, Pattern};
@@ -74,9 +74,9 @@ impl Track {
 
     /// Notes a call with these states before it and in its middle.
     fn note(&mut self, before: Instant, middle: History<Instant>)
-        ensures { self.new ≡ record self.old { past = self.old.past ++ record { before = before; middle = middle } ∷ [] } }
+        ensures { self.new ≡ record self.old { past = self.old.past ++ record { before = before; faults = self.old.faults; middle = middle } ∷ [] } }
     {
-        self.past.note(&Step::of(before, middle));
+        self.past.note(&Step::of(before, self.faults, middle));
     }
 
     /// The site stops, and leaves what the pattern says.
@@ -89,7 +89,7 @@ impl Track {
 
     /// Counts a fault. Where the count can't rise the site stops.
     fn fail(&mut self, fault: DeviceFault) -> DeviceFault
-        ensures { Fails self.old fault result self.new }
+        ensures { CountsFault self.old fault result self.new }
     {
         if self.faults == u64::MAX {
             self.stop(Pattern::New);
@@ -186,7 +186,7 @@ impl Track {
         requires going { self.old.is_stopped ≡ false }
         requires inside { at ≤ length self.old.state.disk.bytes }
         requires begun { Covers self.old.state.disk at (length bytes.now) }
-        ensures ok { OnOk result (self.new ≡ laid self.old at bytes.now) }
+        ensures ok { OnOk result (self.new ≡ with_bytes_over self.old at bytes.now) }
         ensures err { OnErr result (self.new ≡ self.old) }
     {
         self.disk.lay(at, bytes)

@@ -1,2 +1,6 @@
 pub mod HexDigits
-pub mod LineImages
+pub mod Keys
+pub mod ListedMembers
+pub mod Readings
+pub mod ScriptRefusals
+pub mod ScriptValues

@@ -1,2 +1,5 @@
+pub mod Document
 pub mod Hexadecimal
 pub mod LineText
+pub mod Reading
+pub mod ScriptText

@@ -1,32 +1,29 @@
 -- What a line file says, by the values at its keys.
-use Rattle.std.specs.Prelude.{◌≡◌, ℕ, List, [], ◌∷◌, map, Option, Some, None, codes, pos, option_map, option_and_then, String, string_bytes}
+use Rattle.std.specs.Prelude.{◌≡◌, ◌≤◌, ℕ, List, [], ◌∷◌, length, Option, Some, None, IsSomeAnd, codes, pos, String, string_bytes}
+use Rattle.std.specs.List.{AllZip}
 use Rattle.std.specs.declared.alloc.Global.{Global}
-use Rattle.toml.specs.Data.{Data, Items, no_items, item, Members, get_member, as_str, as_integer, as_array, as_table}
+use Rattle.toml.specs.Data.{Data, Members, get_member, as_integer, as_table}
+use Rattle.station_text.specs.Document.{HasOnly, text_at, values_at}
 
--- the text at a key
-abbrev pub text_at : List ℕ → Members → Option (List ℕ)
-text_at key table = option_and_then as_str (get_member key table)
-
--- the area is the number at its key, or 65536 where there is no such key
+-- the area is the number at its key, 4096 to 4194304, or 65536 where there is no such key
 abbrev pub IsArea : Option Data → ℕ → Type 0
 IsArea None area = area ≡ 65536
-IsArea (Some value) area = as_integer value ≡ Some (pos area)
+IsArea (Some value) area = (as_integer value ≡ Some (pos area)) × (4096 ≤ area) × (area ≤ 4194304)
 
--- the file that a slave's table names
-abbrev pub image_of : Data → Option (List ℕ)
-image_of slave = option_and_then (text_at (codes "image")) (as_table slave)
+-- a slave's table names this file
+abbrev pub NamesImage : Data → String Global → Type 0
+NamesImage slave name = IsSomeAnd (as_table slave) (λ table.
+    HasOnly (codes "image" ∷ []) table × (text_at (codes "image") table ≡ Some (string_bytes name)))
 
--- the file of each slave, in order
-abbrev pub images_of : Items → List (Option (List ℕ))
-images_of no_items = []
-images_of (item slave rest) = image_of slave ∷ images_of rest
-
--- the files of the array at `slave`
-abbrev pub images_at_slave : Members → Option (List (Option (List ℕ)))
-images_at_slave table = option_map images_of (option_and_then as_array (get_member (codes "slave") table))
+-- the files of 1 to 64 slaves, in order
+pub record AreImages (slaves : List Data) (images : List (String Global)) : Type 0 where
+  pub each : AllZip NamesImage slaves images
+  pub some : 1 ≤ length images
+  pub most : length images ≤ 64
 
 -- a document that says this of a line: the journal's file, the area's bytes, and the file of each slave
 pub record Describes (document : Members) (journal : String Global) (area : ℕ) (images : List (String Global)) : Type 0 where
+  pub only_keys : HasOnly (codes "journal" ∷ codes "area" ∷ codes "slave" ∷ []) document
   pub journal_file : text_at (codes "journal") document ≡ Some (string_bytes journal)
   pub area_bytes : IsArea (get_member (codes "area") document) area
-  pub image_files : images_at_slave document ≡ Some (map (λ name. Some (string_bytes name)) images)
+  pub image_files : IsSomeAnd (values_at (codes "slave") document) (λ slaves. AreImages slaves images)

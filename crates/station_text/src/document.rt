@@ -1,9 +1,10 @@
 //! Documents in TOML, and what the program's files have in common.
-ghost use Rattle.std.specs.Prelude.{◌≡◌, IfOk, IfSome, Some, option_map, pos};
-ghost use Rattle.toml.specs.Data.{as_integer, get_member};
+ghost use Rattle.std.specs.Prelude.{◌≡◌, Some, map, option_map};
+ghost use Rattle.toml.specs.Data.{as_array, get_member};
 ghost use Rattle.toml.specs.Parse.{parse_document};
 ghost use Rattle.toml.specs.View.{view, table_view};
-ghost use Rattle.station_text.specs.LineText.{text_at};
+ghost use Rattle.station_text.specs.Document.{HasNumberBelow, IsNumberBelow, has_only, is_known, table_at, text_at, values_at, values_of};
+ghost use Rattle.station_text.specs.Reading.{Finds, Reads};
 
 use std::alloc::Global;
 use thiserror::Error;
@@ -20,7 +21,7 @@ pub enum DocumentFault {
 
 /// The table that a text spells.
 pub fn read_document(alloc: Global, text: &str) -> Result<Table, DocumentFault>
-    ensures { IfOk result (λ table. parse_document text.now ≡ Some (table_view table)) }
+    ensures { Reads DocumentFault.Memory table_view (λ document. parse_document text.now ≡ Some document) result }
 {
     match toml::table_from_str(alloc, text) {
         Ok(table) => Ok(table),
@@ -29,11 +30,18 @@ pub fn read_document(alloc: Global, text: &str) -> Result<Table, DocumentFault>
     }
 }
 
+/// Whether a key is among these.
+fn is_known(known: &[&str], key: &str) -> bool
+    ensures { result ≡ is_known (map (λ one. one.now) known.now) key.now }
+{
+    known.iter().any(|one| *one == key)
+}
+
 /// Whether a table has none but these keys.
-pub fn has_only(table: &Table, keys: &[&str]) -> bool {
-    table
-        .keys()
-        .all(|key| keys.iter().any(|known| *known == key.as_str()))
+pub fn has_only(table: &Table, known: &[&str]) -> bool
+    ensures { result ≡ has_only (map (λ one. one.now) known.now) (table_view table.now) }
+{
+    table.keys().all(|key| is_known(known, key.as_str()))
 }
 
 /// The value at a key.
@@ -53,16 +61,66 @@ pub fn find_text<'a>(table: &'a Table, key: &str) -> Option<&'a str>
     }
 }
 
+/// The table at a key.
+pub fn find_table<'a>(table: &'a Table, key: &str) -> Option<&'a Table>
+    ensures { option_map (λ found. table_view found.now) result ≡ table_at key.now (table_view table.now) }
+{
+    match find(table, key) {
+        Some(value) => value.as_table(),
+        None => None,
+    }
+}
+
+/// The values of an array.
+pub fn values_of(value: &Value) -> Option<&[Value]>
+    ensures { option_map (λ values. map view values.now) result ≡ option_map values_of (as_array (view value.now)) }
+{
+    match value.as_array() {
+        Some(values) => Some(values.as_slice()),
+        None => None,
+    }
+}
+
+/// The values of the array at a key.
+pub fn find_values<'a>(table: &'a Table, key: &str) -> Option<&'a [Value]>
+    ensures { option_map (λ values. map view values.now) result ≡ values_at key.now (table_view table.now) }
+{
+    match find(table, key) {
+        Some(value) => values_of(value),
+        None => None,
+    }
+}
+
 /// A number of 32 bits: 0 to 4294967295.
 pub fn read_wide_number(value: &Value) -> Option<u32>
-    ensures { IfSome result (λ number. as_integer (view value.now) ≡ Some (pos number)) }
+    ensures { Finds (IsNumberBelow 4294967296 (view value.now)) result }
 {
     u32::try_from(value.as_integer()?).ok()
 }
 
 /// A number of the program's files: 0 to 65535.
 pub fn read_number(value: &Value) -> Option<u16>
-    ensures { IfSome result (λ number. as_integer (view value.now) ≡ Some (pos number)) }
+    ensures { Finds (IsNumberBelow 65536 (view value.now)) result }
 {
     u16::try_from(value.as_integer()?).ok()
+}
+
+/// The number of 32 bits at a key.
+pub fn find_wide_number(table: &Table, key: &str) -> Option<u32>
+    ensures { Finds (HasNumberBelow 4294967296 key.now (table_view table.now)) result }
+{
+    match find(table, key) {
+        Some(value) => read_wide_number(value),
+        None => None,
+    }
+}
+
+/// The number at a key: 0 to 65535.
+pub fn find_number(table: &Table, key: &str) -> Option<u16>
+    ensures { Finds (HasNumberBelow 65536 key.now (table_view table.now)) result }
+{
+    match find(table, key) {
+        Some(value) => read_number(value),
+        None => None,
+    }
 }

@@ -3,6 +3,7 @@ ghost use Rattle.std.specs.Prelude.{◌≡◌, IfOk, IsErr, IsErrOf};
 ghost use Rattle.hex.specs.Hex.{decode_of, encode_lower};
 ghost use Rattle.sii_words.specs.Words.{bytes_of};
 ghost use Rattle.station_text.specs.Hexadecimal.{without_whitespace};
+ghost use Rattle.station_text.specs.Reading.{Reads};
 
 use hex::FromHexError;
 use sii_words::words_of_bytes;
@@ -53,7 +54,7 @@ fn digits_of(alloc: Global, text: &str) -> Result<Vec<u8>, AllocError>
 
 /// The words whose bytes a text spells, low byte first, two digits of either case for each byte. Nothing is skipped.
 pub fn read_hex_words(alloc: Global, text: &str) -> Result<Vec<u16>, HexFault>
-    ensures ok { IfOk result (λ words. decode_of text.now ≡ Ok (bytes_of words.items)) }
+    ensures { Reads HexFault.Memory (λ words. words.items) (λ words. decode_of text.now ≡ Ok (bytes_of words)) result }
 {
     let bytes = decode_digits(alloc, text.as_bytes())?;
     if bytes.len() % 2 != 0 {

@@ -6,8 +6,6 @@ mod hexadecimal;
 mod line_file;
 mod script_command;
 mod script_file;
-#[cfg(test)]
-mod tests;
 
 pub use hexadecimal::{HexFault, hex_lines, read_hex};
 pub use line_file::{LineFault, LineFile, read_line};

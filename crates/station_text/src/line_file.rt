@@ -1,11 +1,14 @@
 //! The line file: the slaves of a line, and where its journal is.
-ghost use Rattle.std.specs.Prelude.{◌≡◌, ◌≤◌, vec_len, string_bytes, codes, map, Some, IfOk, IsSomeAnd};
+ghost use Rattle.std.specs.Prelude.{◌≡◌, ◌≤◌, length, vec_len, string_bytes, codes, map, Some, IsSomeAnd};
+ghost use Rattle.std.specs.List.{AllZip};
 ghost use Rattle.toml.specs.Data.{get_member};
 ghost use Rattle.toml.specs.Parse.{parse_document};
 ghost use Rattle.toml.specs.View.{view, table_view};
-ghost use Rattle.station_text.specs.LineText.{Describes, IsArea, image_of, images_at_slave, text_at};
+ghost use Rattle.station_text.specs.Document.{text_at, values_at};
+ghost use Rattle.station_text.specs.LineText.{AreImages, Describes, IsArea, NamesImage};
+ghost use Rattle.station_text.specs.Reading.{Reads};
 
-use crate::document::{DocumentFault, find, find_text, has_only, read_document};
+use crate::document::{DocumentFault, find, find_text, find_values, has_only, read_document};
 use std::alloc::{AllocError, AllocFailed, Global};
 use thiserror::Error;
 use toml::{Table, Value};
@@ -39,16 +42,16 @@ pub enum LineFault {
 
 /// Reads a line file: the keys `journal`, `area` and an array of tables `slave`, each with `image`, and no others.
 pub fn read_line(alloc: Global, text: &str) -> Result<LineFile, LineFault>
-    ensures { IfOk result (λ line. IsSomeAnd (parse_document text.now) (λ document.
-        Describes document line.journal line.area line.images.items)) }
+    ensures { Reads LineFault.Memory (λ line. line) (λ line.
+        IsSomeAnd (parse_document text.now) (λ document. Describes document line.journal line.area line.images.items)) result }
 {
     let table = read_document(alloc, text)?;
     line_of(alloc, &table)
 }
 
 fn line_of(alloc: Global, table: &Table) -> Result<LineFile, LineFault>
-    ensures { IfOk result (λ line.
-        Describes (table_view table.now) line.journal line.area line.images.items) }
+    ensures { Reads LineFault.Memory (λ line. line) (λ line.
+        Describes (table_view table.now) line.journal line.area line.images.items) result }
 {
     if !has_only(table, &["journal", "area", "slave"]) {
         return Err(LineFault::BadLine);
@@ -65,7 +68,7 @@ fn line_of(alloc: Global, table: &Table) -> Result<LineFile, LineFault>
 
 /// The file's name at a key.
 fn read_name(alloc: Global, table: &Table, key: &str) -> Result<String, LineFault>
-    ensures { IfOk result (λ name. text_at key.now (table_view table.now) ≡ Some (string_bytes name)) }
+    ensures { Reads LineFault.Memory (λ name. name) (λ name. text_at key.now (table_view table.now) ≡ Some (string_bytes name)) result }
 {
     match find_text(table, key) {
         Some(name) => Ok(String::from_str(alloc, name)?),
@@ -74,8 +77,7 @@ fn read_name(alloc: Global, table: &Table, key: &str) -> Result<String, LineFaul
 }
 
 fn read_area(table: &Table) -> Result<u32, LineFault>
-    ensures value { IfOk result (λ area. IsArea (get_member (codes "area") (table_view table.now)) area) }
-    ensures limits { IfOk result (λ area. (4096 ≤ area) × (area ≤ 4194304)) }
+    ensures { Reads LineFault.Memory (λ area. area) (IsArea (get_member (codes "area") (table_view table.now))) result }
 {
     let Some(value) = find(table, "area") else {
         return Ok(DEFAULT_AREA);
@@ -90,14 +92,10 @@ fn read_area(table: &Table) -> Result<u32, LineFault>
 }
 
 fn read_images(alloc: Global, table: &Table) -> Result<Vec<String>, LineFault>
-    ensures names { IfOk result (λ images.
-        images_at_slave (table_view table.now) ≡ Some (map (λ name. Some (string_bytes name)) images.items)) }
-    ensures count { IfOk result (λ images. (1 ≤ vec_len images) × (vec_len images ≤ 64)) }
+    ensures { Reads LineFault.Memory (λ images. images.items) (λ images.
+        IsSomeAnd (values_at (codes "slave") (table_view table.now)) (λ slaves. AreImages slaves images)) result }
 {
-    let Some(value) = find(table, "slave") else {
-        return Err(LineFault::BadLine);
-    };
-    match value.as_array() {
+    match find_values(table, "slave") {
         Some(slaves) => read_image_names(alloc, slaves),
         None => Err(LineFault::BadLine),
     }
@@ -105,9 +103,7 @@ fn read_images(alloc: Global, table: &Table) -> Result<Vec<String>, LineFault>
 
 /// The files of 1 to 64 slaves.
 fn read_image_names(alloc: Global, slaves: &[Value]) -> Result<Vec<String>, LineFault>
-    ensures names { IfOk result (λ images.
-        map (λ slave. image_of (view slave)) slaves.now ≡ map (λ name. Some (string_bytes name)) images.items) }
-    ensures count { IfOk result (λ images. (1 ≤ vec_len images) × (vec_len images ≤ 64)) }
+    ensures { Reads LineFault.Memory (λ images. images.items) (AreImages (map view slaves.now)) result }
 {
     if slaves.is_empty() || slaves.len() > 64 {
         return Err(LineFault::BadLine);
@@ -121,7 +117,7 @@ fn read_image_names(alloc: Global, slaves: &[Value]) -> Result<Vec<String>, Line
 
 /// The file of one slave.
 fn read_image_name(alloc: Global, slave: &Value) -> Result<String, LineFault>
-    ensures { IfOk result (λ name. image_of (view slave.now) ≡ Some (string_bytes name)) }
+    ensures { Reads LineFault.Memory (λ name. name) (NamesImage (view slave.now)) result }
 {
     match slave.as_table() {
         Some(table) if has_only(table, &["image"]) => read_name(alloc, table, "image"),
@@ -150,6 +146,11 @@ impl<T: Drop> From<AllocFailed<T>> for LineFault {
 }
 
 impl From<DocumentFault> for LineFault {
+    ghost use Rattle.station_text.specs.declared.document.DocumentFault.TheVariants as documents;
+    ghost use Rattle.station_text.specs.declared.line_file.LineFault.TheVariants.{Memory};
+
+    ghost from_gives = { λ fault given. fault ≡ documents.Memory → given ≡ Memory };
+
     fn from(fault: DocumentFault) -> Self {
         match fault {
             DocumentFault::Memory => LineFault::Memory,

@@ -1,15 +1,22 @@
 //! One command of a script file.
-ghost use Rattle.std.specs.Prelude.{◌≡◌, IfOk};
+ghost use Rattle.std.specs.Prelude.{◌≡◌, codes, map, IsSomeAnd};
+ghost use Rattle.std.specs.List.{AllZip};
+ghost use Rattle.toml.specs.Data.{as_table, get_member};
+ghost use Rattle.toml.specs.View.{view, table_view};
+ghost use Rattle.station_text.specs.Document.{table_at};
+ghost use Rattle.station_text.specs.Reading.{Finds, Reads};
+ghost use Rattle.station_text.specs.ScriptText.{SpellsAlias, SpellsCategory, SpellsCommand, SpellsEdit, SpellsExpect, SpellsGroup, SpellsGroupEdit, SpellsGuard, SpellsGuarded, SpellsImage, SpellsSwap, SpellsTableCommand};
 
-use crate::document::{find_text, has_only, read_number, read_wide_number};
+use crate::document::{
+    find, find_number, find_table, find_text, find_values, find_wide_number, has_only, read_number,
+};
 use crate::hexadecimal::{HexFault, read_hex_words};
 use sii_edit::{Expect, WordList};
 use std::alloc::{AllocError, AllocFailed, Global};
-use thiserror::Error;
 use toml::{Table, Value};
 
 /// A command of a script. The images are still in their files.
-#[derive(Debug, Drop)]
+#[derive(Drop)]
 pub enum ScriptCommand {
     /// One edit of one slave.
     One(ScriptEdit),
@@ -20,7 +27,7 @@ pub enum ScriptCommand {
 }
 
 /// A change of one slave's EEPROM.
-#[derive(Debug, Drop)]
+#[derive(Drop)]
 pub enum ScriptEdit {
     /// Sets the configured station alias.
     Alias {
@@ -41,135 +48,171 @@ pub enum ScriptEdit {
 }
 
 /// An edit of a group, and who the slave is expected to be.
-#[derive(Debug, Drop)]
+#[derive(Drop)]
 pub struct ScriptGroupEdit {
     pub expect: Option<Expect>,
     pub edit: ScriptEdit,
 }
 
 /// Why a value is no command.
-#[derive(Clone, Copy, Debug, PartialEq, Eq, Error)]
+#[derive(Clone, Copy)]
 pub enum CommandFault {
-    #[error("out of memory")]
     Memory,
-    #[error("the value is no command")]
     Malformed,
 }
 
 /// Reads a table with one key, which says what the command is.
-pub fn read_command(alloc: Global, value: &Value) -> Result<ScriptCommand, CommandFault> {
-    let table = table_of(value)?;
-    if table.len() != 1 {
+pub fn read_command(alloc: Global, value: &Value) -> Result<ScriptCommand, CommandFault>
+    ensures { Reads CommandFault.Memory (λ command. command) (SpellsCommand (view value.now)) result }
+{
+    match value.as_table() {
+        Some(table) => read_table_command(alloc, table),
+        None => Err(CommandFault::Malformed),
+    }
+}
+
+fn read_table_command(alloc: Global, table: &Table) -> Result<ScriptCommand, CommandFault>
+    ensures { Reads CommandFault.Memory (λ command. command) (SpellsTableCommand (table_view table.now)) result }
+{
+    if has_only(table, &["swap"]) {
+        return match read_swap(table) {
+            Some((a, b)) => Ok(ScriptCommand::Swap { a, b }),
+            None => Err(CommandFault::Malformed),
+        };
+    }
+    if has_only(table, &["group"]) {
+        return Ok(ScriptCommand::Group(read_group(alloc, table)?));
+    }
+    if find(table, "expect").is_some() {
         return Err(CommandFault::Malformed);
-    }
-    if let Some(pair) = table.get("swap") {
-        return read_swap(pair).ok_or(CommandFault::Malformed);
-    }
-    if let Some(edits) = table.get("group") {
-        return read_group(alloc, edits);
     }
     Ok(ScriptCommand::One(read_edit(alloc, table)?))
 }
 
-fn table_of(value: &Value) -> Result<&Table, CommandFault> {
-    value.as_table().ok_or(CommandFault::Malformed)
-}
-
-/// `[0, 1]`
-fn read_swap(value: &Value) -> Option<ScriptCommand> {
-    match value.as_array()?.as_slice() {
-        [a, b] => Some(ScriptCommand::Swap {
-            a: read_number(a)?,
-            b: read_number(b)?,
-        }),
+/// `swap = [0, 1]`
+fn read_swap(table: &Table) -> Option<(u16, u16)>
+    ensures { Finds (λ pair. SpellsSwap (table_view table.now) pair.0 pair.1) result }
+{
+    match find_values(table, "swap")? {
+        [a, b] => Some((read_number(a)?, read_number(b)?)),
         _ => None,
     }
 }
 
-/// `[ { alias = { slave = 0, value = 1 } } ]`
-fn read_group(alloc: Global, value: &Value) -> Result<ScriptCommand, CommandFault> {
-    let Some(values) = value.as_array() else {
-        return Err(CommandFault::Malformed);
-    };
+/// `group = [{ alias = { slave = 0, value = 1 } }]`
+fn read_group(alloc: Global, table: &Table) -> Result<Vec<ScriptGroupEdit>, CommandFault>
+    ensures { Reads CommandFault.Memory (λ edits. edits.items) (SpellsGroup (table_view table.now)) result }
+{
+    match find_values(table, "group") {
+        Some(values) => read_group_edits(alloc, values),
+        None => Err(CommandFault::Malformed),
+    }
+}
+
+fn read_group_edits(alloc: Global, values: &[Value]) -> Result<Vec<ScriptGroupEdit>, CommandFault>
+    ensures { Reads CommandFault.Memory (λ edits. edits.items) (AllZip SpellsGroupEdit (map view values.now)) result }
+{
     let mut edits = Vec::with_capacity(alloc, values.len())?;
     for value in values {
         edits.push(read_group_edit(alloc, value)?)?;
     }
-    Ok(ScriptCommand::Group(edits))
+    Ok(edits)
 }
 
 /// A table with one edit, and beside it `expect` where the edit is guarded.
-fn read_group_edit(alloc: Global, value: &Value) -> Result<ScriptGroupEdit, CommandFault> {
-    let table = table_of(value)?;
-    let Some(guard) = table.get("expect") else {
-        return Ok(ScriptGroupEdit {
-            expect: None,
-            edit: read_lone_edit(alloc, table, 1)?,
-        });
-    };
-    let expect = read_expect(guard).ok_or(CommandFault::Malformed)?;
-    Ok(ScriptGroupEdit {
-        expect: Some(expect),
-        edit: read_lone_edit(alloc, table, 2)?,
-    })
+fn read_group_edit(alloc: Global, value: &Value) -> Result<ScriptGroupEdit, CommandFault>
+    ensures { Reads CommandFault.Memory (λ one. one) (SpellsGroupEdit (view value.now)) result }
+{
+    match value.as_table() {
+        Some(table) => read_guarded_edit(alloc, table),
+        None => Err(CommandFault::Malformed),
+    }
 }
 
-/// The edit of a table that has so many keys.
-fn read_lone_edit(alloc: Global, table: &Table, keys: usize) -> Result<ScriptEdit, CommandFault> {
-    if table.len() != keys {
-        return Err(CommandFault::Malformed);
+fn read_guarded_edit(alloc: Global, table: &Table) -> Result<ScriptGroupEdit, CommandFault>
+    ensures { Reads CommandFault.Memory (λ one. one) (SpellsGuarded (table_view table.now)) result }
+{
+    let expect = read_guard(table)?;
+    let edit = read_edit(alloc, table)?;
+    Ok(ScriptGroupEdit { expect, edit })
+}
+
+/// What is expected, if anything is.
+fn read_guard(table: &Table) -> Result<Option<Expect>, CommandFault>
+    ensures { Reads CommandFault.Memory (λ expect. expect) (SpellsGuard (get_member (codes "expect") (table_view table.now))) result }
+{
+    let Some(guard) = find(table, "expect") else {
+        return Ok(None);
+    };
+    match read_expect(guard) {
+        Some(expect) => Ok(Some(expect)),
+        None => Err(CommandFault::Malformed),
     }
-    read_edit(alloc, table)
 }
 
 /// `{ vendor = 2, product = 0, revision = 0 }`
-fn read_expect(value: &Value) -> Option<Expect> {
+fn read_expect(value: &Value) -> Option<Expect>
+    ensures { Finds (λ expect. IsSomeAnd (as_table (view value.now)) (λ fields. SpellsExpect fields expect)) result }
+{
     let table = value.as_table()?;
     if !has_only(table, &["vendor", "product", "revision"]) {
         return None;
     }
     Some(Expect {
-        vendor: read_wide_number(table.get("vendor")?)?,
-        product: read_wide_number(table.get("product")?)?,
-        revision: read_wide_number(table.get("revision")?)?,
+        vendor: find_wide_number(table, "vendor")?,
+        product: find_wide_number(table, "product")?,
+        revision: find_wide_number(table, "revision")?,
     })
 }
 
-/// The edit at one of the keys `alias`, `category` and `image`.
-fn read_edit(alloc: Global, table: &Table) -> Result<ScriptEdit, CommandFault> {
-    if let Some(alias) = table.get("alias") {
-        return read_alias(alias).ok_or(CommandFault::Malformed);
+/// The edit at one of the keys `alias`, `category` and `image`, beside which only `expect` may stand.
+fn read_edit(alloc: Global, table: &Table) -> Result<ScriptEdit, CommandFault>
+    ensures { Reads CommandFault.Memory (λ edit. edit) (SpellsEdit (table_view table.now)) result }
+{
+    if has_only(table, &["alias", "expect"]) {
+        return read_alias(table);
     }
-    if let Some(category) = table.get("category") {
-        return read_category(alloc, table_of(category)?);
+    if has_only(table, &["category", "expect"]) {
+        return read_category(alloc, table);
     }
-    match table.get("image") {
-        Some(image) => read_image_edit(alloc, table_of(image)?),
-        None => Err(CommandFault::Malformed),
+    if has_only(table, &["image", "expect"]) {
+        return read_image_edit(alloc, table);
+    }
+    Err(CommandFault::Malformed)
+}
+
+/// `alias = { slave = 0, value = 1 }`
+fn read_alias(table: &Table) -> Result<ScriptEdit, CommandFault>
+    ensures { Reads CommandFault.Memory (λ edit. edit) (λ edit.
+        IsSomeAnd (table_at (codes "alias") (table_view table.now)) (λ fields. SpellsAlias fields edit)) result }
+{
+    let Some(fields) = find_table(table, "alias") else {
+        return Err(CommandFault::Malformed);
+    };
+    if !has_only(fields, &["slave", "value"]) {
+        return Err(CommandFault::Malformed);
+    }
+    match (find_number(fields, "slave"), find_number(fields, "value")) {
+        (Some(slave), Some(value)) => Ok(ScriptEdit::Alias { slave, value }),
+        _ => Err(CommandFault::Malformed),
     }
 }
 
-/// `{ slave = 0, value = 1 }`
-fn read_alias(value: &Value) -> Option<ScriptEdit> {
-    let table = value.as_table()?;
-    if !has_only(table, &["slave", "value"]) {
-        return None;
-    }
-    Some(ScriptEdit::Alias {
-        slave: number_at(table, "slave")?,
-        value: number_at(table, "value")?,
-    })
-}
-
-/// `{ slave = 0, kind = 51, content = "0016" }`: the bytes of whole words; without bytes the category is removed.
-fn read_category(alloc: Global, table: &Table) -> Result<ScriptEdit, CommandFault> {
-    if !has_only(table, &["slave", "kind", "content"]) {
+/// `category = { slave = 0, kind = 51, content = "0016" }`: the bytes of whole words; without bytes the category is removed.
+fn read_category(alloc: Global, table: &Table) -> Result<ScriptEdit, CommandFault>
+    ensures { Reads CommandFault.Memory (λ edit. edit) (λ edit.
+        IsSomeAnd (table_at (codes "category") (table_view table.now)) (λ fields. SpellsCategory fields edit)) result }
+{
+    let Some(fields) = find_table(table, "category") else {
+        return Err(CommandFault::Malformed);
+    };
+    if !has_only(fields, &["slave", "kind", "content"]) {
         return Err(CommandFault::Malformed);
     }
     let (Some(slave), Some(kind), Some(content)) = (
-        number_at(table, "slave"),
-        number_at(table, "kind"),
-        find_text(table, "content"),
+        find_number(fields, "slave"),
+        find_number(fields, "kind"),
+        find_text(fields, "content"),
     ) else {
         return Err(CommandFault::Malformed);
     };
@@ -177,21 +220,22 @@ fn read_category(alloc: Global, table: &Table) -> Result<ScriptEdit, CommandFaul
     Ok(ScriptEdit::Category { slave, kind, words })
 }
 
-/// `{ slave = 0, file = "new.bin" }`
-fn read_image_edit(alloc: Global, table: &Table) -> Result<ScriptEdit, CommandFault> {
-    if !has_only(table, &["slave", "file"]) {
+/// `image = { slave = 0, file = "new.bin" }`
+fn read_image_edit(alloc: Global, table: &Table) -> Result<ScriptEdit, CommandFault>
+    ensures { Reads CommandFault.Memory (λ edit. edit) (λ edit.
+        IsSomeAnd (table_at (codes "image") (table_view table.now)) (λ fields. SpellsImage fields edit)) result }
+{
+    let Some(fields) = find_table(table, "image") else {
+        return Err(CommandFault::Malformed);
+    };
+    if !has_only(fields, &["slave", "file"]) {
         return Err(CommandFault::Malformed);
     }
-    let (Some(slave), Some(name)) = (number_at(table, "slave"), find_text(table, "file")) else {
+    let (Some(slave), Some(name)) = (find_number(fields, "slave"), find_text(fields, "file")) else {
         return Err(CommandFault::Malformed);
     };
     let file = String::from_str(alloc, name)?;
     Ok(ScriptEdit::Image { slave, file })
-}
-
-/// The number at a key: 0 to 65535.
-fn number_at(table: &Table, key: &str) -> Option<u16> {
-    read_number(table.get(key)?)
 }
 
 impl From<AllocError> for CommandFault {
@@ -215,6 +259,11 @@ impl<T: Drop> From<AllocFailed<T>> for CommandFault {
 }
 
 impl From<HexFault> for CommandFault {
+    ghost use Rattle.station_text.specs.declared.hexadecimal.HexFault.TheVariants as digits;
+    ghost use Rattle.station_text.specs.declared.script_command.CommandFault.TheVariants.{Memory};
+
+    ghost from_gives = { λ fault given. fault ≡ digits.Memory → given ≡ Memory };
+
     fn from(fault: HexFault) -> Self {
         match fault {
             HexFault::Memory => CommandFault::Memory,

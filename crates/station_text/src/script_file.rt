@@ -1,8 +1,11 @@
 //! The script file: commands for a line.
-ghost use Rattle.std.specs.Prelude.{◌≡◌, IfOk, IsSome};
-ghost use Rattle.toml.specs.Parse.{parse_document};
+ghost use Rattle.std.specs.Prelude.{◌≡◌, map};
+ghost use Rattle.std.specs.List.{AllZip};
+ghost use Rattle.toml.specs.View.{view, table_view};
+ghost use Rattle.station_text.specs.Reading.{Reads};
+ghost use Rattle.station_text.specs.ScriptText.{SpellsCommand, SpellsScript, SpellsScriptFile};
 
-use crate::document::{DocumentFault, has_only, read_document};
+use crate::document::{DocumentFault, find_values, has_only, read_document};
 use crate::script_command::{CommandFault, ScriptCommand, read_command};
 use std::alloc::{AllocError, AllocFailed, Global};
 use thiserror::Error;
@@ -21,29 +24,39 @@ pub enum ScriptFault {
 /// Reads a script: an array of tables `command`, each with one key, `alias`, `swap`, `category`, `image` or `group`. The
 /// files of images aren't read.
 pub fn read_script(alloc: Global, text: &str) -> Result<Vec<ScriptCommand>, ScriptFault>
-    ensures { IfOk result (λ _. IsSome (parse_document text.now)) }
+    ensures { Reads ScriptFault.Memory (λ commands. commands.items) (SpellsScriptFile text.now) result }
 {
     let table = read_document(alloc, text)?;
     commands_of(alloc, &table)
 }
 
-fn commands_of(alloc: Global, table: &Table) -> Result<Vec<ScriptCommand>, ScriptFault> {
-    let whole = ScriptFault::BadScript { command: 0 };
+fn commands_of(alloc: Global, table: &Table) -> Result<Vec<ScriptCommand>, ScriptFault>
+    ensures { Reads ScriptFault.Memory (λ commands. commands.items) (SpellsScript (table_view table.now)) result }
+{
     if !has_only(table, &["command"]) {
-        return Err(whole);
+        return Err(ScriptFault::BadScript { command: 0 });
     }
-    let Some(Value::Array(values)) = table.get("command") else {
-        return Err(whole);
-    };
-    let mut commands = Vec::new(alloc);
-    for (place, value) in values.iter().enumerate() {
+    match find_values(table, "command") {
+        Some(values) => read_commands(alloc, values),
+        None => Err(ScriptFault::BadScript { command: 0 }),
+    }
+}
+
+fn read_commands(alloc: Global, values: &[Value]) -> Result<Vec<ScriptCommand>, ScriptFault>
+    ensures { Reads ScriptFault.Memory (λ commands. commands.items) (AllZip SpellsCommand (map view values.now)) result }
+{
+    let mut commands = Vec::with_capacity(alloc, values.len())?;
+    for value in values {
+        let place = commands.len();
         commands.push(command_at(alloc, place, value)?)?;
     }
     Ok(commands)
 }
 
 /// The command at this place of the script.
-fn command_at(alloc: Global, place: usize, value: &Value) -> Result<ScriptCommand, ScriptFault> {
+fn command_at(alloc: Global, place: usize, value: &Value) -> Result<ScriptCommand, ScriptFault>
+    ensures { Reads ScriptFault.Memory (λ command. command) (SpellsCommand (view value.now)) result }
+{
     match read_command(alloc, value) {
         Ok(command) => Ok(command),
         Err(CommandFault::Memory) => Err(ScriptFault::Memory),
@@ -72,6 +85,11 @@ impl<T: Drop> From<AllocFailed<T>> for ScriptFault {
 }
 
 impl From<DocumentFault> for ScriptFault {
+    ghost use Rattle.station_text.specs.declared.document.DocumentFault.TheVariants as documents;
+    ghost use Rattle.station_text.specs.declared.script_file.ScriptFault.TheVariants.{Memory};
+
+    ghost from_gives = { λ fault given. fault ≡ documents.Memory → given ≡ Memory };
+
     fn from(fault: DocumentFault) -> Self {
         match fault {
             DocumentFault::Memory => ScriptFault::Memory,

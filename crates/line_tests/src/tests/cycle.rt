@@ -1,6 +1,6 @@
 //! Process data of two slaves in memory, exchanged through their FMMUs.
 
-use super::zero_words;
+use super::{site_of, zero_words};
 use ecat_frame::{Command, Frame, fp};
 use esc_model::ProcessHalf;
 use site_core::Site;
@@ -64,8 +64,7 @@ fn process_line(rt: &impl Abort, alloc: Global) -> Result<MemSite, Fail> {
         halves,
         process: Some(process),
     };
-    assert!(rt; parts.is_whole());
-    Ok(MemSite::of_parts(alloc, parts))
+    Ok(site_of(rt, alloc, parts))
 }
 
 // One datagram for a station goes through the process halves, and its content and its counter come back so.

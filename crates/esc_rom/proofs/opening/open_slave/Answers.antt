@@ -1,16 +1,21 @@
+use Rattle.esc_rom.specs.Access.{BecomesOpen}
+use Rattle.esc_rom.proofs.Runs.{Ran-value}
 use Rattle.esc_rom.proofs.Stops.{rom_stopped}
 use Rattle.esc_rom.proofs.OpenSlaves.{opens_ok, opens_dead, opens_cut}
 use Rattle.esc_rom.proofs.opening.open_slave.Goals as goal
 
 pub returns-in_err-take_over-clause-opens : goal.returns-in_err-take_over-clause-opens
 returns-in_err-take_over-clause-opens g c =
-    opens_cut (g.S.Site.seen c.args.site.now) c.args.slave c.in_err-take_over.field-0.0 c.from_residual.result (g.S.Site.seen c.take_over.new.site)
-    (rom_stopped c.from_residual.result c.from_residual.ensures.1) c.in_err-take_over.ensures.runs
+    opens_cut (g.S.Site.seen c.args.site.now) c.args.slave c.from_residual.result (g.S.Site.seen c.take_over.new.site) (rom_stopped c.from_residual.result c.from_residual.ensures.1) c.in_err-take_over.ensures.runs
 
 pub returns-then-branch-clause-opens : goal.returns-then-branch-clause-opens
 returns-then-branch-clause-opens g c =
-    opens_ok (g.S.Site.seen c.args.site.now) c.args.slave c.in_ok-take_over.field-0 (g.S.Site.seen c.take_over.new.site) c.if-branch.true c.in_ok-take_over.ensures.runs
+    let old = g.S.Site.seen c.args.site.now in
+    let new = g.S.Site.seen c.take_over.new.site in
+    opens_ok old c.args.slave new (Ran-value (BecomesOpen old c.args.slave new) c.if-branch.true c.in_ok-take_over.ensures.runs)
 
 pub returns-clause-opens : goal.returns-clause-opens
 returns-clause-opens g c =
-    opens_dead (g.S.Site.seen c.args.site.now) c.args.slave c.in_ok-take_over.field-0 (g.S.Site.seen c.take_over.new.site) c.if-branch.false c.in_ok-take_over.ensures.runs
+    let old = g.S.Site.seen c.args.site.now in
+    let new = g.S.Site.seen c.take_over.new.site in
+    opens_dead old c.args.slave new (Ran-value (BecomesOpen old c.args.slave new) c.if-branch.false c.in_ok-take_over.ensures.runs)

@@ -1,15 +1,33 @@
 use Rattle.std.proofs.Common.{length, slice_index, ◌∙◌}
-use Rattle.esc_rom.proofs.AllWords.{reads_ok, reads_dead}
+use Rattle.esc_rom.specs.WordPairs.{ReadsAll}
+use Rattle.esc_rom.proofs.Runs.{Ran-value}
+use Rattle.esc_rom.proofs.Stops.{rom_stopped, rom_memory}
+use Rattle.esc_rom.proofs.AllWords.{reads_ok, reads_dead, reads_cut, reads_refused}
 use Rattle.esc_rom.proofs.reading.read_all.Goals as goal
+
+pub returns-in_err-wait_and_fill-clause-reads : goal.returns-in_err-wait_and_fill-clause-reads
+returns-in_err-wait_and_fill-clause-reads g c =
+    reads_cut (g.S.Site.seen c.args.site.now) c.args.slave (slice_index (g.S.Site.line c.args.site.now).sizes c.args.slave) (length c.in_ok-words.words) (g.S.Site.seen c.wait_and_fill.new.site)
+    (c.in_ok-words.ensures.count ∙ c.words_of.ensures.size) c.from_residual-in_err-wait_and_fill.result
+    (rom_stopped c.from_residual-in_err-wait_and_fill.result c.from_residual-in_err-wait_and_fill.ensures.1) c.in_err-wait_and_fill.ensures.runs
 
 pub returns-then-branch-clause-reads : goal.returns-then-branch-clause-reads
 returns-then-branch-clause-reads g c =
-    reads_ok (g.S.Site.seen c.args.site.now) c.args.slave (slice_index (g.S.Site.line c.args.site.now).sizes c.args.slave) (length c.in_ok-words.words) c.wait_and_fill.new.words
-    c.in_ok-wait_and_fill.field-0 (g.S.Site.seen c.wait_and_fill.new.site) (c.in_ok-words.ensures.count ∙ c.words_of.ensures.size)
-    (c.in_ok-wait_and_fill.ensures.length ∙ c.in_ok-words.ensures.count ∙ c.words_of.ensures.words c.requires) c.if-branch.true c.in_ok-wait_and_fill.ensures.runs
+    let old = g.S.Site.seen c.args.site.now in
+    let new = g.S.Site.seen c.wait_and_fill.new.site in
+    reads_ok old c.args.slave (slice_index (g.S.Site.line c.args.site.now).sizes c.args.slave) (length c.in_ok-words.words) new (c.in_ok-words.ensures.count ∙ c.words_of.ensures.size) c.wait_and_fill.new.words
+    (c.in_ok-wait_and_fill.ensures.length ∙ c.in_ok-words.ensures.count ∙ c.words_of.ensures.words c.requires)
+    (Ran-value (ReadsAll old c.args.slave new c.wait_and_fill.new.words) c.if-branch.true c.in_ok-wait_and_fill.ensures.runs)
 
 pub returns-clause-reads : goal.returns-clause-reads
 returns-clause-reads g c =
-    reads_dead (g.S.Site.seen c.args.site.now) c.args.slave (slice_index (g.S.Site.line c.args.site.now).sizes c.args.slave) (length c.in_ok-words.words) c.wait_and_fill.new.words
-    c.in_ok-wait_and_fill.field-0 (g.S.Site.seen c.wait_and_fill.new.site) (c.in_ok-words.ensures.count ∙ c.words_of.ensures.size)
-    (c.in_ok-wait_and_fill.ensures.length ∙ c.in_ok-words.ensures.count ∙ c.words_of.ensures.size) c.if-branch.false c.in_ok-wait_and_fill.ensures.runs
+    let old = g.S.Site.seen c.args.site.now in
+    let new = g.S.Site.seen c.wait_and_fill.new.site in
+    reads_dead old c.args.slave (slice_index (g.S.Site.line c.args.site.now).sizes c.args.slave) (length c.in_ok-words.words) new (c.in_ok-words.ensures.count ∙ c.words_of.ensures.size) c.wait_and_fill.new.words
+    (c.in_ok-wait_and_fill.ensures.length ∙ c.in_ok-words.ensures.count ∙ c.words_of.ensures.size)
+    (Ran-value (ReadsAll old c.args.slave new c.wait_and_fill.new.words) c.if-branch.false c.in_ok-wait_and_fill.ensures.runs)
+
+pub returns-in_err-words-clause-reads : goal.returns-in_err-words-clause-reads
+returns-in_err-words-clause-reads g c =
+    reads_refused (g.S.Site.seen c.args.site.now) c.args.slave (slice_index (g.S.Site.line c.args.site.now).sizes c.args.slave) c.from_residual.result
+    (rom_memory c.from_residual.result c.in_err-words.field-0.0 c.from_residual.ensures.1 c.in_err-words.ensures.memory)

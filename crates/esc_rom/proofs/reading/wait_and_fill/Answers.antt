@@ -1,33 +1,65 @@
-use Rattle.std.proofs.Common.{◌+◌, ◌*◌, ◌/◌, false, length, Ok, ap, inl, arith}
-use Rattle.esc_rom.specs.Halves.{IsAt}
-use Rattle.esc_rom.specs.GivingUp.{WaitsInVain}
-use Rattle.esc_rom.specs.Runs.{RestsSeen}
-use Rattle.esc_rom.specs.WordPairs.{Fills, ReadsAll}
-use Rattle.esc_rom.proofs.Resting.{MayRest-only}
-use Rattle.esc_rom.proofs.States.{HalfGoes-weaker}
-use Rattle.esc_rom.proofs.QuietRuns.{Runs-by}
-use Rattle.esc_rom.proofs.Times.{Quiet-later}
-use Rattle.esc_rom.proofs.GivingUp.{NeverIdle-here}
-use Rattle.esc_rom.proofs.SoFar.{so_ends}
-use Rattle.esc_rom.proofs.ReadRuns.{waits_and_fills, so_waited}
+use Rattle.std.proofs.Common.{◌≡◌, ℕ, ◌+◌, ◌*◌, ◌%◌, ◌<◌, List, length, length-set, slice_set, refl, sym, ap, subst, ◌∙◌, arith}
+use Rattle.site_core.specs.Line.{Line, Owns}
+use Rattle.esc_rom.specs.Runs.{Ran, Waited}
+use Rattle.esc_rom.specs.WordPairs.{ReadsPair, ReadsAll}
+use Rattle.esc_rom.proofs.Runs.{Ran-told, Ran-cut, IsCut-more, cut_as}
+use Rattle.esc_rom.proofs.AllWords.{Filled, filled_none, filled_more, filled_not, filled_all, never_rests}
 use Rattle.esc_rom.proofs.reading.wait_and_fill.Goals as goal
 
+pub returns-in_err-_rested-clause-runs : goal.returns-in_err-_rested-clause-runs
+returns-in_err-_rested-clause-runs g c = cut_as (ReadsAll _ c.args.slave _ c.args.words.now) c.args.slave c.from_residual.result c.from_residual.ensures.0 (IsCut-more (omega arith) c.in_err-_rested.ensures.runs)
+
 pub returns-in_default-clause-runs : goal.returns-in_default-clause-runs
-returns-in_default-clause-runs g c =
+returns-in_default-clause-runs g c = never_rests c.args.words.now (omega arith) (Ran-told (λ old. Waited old c.args.slave) c.in_default.is c.in_ok-_rested.ensures.runs)
+
+pub loop-pair-init : goal.loop-pair-init
+loop-pair-init g c = record { ran = filled_none c.in-Some._rested (Ran-told (λ old. Waited old c.args.slave) c.in-Some.is c.in_ok-_rested.ensures.runs); length = refl; line = c.in_ok-_rested.ensures.line }
+
+pub read_pair-requires : goal.read_pair-requires
+read_pair-requires g c = subst (λ (line : Line). Owns line c.args.slave) (sym c.loop-pair.invariant.line) c.requires
+
+pub returns-in_err-found-clause-runs : goal.returns-in_err-found-clause-runs
+returns-in_err-found-clause-runs g c =
+    let size = c.len-pair-end.ensures.size in
+    let long : c.len-pair-end.result ≡ length c.args.words.now = c.len-pair-end.ensures.len in
+    let same_long : length c.loop-pair.words ≡ length c.args.words.now = c.loop-pair.invariant.length in
+    cut_as (ReadsAll _ c.args.slave _ c.loop-pair.words) c.args.slave c.from_residual-in_err-found.result c.from_residual-in_err-found.ensures.0 (Ran-cut (omega arith) c.loop-pair.invariant.ran c.in_err-found.ensures.runs)
+
+pub returns-in_default-2-clause-runs : goal.returns-in_default-2-clause-runs
+returns-in_default-2-clause-runs g c =
+    let size = c.len-pair-end.ensures.size in
+    let long : c.len-pair-end.result ≡ length c.args.words.now = c.len-pair-end.ensures.len in
+    let same_long : length c.loop-pair.words ≡ length c.args.words.now = c.loop-pair.invariant.length in
+    let room : 2 * c.loop-pair.pair + 1 < length c.loop-pair.words = omega arith in
+    filled_not c.loop-pair.pair room (omega arith) c.loop-pair.invariant.ran (Ran-told (λ old. ReadsPair old c.args.slave (2 * c.loop-pair.pair)) c.in_default-2.is c.in_ok-found.ensures.runs)
+
+pub loop-pair-preserved : goal.loop-pair-preserved
+loop-pair-preserved g c =
+    let size = c.len-pair-end.ensures.size in
+    let long : c.len-pair-end.result ≡ length c.args.words.now = c.len-pair-end.ensures.len in
+    let same_long : length c.loop-pair.words ≡ length c.args.words.now = c.loop-pair.invariant.length in
+    let room : 2 * c.loop-pair.pair + 1 < length c.loop-pair.words = omega arith in
+    let i = c.loop-pair.pair in
+    let words = c.loop-pair.words in
+    let found = c.in-Some-2.found in
     let a = g.S.Site.seen c.args.site.now in
-    let b = g.S.Site.seen c.wait_idle.new.site in
-    Runs-by (ReadsAll a c.args.slave b c.args.words.now) a c.args.slave 10000 (10000 + 30006 * (length c.args.words.now / 2)) false b (omega arith) c.in_ok-_rested.ensures.runs
-    (HalfGoes-weaker (WaitsInVain a c.args.slave b) (ReadsAll a c.args.slave b c.args.words.now false) a.state c.args.slave b.state
-    (λ half later waits. (MayRest-only half later waits.rests, inl (NeverIdle-here a c.args.slave b half later waits)))
-    (c.in_ok-_rested.ensures.never (ap Ok c.in_default.is)))
+    let d = g.S.Site.seen c.read_pair.new.site in
+    let both : List ℕ = slice_set (slice_set words (2 * i) found.first) (2 * i + 1) found.second in
+    let more : Ran (Filled c.args.slave both (2 * i + 2)) a c.args.slave (10000 + 30006 * (i + 1)) d =
+    filled_more room (omega arith) c.loop-pair.invariant.ran (Ran-told (λ old. ReadsPair old c.args.slave (2 * c.loop-pair.pair)) c.in-Some-2.is c.in_ok-found.ensures.runs) in
+    let set : c.set-in-loop-pair.new.self ≡ both = c.set-in-loop-pair.ensures ∙ ap (λ (w : List ℕ). slice_set w (2 * i + 1) found.second) c.set.ensures in
+    let next : 2 * i + 2 ≡ 2 * (i + 1) = omega arith in
+    record {
+      ran = subst (λ (w : List ℕ). Ran (Filled c.args.slave w (2 * (i + 1))) a c.args.slave (10000 + 30006 * (i + 1)) d) (sym set)
+          (subst (λ (n : ℕ). Ran (Filled c.args.slave both n) a c.args.slave (10000 + 30006 * (i + 1)) d) next more);
+      length = ap length set ∙ length-set (slice_set words (2 * i) found.first) (2 * i + 1) found.second ∙ length-set words (2 * i) found.first ∙ c.loop-pair.invariant.length;
+      line = c.in_ok-found.ensures.line ∙ c.loop-pair.invariant.line;
+    }
 
 pub returns-clause-runs : goal.returns-clause-runs
 returns-clause-runs g c =
-    let a = g.S.Site.seen c.args.site.now in
-    let b = g.S.Site.seen c.wait_idle.new.site in
-    let d = g.S.Site.seen c.fill.new.site in
-    let found = c.in_ok-_rested.field-0 in
-    so_ends (λ half mid. RestsSeen found half mid × IsAt c.args.slave mid) (Fills b c.args.slave d c.fill.new.words) (ReadsAll a c.args.slave d c.fill.new.words) a c.args.slave 10000 b (30006 * (length c.args.words.now / 2)) (10000 + 30006 * (length c.args.words.now / 2))
-    c.fill.result d (omega arith)
-    (λ said half mid later so fills. waits_and_fills a b c.args.slave d c.fill.new.words found c.in-Some._rested said half mid later (Quiet-later a 10000 b c.in_ok-_rested.ensures.runs.quiet) c.in-Some.is so.1 so.0 fills)
-    (so_waited a c.args.slave found b c.in_ok-_rested.ensures.runs (c.in_ok-_rested.ensures.at c.in-Some._rested (ap Ok c.in-Some.is))) c.fill.ensures.runs
+    let size = c.len-pair-end.ensures.size in
+    let long : c.len-pair-end.result ≡ length c.args.words.now = c.len-pair-end.ensures.len in
+    let same_long : length c.loop-pair.words ≡ length c.args.words.now = c.loop-pair.invariant.length in
+    let even : length c.args.words.now % 64 ≡ 0 = size.2 in
+    filled_all (omega arith) (omega arith) c.loop-pair.invariant.ran

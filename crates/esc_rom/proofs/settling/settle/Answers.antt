@@ -4,7 +4,7 @@ use Rattle.esc_rom.proofs.settling.settle.Goals as goal
 
 pub returns-in_err-settled-clause-settles : goal.returns-in_err-settled-clause-settles
 returns-in_err-settled-clause-settles g c =
-    settles_cut (g.S.Site.seen c.args.site.now) c.args.slave c.args.taken c.in_err-settled.field-0.0 c.from_residual.result (g.S.Site.seen c.rest.new.site)
+    settles_cut (g.S.Site.seen c.args.site.now) c.args.slave c.args.taken c.from_residual.result (g.S.Site.seen c.rest.new.site)
     (device_stopped c.from_residual.result c.from_residual.ensures.1) c.in_err-settled.ensures.runs
 
 pub returns-clause-settles : goal.returns-clause-settles

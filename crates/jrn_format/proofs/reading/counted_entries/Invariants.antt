@@ -1,5 +1,5 @@
 use Rattle.std.proofs.Common.{◌≡◌, ◌-◌}
-use Rattle.jrn_format.specs.Reading.{counted, entry_at}
+use Rattle.jrn_format.specs.steps.Reading.{counted, entry_at}
 use Rattle.jrn_format.proofs.Counting.{with_front}
 use Rattle.jrn_format.proofs.reading.counted_entries.Given as goal
 

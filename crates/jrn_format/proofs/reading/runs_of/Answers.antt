@@ -1,5 +1,5 @@
 use Rattle.std.proofs.lemmas.Result.{err_from_is_err_and}
-use Rattle.jrn_format.specs.Reading.{counted, run_at}
+use Rattle.jrn_format.specs.steps.Reading.{counted, run_at}
 use Rattle.jrn_format.proofs.Counting.{counts_on, counts_out, count_fails}
 use Rattle.jrn_format.proofs.reading.runs_of.Goals as goal
 

@@ -1,6 +1,6 @@
 use Rattle.std.proofs.lemmas.Result.{err_from_is_err_and}
 use Rattle.std.specs.Int.{w16}
-use Rattle.jrn_format.specs.Reading.{counted, number_at}
+use Rattle.jrn_format.specs.steps.Reading.{counted, number_at}
 use Rattle.jrn_format.proofs.Counting.{counts_on, counts_out, count_fails}
 use Rattle.jrn_format.proofs.reading.words_of.Goals as goal
 

@@ -1,6 +1,6 @@
 use Rattle.std.proofs.Common.{◌≡◌, ◌-◌}
 use Rattle.std.specs.Int.{w16}
-use Rattle.jrn_format.specs.Reading.{counted, number_at}
+use Rattle.jrn_format.specs.steps.Reading.{counted, number_at}
 use Rattle.jrn_format.proofs.Counting.{with_front}
 use Rattle.jrn_format.proofs.reading.words_of.Given as goal
 

@@ -1,5 +1,5 @@
-use Rattle.sii_cats.specs.Contents.{manager_at}
-use Rattle.sii_cats.specs.Items.{items_of}
+use Rattle.sii_cats.specs.steps.Contents.{manager_at}
+use Rattle.sii_cats.specs.steps.Items.{items_of}
 use Rattle.sii_cats.proofs.Items.{goes_on, is_done}
 use Rattle.sii_cats.proofs.Fields.{manager_shrinks}
 use Rattle.sii_cats.proofs.managers.read_managers.Goals as goal

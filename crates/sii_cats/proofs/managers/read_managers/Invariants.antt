@@ -1,6 +1,6 @@
 use Rattle.std.proofs.Common.{◌≡◌, length}
-use Rattle.sii_cats.specs.Items.{items_of}
-use Rattle.sii_cats.specs.Contents.{manager_at}
+use Rattle.sii_cats.specs.steps.Items.{items_of}
+use Rattle.sii_cats.specs.steps.Contents.{manager_at}
 use Rattle.sii_cats.proofs.Items.{with_front}
 use Rattle.sii_cats.proofs.managers.read_managers.Given as goal
 

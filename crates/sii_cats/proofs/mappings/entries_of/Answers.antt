@@ -1,7 +1,7 @@
 use Rattle.std.specs.Prelude.{IsErr}
 use Rattle.std.proofs.lemmas.Result.{err_from_is_err_and}
-use Rattle.sii_cats.specs.Pdos.{entry_at}
-use Rattle.sii_cats.specs.Items.{counted}
+use Rattle.sii_cats.specs.steps.Pdos.{entry_at}
+use Rattle.sii_cats.specs.steps.Items.{counted}
 use Rattle.sii_cats.proofs.Items.{counts_on, counts_out, count_breaks}
 use Rattle.sii_cats.proofs.Refusals.{Refuses-weaker}
 use Rattle.sii_cats.proofs.mappings.entries_of.Goals as goal

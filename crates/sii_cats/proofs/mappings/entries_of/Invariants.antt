@@ -1,6 +1,6 @@
 use Rattle.std.proofs.Common.{◌≡◌, ◌-◌}
-use Rattle.sii_cats.specs.Items.{counted}
-use Rattle.sii_cats.specs.Pdos.{entry_at}
+use Rattle.sii_cats.specs.steps.Items.{counted}
+use Rattle.sii_cats.specs.steps.Pdos.{entry_at}
 use Rattle.sii_cats.proofs.Items.{with_read}
 use Rattle.sii_cats.proofs.mappings.entries_of.Given as goal
 

@@ -2,9 +2,10 @@ use Rattle.std.specs.Prelude.{IsErr}
 use Rattle.std.proofs.Common.{◌≡◌, ◌++◌, ◌∷◌, [], sym, subst, refl}
 use Rattle.std.proofs.lemmas.List.{map_push}
 use Rattle.std.proofs.lemmas.Result.{err_from_is_err_and}
-use Rattle.sii_cats.specs.Pdos.{pdo_at, view, views}
-use Rattle.sii_cats.specs.Items.{items_of}
-use Rattle.sii_cats.specs.Items.Front.{Broken}
+use Rattle.sii_cats.specs.Pdos.{view, views}
+use Rattle.sii_cats.specs.steps.Pdos.{pdo_at}
+use Rattle.sii_cats.specs.steps.Items.{items_of}
+use Rattle.sii_cats.specs.steps.Items.Front.{Broken}
 use Rattle.sii_cats.proofs.Items.{goes_on, is_done, breaks}
 use Rattle.sii_cats.proofs.Fields.{pdo_shrinks}
 use Rattle.sii_cats.proofs.Refusals.{Refuses-weaker}

@@ -1,6 +1,7 @@
 use Rattle.std.proofs.Common.{◌≡◌, length}
-use Rattle.sii_cats.specs.Items.{items_of}
-use Rattle.sii_cats.specs.Pdos.{pdo_at, views}
+use Rattle.sii_cats.specs.steps.Items.{items_of}
+use Rattle.sii_cats.specs.Pdos.{views}
+use Rattle.sii_cats.specs.steps.Pdos.{pdo_at}
 use Rattle.sii_cats.proofs.Items.{with_front}
 use Rattle.sii_cats.proofs.mappings.read_pdos.Given as goal
 

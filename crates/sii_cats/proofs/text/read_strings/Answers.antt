@@ -2,8 +2,9 @@ use Rattle.std.specs.Prelude.{IsErr}
 use Rattle.std.proofs.Common.{◌≡◌, ◌++◌, ◌∷◌, []}
 use Rattle.std.proofs.lemmas.List.{map_push}
 use Rattle.std.proofs.lemmas.Result.{err_from_is_err_and}
-use Rattle.sii_cats.specs.Strings.{string_at, texts}
-use Rattle.sii_cats.specs.Items.{counted}
+use Rattle.sii_cats.specs.Strings.{texts}
+use Rattle.sii_cats.specs.steps.Strings.{string_at}
+use Rattle.sii_cats.specs.steps.Items.{counted}
 use Rattle.sii_cats.proofs.Items.{counts_on, counts_out, count_breaks}
 use Rattle.sii_cats.proofs.Refusals.{Refuses-weaker}
 use Rattle.sii_cats.proofs.text.read_strings.Goals as goal

@@ -1,6 +1,7 @@
 use Rattle.std.proofs.Common.{◌≡◌, ◌-◌}
-use Rattle.sii_cats.specs.Items.{counted}
-use Rattle.sii_cats.specs.Strings.{string_at, texts}
+use Rattle.sii_cats.specs.steps.Items.{counted}
+use Rattle.sii_cats.specs.Strings.{texts}
+use Rattle.sii_cats.specs.steps.Strings.{string_at}
 use Rattle.sii_cats.proofs.Items.{with_read}
 use Rattle.sii_cats.proofs.text.read_strings.Given as goal
 

@@ -7,4 +7,4 @@ use Rattle.sii_cats.proofs.units.fmmus.Goals as goal
 
 pub returns : goal.returns
 returns c = IfOk-weaker c.units_of.result _ (λ v. AreUnits (bytes_of c.args.words.now) v.items)
-    (λ v e. sym (ap unit_bytes e ∙ units_again c.deref.result.now ∙ c.deref.ensures.value ∙ c.in_ok-unpacked.ensures)) c.units_of.ensures
+    (λ v e. sym (ap unit_bytes e ∙ units_again c.deref.result.now ∙ c.deref.ensures.value ∙ c.in_ok-bytes_of_words.ensures)) c.units_of.ensures

@@ -1,5 +1,4 @@
-use Rattle.std.proofs.Common.{ap, sym, ◌∙◌}
-use Rattle.sii_image.specs.ProcessImage.{layout_of}
+use Rattle.std.proofs.Common.{sym, ◌∙◌}
 use Rattle.sii_edit.specs.Draft.{drafted}
 use Rattle.sii_edit.proofs.CommandLaws.{accepted}
 use Rattle.sii_edit.proofs.applying.changes.Goals as goal
@@ -9,11 +8,11 @@ returns c =
     let plant = c.args.plant.now in
     let new = drafted plant c.carry_out.new.draft in
     let carried = rw c.in_ok-draft.ensures.1 at c.in_ok-carry_out.ensures.1 in
-    let facts = accepted plant new c.args.command.now c.in_ok-runs.field-0.items carried c.in_ok-new.ensures.accepted c.in_ok-runs.ensures in
+    let facts = accepted plant new c.args.command.now c.in_ok-runs.runs.items carried c.in_ok-layouts.ensures.accepted c.in_ok-runs.ensures in
     record {
       accepted = facts.judged;
       runs = facts.between;
       inside = facts.inside;
-      layout = c.in_ok-new.ensures.layout ∙ ap layout_of (sym facts.reached);
+      layouts = c.in_ok-layouts.ensures.layouts ∙ sym facts.reached;
       refused = tt;
     }

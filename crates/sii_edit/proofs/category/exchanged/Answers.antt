@@ -9,7 +9,7 @@ use Rattle.sii_edit.proofs.category.exchanged.Goals as goal
 
 pub returns-in_err-judge_content : goal.returns-in_err-judge_content
 returns-in_err-judge_content c =
-    let words = c.args.words.now in
+    let words = c.args.words in
     let kind = c.args.kind in
     let content = c.args.content.now in
     let ms : List Member = map (member_of words) c.args.categories.now in
@@ -27,7 +27,7 @@ splice-requires-clause-content c = λ nowhere empty.
 
 pub returns-in_err-new : goal.returns-in_err-new
 returns-in_err-new c =
-    let words = c.args.words.now in
+    let words = c.args.words in
     let kind = c.args.kind in
     let content = c.args.content.now in
     let ms : List Member = map (member_of words) c.args.categories.now in
@@ -36,13 +36,13 @@ returns-in_err-new c =
     (not_absent content kind c.count_of-count.result ms c.is_empty.result c.is_empty.ensures c.else-is_empty.either count)
     (not_repeated kind c.count_of-count.result ms (omega arith) count) in
     let place = c.place_of-place.ensures ∙ sym (place-members words kind c.args.categories.now) in
-    let fit : is_unfit kind content ≡ false = first_passed (is_unfit kind content) BadCategory tt c.in_ok-judge_content.field-0 c.in_ok-judge_content.ensures in
+    let fit : is_unfit kind content ≡ false = first_passed (is_unfit kind content) (BadCategory kind) tt c.in_ok-judge_content.field-0 c.in_ok-judge_content.ensures in
     answered _ c.from_residual-in_err-new.result _ c.from_residual-in_err-new.ensures.1
     (splice_refused _ words kind content ms (with_chain words (exchanged kind content ms)) c.place_of-place.result c.in_err-new.field-0.0 left fit c.requires place (rw c.as_slice.ensures.words at c.in_err-new.ensures.exact))
 
 pub returns : goal.returns
 returns c =
-    let words = c.args.words.now in
+    let words = c.args.words in
     let kind = c.args.kind in
     let content = c.args.content.now in
     let ms : List Member = map (member_of words) c.args.categories.now in
@@ -51,7 +51,7 @@ returns c =
     (not_absent content kind c.count_of-count.result ms c.is_empty.result c.is_empty.ensures c.else-is_empty.either count)
     (not_repeated kind c.count_of-count.result ms (omega arith) count) in
     let place = c.place_of-place.ensures ∙ sym (place-members words kind c.args.categories.now) in
-    let fit : is_unfit kind content ≡ false = first_passed (is_unfit kind content) BadCategory tt c.in_ok-judge_content.field-0 c.in_ok-judge_content.ensures in
+    let fit : is_unfit kind content ≡ false = first_passed (is_unfit kind content) (BadCategory kind) tt c.in_ok-judge_content.field-0 c.in_ok-judge_content.ensures in
     let new = c.deref.result.now in
     let gives = rw c.as_slice.ensures.words at c.in_ok-new.ensures.exact in
-    splice_accepted _ words kind content ms gives.0 c.place_of-place.result new c.in_ok-overwritten.field-0 left fit c.requires place gives.1 gives.2 (c.deref.ensures.value ∙ gives.3) c.in_ok-overwritten.ensures
+    splice_accepted _ words kind content ms gives.0 c.place_of-place.result new c.overwritten.result left fit c.requires place gives.1 gives.2 (c.deref.ensures.value ∙ gives.3) c.overwritten.ensures

@@ -1,7 +1,7 @@
 use Rattle.std.proofs.Common.{◌<◌, take, flat_map}
 use Rattle.sii_words.specs.Words.{bytes_of}
 use Rattle.sii_words.specs.CheckByte.{bits_of_byte}
-use Rattle.sii_words.specs.ShiftRegister.{ShiftsThrough}
+use Rattle.sii_words.specs.steps.ShiftRegister.{ShiftsThrough}
 use Rattle.sii_words.proofs.check_byte.check_byte.Given as goal
 
 abbrev pub invariant-loop-word : goal.invariant-loop-word

@@ -1,5 +1,5 @@
 use Rattle.std.proofs.Common.{false, replicate, bit_xor}
-use Rattle.sii_words.specs.ShiftRegister.{ShiftsThrough}
+use Rattle.sii_words.specs.steps.ShiftRegister.{ShiftsThrough}
 use Rattle.sii_words.proofs.check_byte.folded.Given as goal
 
 abbrev pub invariant-loop : goal.invariant-loop

@@ -1,5 +1,5 @@
 use Rattle.std.proofs.Common.{◌≡◌, Bool, length, refl, sym, subst, arith}
-use Rattle.site_mem.specs.Process.{Passes}
+use Rattle.site_mem.specs.Process.{PassesUnlessMuted}
 use Rattle.site_mem.proofs.Replies.{AreReplies-same, AreReplies-then, AreReplies-length}
 use Rattle.site_mem.proofs.Passing.{ThroughSoFar-none, ThroughSoFar-more, PassesThrough-all}
 use Rattle.site_mem.proofs.process.pass.Goals as goal
@@ -7,7 +7,7 @@ use Rattle.site_mem.proofs.process.pass.Goals as goal
 pub returns-then-is_muted : goal.returns-then-is_muted
 returns-then-is_muted c = record {
   replies = AreReplies-same c.args.frame.now;
-  passes = subst (λ (b : Bool). Passes b c.args.half.now c.args.frame.now c.args.half.now c.args.frame.now) (sym c.if-is_muted.true) (refl, refl);
+  passes = subst (λ (b : Bool). PassesUnlessMuted b c.args.half.now c.args.frame.now c.args.half.now c.args.frame.now) (sym c.if-is_muted.true) (refl, refl);
 }
 
 pub loop-k-init : goal.loop-k-init
@@ -32,6 +32,6 @@ returns c =
     let end : c.loop-k.k ≡ length c.loop-k.frame = omega arith in
     record {
       replies = c.loop-k.invariant.replies;
-      passes = subst (λ (b : Bool). Passes b c.args.half.now c.args.frame.now c.loop-k.half c.loop-k.frame) (sym c.if-is_muted.false)
+      passes = subst (λ (b : Bool). PassesUnlessMuted b c.args.half.now c.args.frame.now c.loop-k.half c.loop-k.frame) (sym c.if-is_muted.false)
           (PassesThrough-all c.args.half.now c.args.frame.now c.loop-k.k c.loop-k.half c.loop-k.frame end c.loop-k.invariant.through);
     }

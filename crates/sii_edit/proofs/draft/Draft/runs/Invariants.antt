@@ -1,5 +1,5 @@
 use Rattle.std.proofs.Common.{◌≡◌, ◌++◌, drop}
-use Rattle.sii_edit.specs.Run.{runs_from, runs_between}
+use Rattle.sii_runs.specs.Run.{runs_from, runs_between}
 use Rattle.sii_edit.specs.Draft.{drafted}
 use Rattle.sii_edit.proofs.draft.Draft.runs.Given as goal
 

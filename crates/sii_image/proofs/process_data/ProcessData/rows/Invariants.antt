@@ -1,5 +1,5 @@
 use Rattle.std.proofs.Common.{◌≡◌, ◌++◌, drop}
-use Rattle.sii_image.specs.Described.{as_described}
+use Rattle.sii_image.specs.steps.Described.{as_described}
 use Rattle.sii_image.specs.ProcessData.{rows_described}
 use Rattle.sii_image.proofs.RowsMade.{rows_from}
 use Rattle.sii_image.proofs.process_data.ProcessData.rows.Given as goal

@@ -7,11 +7,11 @@ use Rattle.site_mem.specs.Site.{SiteValue}
 use Rattle.site_mem.proofs.Owning.{owned-held, held-owned}
 use Rattle.site_mem.proofs.site.MemSiteSite.owns.Goals as goal
 
-pub returns-then-place-len : goal.returns-then-place-len
-returns-then-place-len c =
+pub returns-then-place-len-clause-owned : goal.returns-then-place-len-clause-owned
+returns-then-place-len-clause-owned c =
     let same : c.from-place.result ≡ c.args.slave = c.from-place.ensures in
     let count : c.word_count.result ≡ words_held c.self.inside.track c.args.slave = c.word_count.ensures ∙ ap (λ (n : ℕ). words_held c.self.inside.track n) same in
-    let most : length c.self.inside.sizes.items ≤ 64 = c.self.invariant.most in
+    let most : length c.self.inside.sizes.items ≤ 64 = c.self.invariant.whole.most in
     let below : c.args.slave < length c.self.inside.sizes.items = grind arith in
     subst (λ (v : SiteValue). (IsTrue (nat_lt 0 c.word_count.result) → Owns v.line c.args.slave) × (Owns v.line c.args.slave → IsTrue (nat_lt 0 c.word_count.result))) c.self.view_is (
       (λ has. (below, omega arith, held-owned c.self.inside.track c.args.slave (subst (λ (n : ℕ). 0 < n) count (ltb-true 0 c.word_count.result has)))),

@@ -2,7 +2,7 @@ use Rattle.std.proofs.Common.{◌≡◌, [], ◌∷◌, length, Err, sym, ap, su
 use Rattle.site_core.specs.declared.fault.DeviceFault.TheVariants as faults
 use Rattle.site_core.specs.State.{Seen}
 use Rattle.site_core.specs.Calls.{WritesDisk}
-use Rattle.site_mem.specs.Stopping.{noted, begun, laid, HasStopped}
+use Rattle.site_mem.specs.Stopping.{noted, begun, with_bytes_over, HasStopped}
 use Rattle.site_mem.proofs.Calling.{WritesDisk-stays, WritesDisk-torn}
 use Rattle.site_mem.proofs.track.Track.write.Goals as goal
 
@@ -16,6 +16,6 @@ returns-in-Some-clause-writes c =
     let old : Seen = c.args.self.now in
     let mid : Seen = noted old (begun old c.args.at (length c.args.bytes.now) ∷ []) (begun old c.args.at (length c.args.bytes.now)) in
     let m : c.write_tears-torn.new.self ≡ mid = c.write_tears-torn.ensures ∙ c.call_fails-fails.ensures ∙ c.begin_write-held.ensures in
-    let l : c.lay.new.self ≡ laid mid c.args.at c.args.bytes.now = c.in_default.ensures.ok ∙ ap (λ (s : Seen). laid s c.args.at c.args.bytes.now) m in
+    let l : c.lay.new.self ≡ with_bytes_over mid c.args.at c.args.bytes.now = c.in_default.ensures.ok ∙ ap (λ (s : Seen). with_bytes_over s c.args.at c.args.bytes.now) m in
     WritesDisk-torn old c.args.at c.args.bytes.now c.stop.new.self (sym c.has_stopped.ensures.stopped ∙ c.if-has_stopped.false) c.requires
     (subst (λ (s : Seen). HasStopped s c.stop.new.self) l c.stop.ensures)

@@ -1,0 +1,49 @@
+-- The book's own entries are the ledger's.
+use Rattle.std.proofs.Common.{◌≡◌, ◌∙◌, ℕ, ◌+◌, ◌≤◌, List, [], ◌∷◌, ◌++◌, length, take, drop, Option, Some, None, refl, sym, ap, arith, length-take-le, length-drop}
+use Rattle.jrn_format.specs.declared.journal.Entry.{Entry}
+use Rattle.book_model.specs.declared.fault.Fault.{Fault}
+use Rattle.book_model.specs.Book.{Book, being_appended}
+use Rattle.book_model.specs.Book as book
+use Rattle.book_laws.proofs.CommandLaws.{length-entries}
+use Rattle.book_slaves.specs.Line.{Line}
+use Rattle.book_room.specs.Room.{Room}
+use Rattle.book_ledger.specs.Ledger.{Ledger, contents_of, own, appended, queued}
+use Rattle.book_ledger.specs.Shown.{Shown}
+use Rattle.book_core.specs.declared.step.Step.{Step}
+use Rattle.book_core.specs.declared.step.Step.TheVariants.{Resting, Payload, PayloadSync, OpenGate, OpenSync, CloseGate, CloseSync, FarGate, Mark, MarkSync, Version, VersionSync}
+use Rattle.book_core.specs.Parts.{doing_of, book_of}
+use Rattle.book_core.specs.Stands.{StepStands, Stands}
+use Rattle.book_core.specs.declared.book.Core.TheInside.{Inside}
+
+pub contents-is : (core : Inside) → Stands core → contents_of core.ledger ≡ book.contents_of (book_of core)
+contents-is core stands = ap (λ (base : List (List ℕ)). contents_of (record core.ledger { base = base })) stands.base
+
+pub own-is : (core : Inside) → Stands core → own core.ledger ≡ book.own (book_of core)
+own-is core stands = ap (λ (base : List (List ℕ)). own (record core.ledger { base = base })) stands.base
+
+-- ---- how many are being appended
+
+pub length-appended : (ledger : Ledger) → ledger.durable + ledger.begun ≤ length ledger.accepted → length (appended ledger) ≡ ledger.begun
+length-appended ledger few =
+    length-take-le ledger.begun (drop ledger.durable (own ledger)) (omega (arith, few, length-drop ledger.durable (own ledger), length-entries 0 ledger.base ledger.accepted))
+
+being-appended : (step : Step) (area : Room) (ledger : Ledger) (work : Line) → StepStands step area ledger work → length (appended ledger) ≡ ledger.begun
+    → length (being_appended (book.appended (doing_of (appended ledger) step))) ≡ ledger.begun
+being-appended Resting area ledger work stands is = sym stands
+being-appended (Payload spot) area ledger work stands is = is
+being-appended (PayloadSync spot) area ledger work stands is = is
+being-appended (OpenGate spot) area ledger work stands is = is
+being-appended (OpenSync spot) area ledger work stands is = is
+being-appended CloseGate area ledger work stands is = sym stands.no_append
+being-appended CloseSync area ledger work stands is = sym stands.no_append
+being-appended FarGate area ledger work stands is = sym stands.no_append
+being-appended Mark area ledger work stands is = sym stands.no_append
+being-appended MarkSync area ledger work stands is = sym stands.no_append
+being-appended Version area ledger work stands is = sym stands.no_append
+being-appended VersionSync area ledger work stands is = sym stands.no_append
+
+-- what waits in the ledger waits in the book
+pub queued-is : (core : Inside) → Stands core → queued core.ledger ≡ book.queued (book_of core)
+queued-is core stands =
+    ap (λ (l : List Entry). drop (core.ledger.durable + core.ledger.begun) l) (own-is core stands)
+    ∙ ap (λ (n : ℕ). drop (core.ledger.durable + n) (book.own (book_of core))) (sym (being-appended core.step core.area core.ledger core.work stands.doing (length-appended core.ledger stands.durable)))

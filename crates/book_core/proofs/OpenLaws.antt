@@ -1,0 +1,156 @@
+-- A book as it is opened.
+use Rattle.std.proofs.Common.{◌≡◌, ℕ, zero, suc, ◌+◌, ◌<◌, ◌≤◌, false, List, [], ◌∷◌, ◌++◌, length, get_or, take, map, Option, None, refl, sym, ◌∙◌, ap, subst, arith}
+use Rattle.std.specs.List.{AllByRecursion, filter}
+use Rattle.std.specs.Prelude.{◌==◌, not, true}
+use Rattle.std.proofs.lemmas.List.{append-nil, map-append}
+use Rattle.std.proofs.lemmas.Grind.{flat_map-append}
+use Rattle.std.proofs.lemmas.Bool.Decides.{nat_tests}
+use Rattle.sii_runs.specs.declared.run.Run.{Run}
+use Rattle.sii_runs.specs.Redo.{redone}
+use Rattle.jrn_format.specs.declared.journal.Entry.{Entry}
+use Rattle.jrn_format.specs.declared.journal.Batch.{Batch}
+use Rattle.jrn_format.specs.declared.journal.Form.{Form}
+use Rattle.jrn_format.specs.declared.journal.Form.TheVariants.{One, Two, Moving}
+use Rattle.jrn_format.specs.declared.journal.Journal.{Journal}
+use Rattle.jrn_format.specs.declared.journal.Spelling.TheVariants.{Plain}
+use Rattle.jrn_format.specs.Batch.{CanStand}
+use Rattle.jrn_laws.specs.Halves.{live}
+use Rattle.jrn_laws.specs.Live.{halves_in, FitForm}
+use Rattle.slave_queue.specs.Cells.{Cell, since, cell_of, opened}
+use Rattle.book_model.specs.declared.fault.Fault.{Fault}
+use Rattle.book_model.specs.Entries.{runs_of, entries_of, live_runs, sizes_of}
+use Rattle.book_model.specs.Book.{Book, Slave, Errand, Free, Resting, nobody}
+use Rattle.book_model.specs.Open.{opened_slave, owing_slaves, open_book}
+use Rattle.book_slaves.specs.Line.{Line}
+use Rattle.book_slaves.proofs.OwingLaws.{owing-keeps, sizes-owing}
+use Rattle.book_room.specs.Room.{Room}
+use Rattle.book_ledger.specs.Ledger.{Ledger}
+use Rattle.book_ledger.specs.Ledger as ledgers
+use Rattle.book_ledger.specs.Shown.{Shown}
+use Rattle.book_core.specs.declared.step.Step.TheVariants as steps
+use Rattle.book_core.specs.Stands.{as_found, cell_counts, runs_each, IsAbout, ErrandStands, PartsStand}
+use Rattle.book_core.specs.Found.{TakenUp}
+
+-- ---- the batches stand in their halves
+
+same-test : (n m : ℕ) → n ≡ m → (n == m) ≡ true
+same-test n m is = grind (arith, nat_tests)
+
+all-here : (half : ℕ) (batches : List Batch) → half ≡ 0 → AllByRecursion (CanStand Plain 0) batches → filter (λ (b : Batch). b.half == half) batches ≡ batches
+all-here half [] first can = refl
+all-here half (b ∷ bs) first can =
+    let t : (b.half == half) ≡ true = same-test b.half half (can.0.of_half ∙ sym first) in
+    rw t (ap (λ (l : List Batch). b ∷ l) (all-here half bs first can.1))
+
+none-there : (half : ℕ) (batches : List Batch) → half ≡ 0 → AllByRecursion (CanStand Plain 0) batches → filter (λ (b : Batch). not (b.half == half)) batches ≡ []
+none-there half [] first can = refl
+none-there half (b ∷ bs) first can =
+    let t : (b.half == half) ≡ true = same-test b.half half (can.0.of_half ∙ sym first) in
+    rw t (none-there half bs first can.1)
+
+one-live : (batches : List Batch) → AllByRecursion (CanStand Plain 0) batches → live (halves_in batches) ≡ batches
+one-live [] can = refl
+one-live (b ∷ bs) can =
+    ap (λ (l : List Batch). (b ∷ l) ++ filter (λ (x : Batch). not (x.half == b.half)) bs) (all-here b.half bs can.0.of_half can.1)
+    ∙ ap (λ (l : List Batch). (b ∷ bs) ++ l) (none-there b.half bs can.0.of_half can.1) ∙ append-nil (b ∷ bs)
+
+pub form-live : (form : Form) (capacity : ℕ) (batches : List Batch) → FitForm form capacity batches → live (halves_in batches) ≡ batches
+form-live One capacity batches fit = one-live batches fit.can_stand
+form-live Two capacity batches fit = fit.1
+form-live Moving capacity batches fit = ap (λ (l : List Batch). live (halves_in l)) fit ∙ sym fit
+
+-- ---- the slaves as they were read
+
+counts-opened : (words : List (List ℕ)) → cell_counts (map opened_slave words) ≡ sizes_of words
+counts-opened [] = refl
+counts-opened (w ∷ ws) = ap (λ (n : ℕ). n ∷ cell_counts (map opened_slave ws)) (length-opened w) ∙ ap (λ (l : List ℕ). length w ∷ l) (counts-opened ws)
+  where
+    length-opened : (values : List ℕ) → length (map opened values) ≡ length values
+    length-opened [] = refl
+    length-opened (v ∷ vs) = ap suc (length-opened vs)
+
+pub opened-counts : (line : Line) (words : List (List ℕ)) → line.slaves ≡ map opened_slave words → cell_counts line.slaves ≡ sizes_of words
+opened-counts line words is = ap cell_counts is ∙ counts-opened words
+
+opened-free : (words : List (List ℕ)) (i : ℕ) → (get_or (map opened_slave words) i nobody).errand ≡ Free
+opened-free [] i = refl
+opened-free (w ∷ ws) zero = refl
+opened-free (w ∷ ws) (suc i) = opened-free ws i
+
+word-known : (values : List ℕ) (at : ℕ) → since (cell_of (map opened values) at).known ≡ 0
+word-known [] at = refl
+word-known (v ∷ vs) zero = refl
+word-known (v ∷ vs) (suc at) = word-known vs at
+
+opened-known : (words : List (List ℕ)) (i at : ℕ) → since (cell_of (get_or (map opened_slave words) i nobody).cells at).known ≡ 0
+opened-known [] i at = refl
+opened-known (w ∷ ws) zero at = word-known w at
+opened-known (w ∷ ws) (suc i) at = opened-known ws i at
+
+errand-opened : (runs : List Run) (words : List (List ℕ)) (fault : Option Fault) (i : ℕ) → ErrandStands fault (get_or (owing_slaves runs 0 (map opened_slave words)) i nobody)
+errand-opened runs words fault i =
+    let new : Slave = get_or (owing_slaves runs 0 (map opened_slave words)) i nobody in
+    let same = owing-keeps runs 0 (map opened_slave words) i in
+    let free : new.errand ≡ Free = same.errand ∙ opened-free words i in
+    record {
+      word = λ at is. absurd (subst (λ (e : Errand). IsAbout e at) free is);
+      issues = λ none at. rw (same.known at) (omega (arith, opened-known words i at));
+      others = λ none at not. rw (same.known at) (omega (arith, opened-known words i at));
+    }
+
+-- ---- all of it
+
+each-found : (entries : List Entry) → runs_each (map as_found entries) ≡ runs_each entries
+each-found [] = refl
+each-found (e ∷ es) = ap (λ (l : List (List Run)). e.runs ∷ l) (each-found es)
+
+-- The line holds what the batches ask for.
+pub record IsTaken (words : List (List ℕ)) (batches : List Batch) (work : Line) : Type 0 where
+  pub slaves : work.slaves ≡ owing_slaves (live_runs batches) 0 (map opened_slave words)
+  pub older : work.older ≡ map as_found (entries_of (halves_in batches).older)
+  pub newer : work.newer ≡ map as_found (entries_of (halves_in batches).newer)
+
+pub is-taken : (words : List (List ℕ)) (batches : List Batch) (line work : Line) → line.slaves ≡ map opened_slave words → line.older ≡ [] → line.newer ≡ [] → TakenUp batches line work → IsTaken words batches work
+is-taken words batches line work slaves older newer taken = record {
+  slaves = taken.slaves ∙ ap (owing_slaves (live_runs batches) 0) slaves;
+  older = taken.older ∙ ap (λ (l : List Entry). l ++ map as_found (entries_of (halves_in batches).older)) older;
+  newer = taken.newer ∙ ap (λ (l : List Entry). l ++ map as_found (entries_of (halves_in batches).newer)) newer;
+}
+
+all-found : (batches : List Batch) (work : Line) (words : List (List ℕ)) → live (halves_in batches) ≡ batches → IsTaken words batches work → work.older ++ work.newer ≡ map as_found (entries_of batches) ++ []
+all-found batches work words all taken =
+    ap (λ (l : List Entry). l ++ work.newer) taken.older
+    ∙ ap (λ (l : List Entry). map as_found (entries_of (halves_in batches).older) ++ l) taken.newer
+    ∙ sym (map-append as_found (entries_of (halves_in batches).older) (entries_of (halves_in batches).newer))
+    ∙ ap (map as_found) (sym (flat_map-append (λ (b : Batch). b.entries) (halves_in batches).older (halves_in batches).newer))
+    ∙ ap (λ (l : List Batch). map as_found (entries_of l)) all
+    ∙ sym (append-nil (map as_found (entries_of batches)))
+
+first-stands : (words : List (List ℕ)) (form : Form) (capacity : ℕ) (batches : List Batch) (work : Line) → live (halves_in batches) ≡ batches → IsTaken words batches work
+    → PartsStand words (entries_of batches) (record { form = form; capacity = capacity; halves = halves_in batches }) steps.Resting (ledgers.opened (redone words (live_runs batches))) work
+    (record { contents = redone words (live_runs batches); count = 0 }) None
+first-stands words form capacity batches work all taken = record {
+  base = refl;
+  old_journal = λ is. refl;
+  durable = omega arith;
+  cells = ap cell_counts taken.slaves ∙ sizes-owing (live_runs batches) 0 (map opened_slave words) ∙ counts-opened words;
+  errands = λ i inside. subst (λ (l : List Slave). ErrandStands None (get_or l i nobody)) (sym taken.slaves) (errand-opened (live_runs batches) words None i);
+  live = record {
+    older = ap runs_each taken.older ∙ each-found (entries_of (halves_in batches).older);
+    newer = ap runs_each taken.newer ∙ each-found (entries_of (halves_in batches).newer);
+  };
+  latest = record { gone = []; all = all-found batches work words all taken };
+  doing = refl;
+  is_shown = record { contents = refl; few = omega arith };
+}
+
+pub opened-stands : (words : List (List ℕ)) (form : Form) (capacity : ℕ) (batches : List Batch) (found : List Entry) (area : Room) (ledger : Ledger) (work : Line) (shown : Shown)
+    → live (halves_in batches) ≡ batches → IsTaken words batches work → found ≡ entries_of batches → area ≡ record { form = form; capacity = capacity; halves = halves_in batches }
+    → ledger ≡ ledgers.opened (redone words (live_runs batches)) → shown ≡ record { contents = redone words (live_runs batches); count = 0 }
+    → PartsStand words found area steps.Resting ledger work shown None
+opened-stands words form capacity batches found area ledger work shown all taken found_is area_is ledger_is shown_is =
+    subst (λ (f : List Entry). PartsStand words f area steps.Resting ledger work shown None) (sym found_is)
+    (subst (λ (a : Room). PartsStand words (entries_of batches) a steps.Resting ledger work shown None) (sym area_is)
+    (subst (λ (l : Ledger). PartsStand words (entries_of batches) (record { form = form; capacity = capacity; halves = halves_in batches }) steps.Resting l work shown None) (sym ledger_is)
+    (subst (λ (s : Shown). PartsStand words (entries_of batches) (record { form = form; capacity = capacity; halves = halves_in batches }) steps.Resting (ledgers.opened (redone words (live_runs batches))) work s None) (sym shown_is)
+    (first-stands words form capacity batches work all taken))))

@@ -1,0 +1,15 @@
+use Rattle.std.proofs.Common.{◌<◌, Some, length, sym, subst}
+use Rattle.book_model.specs.Book.{Book, Free, slave_at}
+use Rattle.book_core.specs.Parts.{book_of}
+use Rattle.book_core.proofs.SlaveLaws.{errand-given_up}
+use Rattle.book_core.proofs.WorkLaws.{errand-stands}
+use Rattle.book_core.proofs.book.Core.give_up.Goals as goal
+
+pub invariant_of-self : goal.invariant_of-self
+invariant_of-self c =
+    let core = c.self.inside in
+    let i = c.args.slave in
+    let within : i < length core.work.slaves = subst (λ (b : Book). i < length b.slaves) (sym c.self.view_is) c.requires in
+    rw (c.set_errand.ensures, c.from.ensures)
+    (errand-stands core.words.value core.found core.area core.step core.ledger core.work core.shown core.fault (Some c.unwrap_or.result) i Free (λ none. absurd (cc none)) within
+    (errand-given_up c.unwrap_or.result (slave_at (book_of core) i)) c.self.invariant)

@@ -1,0 +1,19 @@
+use Rattle.std.proofs.Common.{◌≡◌, ◌<◌, length, sym, ◌∙◌, ap, subst}
+use Rattle.book_model.specs.Book.{Book, Errand, Issuing, Unsettled, slave_at}
+use Rattle.book_core.specs.Stands.{IsAbout}
+use Rattle.book_core.specs.Parts.{book_of}
+use Rattle.book_core.proofs.SlaveLaws.{errand-same}
+use Rattle.book_core.proofs.WorkLaws.{errand-stands}
+use Rattle.book_core.proofs.book.Core.issued.Goals as goal
+
+pub invariant_of-self : goal.invariant_of-self
+invariant_of-self c =
+    let core = c.self.inside in
+    let i = c.args.slave in
+    let within : i < length core.work.slaves = subst (λ (b : Book). i < length b.slaves) (sym c.self.view_is) c.requires.slave in
+    let is : (slave_at (book_of core) i).errand ≡ Issuing c.args.word c.args.value = ap (λ (b : Book). (slave_at b i).errand) c.self.view_is ∙ c.requires.issuing in
+    rw (c.set_errand.ensures, c.from.ensures)
+    (errand-stands core.words.value core.found core.area core.step core.ledger core.work core.shown core.fault core.fault i (Unsettled c.args.word c.args.value c.eq-taken.result) (λ none. none) within
+    (errand-same core.fault (slave_at (book_of core) i) (Unsettled c.args.word c.args.value c.eq-taken.result)
+    (λ at about. subst (λ (e : Errand). IsAbout e at) is about) (λ at about. subst (λ (e : Errand). IsAbout e at) (sym is) about) (c.self.invariant.errands i within))
+    c.self.invariant)

@@ -1,0 +1,38 @@
+use Rattle.std.proofs.Common.{◌≡◌, ◌<◌, ◌∙◌, List, [], ◌∷◌, ◌++◌, length, get_or, take, sym, ap, subst, ℕ, append_assoc}
+use Rattle.std.specs.List.{All}
+use Rattle.std.proofs.lemmas.List.{append-nil, take_more}
+use Rattle.sii_runs.specs.declared.run.Run.{Run}
+use Rattle.sii_runs.specs.Redo.{redone, LiesInside}
+use Rattle.sii_runs.proofs.RedoLaws.{redone-nil}
+use Rattle.jrn_format.specs.declared.journal.Entry.{Entry}
+use Rattle.jrn_format.specs.Batch.{LieWithin}
+use Rattle.book_model.specs.Entries.{runs_of, sizes_of}
+use Rattle.book_core.proofs.FoundLaws.{all-at, entry-lies, redone-more}
+use Rattle.book_core.proofs.taking.note_entries.Goals as goal
+
+pub loop-entry-init : goal.loop-entry-init
+loop-entry-init c = record { noted = sym (append-nil c.args.found.now); redone_so_far = sym (redone-nil c.args.contents.now) }
+
+pub redo-requires : goal.redo-requires
+redo-requires c =
+    let plant = c.args.contents.now in
+    let entries = c.args.entries.now in
+    let k = c.loop-entry.entry-index in
+    let e = c.entry-item.result in
+    let within : LieWithin (sizes_of plant) e = subst (LieWithin (sizes_of plant)) (sym c.entry-item.is) (all-at (LieWithin (sizes_of plant)) entries k e c.requires c.loop-entry-test.true) in
+    subst (All (LiesInside c.loop-entry.contents)) (sym c.as_slice.ensures)
+    (subst (λ (p : List (List ℕ)). All (LiesInside p) e.runs) (sym c.loop-entry.invariant.redone_so_far) (entry-lies plant (runs_of (take k entries)) e within))
+
+pub loop-entry-preserved : goal.loop-entry-preserved
+loop-entry-preserved c =
+    let plant = c.args.contents.now in
+    let found = c.args.found.now in
+    let entries = c.args.entries.now in
+    let k = c.loop-entry.entry-index in
+    let e = c.entry-item.result in
+    record {
+      noted = c.note.ensures ∙ ap (λ (l : List Entry). l ++ e ∷ []) c.loop-entry.invariant.noted ∙ append_assoc found (take k entries) (e ∷ [])
+          ∙ ap (λ (l : List Entry). found ++ l) (ap (λ (x : Entry). take k entries ++ x ∷ []) c.entry-item.is ∙ sym (take_more entries k e c.loop-entry-test.true));
+      redone_so_far = c.redo.ensures ∙ ap (redone c.loop-entry.contents) c.as_slice.ensures ∙ ap (λ (p : List (List ℕ)). redone p e.runs) c.loop-entry.invariant.redone_so_far
+          ∙ ap (λ (x : Entry). redone (redone plant (runs_of (take k entries))) x.runs) c.entry-item.is ∙ redone-more plant entries k e c.loop-entry-test.true;
+    }

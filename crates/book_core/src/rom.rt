@@ -1,0 +1,144 @@
+ghost use Rattle.std.specs.Prelude.{◌≡◌, ◌<◌, Bool, length, true, false, is_some};
+
+use crate::book::Core;
+use book_model::{Fault, RomNext, RomOutcome};
+use book_slaves::Errand;
+use site_core::{Issued, Settled};
+
+/// After so many issues a word that isn't written is given up.
+const MOST_ISSUES: u8 = 3;
+
+impl Core {
+    ghost use Rattle.book_model.specs.Book as book;
+    ghost use Rattle.book_model.specs.Book.{slave_at, with_fault};
+    ghost use Rattle.book_model.specs.RomSteps.{rom_next, rom_done, without_work, with_errand, with_written, with_again};
+    ghost use Rattle.book_core.specs.Stands.{IsAbout};
+
+    /// What is to be done next with the slave. A word that is handed out waits for its `rom_done`.
+    pub fn rom_next(&mut self, slave: u16) -> RomNext
+        ensures answer { result ≡ (rom_next self.old slave).0 }
+        ensures book { self.new ≡ (rom_next self.old slave).1 }
+    {
+        let slave = usize::from(slave);
+        if slave >= self.work.len() {
+            return RomNext::Stop;
+        }
+        match self.work.errand(slave) {
+            Errand::Free => self.issue(slave),
+            Errand::Unsettled { word, value, taken } => self.settle(slave, word, value, taken),
+            Errand::Issuing { .. } | Errand::Settling { .. } => RomNext::Idle,
+        }
+    }
+
+    /// A slave with nothing to do takes its next word.
+    fn issue(&mut self, slave: usize) -> RomNext
+        requires slave { slave < length self.old.slaves }
+        requires free { (slave_at self.old slave).errand ≡ book.Free }
+        ensures answer { result ≡ (rom_next self.old slave).0 }
+        ensures book { self.new ≡ (rom_next self.old slave).1 }
+    {
+        if self.fault.is_some() {
+            return RomNext::Stop;
+        }
+        match self.work.issue(slave) {
+            Some((word, value)) => RomNext::Issue { word, value },
+            None => self.without_work(),
+        }
+    }
+
+    /// The word that was issued is settled.
+    fn settle(&mut self, slave: usize, word: u16, value: u16, taken: bool) -> RomNext
+        requires slave { slave < length self.old.slaves }
+        requires unsettled { (slave_at self.old slave).errand ≡ book.Unsettled word value taken }
+        ensures answer { result ≡ (rom_next self.old slave).0 }
+        ensures book { self.new ≡ (rom_next self.old slave).1 }
+    {
+        if self.fault.is_some() {
+            return RomNext::Stop;
+        }
+        self.work
+            .set_errand(slave, Errand::Settling { word, value, taken });
+        RomNext::Settle { taken }
+    }
+
+    /// What a worker hears where no word is to be written.
+    fn without_work(&self) -> RomNext
+        ensures { result ≡ without_work self.now }
+    {
+        if self.is_finished && self.ledger.durable() >= self.ledger.len() {
+            RomNext::Stop
+        } else {
+            RomNext::Idle
+        }
+    }
+
+    /// What came of the word that was handed out. With nothing handed out, or an outcome of another kind, nothing changes.
+    pub fn rom_done(&mut self, slave: u16, outcome: RomOutcome)
+        ensures { self.new ≡ rom_done self.old slave outcome }
+    {
+        if usize::from(slave) >= self.work.len() {
+            return;
+        }
+        match self.work.errand(usize::from(slave)) {
+            Errand::Issuing { word, value } => self.issued(slave, word, value, outcome),
+            Errand::Settling { word, value, .. } => self.settled(slave, word, value, outcome),
+            Errand::Free | Errand::Unsettled { .. } => {}
+        }
+    }
+
+    /// What came of an issue.
+    fn issued(&mut self, slave: u16, word: u16, value: u16, outcome: RomOutcome)
+        requires slave { slave < length self.old.slaves }
+        requires issuing { (slave_at self.old slave).errand ≡ book.Issuing word value }
+        ensures { self.new ≡ rom_done self.old slave outcome }
+    {
+        match outcome {
+            RomOutcome::Issued(issued) => {
+                let taken = issued == Issued::Taken;
+                let errand = Errand::Unsettled { word, value, taken };
+                self.work.set_errand(usize::from(slave), errand);
+            }
+            RomOutcome::Stopped => self.give_up(slave, Fault::Stopped),
+            RomOutcome::Settled(_) => {}
+        }
+    }
+
+    /// What came of a settle.
+    fn settled(&mut self, slave: u16, word: u16, value: u16, outcome: RomOutcome)
+        requires slave { slave < length self.old.slaves }
+        requires settling { (taken : Bool) × ((slave_at self.old slave).errand ≡ book.Settling word value taken) }
+        ensures { self.new ≡ rom_done self.old slave outcome }
+    {
+        match outcome {
+            RomOutcome::Settled(Settled::Written) => {
+                self.work.written(usize::from(slave), word, value);
+            }
+            RomOutcome::Settled(Settled::Again) => self.again(slave, word),
+            RomOutcome::Settled(Settled::Dead) => self.give_up(slave, Fault::SlaveDead { slave }),
+            RomOutcome::Stopped => self.give_up(slave, Fault::Stopped),
+            RomOutcome::Issued(_) => {}
+        }
+    }
+
+    /// The word is to be issued again, unless it had its issues.
+    fn again(&mut self, slave: u16, word: u16)
+        requires slave { slave < length self.old.slaves }
+        requires about { IsAbout (slave_at self.old slave).errand word }
+        ensures { self.new ≡ with_again self.old slave word }
+    {
+        if self.work.issues(usize::from(slave), word) >= MOST_ISSUES {
+            self.give_up(slave, Fault::SlaveDead { slave });
+        } else {
+            self.work.set_errand(usize::from(slave), Errand::Free);
+        }
+    }
+
+    /// Nothing more is done with the slave, and the book has a fault.
+    fn give_up(&mut self, slave: u16, fault: Fault)
+        requires { slave < length self.old.slaves }
+        ensures { self.new ≡ with_fault (with_errand self.old slave book.Free) fault }
+    {
+        self.work.set_errand(usize::from(slave), Errand::Free);
+        self.fault = Some(self.fault.unwrap_or(fault));
+    }
+}

@@ -1,0 +1,3 @@
+pub mod Owed
+pub mod Plants
+pub mod Fits

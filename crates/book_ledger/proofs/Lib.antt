@@ -1,0 +1,4 @@
+pub mod OwnLaws
+pub mod ChangeLaws
+pub mod StandLaws
+pub mod ShownLaws

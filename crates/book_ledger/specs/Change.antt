@@ -1,0 +1,21 @@
+-- What an accepted command changes.
+use Rattle.std.specs.Prelude.{◌≡◌, ◌≤◌, ℕ, List, length, All, Ok}
+use Rattle.sii_words.specs.Plant.{with_new}
+use Rattle.sii_runs.specs.declared.run.Run.{Run}
+use Rattle.sii_runs.specs.Run.{runs_between}
+use Rattle.sii_runs.specs.Redo.{redone, LiesInside}
+use Rattle.sii_edit.specs.declared.command.Command.{Command}
+use Rattle.sii_edit.specs.declared.applying.Change.{Change}
+use Rattle.sii_edit.specs.Command.{outcome}
+
+-- No slave has more than 4,096 words.
+abbrev pub IsShort : Run → Type 0
+IsShort run = (1 ≤ length run.words) × (length run.words ≤ 4096)
+
+-- The command isn't refused on these contents, and this is what it changes in them.
+pub record IsChangeOf (plant : List (List ℕ)) (command : Command) (change : Change) : Type 0 where
+  pub accepted : outcome plant command ≡ Ok (redone plant change.runs.items)
+  pub runs : change.runs.items ≡ runs_between plant (redone plant change.runs.items)
+  pub inside : All (LiesInside plant) change.runs.items
+  pub short : All IsShort change.runs.items
+  pub layouts : with_new plant change.layouts.items ≡ redone plant change.runs.items

@@ -1,0 +1,4 @@
+pub mod Ledger
+pub mod Change
+pub mod Stands
+pub mod Shown

@@ -1,0 +1,10 @@
+pub mod Memory
+pub mod Entries
+pub mod Book
+pub mod Open
+pub mod Submit
+pub mod DiskSteps
+pub mod RomSteps
+pub mod Reading
+pub mod Machine
+pub mod Kept

@@ -1,0 +1,58 @@
+-- What is read of a book: which commands are settled, and how many bytes are live.
+use Rattle.std.specs.Prelude.{ℕ, suc, ◌+◌, ◌-◌, Bool, true, false, ◌&&◌, nat_le, List, [], ◌∷◌, ◌++◌, length, take, if◌then◌else◌}
+use Rattle.sii_runs.specs.declared.run.Run.{Run}
+use Rattle.sii_edit.specs.Fold.{contents_after}
+use Rattle.jrn_format.specs.declared.journal.Entry.{Entry}
+use Rattle.jrn_format.specs.declared.journal.Form.{Form}
+use Rattle.jrn_format.specs.declared.journal.Form.TheVariants.{One, Two, Moving}
+use Rattle.jrn_format.specs.declared.journal.Spelling.{Spelling}
+use Rattle.jrn_format.specs.declared.journal.Spelling.TheVariants.{Plain, WithGeneration}
+use Rattle.jrn_format.specs.Area.{spelt_batches}
+use Rattle.book_model.specs.declared.status.Status.{Status}
+use Rattle.slave_queue.specs.Cells.{Cell, cell_of}
+use Rattle.slave_queue.specs.Pending.{values_of}
+use Rattle.jrn_laws.specs.Halves.{live}
+use Rattle.book_model.specs.Entries.{runs_of, namings}
+use Rattle.book_model.specs.Book.{Book, base_of, own, all_cells}
+
+-- each word that is named is owed no more than later namings name it
+abbrev pub namings_settled : List Cell → (behind namings : List (ℕ × ℕ)) → Bool
+namings_settled cells behind [] = true
+namings_settled cells behind (n ∷ ns) = nat_le (length (cell_of cells n.0).owed) (length (values_of n.0 behind)) && namings_settled cells behind ns
+
+-- the slaves from a number on
+abbrev pub settled_from : ℕ → List (List Cell) → (behind runs : List Run) → Bool
+settled_from slave [] behind runs = true
+settled_from slave (cells ∷ others) behind runs = namings_settled cells (namings behind slave) (namings runs slave) && settled_from (suc slave) others behind runs
+
+-- the runs are settled, where these stand behind them
+abbrev pub runs_settled : List (List Cell) → (behind runs : List Run) → Bool
+runs_settled cells behind runs = settled_from 0 cells behind runs
+
+-- how many of the entries are settled in a row
+abbrev pub settled_prefix : List (List Cell) → List Entry → ℕ
+settled_prefix cells [] = 0
+settled_prefix cells (e ∷ es) = if runs_settled cells (runs_of es) e.runs then suc (settled_prefix cells es) else 0
+
+-- all entries that have been live since the open
+abbrev pub all_entries : Book → List Entry
+all_entries book = book.found ++ take book.durable (own book)
+
+-- how many accepted commands are settled in a row, once all that was found is
+abbrev pub applied : Book → ℕ
+applied book = settled_prefix (all_cells book.slaves) (all_entries book) - length book.found
+
+-- the contents whose process image is the plan
+abbrev pub planned : Book → List (List ℕ)
+planned book = contents_after (base_of book) book.accepted (applied book)
+
+abbrev pub spelling_of : Form → Spelling
+spelling_of One = Plain
+spelling_of Two = WithGeneration
+spelling_of Moving = WithGeneration
+
+abbrev pub live_bytes : Book → ℕ
+live_bytes book = length (spelt_batches (spelling_of book.form) (live book.halves))
+
+abbrev pub status : Book → Status
+status book = record { accepted = length book.accepted; durable = book.durable; settled = applied book; live_bytes = live_bytes book }

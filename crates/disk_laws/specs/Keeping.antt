@@ -1,0 +1,23 @@
+-- What has to hold for a stop to leave only what is kept.
+use Rattle.std.specs.Prelude.{◌≡◌, length}
+use Rattle.std.specs.List.{AllByRecursion}
+use Rattle.jrn_format.specs.Batch.{IsWithin}
+use Rattle.jrn_laws.specs.Halves.{live}
+use Rattle.book_model.specs.Entries.{sizes_of}
+use Rattle.book_model.specs.Book.{Book, base_of}
+use Rattle.book_model.specs.Machine.{Machine}
+use Rattle.book_model.specs.Machine as machines
+use Rattle.disk_laws.specs.Frame.{Frame, IsFrame}
+
+-- the machine that the book is to its callers
+pub record IsOfBook (book : Book) (machine : Machine) : Type 0 where
+  pub base : machines.base_of machine ≡ base_of book
+  pub accepted : machine.accepted ≡ book.accepted
+  pub acknowledged : machine.acknowledged ≡ book.durable
+
+-- the file is that of the book's line
+pub record IsOfLine (frame : Frame) (book : Book) : Type 0 where
+  pub is_frame : IsFrame frame
+  pub slaves : length book.words ≡ frame.slaves
+  pub capacity : book.capacity ≡ frame.capacity
+  pub within : AllByRecursion (IsWithin (sizes_of book.words)) (live book.halves)

@@ -1,0 +1,6 @@
+pub mod Frame
+pub mod Phases
+pub mod Doing
+pub mod Keeping
+pub mod Events
+pub mod Queue

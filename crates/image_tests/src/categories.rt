@@ -1,0 +1,140 @@
+//! Categories: contents and chains, worked out by hand.
+
+use sii_cats::kind::{END, RXPDOS, STRINGS, TXPDOS};
+use sii_cats::{
+    CatFault, Category, ChainFault, FmmuUnit, FmmuUse, chain, fmmus, pdos, splice, strings, syncms,
+    write_fmmus, write_pdos, write_strings, write_syncms,
+};
+use std::alloc::{AllocError, Global};
+use std::test::Fail;
+
+/// Two strings of two bytes, and a byte that makes whole words.
+const NAMES: [u16; 4] = [0x0202, 0x4C45, 0x4902, 0x006E];
+
+/// The sync managers of a slave with mailbox and process data.
+const MANAGERS: [u16; 16] = [
+    0x1000, 0x0080, 0x0026, 0x0101, 0x1080, 0x0080, 0x0022, 0x0201, 0x1100, 0x0001, 0x0024, 0x0301,
+    0x1180, 0x0004, 0x0020, 0x0401,
+];
+
+/// A TXPDO of two entries of 16 bits.
+const INPUTS: [u16; 12] = [
+    0x1A00, 0x0302, 0x0000, 0x0000, 0x6000, 0x0001, 0x1006, 0x0000, 0x6000, 0x0002, 0x1006, 0x0000,
+];
+
+/// An RXPDO that ends inside its entry, and its first three words, which are no PDO.
+const CUT_OUTPUTS: [u16; 5] = [0x1600, 0x0001, 0x0000, 0x0000, 0x7000];
+
+/// How the chain ends that `with_chain` begins: behind it the end mark and a 7.
+const OLD: [u16; 12] = [51, 8, 0, 0, 0, 0, 0, 0, 0, 0, END, 7];
+
+/// The same with its only category taken out.
+const EMPTIED: [u16; 12] = [END, 8, 0, 0, 0, 0, 0, 0, 0, 0, END, 7];
+
+/// The same with a category added.
+const LONGER: [u16; 15] = [51, 8, 0, 0, 0, 0, 0, 0, 0, 0, 10, 1, 1, END, 7];
+
+/// The strings of a content, written again.
+fn strings_again(alloc: Global, words: &[u16]) -> Result<Vec<u16>, CatFault> {
+    write_strings(alloc, &strings(alloc, words)?)
+}
+
+fn managers_again(alloc: Global, words: &[u16]) -> Result<Vec<u16>, AllocError> {
+    write_syncms(alloc, &syncms(alloc, words)?)
+}
+
+fn pdos_again(alloc: Global, words: &[u16]) -> Result<Vec<u16>, CatFault> {
+    write_pdos(alloc, TXPDOS, &pdos(alloc, TXPDOS, words)?)
+}
+
+fn units_again(alloc: Global, words: &[u16]) -> Result<Vec<u16>, AllocError> {
+    write_fmmus(alloc, &fmmus(alloc, words)?)
+}
+
+#[test]
+fn contents_are_written_as_they_were_read(rt: HostRuntime) -> Result<(), Fail> {
+    assert!(rt; strings_again(rt.alloc(), &NAMES)?.as_slice() == NAMES.as_slice());
+    assert!(rt; strings_again(rt.alloc(), &[])?.as_slice() == [0].as_slice());
+    assert!(rt; managers_again(rt.alloc(), &MANAGERS)?.as_slice() == MANAGERS.as_slice());
+    assert!(rt; pdos_again(rt.alloc(), &INPUTS)?.as_slice() == INPUTS.as_slice());
+    assert!(rt;
+        units_again(rt.alloc(), &[0x0201, 0x03FF])?.as_slice() == [0x0201, 0x03FF].as_slice()
+    );
+    Ok(())
+}
+
+#[test]
+fn units_of_bytes(rt: HostRuntime) {
+    assert!(rt; FmmuUnit { byte: 0xFF }.usage() == FmmuUse::Unused);
+    assert!(rt; FmmuUnit { byte: 2 }.usage() == FmmuUse::Inputs);
+}
+
+#[test]
+fn contents_that_are_cut(rt: HostRuntime) -> Result<(), Fail> {
+    let names = strings(rt.alloc(), &NAMES[..2]).err();
+    assert!(rt; names == Some(CatFault::BadCategory { kind: STRINGS }));
+    let outputs = pdos(rt.alloc(), RXPDOS, &CUT_OUTPUTS).err();
+    assert!(rt; outputs == Some(CatFault::BadCategory { kind: RXPDOS }));
+    assert!(rt; pdos(rt.alloc(), RXPDOS, &CUT_OUTPUTS[..3])?.is_empty());
+    Ok(())
+}
+
+/// 128 words: zeros, these words from word 64 on, and then this one.
+fn with_chain(alloc: Global, words: &[u16], then: u16) -> Result<Vec<u16>, AllocError> {
+    let mut device = vec![in alloc; 0u16; 64]?;
+    device.extend_from_slice(words)?;
+    device.resize(128, then)?;
+    Ok(device)
+}
+
+/// How many categories such words have, and how many words their contents.
+fn sizes_of_chain(alloc: Global, words: &[u16], then: u16) -> Result<(usize, usize), ChainFault> {
+    let device = with_chain(alloc, words, then)?;
+    if device.len() < 64 {
+        return Ok((0, 0));
+    }
+    let categories = chain(alloc, &device)?;
+    let longest = categories.iter().map(|category| category.count).max();
+    Ok((categories.len(), longest.unwrap_or(0)))
+}
+
+#[test]
+fn chains(rt: HostRuntime) -> Result<(), Fail> {
+    assert!(rt; sizes_of_chain(rt.alloc(), &[], END) == Ok((0, 0)));
+    assert!(rt; sizes_of_chain(rt.alloc(), &[], 0) == Ok((32, 0)));
+    assert!(rt; sizes_of_chain(rt.alloc(), &OLD, 7) == Ok((1, 8)));
+    let cut = sizes_of_chain(rt.alloc(), &[51, 63], 0);
+    assert!(rt; cut == Err(ChainFault::RunsOut { at: 64 }));
+    Ok(())
+}
+
+/// Such words with their only category exchanged, or taken out.
+fn exchanged(alloc: Global, content: &[u16]) -> Result<Vec<u16>, CatFault> {
+    let device = with_chain(alloc, &OLD, 7)?;
+    if device.len() != 128 || chain(alloc, &device)?.len() != 1 {
+        return Err(CatFault::NoRoom);
+    }
+    splice(alloc, &device, Some(0), RXPDOS, content)
+}
+
+/// Such words with a category added.
+fn with_strings(alloc: Global) -> Result<Vec<u16>, CatFault> {
+    let device = with_chain(alloc, &OLD, 7)?;
+    if device.len() != 128 {
+        return Err(CatFault::NoRoom);
+    }
+    splice(alloc, &device, None, STRINGS, &[1])
+}
+
+#[test]
+fn edited_categories(rt: HostRuntime) -> Result<(), Fail> {
+    let emptied = with_chain(rt.alloc(), &EMPTIED, 7)?;
+    assert!(rt; exchanged(rt.alloc(), &[])?.as_slice() == emptied.as_slice());
+    let longer = with_chain(rt.alloc(), &LONGER, 7)?;
+    assert!(rt; with_strings(rt.alloc())?.as_slice() == longer.as_slice());
+    let full = exchanged(rt.alloc(), &[0; 62])?;
+    assert!(rt; full.as_slice().len() == 128 && !full.contains(&END));
+    let over = exchanged(rt.alloc(), &[0; 63]).err();
+    assert!(rt; over == Some(CatFault::NoRoom));
+    Ok(())
+}

@@ -1,0 +1,4 @@
+pub mod Halves
+pub mod Live
+pub mod File
+pub mod Migration

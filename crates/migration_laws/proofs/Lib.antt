@@ -1,0 +1,9 @@
+pub mod RangeLaws
+pub mod EmptiedLaws
+pub mod JournalLaws
+pub mod KeptLaws
+pub mod CarryLaws
+pub mod BeginLaws
+pub mod DoneLaws
+pub mod FormLaws
+pub mod FoundLaws

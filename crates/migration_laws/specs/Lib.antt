@@ -1,0 +1,3 @@
+pub mod OldFile
+pub mod OldDoing
+pub mod OldQueue

@@ -1,0 +1,29 @@
+//! What each action of the book leaves of the disk, whatever the journal's form.
+
+ghost use Rattle.std.specs.Prelude.{◌≡◌, true, Ok, Some};
+ghost use Rattle.site_core.specs.Disk.{Disk};
+ghost use Rattle.book_model.specs.declared.fault.Fault.{Fault};
+ghost use Rattle.book_model.specs.Book.{Book, with_fault};
+ghost use Rattle.book_model.specs.DiskSteps.{disk_next, disk_done};
+ghost use Rattle.disk_laws.specs.Frame.{Frame, IsFrame};
+ghost use Rattle.disk_laws.specs.Events.{begun_on, ended_on, FailsOn, in_progress, rested};
+ghost use Rattle.migration_laws.specs.OldDoing.{JournalFits};
+ghost use Rattle.migration_laws.specs.OldQueue.{JournalCanBegin};
+
+/// The beginning of whatever the book hands out.
+pub fn an_action_begins()
+    ensures { (frame : Frame) (book : Book) (disk : Disk) → JournalCanBegin frame book → JournalFits frame book disk
+        → JournalFits frame (disk_next book).1 (begun_on (Some (disk_next book).0) disk) }
+{}
+
+/// The end of the action that is handed out, where it went well. The last one of a migration leaves a journal of version 2.
+pub fn an_action_ends()
+    ensures { (frame : Frame) (book : Book) (disk : Disk) → IsFrame frame → book.capacity ≡ frame.capacity → book.is_handed_out ≡ true → JournalFits frame book disk
+        → JournalFits frame (disk_done book (Ok tt)) (ended_on (in_progress book) disk) }
+{}
+
+/// And where it failed, or the site stopped.
+pub fn an_action_fails()
+    ensures { (frame : Frame) (book : Book) (disk new : Disk) (fault : Fault) → book.capacity ≡ frame.capacity → book.is_handed_out ≡ true → JournalFits frame book disk
+        → FailsOn (in_progress book) disk new → JournalFits frame (with_fault (rested book) fault) new }
+{}

@@ -1,0 +1,74 @@
+-- What a runner's device calls do, over any site: all the way only what is kept may be left, and after it the station is up.
+use Rattle.std.specs.Prelude.{ℕ, ◌≤◌, Bool, List, [], ◌∷◌, ◌++◌, length, take, Result, Ok, Err, slice_set}
+use Rattle.sii_edit.specs.declared.command.Command.{Command}
+use Rattle.site_core.specs.declared.fault.DeviceFault.{DeviceFault}
+use Rattle.site_core.specs.declared.fault.DeviceFault.TheVariants as device
+use Rattle.site_core.specs.declared.answers.Issued.{Issued}
+use Rattle.site_core.specs.declared.answers.Settled.{Settled}
+use Rattle.site_core.specs.State.{Pair, Seen}
+use Rattle.site_core.specs.Calls.{WritesDisk, SyncsDisk}
+use Rattle.site_core.specs.Passes.{StaysWithin}
+use Rattle.book_model.specs.declared.next.DiskNext.{DiskNext}
+use Rattle.book_model.specs.declared.next.DiskNext.TheVariants as next
+use Rattle.book_model.specs.declared.next.RomOutcome.TheVariants as outcomes
+use Rattle.book_model.specs.Book.{Book}
+use Rattle.book_model.specs.DiskSteps.{disk_done}
+use Rattle.book_model.specs.RomSteps.{rom_done}
+use Rattle.book_model.specs.Machine.{Machine}
+use Rattle.book_model.specs.Kept.{Kept}
+use Rattle.disk_laws.specs.Frame.{Frame}
+use Rattle.disk_laws.specs.Events.{gate_byte}
+use Rattle.up_laws.specs.Steps.{acknowledged_by}
+use Rattle.up_laws.specs.Up.{Up}
+
+-- from the one time to the other a stop could have left only pairs that are kept for this machine
+abbrev pub KeepsAll : Machine → Seen → Seen → Type 0
+KeepsAll machine old new = StaysWithin (λ pair. Kept pair.disk pair.words machine) old new
+
+-- ---- the disk
+
+-- a write from a place inside the disk on
+pub record WritesInside (old : Seen) (at : ℕ) (bytes : List ℕ) (result : Result (Unit {0}) DeviceFault) (new : Seen) : Type 0 where
+  pub inside : at ≤ length old.state.disk.bytes
+  pub writes : WritesDisk old at bytes result new
+
+-- the device call that is asked for
+abbrev pub CallsDisk : DiskNext → Seen → Result (Unit {0}) DeviceFault → Seen → Type 0
+CallsDisk (next.Write at bytes) old result new = WritesInside old at bytes result new
+CallsDisk (next.Gate at closed) old result new = WritesInside old at (gate_byte closed ∷ []) result new
+CallsDisk next.Sync old result new = SyncsDisk old result new
+CallsDisk next.Idle old result new = ⊥
+CallsDisk next.Stop old result new = ⊥
+
+-- Once it is done, what is durable then is acknowledged. Nothing is said where the site has stopped.
+abbrev pub UpAfterDisk : Frame → Book → List Bool → Machine → Seen → Result (Unit {0}) DeviceFault → Type 0
+UpAfterDisk frame book took machine new (Ok done) = Up frame (disk_done book (Ok tt)) new.state took (acknowledged_by (disk_done book (Ok tt)) machine)
+UpAfterDisk frame book took machine new (Err device.Disk) = Up frame (disk_done book (Err device.Disk)) new.state took machine
+UpAfterDisk frame book took machine new (Err device.Lost) = ⊥
+UpAfterDisk frame book took machine new (Err device.Stopped) = Unit {0}
+
+-- ---- a slave
+
+abbrev pub UpAfterIssue : Frame → Book → List Bool → Machine → ℕ → Seen → Result Issued DeviceFault → Type 0
+UpAfterIssue frame book took machine slave new (Ok issued) = (taken : Bool) × Up frame (rom_done book slave (outcomes.Issued issued)) new.state (slice_set took slave taken) machine
+UpAfterIssue frame book took machine slave new (Err device.Stopped) = Unit {0}
+UpAfterIssue frame book took machine slave new (Err fault) = ⊥
+
+abbrev pub UpAfterSettle : Frame → Book → List Bool → Machine → ℕ → Seen → Result Settled DeviceFault → Type 0
+UpAfterSettle frame book took machine slave new (Ok settled) = Up frame (rom_done book slave (outcomes.Settled settled)) new.state took machine
+UpAfterSettle frame book took machine slave new (Err device.Stopped) = Unit {0}
+UpAfterSettle frame book took machine slave new (Err fault) = ⊥
+
+-- ---- calls in a row
+
+-- kept with the first of the commands that are accepted meanwhile, so many
+abbrev pub KeptWith : Machine → List Command → Pair → Type 0
+KeptWith machine commands pair = (j : ℕ) × (j ≤ length commands) × Kept pair.disk pair.words (record machine { accepted = machine.accepted ++ take j commands })
+
+-- from the one time to the other a stop could have left only such pairs
+abbrev pub KeepsWith : Machine → List Command → Seen → Seen → Type 0
+KeepsWith machine commands old new = StaysWithin (KeptWith machine commands) old new
+
+-- with all of these commands accepted, and so many acknowledged
+abbrev pub with_commands : Machine → List Command → ℕ → Machine
+with_commands machine commands count = record machine { accepted = machine.accepted ++ commands; acknowledged = count }

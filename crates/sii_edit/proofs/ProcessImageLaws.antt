@@ -1,0 +1,48 @@
+-- The process image of the new plant, judged last.
+use Rattle.std.proofs.Common.{◌≡◌, ◌⊎◌, ℕ, Bool, true, false, List, is_some, IsSome, Option, Some, None, Result, Ok, Err, refl, sym, ◌∙◌, inl, inr}
+use Rattle.sii_image.specs.ProcessImage.{process_image}
+use Rattle.sii_edit.specs.declared.refusal.Cause.TheVariants.{ImageOverLimit}
+use Rattle.sii_edit.specs.declared.refusal.Refusal.{Refusal}
+use Rattle.sii_edit.specs.Refusal.{whole}
+use Rattle.sii_edit.specs.Command.{has_process_image, with_process_image}
+
+-- the test of a process image decides
+none_false : {A : Type 0} (found : Option A) (test : Bool) → (IsSome found → test ≡ true) → test ≡ false → is_some found ≡ false
+none_false None test told fails = refl
+none_false (Some image) test told fails = let holds : test ≡ true = told refl in cc
+
+pub has_process_image-some : (plant : List (List ℕ)) → IsSome (process_image plant) → has_process_image plant ≡ true
+unfolding has_process_image
+has_process_image-some plant is = is
+
+pub has_process_image-none : (plant : List (List ℕ)) (test : Bool) → (IsSome (process_image plant) → test ≡ true) → test ≡ false → has_process_image plant ≡ false
+unfolding has_process_image
+has_process_image-none plant test told fails = none_false (process_image plant) test told fails
+
+pub with_process_image-has : (new : List (List ℕ)) → has_process_image new ≡ true → with_process_image (Ok new) ≡ Ok new
+with_process_image-has new has = rw has refl
+
+pub with_process_image-has_none : (new : List (List ℕ)) → has_process_image new ≡ false → with_process_image (Ok new) ≡ Err (whole ImageOverLimit)
+with_process_image-has_none new none = rw none refl
+
+true_or_false : (b : Bool) → (b ≡ true) ⊎ (b ≡ false)
+true_or_false true = inl refl
+true_or_false false = inr refl
+
+-- what is accepted with its image was accepted before, and a refusal is the one from before or that of the image
+pub with_process_image_accepts : (judged : Result (List (List ℕ)) Refusal) (new : List (List ℕ)) → with_process_image judged ≡ Ok new → judged ≡ Ok new
+with_process_image_accepts (Ok given) new is =
+    elim (true_or_false (has_process_image given)) [
+      | inl has ↦ sym (with_process_image-has given has) ∙ is
+      | inr none ↦ let never : Err (whole ImageOverLimit) ≡ Ok new = sym (with_process_image-has_none given none) ∙ is in cc
+    ]
+with_process_image_accepts (Err refusal) new is = is
+
+pub with_process_image_refuses : (judged : Result (List (List ℕ)) Refusal) (refusal : Refusal) → with_process_image judged ≡ Err refusal
+    → (judged ≡ Err refusal) ⊎ (refusal ≡ whole ImageOverLimit)
+with_process_image_refuses (Ok given) refusal is =
+    elim (true_or_false (has_process_image given)) [
+      | inl has ↦ let never : Ok given ≡ Err refusal = sym (with_process_image-has given has) ∙ is in cc
+      | inr none ↦ let same : Err (whole ImageOverLimit) ≡ Err refusal = sym (with_process_image-has_none given none) ∙ is in inr cc
+    ]
+with_process_image_refuses (Err first) refusal is = inl is

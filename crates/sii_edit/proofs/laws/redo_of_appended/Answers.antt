@@ -1,5 +1,0 @@
-use Rattle.sii_edit.proofs.RedoLaws.{redone-append}
-use Rattle.sii_edit.proofs.laws.redo_of_appended.Goals as goal
-
-pub returns : goal.returns
-returns c = redone-append

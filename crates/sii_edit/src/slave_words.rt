@@ -1,0 +1,111 @@
+ghost use Rattle.std.specs.Prelude.{◌≡◌, ◌↔◌, IsTrue, Some, IfOk};
+ghost use Rattle.sii_words.specs.CheckByte.{IsChecked};
+ghost use Rattle.sii_words.specs.Words.{alias_of};
+ghost use Rattle.sii_edit.specs.Alias.{with_alias};
+ghost use Rattle.sii_edit.specs.Draft.{named, named_as};
+ghost use Rattle.sii_edit.specs.Guard.{is_other};
+
+use crate::alias::with_low_byte;
+use crate::command::Expect;
+use crate::guard::is_other;
+use sii_words::Words;
+use std::alloc::AllocError;
+use std::marker::Model;
+
+/// Another alias of a slave: word 4, and word 7 with the check byte that goes with it.
+#[derive(Clone, Copy)]
+pub(crate) struct Name {
+    pub alias: u16,
+    pub seven: u16,
+}
+
+/// The words of a slave as they will be: those that it has, but for words 4 and 7 where it gets another alias. None of them
+/// are copied. Contracts see the list of the words.
+#[derive(Drop)]
+pub(crate) struct SlaveWords<'a> {
+    words: &'a Words,
+    name: Option<Name>,
+}
+
+impl<'a> Model for SlaveWords<'a> {
+    ghost use Rattle.std.specs.Prelude.{ℕ, List, length, ◌<◌};
+    ghost use Rattle.sii_edit.specs.Draft.{named_as};
+
+    ghost Value = { List ℕ };
+
+    ghost view = { λ slave. named_as slave.words.now slave.name };
+
+    ghost invariant = { λ slave. 7 < length slave.words.now };
+}
+
+/// The words with another alias.
+pub(crate) fn rewritten(mut words: Words, name: Name) -> Words
+    ensures { result ≡ named words name }
+{
+    words.set(4, name.alias);
+    words.set(7, name.seven);
+    words
+}
+
+impl<'a> SlaveWords<'a> {
+    /// The words with this alias, if there is one.
+    pub fn of(words: &'a Words, name: Option<Name>) -> Self
+        ensures { result ≡ named_as words.now name }
+    {
+        // Every device has 64 words at least.
+        let _size = words.len();
+        SlaveWords { words, name }
+    }
+
+    /// The configured station alias.
+    pub fn alias(&self) -> u16
+        ensures { result ≡ alias_of self.now }
+    {
+        match self.name {
+            Some(name) => name.alias,
+            None => self.words.alias(),
+        }
+    }
+
+    /// Whether the check byte is right.
+    pub fn check_ok(&self) -> bool
+        ensures { IsTrue result ↔ IsChecked self.now }
+    {
+        match self.name {
+            Some(name) => name.seven % 256 == u16::from(self.words.check_byte_with(name.alias)),
+            None => self.words.check_ok(),
+        }
+    }
+
+    /// Whether the slave is another one than expected. Another alias doesn't change who it is.
+    pub fn is_other(&self, expect: Option<Expect>) -> bool
+        ensures { result ≡ is_other expect self.now }
+    {
+        is_other(expect, self.words)
+    }
+
+    /// Another alias, and the check byte that goes with it.
+    pub fn with_alias(&self, alias: u16) -> Name
+        ensures { named self.now result ≡ with_alias self.now alias }
+    {
+        let seven = match self.name {
+            Some(name) => name.seven,
+            None => self.words.get(7),
+        };
+        Name {
+            alias,
+            seven: with_low_byte(seven, self.words.check_byte_with(alias)),
+        }
+    }
+
+    /// A copy of all words.
+    pub fn to_words(&self) -> Result<Words, AllocError>
+        ensures { IfOk result (λ words. words ≡ self.now) }
+    {
+        let words = self.words.try_copy()?;
+        Ok(match self.name {
+            Some(name) => rewritten(words, name),
+            None => words,
+        })
+    }
+}

@@ -1,0 +1,34 @@
+-- What a slave adds to the process image rests on the words of its categories alone.
+use Rattle.std.proofs.Common.{◌≡◌, ◌-◌, ℕ, Bool, true, false, List, length, take, drop, sym, ap, ◌∙◌, Ok, arith, length-drop, nat_eq, IsTrue}
+use Rattle.std.specs.Cmp.Lexicographic.{pointwise, same_text}
+use Rattle.std.proofs.lemmas.List.{take_all}
+use Rattle.sii_cats.specs.steps.Chain.{member_at}
+use Rattle.sii_cats.specs.steps.Items.{◌>>=◌, items_of}
+use Rattle.sii_image.specs.declared.rows.Row.{Row}
+use Rattle.sii_image.specs.ProcessData.{contents_of_kind, managers_in, pdos_in, rows_of, rows_read}
+
+-- the rows of a chain with these words
+behind : List ℕ → List Row
+behind words = rows_read (do
+  members ← items_of member_at words
+  managers ← managers_in (contents_of_kind 41 members)
+  outputs ← pdos_in (contents_of_kind 51 members)
+  inputs ← pdos_in (contents_of_kind 50 members)
+  Ok (record { managers = take 16 managers; outputs = outputs; inputs = inputs }))
+
+pub same_rows : (old new : List ℕ) → drop 64 old ≡ drop 64 new → rows_of old ≡ rows_of new
+unfolding behind rows_of
+same_rows old new same = ap behind same
+
+-- what a comparison tells
+told : (same : Bool) (xs ys : List ℕ) → same ≡ pointwise nat_eq xs ys → IsTrue same → xs ≡ ys
+told true xs ys e h = same_text xs ys e
+told false xs ys e h = cc
+
+whole : (words : List ℕ) → take (length words - 64) (drop 64 words) ≡ drop 64 words
+whole words = take_all (length words - 64) (drop 64 words) (omega (arith, length-drop 64 words))
+
+-- the same of all words from 64 on
+pub told_behind : (same : Bool) (old new : List ℕ) → same ≡ pointwise nat_eq (take (length old - 64) (drop 64 old)) (take (length new - 64) (drop 64 new)) → IsTrue same
+    → drop 64 old ≡ drop 64 new
+told_behind same old new e h = sym (whole old) ∙ told same (take (length old - 64) (drop 64 old)) (take (length new - 64) (drop 64 new)) e h ∙ whole new

@@ -1,0 +1,5 @@
+-- Definitions that follow the code's steps. No public contract cites them.
+pub mod Contents
+pub mod Described
+pub mod Reading
+pub mod Placement

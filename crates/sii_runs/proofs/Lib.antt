@@ -1,0 +1,4 @@
+pub mod RedoLaws
+mod GivenLaws
+pub mod StretchLaws
+pub mod RunLaws

@@ -1,0 +1,4 @@
+pub mod Action
+pub mod Runs
+pub mod Reading
+pub mod Formatting

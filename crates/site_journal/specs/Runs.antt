@@ -1,0 +1,23 @@
+-- Device calls in a row, by which a station does something with its disk.
+use Rattle.std.specs.Prelude.{◌≡◌, ◌≢◌, ◌↔◌, ℕ, ◌+◌, ◌≤◌, Result, Err, IsErrOf, IsTrue}
+use Rattle.site_core.specs.declared.fault.DeviceFault.{DeviceFault}
+use Rattle.site_core.specs.declared.fault.DeviceFault.TheVariants as faults
+use Rattle.site_core.specs.State.{State, Pair, Seen, clock}
+use Rattle.site_core.specs.Disk.{synced}
+use Rattle.site_core.specs.Times.{Follows}
+use Rattle.site_core.specs.Calls.{faults_of}
+use Rattle.site_core.specs.Passes.{StaysWithin}
+
+-- So many calls at most, of which none but the last failed. All the way a stop could have left such pairs alone. None is a frame.
+pub record Runs {T : Type 0} (Q : Pair → Type 0) (old : Seen) (most : ℕ) (result : Result T DeviceFault) (new : Seen) : Type 0 where
+  pub stays : StaysWithin Q old new
+  pub follows : Follows old new
+  pub within : clock new ≤ clock old + most
+  pub counted : new.faults ≡ old.faults + faults_of result
+  pub stopped : IsTrue new.is_stopped ↔ IsErrOf result faults.Stopped
+  pub not_lost : result ≢ Err faults.Lost
+  pub turns : new.turns ≡ old.turns
+
+-- the same, and all that a read gives of the disk is synced: a stop leaves no other bytes
+abbrev pub with_synced : State → State
+with_synced state = record state { disk = synced state.disk }

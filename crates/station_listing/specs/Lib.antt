@@ -1,0 +1,2 @@
+pub mod ImageListing
+pub mod LayoutListing

@@ -1,0 +1,79 @@
+//! What the content of a category says, by the category's type.
+ghost use Rattle.std.specs.Prelude.{◌≡◌, ◌↔◌, IfOk, IsTrue};
+ghost use Rattle.station_listing.specs.ImageListing.{IsPdoType, SaysContent};
+
+use sii_cats::{CatFault, fmmus, pdos, strings, syncms};
+use std::alloc::{AllocError, Global};
+use std::fmt;
+
+/// The content of a category, by how many items of its type it has.
+#[derive(Clone, Copy, PartialEq, Eq)]
+pub enum Content {
+    /// STRINGS (type 10).
+    Strings(usize),
+    /// FMMU (type 40).
+    Units(usize),
+    /// SyncM (type 41).
+    Managers(usize),
+    /// TXPDO and RXPDO (types 50 and 51).
+    Pdos(usize),
+    /// A content of type 10, 50 or 51 that can't be read.
+    Malformed,
+    /// A type whose content is words without a meaning.
+    Opaque,
+}
+
+/// Reads the content of a category of type `kind`.
+pub fn read_content(alloc: Global, kind: u16, words: &[u16]) -> Result<Content, AllocError>
+    ensures { IfOk result (SaysContent kind words.now) }
+{
+    match kind {
+        10 => count_strings(alloc, words),
+        40 => Ok(Content::Units(fmmus(alloc, words)?.len())),
+        41 => Ok(Content::Managers(syncms(alloc, words)?.len())),
+        50 | 51 => count_pdos(alloc, kind, words),
+        _ => Ok(Content::Opaque),
+    }
+}
+
+fn count_strings(alloc: Global, words: &[u16]) -> Result<Content, AllocError>
+    ensures { IfOk result (SaysContent 10 words.now) }
+{
+    match strings(alloc, words) {
+        Ok(found) => Ok(Content::Strings(found.len())),
+        Err(CatFault::Memory) => Err(AllocError),
+        Err(_) => Ok(Content::Malformed),
+    }
+}
+
+fn count_pdos(alloc: Global, kind: u16, words: &[u16]) -> Result<Content, AllocError>
+    requires { IsPdoType kind }
+    ensures { IfOk result (SaysContent kind words.now) }
+{
+    match pdos(alloc, kind, words) {
+        Ok(found) => Ok(Content::Pdos(found.len())),
+        Err(CatFault::Memory) => Err(AllocError),
+        Err(_) => Ok(Content::Malformed),
+    }
+}
+
+impl Content {
+    pub fn is_malformed(self) -> bool
+        ensures { IsTrue result ↔ (self ≡ Content.Malformed) }
+    {
+        self == Content::Malformed
+    }
+}
+
+impl fmt::Display for Content {
+    fn fmt<W: fmt::Write>(&self, f: &mut fmt::Formatter<W>) -> fmt::Result {
+        match self {
+            Content::Strings(count) => write!(f, " strings {count}"),
+            Content::Units(count) => write!(f, " units {count}"),
+            Content::Managers(count) => write!(f, " managers {count}"),
+            Content::Pdos(count) => write!(f, " pdos {count}"),
+            Content::Malformed => write!(f, " bad"),
+            Content::Opaque => Ok(()),
+        }
+    }
+}

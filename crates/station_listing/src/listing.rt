@@ -1,0 +1,188 @@
+//! What an EEPROM image says, as `show` prints it.
+ghost use Rattle.std.specs.Prelude.{◌≡◌, ◌≤◌, ◌↔◌, IfOk, IsTrue, length, map};
+ghost use Rattle.std.specs.List.{AllZip};
+ghost use Rattle.sii_cats.specs.Chain.{ArePlaced, end_of, member_of};
+ghost use Rattle.station_listing.specs.ImageListing.{IsReadable, IsSound, SaysChain, SaysCheck, SaysImage, SaysMember};
+
+use crate::content::{Content, read_content};
+use sii_cats::{Category, ChainFault, chain};
+use sii_words::{Identity, ImageFile};
+use std::alloc::{AllocError, Global};
+use std::fmt;
+
+/// What an image says.
+#[derive(Drop)]
+pub struct Listing {
+    /// The number of words.
+    pub count: usize,
+    /// The configured station alias.
+    pub alias: u16,
+    pub check: CheckByte,
+    pub identity: Identity,
+    pub chain: ListedChain,
+}
+
+/// What stands at the check byte's place.
+#[derive(Clone, Copy, PartialEq, Eq)]
+pub enum CheckByte {
+    Right,
+    Wrong { found: u8, expected: u8 },
+}
+
+/// The chain of categories.
+#[derive(Drop)]
+pub enum ListedChain {
+    /// The categories, in order.
+    Whole(Vec<ListedCategory>),
+    /// The header at word `at`, or its content, isn't whole.
+    RunsOut { at: usize },
+}
+
+/// A category: its type, the number of words of its content, and what the content says.
+#[derive(Clone, Copy)]
+pub struct ListedCategory {
+    pub kind: u16,
+    pub count: usize,
+    pub content: Content,
+}
+
+/// Lists what an image says.
+pub fn list_image(alloc: Global, image: &ImageFile) -> Result<Listing, AllocError>
+    ensures { IfOk result (SaysImage image.now) }
+{
+    Ok(Listing {
+        count: image.as_slice().len(),
+        alias: image.alias(),
+        check: judge_check(image),
+        identity: image.identity(),
+        chain: list_chain(alloc, image.as_slice())?,
+    })
+}
+
+fn judge_check(image: &ImageFile) -> CheckByte
+    ensures { SaysCheck image.now result }
+{
+    if image.check_ok() {
+        return CheckByte::Right;
+    }
+    let [found, _] = image.as_slice()[7].to_le_bytes();
+    CheckByte::Wrong {
+        found,
+        expected: image.check_byte(),
+    }
+}
+
+fn list_chain(alloc: Global, words: &[u16]) -> Result<ListedChain, AllocError>
+    requires { 64 ≤ length words.now }
+    ensures { IfOk result (SaysChain words.now) }
+{
+    match chain(alloc, words) {
+        Ok(categories) => Ok(ListedChain::Whole(list_categories(alloc, words, &categories)?)),
+        Err(ChainFault::RunsOut { at }) => Ok(ListedChain::RunsOut { at }),
+        Err(ChainFault::Memory) => Err(AllocError),
+    }
+}
+
+fn list_categories(
+    alloc: Global,
+    words: &[u16],
+    categories: &[Category],
+) -> Result<Vec<ListedCategory>, AllocError>
+    requires { ArePlaced words.now categories.now }
+    ensures { IfOk result (λ listed. AllZip SaysMember (map (member_of words.now) categories.now) listed.items) }
+{
+    let mut listed = Vec::new(alloc);
+    for category in categories {
+        listed.push(list_category(alloc, words, *category)?)?;
+    }
+    Ok(listed)
+}
+
+fn list_category(
+    alloc: Global,
+    words: &[u16],
+    category: Category,
+) -> Result<ListedCategory, AllocError>
+    requires { end_of category ≤ length words.now }
+    ensures { IfOk result (SaysMember (member_of words.now category)) }
+{
+    let content = category.content(words);
+    Ok(ListedCategory {
+        kind: category.kind,
+        count: content.len(),
+        content: read_content(alloc, category.kind, content)?,
+    })
+}
+
+impl Listing {
+    /// Whether the check byte is right and the chain and all contents can be read.
+    pub fn is_sound(&self) -> bool
+        ensures { IsTrue result ↔ IsSound self.now }
+    {
+        self.check == CheckByte::Right && self.chain.is_readable()
+    }
+}
+
+impl ListedChain {
+    fn is_readable(&self) -> bool
+        ensures { IsTrue result ↔ IsReadable self.now }
+    {
+        match self {
+            ListedChain::Whole(categories) => categories
+                .iter()
+                .all(|category| !category.content.is_malformed()),
+            ListedChain::RunsOut { .. } => false,
+        }
+    }
+}
+
+impl fmt::Display for Listing {
+    fn fmt<W: fmt::Write>(&self, f: &mut fmt::Formatter<W>) -> fmt::Result {
+        let Identity {
+            vendor,
+            product,
+            revision,
+            serial,
+        } = self.identity;
+        writeln!(f, "words {}", self.count)?;
+        writeln!(f, "alias {}", self.alias)?;
+        writeln!(f, "check {}", self.check)?;
+        writeln!(
+            f,
+            "vendor 0x{vendor:08x} product 0x{product:08x} revision 0x{revision:08x} serial 0x{serial:08x}"
+        )?;
+        write!(f, "{}", self.chain)
+    }
+}
+
+impl fmt::Display for CheckByte {
+    fn fmt<W: fmt::Write>(&self, f: &mut fmt::Formatter<W>) -> fmt::Result {
+        match self {
+            CheckByte::Right => write!(f, "ok"),
+            CheckByte::Wrong { found, expected } => {
+                write!(f, "bad 0x{found:02x} expected 0x{expected:02x}")
+            }
+        }
+    }
+}
+
+impl fmt::Display for ListedChain {
+    fn fmt<W: fmt::Write>(&self, f: &mut fmt::Formatter<W>) -> fmt::Result {
+        match self {
+            ListedChain::Whole(categories) => {
+                for category in categories {
+                    writeln!(f, "{category}")?;
+                }
+                writeln!(f, "end")
+            }
+            ListedChain::RunsOut { at } => writeln!(f, "runs out at {at}"),
+        }
+    }
+}
+
+impl fmt::Display for ListedCategory {
+    fn fmt<W: fmt::Write>(&self, f: &mut fmt::Formatter<W>) -> fmt::Result {
+        let (kind, count, content) = (self.kind, self.count, self.content);
+        write!(f, "category {kind} words {count}{content}")
+    }
+}

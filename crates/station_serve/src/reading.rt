@@ -1,0 +1,26 @@
+//! Reading a stream to its end.
+ghost use Rattle.std.specs.Prelude.{◌≡◌, IfOk, IfSome, OnOk};
+ghost use Rattle.std.specs.Io.KnownBytes.{IsAtEnd};
+
+use std::alloc::Global;
+use std::io;
+use std::io::Read;
+
+/// All bytes that a reader still has. A read that was interrupted is tried again. A reader that gives no end within 1,048,576
+/// reads is an error.
+pub fn read_to_end<R: Read>(alloc: Global, input: &mut R) -> io::Result<Vec<u8>>
+    ensures all { IfOk result (λ bytes. IfSome (R.remaining input.old) (λ rest. bytes.items ≡ rest)) }
+    ensures end { OnOk result (IsAtEnd (R.remaining input.new)) }
+{
+    let mut bytes = Vec::new(alloc);
+    let mut buffer = [0u8; 4096];
+    for _read in 0..1_048_576u32 {
+        match input.read(&mut buffer) {
+            Ok(0) => return Ok(bytes),
+            Ok(count) => bytes.extend_from_slice(&buffer[..count])?,
+            Err(error) if error.kind() == io::ErrorKind::Interrupted => {}
+            Err(error) => return Err(error),
+        }
+    }
+    Err(io::Error::other("no end within 1048576 reads"))
+}

@@ -1,0 +1,82 @@
+//! The program as a function of its arguments and streams.
+
+ghost use Rattle.std.specs.Prelude.{◌≢◌};
+
+use crate::alias::alias;
+use crate::arguments::{Task, read_arguments};
+use crate::explain::explain;
+use crate::faults::{Failure, Fault, Status};
+use crate::layout::layout;
+use crate::run::run;
+use crate::show::show;
+use crate::store::Store;
+use clap::Error;
+use clap::error::ErrorKind;
+use std::alloc::Global;
+use std::io;
+use std::io::{Read, Write};
+
+/// Does what the arguments ask for, and answers the exit status: 0 done, 1 a command refused, 2 usage, 3 file or
+/// format, 5 memory. Word 0 of the arguments is the program's name.
+pub fn serve<R: Read, S: Store, W: Write, E: Write>(
+    alloc: Global,
+    args: &[String],
+    input: &mut R,
+    store: &mut S,
+    output: &mut W,
+    faults: &mut E,
+) -> u8 {
+    let status = match read_arguments(alloc, args) {
+        Ok(Task::Alias { value, hex }) => match alias(alloc, value, hex, input, output) {
+            Ok(()) => Status::Done,
+            Err(failure) => report(failure, faults),
+        },
+        Ok(Task::Show { hex }) => match show(alloc, hex, input, output) {
+            Ok(status) => status,
+            Err(fault) => report(Failure::Fault(fault), faults),
+        },
+        Ok(Task::Layout { line }) => match layout(alloc, line, store, output) {
+            Ok(()) => Status::Done,
+            Err(fault) => report(Failure::Fault(fault), faults),
+        },
+        Ok(Task::Explain { code }) => match explain(alloc, code, output) {
+            Ok(()) => Status::Done,
+            Err(fault) => report(Failure::Fault(fault), faults),
+        },
+        Ok(Task::Run { line, script }) => run(alloc, line, script, store, output, faults),
+        Err(error) => show_usage(&error, output, faults),
+    };
+    status as u8
+}
+
+/// Prints why the work wasn't done, and answers the status for it.
+pub fn report<E: Write>(failure: Failure, faults: &mut E) -> Status
+    ensures { result ≢ Status.Done }
+{
+    let _ = writeln!(faults, "{failure}");
+    failure.status()
+}
+
+/// Prints the help that was asked for, or what is wrong with the arguments.
+fn show_usage<W: Write, E: Write>(error: &Error, output: &mut W, faults: &mut E) -> Status {
+    if error.kind() == ErrorKind::OutOfMemory {
+        return report(Failure::Fault(Fault::Memory), faults);
+    }
+    if error.use_stderr() {
+        let _ = write!(faults, "{error}");
+        return Status::Usage;
+    }
+    match write!(output, "{error}").and_then(|()| output.flush()) {
+        Ok(()) => Status::Done,
+        Err(_) => report(Failure::Fault(Fault::File), faults),
+    }
+}
+
+/// Ends a run whose words couldn't be had, for want of memory or since one is no UTF-8, and answers its exit status.
+pub fn refuse_words<E: Write>(error: &io::Error, faults: &mut E) -> u8 {
+    if error.kind() == io::ErrorKind::OutOfMemory {
+        return report(Failure::Fault(Fault::Memory), faults) as u8;
+    }
+    let _ = writeln!(faults, "error: an argument is not UTF-8");
+    Status::Usage as u8
+}

@@ -1,0 +1,9 @@
+// What the program prints and leaves.
+
+mod case;
+mod images;
+mod lines;
+mod scripts;
+mod streams;
+mod texts;
+mod words;

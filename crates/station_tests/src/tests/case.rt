@@ -1,0 +1,153 @@
+// One run of the program: the files before it, what it is asked, and what it prints and leaves.
+
+use crate::shelf::Shelf;
+use station_serve::serve;
+use std::alloc::{AllocError, Global};
+use std::io::{Read, Write};
+
+/// The bytes of a file or of an input.
+#[derive(Clone, Copy)]
+pub enum Bytes {
+    Text(&'static str),
+    /// So many bytes, all 0 but for the check byte 0x30 and for these from these places on.
+    Image(usize, &'static [(usize, &'static [u8])]),
+    /// So many bytes 0xFF.
+    Blank(usize),
+}
+
+pub type Files = &'static [(&'static str, Bytes)];
+
+/// A run, and what is wanted of it: its status, its output, its faults, and files that it leaves.
+#[derive(Clone, Copy)]
+pub struct Case {
+    pub words: &'static str,
+    pub files: Files,
+    pub input: Bytes,
+    pub status: u8,
+    pub output: &'static str,
+    pub faults: &'static str,
+    pub left: Files,
+    pub writes: usize,
+}
+
+/// A run that reads and writes no files.
+pub const ALONE: Case = Case {
+    words: "",
+    files: &[],
+    input: Bytes::Text(""),
+    status: 0,
+    output: "",
+    faults: "",
+    left: &[],
+    writes: 0,
+};
+
+/// What a run of the program prints.
+#[derive(Drop)]
+pub struct Printed {
+    pub status: u8,
+    pub output: Vec<u8>,
+    pub faults: Vec<u8>,
+}
+
+pub fn spell(alloc: Global, bytes: Bytes) -> Result<Vec<u8>, AllocError> {
+    match bytes {
+        Bytes::Text(text) => text.as_bytes().to_vec(alloc),
+        Bytes::Blank(len) => vec![in alloc; 0xFFu8; len],
+        Bytes::Image(len, patches) => spell_image(alloc, len, patches),
+    }
+}
+
+fn spell_image(
+    alloc: Global,
+    len: usize,
+    patches: &[(usize, &[u8])],
+) -> Result<Vec<u8>, AllocError> {
+    let mut image = vec![in alloc; 0u8; len]?;
+    patch(&mut image, 14, &[0x30]);
+    for (at, bytes) in patches {
+        patch(&mut image, *at, bytes);
+    }
+    Ok(image)
+}
+
+fn patch(image: &mut [u8], at: usize, bytes: &[u8]) {
+    for (byte, value) in image.iter_mut().skip(at).zip(bytes) {
+        *byte = *value;
+    }
+}
+
+/// A shelf with these files.
+pub fn shelf_with(alloc: Global, files: Files) -> Result<Shelf, AllocError> {
+    let mut shelf = Shelf::new(alloc);
+    for (name, bytes) in files {
+        shelf.put(name, &spell(alloc, *bytes)?)?;
+    }
+    Ok(shelf)
+}
+
+/// Runs the program on words that are parted by spaces.
+pub fn run_words<R: Read>(
+    alloc: Global,
+    words: &str,
+    input: &mut R,
+    shelf: &mut Shelf,
+) -> Result<Printed, AllocError> {
+    let mut output = Vec::new(alloc);
+    let mut faults = Vec::new(alloc);
+    let status = served(alloc, words, input, shelf, &mut output, &mut faults)?;
+    Ok(Printed {
+        status,
+        output,
+        faults,
+    })
+}
+
+/// The status of a run with these streams.
+pub fn served<R: Read, W: Write>(
+    alloc: Global,
+    words: &str,
+    input: &mut R,
+    shelf: &mut Shelf,
+    output: &mut W,
+    faults: &mut Vec<u8>,
+) -> Result<u8, AllocError> {
+    let mut args = Vec::new(alloc);
+    for word in words.split_ascii_whitespace() {
+        args.push(String::from_str(alloc, word)?)?;
+    }
+    Ok(serve(alloc, &args, input, shelf, output, faults))
+}
+
+/// What of a run isn't as it is wanted; empty where all is.
+pub fn differs(alloc: Global, case: &Case) -> Result<&'static str, AllocError> {
+    let mut shelf = shelf_with(alloc, case.files)?;
+    let input = spell(alloc, case.input)?;
+    let run = run_words(alloc, case.words, &mut input.as_slice(), &mut shelf)?;
+    let wrong = judge(case, &run);
+    if !wrong.is_empty() {
+        return Ok(wrong);
+    }
+    if shelf.writes != case.writes {
+        return Ok("how many files it writes");
+    }
+    for (name, bytes) in case.left {
+        if shelf.bytes(name) != Some(spell(alloc, *bytes)?.as_slice()) {
+            return Ok("a file");
+        }
+    }
+    Ok("")
+}
+
+fn judge(case: &Case, run: &Printed) -> &'static str {
+    if run.status != case.status {
+        return "the status";
+    }
+    if run.output.as_slice() != case.output.as_bytes() {
+        return "the output";
+    }
+    if run.faults.as_slice() != case.faults.as_bytes() {
+        return "the faults";
+    }
+    ""
+}

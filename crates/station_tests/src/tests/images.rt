@@ -1,0 +1,202 @@
+use super::case::{ALONE, Bytes, Case, differs};
+use std::test::Fail;
+
+/// A slave with eight digital inputs and eight outputs, from its first word to the end mark.
+const DIGITAL_IO: &str = "04010000000000000000000000003900
+570e00008830010000001100172a0000
+00000000000000000000000000000000
+00000000000000000000000000000000
+00000000000000000000000000000000
+00000000000000000000000000000000
+00000000000000000000000000000000
+00000000000000000000000007000100
+0a004a000d0544494f38380844696749
+6e4f7574253843682e204469672e2049
+6e7075742c203843682e204469672e20
+4f757470757420323456094368616e6e
+656c2031094368616e6e656c20320943
+68616e6e656c2033094368616e6e656c
+2034094368616e6e656c203509436861
+6e6e656c2036094368616e6e656c2037
+094368616e6e656c203805496e707574
+064f7574707574001e00100002000103
+00000000000000007800000000000000
+00000000000000000000000028000100
+010229000800000f0100440001030010
+01002000010433004000001601000004
+00000070010d01010000011601000005
+00001070010d01010000021601000006
+00002070010d01010000031601000007
+00003070010d01010000041601000008
+00004070010d01010000051601000009
+00005070010d0101000006160100000a
+00006070010d0101000007160100000b
+00007070010d0101000032004000001a
+0101000400000060010c01010000011a
+0101000500001060010c01010000021a
+0101000600002060010c01010000031a
+0101000700003060010c01010000041a
+0101000800004060010c01010000051a
+0101000900005060010c01010000061a
+0101000a00006060010c01010000071a
+0101000b00007060010c01010000ffff\n";
+
+/// Images, and what `show` says of them.
+const SHOWN: [Case; 5] = [
+    Case {
+        words: "station show --hex",
+        input: Bytes::Text(DIGITAL_IO),
+        output: "words 304
+alias 0
+check ok
+vendor 0x00000e57 product 0x00013088 revision 0x00110000 serial 0x00002a17
+category 10 words 74 strings 13
+category 30 words 16
+category 40 words 1 units 2
+category 41 words 8 managers 2
+category 51 words 64 pdos 8
+category 50 words 64 pdos 8
+end\n",
+        ..ALONE
+    },
+    Case {
+        words: "station show",
+        input: Bytes::Image(128, &[(8, &[1]), (14, &[0x0A])]),
+        status: 3,
+        output: "words 64
+alias 1
+check bad 0x0a expected 0x19
+vendor 0x00000000 product 0x00000000 revision 0x00000000 serial 0x00000000
+end\n",
+        ..ALONE
+    },
+    Case {
+        words: "station show",
+        input: Bytes::Blank(256),
+        status: 3,
+        output: "words 128
+alias 65535
+check bad 0xff expected 0xa3
+vendor 0xffffffff product 0xffffffff revision 0xffffffff serial 0xffffffff
+end\n",
+        ..ALONE
+    },
+    Case {
+        words: "station show",
+        input: Bytes::Image(
+            144,
+            &[(128, &[50, 0, 4, 0, 0, 0, 1, 0, 0, 0, 0, 0, 30, 0, 0, 0])],
+        ),
+        status: 3,
+        output: "words 72
+alias 0
+check ok
+vendor 0x00000000 product 0x00000000 revision 0x00000000 serial 0x00000000
+category 50 words 4 bad
+category 30 words 0
+end\n",
+        ..ALONE
+    },
+    Case {
+        words: "station show",
+        input: Bytes::Image(136, &[(128, &[30, 0, 0, 0, 51, 0, 1, 0])]),
+        status: 3,
+        output: "words 68
+alias 0
+check ok
+vendor 0x00000000 product 0x00000000 revision 0x00000000 serial 0x00000000
+runs out at 66\n",
+        ..ALONE
+    },
+];
+
+#[test]
+fn images_are_shown(rt: HostRuntime) -> Result<(), Fail> {
+    for case in &SHOWN {
+        assert_eq!(rt; differs(rt.alloc(), case)?, "", "{}", case.output);
+    }
+    Ok(())
+}
+
+/// Images that get an alias, and inputs that don't.
+const RENAMED: [Case; 7] = [
+    Case {
+        words: "station alias 00001 --hex",
+        input: Bytes::Text(
+            "00 00\t00\n00\x0c00\r\n000000000000000000 30 AB
+00000000000000000000000000000000
+00000000000000000000000000000000
+00000000000000000000000000000000
+00000000000000000000000000000000
+00000000000000000000000000000000
+00000000000000000000000000000000
+00000000000000000000000000000000 cD ff",
+        ),
+        output: "000000000000000001000000000019ab
+00000000000000000000000000000000
+00000000000000000000000000000000
+00000000000000000000000000000000
+00000000000000000000000000000000
+00000000000000000000000000000000
+00000000000000000000000000000000
+00000000000000000000000000000000
+cdff\n",
+        ..ALONE
+    },
+    Case {
+        words: "station alias 1",
+        input: Bytes::Image(128, &[(14, &[0])]),
+        status: 1,
+        faults: "refused 15 BadCheck\n",
+        ..ALONE
+    },
+    Case {
+        words: "station alias 1",
+        input: Bytes::Image(8193, &[]),
+        status: 3,
+        faults: "fault 1 OddLength\n",
+        ..ALONE
+    },
+    Case {
+        words: "station alias 1",
+        input: Bytes::Image(8194, &[]),
+        status: 3,
+        faults: "fault 2 BadSize\n",
+        ..ALONE
+    },
+    Case {
+        words: "station alias 1 --hex",
+        input: Bytes::Text("30\x0b30"),
+        status: 3,
+        faults: "fault 91 BadHex\n",
+        ..ALONE
+    },
+    Case {
+        words: "station alias 1 --hex",
+        input: Bytes::Text("003"),
+        status: 3,
+        faults: "fault 91 BadHex\n",
+        ..ALONE
+    },
+    Case {
+        words: "station show --hex",
+        input: Bytes::Blank(128),
+        status: 3,
+        faults: "fault 91 BadHex\n",
+        ..ALONE
+    },
+];
+
+#[test]
+fn images_are_renamed(rt: HostRuntime) -> Result<(), Fail> {
+    for case in &RENAMED {
+        assert_eq!(rt;
+            differs(rt.alloc(), case)?,
+            "",
+            "{}{}",
+            case.output,
+            case.faults
+        );
+    }
+    Ok(())
+}

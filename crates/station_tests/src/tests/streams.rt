@@ -1,0 +1,147 @@
+use super::case::{Bytes, Files, run_words, served, shelf_with};
+use crate::shelf::Shelf;
+use std::alloc::{AllocError, Global};
+use std::io;
+use std::io::{Read, Write};
+use std::test::Fail;
+
+/// What a reader does at each call once it has given its first byte.
+#[derive(Clone, Copy, PartialEq, Eq)]
+enum Then {
+    Fails,
+    GoesOn,
+}
+
+/// A reader of one byte a call. Its first call is interrupted.
+#[derive(Drop)]
+struct Trickle {
+    calls: usize,
+    then: Then,
+}
+
+impl Read for Trickle {
+    fn read(&mut self, buf: &mut [u8]) -> io::Result<usize> {
+        self.calls = self.calls.saturating_add(1);
+        if self.calls == 1 {
+            return Err(io::Error::from(io::ErrorKind::Interrupted));
+        }
+        if self.calls > 2 && self.then == Then::Fails {
+            return Err(io::Error::other("the line is cut"));
+        }
+        match buf.first_mut() {
+            Some(byte) => {
+                *byte = 0x30;
+                Ok(1)
+            }
+            None => Ok(0),
+        }
+    }
+}
+
+/// Whether an alias of what this reader gives is `fault 90 File`.
+fn is_file_fault(alloc: Global, then: Then) -> Result<bool, AllocError> {
+    let mut input = Trickle { calls: 0, then };
+    let run = run_words(alloc, "station alias 1", &mut input, &mut Shelf::new(alloc))?;
+    Ok(
+        run.status == 3
+            && run.output.is_empty()
+            && run.faults.as_slice() == "fault 90 File\n".as_bytes(),
+    )
+}
+
+/// The bytes of an image whose first read is interrupted.
+#[derive(Drop)]
+struct Halting<'a> {
+    rest: &'a [u8],
+    interrupted: bool,
+}
+
+impl Read for Halting<'_> {
+    fn read(&mut self, buf: &mut [u8]) -> io::Result<usize> {
+        if !self.interrupted {
+            self.interrupted = true;
+            return Err(io::Error::from(io::ErrorKind::Interrupted));
+        }
+        self.rest.read(buf)
+    }
+}
+
+#[test]
+fn readers(rt: HostRuntime) -> Result<(), Fail> {
+    let alloc = rt.alloc();
+    assert!(rt; is_file_fault(alloc, Then::Fails)?);
+    assert!(rt; is_file_fault(alloc, Then::GoesOn)?);
+    let mut input = Halting {
+        rest: &[0xFF; 128],
+        interrupted: false,
+    };
+    let run = run_words(alloc, "station show", &mut input, &mut Shelf::new(alloc))?;
+    assert!(rt; run.status == 3 && run.faults.is_empty());
+    Ok(())
+}
+
+/// A writer that takes nothing.
+#[derive(Drop)]
+struct Shut;
+
+impl Write for Shut {
+    fn write(&mut self, _buf: &[u8]) -> io::Result<usize> {
+        Err(io::Error::other("the disk is full"))
+    }
+
+    fn flush(&mut self) -> io::Result<()> {
+        Ok(())
+    }
+}
+
+const FILES: Files = &[
+    (
+        "line.toml",
+        Bytes::Text("journal = 'j.bin'\n[[slave]]\nimage = 's0.bin'"),
+    ),
+    ("s0.bin", Bytes::Image(128, &[])),
+    ("script.toml", Bytes::Text("command = []")),
+];
+
+/// Whether a run whose output can't be written is `fault 90 File`.
+fn is_unwritten(alloc: Global, words: &str) -> Result<bool, AllocError> {
+    let mut faults = Vec::new(alloc);
+    let mut shelf = shelf_with(alloc, FILES)?;
+    let image = [0xFFu8; 128];
+    let status = served(
+        alloc,
+        words,
+        &mut image.as_slice(),
+        &mut shelf,
+        &mut Shut,
+        &mut faults,
+    )?;
+    Ok(status == 3 && faults.as_slice() == "fault 90 File\n".as_bytes())
+}
+
+#[test]
+fn writers_that_fail(rt: HostRuntime) -> Result<(), Fail> {
+    let runs = [
+        "station show",
+        "station layout line.toml",
+        "station run line.toml script.toml",
+        "station explain",
+        "station --help",
+    ];
+    for words in runs {
+        assert!(rt; is_unwritten(rt.alloc(), words)?, "{words}");
+    }
+    Ok(())
+}
+
+#[test]
+fn a_store_that_takes_no_writes(rt: HostRuntime) -> Result<(), Fail> {
+    let alloc = rt.alloc();
+    let mut shelf = shelf_with(alloc, FILES)?;
+    shelf.broken = true;
+    let words = "station run line.toml script.toml";
+    let run = run_words(alloc, words, &mut io::empty(), &mut shelf)?;
+    assert!(rt; run.status == 3 && run.faults.as_slice() == "fault 90 File\n".as_bytes());
+    assert!(rt; run.output.as_slice() == "accepted 0 durable 0 settled 0\n".as_bytes());
+    Ok(())
+}

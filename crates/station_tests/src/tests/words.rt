@@ -1,0 +1,89 @@
+use super::case::{ALONE, Case, differs, run_words};
+use crate::shelf::Shelf;
+use std::alloc::{AllocError, Global};
+use std::io;
+use std::test::Fail;
+
+/// Words that are no use of the program.
+const WRONG: [&str; 18] = [
+    "station",
+    "station show 1",
+    "station show --hex --hex",
+    "station run",
+    "station run line.toml",
+    "station run line.toml script.toml more",
+    "station layout",
+    "station layout line.toml more",
+    "station layout --hex",
+    "station alias",
+    "station alias 65536",
+    "station alias -1",
+    "station alias +1",
+    "station alias x",
+    "station alias 1 2",
+    "station alias 1 --hex --hex",
+    "station explain 0",
+    "station explain 15 16",
+];
+
+/// Words that ask for help, and what it shows.
+const HELP: [(&str, &str); 9] = [
+    ("station --help", "Example:\n"),
+    ("station help", "Example:\n"),
+    ("station show --help", "Example:\n"),
+    ("station alias --help", "Example:\n"),
+    ("station run --help", "swap = [0, 1]\n"),
+    ("station run --help", "area = 65536\n"),
+    ("station run --help", "refused CODE NAME"),
+    ("station layout --help", "area = 65536\n"),
+    ("station explain --help", "Example:\n"),
+];
+
+/// Whether the words end with this status, and print this on standard output or, of usage, anything on standard error.
+fn answers(alloc: Global, words: &str, status: u8, shown: &str) -> Result<bool, AllocError> {
+    let run = run_words(alloc, words, &mut io::empty(), &mut Shelf::new(alloc))?;
+    let text = str::from_utf8(&run.output).unwrap_or("");
+    let is_parted = run.output.is_empty() != run.faults.is_empty();
+    Ok(run.status == status && is_parted && text.contains(shown))
+}
+
+#[test]
+fn usage_and_help(rt: HostRuntime) -> Result<(), Fail> {
+    for words in WRONG {
+        assert!(rt; answers(rt.alloc(), words, 2, "")?, "{words}");
+    }
+    for (words, shown) in HELP {
+        assert!(rt; answers(rt.alloc(), words, 0, shown)?, "{words}");
+    }
+    Ok(())
+}
+
+const CHECK: &str =
+    "15 BadCheck: The check byte is wrong. The low byte of word 7 doesn't go with words 0 to 6. Blank EEPROMs and damaged images are like that, and an alias or a swap would make them look right. Look at the image with show. Write a whole image, whose check byte is right, before the alias.\n";
+
+const EXPLAINED: [Case; 3] = [
+    Case {
+        words: "station --version",
+        output: "sii_station 0.1.0\n",
+        ..ALONE
+    },
+    Case {
+        words: "station explain 15",
+        output: CHECK,
+        ..ALONE
+    },
+    Case {
+        words: "station explain badcheck",
+        output: CHECK,
+        ..ALONE
+    },
+];
+
+#[test]
+fn versions_and_codes(rt: HostRuntime) -> Result<(), Fail> {
+    for case in &EXPLAINED {
+        assert_eq!(rt; differs(rt.alloc(), case)?, "", "{}", case.words);
+    }
+    assert!(rt; answers(rt.alloc(), "station explain", 0, "\n\n94 Exists: ")?);
+    Ok(())
+}

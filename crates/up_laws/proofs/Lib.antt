@@ -1,0 +1,15 @@
+pub mod SlaveLaws
+pub mod WearLaws
+pub mod LineLaws
+pub mod GoesLaws
+pub mod RomLaws
+pub mod DiskEventLaws
+pub mod OwingLaws
+pub mod DiskEndLaws
+pub mod OutcomeLaws
+pub mod WorkLaws
+pub mod CallLaws
+pub mod EntryLaws
+pub mod SubmitLaws
+pub mod OpeningLaws
+pub mod SlaveEventLaws

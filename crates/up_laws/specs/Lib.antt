@@ -1,0 +1,5 @@
+pub mod Slaves
+pub mod Wear
+pub mod Up
+pub mod Steps
+pub mod Opening

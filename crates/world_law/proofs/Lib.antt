@@ -1,0 +1,6 @@
+pub mod FlagLaws
+pub mod AnswerLaws
+pub mod StandsLaws
+pub mod StepLaws
+pub mod RunLaws
+pub mod FormatLaws

@@ -1,0 +1,117 @@
+-- What each event does to the world. Where there is a choice, as of what a stop leaves, any choice may be taken.
+use Rattle.std.specs.Prelude.{not, ◌&&◌, if◌then◌else◌, ◌≡◌, ◌≢◌, ◌⊎◌, ℕ, Bool, true, false, is_some, Some, None, Result, Ok, Err, Option, slice_get, slice_index_or}
+use Rattle.std.specs.List.{AllByRecursion}
+use Rattle.sii_edit.specs.declared.command.Command.{Command}
+use Rattle.jrn_format.specs.declared.journal.Journal.{Journal}
+use Rattle.esc_model.specs.SlaveHalf.{SlaveHalf, MayRest}
+use Rattle.site_core.specs.declared.fault.DeviceFault.{DeviceFault}
+use Rattle.site_core.specs.declared.fault.DeviceFault.TheVariants as device
+use Rattle.site_core.specs.Disk.{Disk, synced}
+use Rattle.site_core.specs.State.{State, Stopped, HalfGoes, with_half}
+use Rattle.book_model.specs.declared.next.RomOutcome.{RomOutcome}
+use Rattle.book_model.specs.declared.refusal.SubmitRefusal.{SubmitRefusal}
+use Rattle.book_model.specs.Book.{Book, Slave, Errand, Free, Issuing, Unsettled, Settling, is_version_2, slave_at}
+use Rattle.book_model.specs.Submit.{submit, with_command}
+use Rattle.book_model.specs.Open.{finish, migrate}
+use Rattle.book_model.specs.DiskSteps.{disk_next, disk_done}
+use Rattle.book_model.specs.RomSteps.{rom_next, rom_done}
+use Rattle.book_model.specs.Reading.{planned}
+use Rattle.disk_laws.specs.Events.{begun_on, ended_on, FailsOn, in_progress}
+use Rattle.up_laws.specs.Steps.{MayBegin, took_after, MayComeBack}
+use Rattle.up_laws.specs.Opening.{IsFound, book_on}
+use Rattle.world_law.specs.World.{World, Event, Submit, Plan, Migrate, Finish, DiskBegin, DiskDone, RomIssue, RomDone, RomResolve, Stop, Open, Told, Nothing, Accepted, Refused, Acknowledged, Planned, Closed, Migrated, Opened}
+
+-- ---- while the station is up
+
+-- the same world with another book
+abbrev pub with_book : World → Book → World
+with_book world book = record world { book = Some book }
+
+abbrev pub with_disk : World → Book → Disk → World
+with_disk world book disk = record world { book = Some book; state = record world.state { disk = disk } }
+
+-- the book after a submit that was answered so, and what is told
+abbrev pub submitted : Book → Command → Result ℕ SubmitRefusal → Book × Told
+submitted book command (Ok number) = (with_command book command, Accepted command number)
+submitted book command (Err refusal) = (book, Refused command refusal)
+
+-- what is told as an action of the disk came back well: that the journal is of version 2 now, or how many commands are acknowledged
+abbrev pub told_of : (before later : Book) → Told
+told_of before later = if is_version_2 later.form && not (is_version_2 before.form) then Migrated else Acknowledged later.durable
+
+-- and as a book may have got a fault
+abbrev pub fault_told : Book → Told
+fault_told later = if is_some later.fault then Closed else Nothing
+
+-- An action of the disk comes back: well, or with a fault of the disk or of the whole site.
+abbrev pub DiskReturns : Result (Unit {0}) DeviceFault → Book → World → Told → World → Type 0
+DiskReturns (Ok done) book world told later =
+    (told ≡ told_of book (disk_done book (Ok tt))) × (later ≡ with_disk world (disk_done book (Ok tt)) (ended_on (in_progress book) world.state.disk))
+DiskReturns (Err fault) book world told later =
+    (disk : Disk) × (fault ≢ device.Lost) × FailsOn (in_progress book) world.state.disk disk × (told ≡ Closed) × (later ≡ with_disk world (disk_done book (Err fault)) disk)
+
+-- Something begins with a slave.
+pub record SlaveBegins (slave : ℕ) (book : Book) (world later : World) : Type 0 where
+  pub half : SlaveHalf
+  pub here : slice_get world.state.halves slave ≡ Some half
+  pub taken : Bool
+  pub after : SlaveHalf
+  pub may : MayBegin (rom_next book slave).0 slave taken half after
+  pub is : later ≡ record { book = Some (rom_next book slave).1; state = with_half world.state slave after; took = took_after (rom_next book slave).0 world.took slave taken }
+
+-- And comes back.
+pub record SlaveReturns (slave : ℕ) (outcome : RomOutcome) (book : Book) (world later : World) : Type 0 where
+  pub half : SlaveHalf
+  pub here : slice_get world.state.halves slave ≡ Some half
+  pub after : SlaveHalf
+  pub may : MayComeBack (slice_index_or world.took slave false) (slave_at book slave).errand outcome half after
+  pub is : later ≡ record { book = Some (rom_done book slave outcome); state = with_half world.state slave after; took = world.took }
+
+-- With this book. While an action of the disk, or of a slave, is handed out already, the book hands out nothing there.
+abbrev pub HappensUp : Event → Book → World → Told → World → Type 0
+HappensUp (Submit command) book world told later = (told ≡ (submitted book command (submit book command)).1) × (later ≡ with_book world (submitted book command (submit book command)).0)
+HappensUp Plan book world told later = (told ≡ Planned (planned book)) × (later ≡ world)
+HappensUp Migrate book world told later = (told ≡ Nothing) × (later ≡ with_book world (migrate book).1)
+HappensUp Finish book world told later = (told ≡ Closed) × (later ≡ with_book world (finish book))
+HappensUp DiskBegin book world told later = (told ≡ Nothing) × (later ≡ with_disk world (disk_next book).1 (begun_on (Some (disk_next book).0) world.state.disk))
+HappensUp (DiskDone result) book world told later = (book.is_handed_out ≡ true) × DiskReturns result book world told later
+HappensUp (RomIssue slave) book world told later = (told ≡ Nothing) × SlaveBegins slave book world later
+HappensUp (RomDone slave outcome) book world told later = (told ≡ fault_told (rom_done book slave outcome)) × SlaveReturns slave outcome book world later
+HappensUp event book world told later = ⊥
+
+-- ---- a session begins
+
+abbrev pub is_out : Errand → Bool
+is_out Free = false
+is_out (Issuing word value) = true
+is_out (Unsettled word value taken) = false
+is_out (Settling word value taken) = true
+
+-- The station is down, or a fault has closed it and nothing is in progress any more.
+abbrev pub CanOpen : Option Book → Type 0
+CanOpen None = Unit {0}
+CanOpen (Some book) = (is_some book.fault ≡ true) × (book.is_handed_out ≡ false) × AllByRecursion (λ (slave : Slave). is_out slave.errand ≡ false) book.slaves
+
+-- the same state with all of the disk synced
+abbrev pub with_synced : State → State
+with_synced state = record state { disk = synced state.disk }
+
+-- A book is opened on the journal that is scanned and the words that are read, while no slave is busy.
+pub record Opens (world : World) (told : Told) (later : World) : Type 0 where
+  pub can : CanOpen world.book
+  pub journal : Journal
+  pub found : IsFound journal (with_synced world.state)
+  pub says : told ≡ Opened (is_version_2 journal.form)
+  pub is : later ≡ record { book = Some (book_on (with_synced world.state) journal); state = with_synced world.state; took = world.took }
+
+-- ---- whatever happens
+
+abbrev pub Happens : Event → World → Told → World → Type 0
+Happens Stop world told later = (told ≡ Nothing) × Stopped world.state later.state × (later ≡ record { book = None; state = later.state; took = world.took })
+Happens (RomResolve slave) world told later = (told ≡ Nothing) × HalfGoes MayRest world.state slave later.state × (later ≡ record world { state = later.state })
+Happens Open world told later = Opens world told later
+Happens event world told later = (book : Book) × (world.book ≡ Some book) × HappensUp event book world told later
+
+-- An event may also change nothing, as where its condition doesn't hold.
+abbrev pub Steps : Event → World → Told → World → Type 0
+Steps event world told later = Happens event world told later ⊎ ((told ≡ Nothing) × (later ≡ world))
