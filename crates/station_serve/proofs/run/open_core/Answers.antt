@@ -16,5 +16,5 @@ begins-with-words words capacity batches none =
 pub returns-clause-base : goal.returns-clause-base
 returns-clause-base c =
     IfOk-weaker c.open.result _ (λ core. base_of core ≡ c.args.slaves.items)
-        (λ core is. ap base_of is ∙ begins-with-words c.args.slaves.items 4194304 c.from_vec.result (c.from_vec.ensures ∙ c.new.ensures.items))
-        c.open.ensures
+    (λ core is. ap base_of is ∙ begins-with-words c.args.slaves.items 4194304 c.from_vec.result (c.from_vec.ensures ∙ c.new.ensures.items))
+    c.open.ensures
