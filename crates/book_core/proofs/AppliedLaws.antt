@@ -9,10 +9,11 @@ use Rattle.sii_edit.specs.declared.command.Command.{Command}
 use Rattle.sii_edit.specs.Fold.{after}
 use Rattle.jrn_format.specs.declared.journal.Entry.{Entry}
 use Rattle.slave_queue.specs.Cells.{Cell, cell_of}
-use Rattle.slave_queue.specs.Pending.{values_of}
+use Rattle.slave_queue.specs.Pending.{values_of, namings_settled}
+use Rattle.slave_queue.proofs.SettledLaws.{settled-all}
 use Rattle.book_model.specs.Entries.{runs_of, namings, values, entries_from}
 use Rattle.book_model.specs.Book.{all_cells, cell_at}
-use Rattle.book_model.specs.Reading.{namings_settled, settled_from, runs_settled, settled_prefix}
+use Rattle.book_model.specs.Reading.{settled_from, runs_settled, settled_prefix}
 use Rattle.book_laws.proofs.CellLaws.{values-append}
 use Rattle.book_laws.proofs.FitLaws.{runs_of-append}
 use Rattle.book_slaves.specs.Line.{Line, first_unsettled, OweNoMore}
@@ -52,17 +53,10 @@ prefix-found cells (f ∷ fs) rest =
 
 -- ---- what is gone is settled
 
-le-true : (n m : ℕ) → n ≤ m → nat_le n m ≡ true
-le-true n m le = grind (arith, nat_tests)
-
-namings-free : (cells : List Cell) (behind ns : List (ℕ × ℕ)) → ((at : ℕ) → length (cell_of cells at).owed ≤ length (values_of at behind)) → namings_settled cells behind ns ≡ true
-namings-free cells behind [] few = refl
-namings-free cells behind (n ∷ ns) few = rw (le-true (length (cell_of cells n.0).owed) (length (values_of n.0 behind)) (few n.0)) (namings-free cells behind ns few)
-
 from-free : (first : ℕ) (cells : List (List Cell)) (behind runs : List Run) → ((k at : ℕ) → length (cell_at cells k at).owed ≤ length (values behind (first + k) at)) → settled_from first cells behind runs ≡ true
 from-free first [] behind runs few = refl
 from-free first (c ∷ cs) behind runs few =
-    let here = namings-free c (namings behind first) (namings runs first) (λ at. subst (λ (n : ℕ). length (cell_of c at).owed ≤ length (values behind n at)) (omega arith) (few 0 at)) in
+    let here = settled-all c (namings behind first) (namings runs first) (λ at. subst (λ (n : ℕ). length (cell_of c at).owed ≤ length (values behind n at)) (omega arith) (few 0 at)) in
     let later = from-free (suc first) cs behind runs (λ k at. subst (λ (n : ℕ). length (cell_at cs k at).owed ≤ length (values behind n at)) (omega arith) (few (suc k) at)) in
     rw (here, later) refl
 

@@ -6,11 +6,12 @@ use Rattle.std.proofs.lemmas.Bool.Decides.{nat_tests}
 use Rattle.sii_runs.specs.declared.run.Run.{Run}
 use Rattle.jrn_format.specs.declared.journal.Entry.{Entry}
 use Rattle.slave_queue.specs.Cells.{Cell, cell_of}
-use Rattle.slave_queue.specs.Pending.{values_of}
+use Rattle.slave_queue.specs.Pending.{values_of, namings_settled}
+use Rattle.slave_queue.proofs.SettledLaws.{word-settled}
 use Rattle.slave_queue.proofs.EndLaws as queue
 use Rattle.book_model.specs.Entries.{runs_of, namings, values}
 use Rattle.book_model.specs.Book.{cell_at}
-use Rattle.book_model.specs.Reading.{namings_settled, settled_from, runs_settled, settled_prefix}
+use Rattle.book_model.specs.Reading.{settled_from, runs_settled, settled_prefix}
 use Rattle.book_laws.specs.Plants.{AllFit, AllSettled}
 use Rattle.book_laws.specs.Fits.{SameCells, OwesNoMore}
 use Rattle.book_laws.proofs.CellLaws.{namings-append, values-append}
@@ -28,17 +29,6 @@ le-of : (n m : ℕ) → nat_le n m ≡ true → n ≤ m
 le-of n m is = grind (arith, nat_tests)
 
 -- ---- what the test says
-
--- each word that is named owes no more than is named behind
-word-settled : (cells : List Cell) (behind ns : List (ℕ × ℕ)) (at : ℕ) → namings_settled cells behind ns ≡ true → (values_of at ns ≡ []) ⊎ (length (cell_of cells at).owed ≤ length (values_of at behind))
-word-settled cells behind [] at is = inl refl
-word-settled cells behind (n ∷ ns) at is = elim (cases_eq n.0 at) [
-  | inl same ↦ inr (subst (λ (k : ℕ). length (cell_of cells k).owed ≤ length (values_of k behind)) same
-      (le-of (length (cell_of cells n.0).owed) (length (values_of n.0 behind)) (and-first (nat_le (length (cell_of cells n.0).owed) (length (values_of n.0 behind))) (namings_settled cells behind ns) is)))
-  | inr other ↦
-      let t : (n.0 == at) ≡ false = grind (arith, nat_tests) in
-      rw t (word-settled cells behind ns at (and-second (nat_le (length (cell_of cells n.0).owed) (length (values_of n.0 behind))) (namings_settled cells behind ns) is))
-]
 
 slave-settled : (first : ℕ) (cells : List (List Cell)) (behind runs : List Run) (k : ℕ) → settled_from first cells behind runs ≡ true → k < length cells
     → namings_settled (get_or cells k []) (namings behind (first + k)) (namings runs (first + k)) ≡ true

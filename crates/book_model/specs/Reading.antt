@@ -1,5 +1,5 @@
 -- What is read of a book: which commands are settled, and how many bytes are live.
-use Rattle.std.specs.Prelude.{ℕ, suc, ◌+◌, ◌-◌, Bool, true, false, ◌&&◌, nat_le, List, [], ◌∷◌, ◌++◌, length, take, if◌then◌else◌}
+use Rattle.std.specs.Prelude.{ℕ, suc, ◌+◌, ◌-◌, Bool, true, false, ◌&&◌, List, [], ◌∷◌, ◌++◌, length, take, if◌then◌else◌}
 use Rattle.sii_runs.specs.declared.run.Run.{Run}
 use Rattle.sii_edit.specs.Fold.{contents_after}
 use Rattle.jrn_format.specs.declared.journal.Entry.{Entry}
@@ -9,16 +9,11 @@ use Rattle.jrn_format.specs.declared.journal.Spelling.{Spelling}
 use Rattle.jrn_format.specs.declared.journal.Spelling.TheVariants.{Plain, WithGeneration}
 use Rattle.jrn_format.specs.Area.{spelt_batches}
 use Rattle.book_model.specs.declared.status.Status.{Status}
-use Rattle.slave_queue.specs.Cells.{Cell, cell_of}
-use Rattle.slave_queue.specs.Pending.{values_of}
+use Rattle.slave_queue.specs.Cells.{Cell}
+use Rattle.slave_queue.specs.Pending.{namings_settled}
 use Rattle.jrn_laws.specs.Halves.{live}
 use Rattle.book_model.specs.Entries.{runs_of, namings}
 use Rattle.book_model.specs.Book.{Book, base_of, own, all_cells}
-
--- each word that is named is owed no more than later namings name it
-abbrev pub namings_settled : List Cell → (behind namings : List (ℕ × ℕ)) → Bool
-namings_settled cells behind [] = true
-namings_settled cells behind (n ∷ ns) = nat_le (length (cell_of cells n.0).owed) (length (values_of n.0 behind)) && namings_settled cells behind ns
 
 -- the slaves from a number on
 abbrev pub settled_from : ℕ → List (List Cell) → (behind runs : List Run) → Bool

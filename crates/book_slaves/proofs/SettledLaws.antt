@@ -3,13 +3,12 @@ use Rattle.std.proofs.Common.{◌≡◌, ℕ, zero, suc, ◌+◌, ◌<◌, Bool,
 use Rattle.std.specs.Prelude.{◌&&◌, nat_le}
 use Rattle.std.proofs.lemmas.List.{take_more, take-append-drop, drop_more, drop_at, take_at}
 use Rattle.slave_queue.specs.Cells.{Cell, cell_of}
-use Rattle.slave_queue.specs.Pending.{Pending, values_of, can_retire}
-use Rattle.slave_queue.specs.Pending as pending
+use Rattle.slave_queue.specs.Pending.{Pending, values_of, namings_settled, can_retire}
 use Rattle.jrn_format.specs.declared.journal.Entry.{Entry}
 use Rattle.sii_runs.specs.declared.run.Run.{Run}
 use Rattle.book_model.specs.Entries.{runs_of, namings}
 use Rattle.book_model.specs.Book.{all_cells}
-use Rattle.book_model.specs.Reading.{namings_settled, settled_from}
+use Rattle.book_model.specs.Reading.{settled_from}
 use Rattle.book_slaves.specs.declared.work.SlaveWork.{SlaveWork}
 use Rattle.book_slaves.specs.Works.{work_at, slave_of, older_settled, all_older_settled, WorkStands}
 use Rattle.book_slaves.proofs.EntryLaws.{namings-append, runs_of-append}
@@ -50,10 +49,6 @@ settled-at (w ∷ ws) (suc i) all lt = settled-at ws i (and-right (older_settled
 
 -- AS THE BOOK SAYS IT
 
-same-settled : (cells : List Cell) (behind ns : List (ℕ × ℕ)) → pending.namings_settled cells behind ns ≡ namings_settled cells behind ns
-same-settled cells behind [] = refl
-same-settled cells behind (n ∷ ns) = ap (λ (b : Bool). nat_le (length (cell_of cells n.0).owed) (length (values_of n.0 behind)) && b) (same-settled cells behind ns)
-
 pub live-is : (older newer : List Entry) (i : ℕ) → namings (runs_of (older ++ newer)) i ≡ namings (runs_of older) i ++ namings (runs_of newer) i
 live-is older newer i = ap (λ (l : List Run). namings l i) (runs_of-append older newer) ∙ namings-append (runs_of older) (runs_of newer) i
 
@@ -67,8 +62,7 @@ older-live work i older newer stands =
 
 work-settled : (work : SlaveWork) (i : ℕ) (older newer : List Entry) → WorkStands work i older newer → older_settled work ≡ namings_settled work.queue.cells (namings (runs_of newer) i) (namings (runs_of older) i)
 work-settled work i older newer stands =
-    same-settled work.queue.cells (drop work.older work.queue.live) (take work.older work.queue.live)
-    ∙ ap (λ (l : List (ℕ × ℕ)). namings_settled work.queue.cells l (take work.older work.queue.live)) (newer-live work i older newer stands)
+    ap (λ (l : List (ℕ × ℕ)). namings_settled work.queue.cells l (take work.older work.queue.live)) (newer-live work i older newer stands)
     ∙ ap (namings_settled work.queue.cells (namings (runs_of newer) i)) (older-live work i older newer stands)
 
 settled-from : (works : List SlaveWork) (i : ℕ) (older newer : List Entry) → ((k : ℕ) → k < length works → WorkStands (work_at works k) (i + k) older newer)

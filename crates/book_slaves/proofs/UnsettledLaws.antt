@@ -5,12 +5,12 @@ use Rattle.std.proofs.lemmas.List.{length-append, get_or_past}
 use Rattle.std.proofs.lemmas.Bool.{cases_eq}
 use Rattle.jrn_format.specs.declared.journal.Entry.{Entry}
 use Rattle.slave_queue.specs.Cells.{Cell, cell_of}
-use Rattle.slave_queue.specs.Pending.{values_of, settled_count}
+use Rattle.slave_queue.specs.Pending.{values_of, settled_count, namings_settled}
 use Rattle.slave_queue.proofs.EndLaws.{le-true, values-append}
-use Rattle.slave_queue.proofs.SettledLaws.{le-of}
+use Rattle.slave_queue.proofs.SettledLaws.{le-of, word-settled}
 use Rattle.book_model.specs.Entries.{runs_of, namings, values}
 use Rattle.book_model.specs.Book.{all_cells, cell_at}
-use Rattle.book_model.specs.Reading.{namings_settled, settled_from, runs_settled}
+use Rattle.book_model.specs.Reading.{settled_from, runs_settled}
 use Rattle.book_slaves.specs.declared.work.SlaveWork.{SlaveWork}
 use Rattle.book_slaves.specs.Line.{NeverFall, first_unsettled, OweNoMore}
 use Rattle.book_slaves.specs.Works.{work_at, slave_of, numbers_named, unsettled_of, smaller, least, WorkStands, LineStands, OweLive}
@@ -35,17 +35,6 @@ count-behind cells (n ∷ ns) rest all =
     let later = count-behind cells ns rest (and-right here (namings_settled cells rest ns) all) in
     rw (le-true owed (length (values_of n.0 (ns ++ rest))) (omega arith)) (omega (arith, later))
 
--- a word that is named there owes no more than is behind
-owes-behind : (cells : List Cell) (rest ns : List (ℕ × ℕ)) (at : ℕ) → namings_settled cells rest ns ≡ true → (values_of at ns ≡ []) ⊎ (length (cell_of cells at).owed ≤ length (values_of at rest))
-owes-behind cells rest [] at all = inl refl
-owes-behind cells rest (n ∷ ns) at all =
-    let here = nat_le (length (cell_of cells n.0).owed) (length (values_of n.0 rest)) in
-    let later = owes-behind cells rest ns at (and-right here (namings_settled cells rest ns) all) in
-    elim (cases_eq n.0 at) [
-      | inl is ↦ inr (subst (λ (k : ℕ). length (cell_of cells k).owed ≤ length (values_of k rest)) is (le-of (length (cell_of cells n.0).owed) (length (values_of n.0 rest)) (and-left here (namings_settled cells rest ns) all)))
-      | inr not ↦ rw (other_test n.0 at not) later
-    ]
-
 count-here : (cells : List Cell) (ns rest : List (ℕ × ℕ)) → namings_settled cells rest ns ≡ false → settled_count cells (ns ++ rest) < length ns
 count-here cells [] rest not = absurd (cc)
 count-here cells (n ∷ ns) rest not = one (bool_cases (nat_le owed (length (values_of n.0 (ns ++ rest))))) (bool_cases (namings_settled cells rest ns)) (λ fails. count-here cells ns rest fails)
@@ -63,7 +52,7 @@ count-here cells (n ∷ ns) rest not = one (bool_cases (nat_le owed (length (val
         let le : owed ≤ length (values_of n.0 (ns ++ rest)) = le-of owed (length (values_of n.0 (ns ++ rest))) holds in
         let more : length (values_of n.0 (ns ++ rest)) ≡ length (values_of n.0 ns) + length (values_of n.0 rest) = ap length (values-append n.0 ns rest) ∙ length-append (values_of n.0 ns) (values_of n.0 rest) in
         let fails : nat_le owed (length (values_of n.0 rest)) ≡ false = both (nat_le owed (length (values_of n.0 rest))) (namings_settled cells rest ns) not all in
-        let few : owed ≤ length (values_of n.0 rest) = elim (owes-behind cells rest ns n.0 all) [
+        let few : owed ≤ length (values_of n.0 rest) = elim (word-settled cells rest ns n.0 all) [
           | inl none ↦ omega (arith, ap length none)
           | inr less ↦ less
         ] in

@@ -14,10 +14,10 @@ use Rattle.site_journal.specs.declared.fault.ReadFault.TheVariants as read
 use Rattle.site_journal.specs.Runs.{Runs, with_synced}
 
 -- what the last device call answered: where the fault is the journal's, all calls went well
-abbrev pub answered : {T : Type 0} → Result T ReadFault → Result (Unit {0}) DeviceFault
-answered (Ok value) = Ok tt
-answered (Err (read.Device fault)) = Err fault
-answered (Err (read.Journal fault)) = Ok tt
+abbrev pub device_answer : {T : Type 0} → Result T ReadFault → Result (Unit {0}) DeviceFault
+device_answer (Ok value) = Ok tt
+device_answer (Err (read.Device fault)) = Err fault
+device_answer (Err (read.Journal fault)) = Ok tt
 
 -- The disk is synced, or its sync failed. Nothing else changes, unless the site stops.
 abbrev pub SyncsFirst : State → Result (Unit {0}) DeviceFault → State → Type 0
@@ -28,8 +28,8 @@ SyncsFirst old (Err faults.Stopped) new = Unit {0}
 
 -- The calls are three at most, and at no moment could a stop leave what it couldn't leave before.
 pub record Syncs {T : Type 0} (old : Seen) (result : Result T ReadFault) (new : Seen) : Type 0 where
-  pub runs : Runs (Leaves old.state) old 3 (answered result) new
-  pub first : SyncsFirst old.state (answered result) new.state
+  pub runs : Runs (Leaves old.state) old 3 (device_answer result) new
+  pub first : SyncsFirst old.state (device_answer result) new.state
 
 -- all bytes of the disk, as `bytes_of` tells them
 abbrev pub Gives : {T : Type 0} → (T → List ℕ) → List ℕ → Result T ReadFault → Type 0

@@ -212,24 +212,26 @@ unsettled-none namings words settled room stands is over =
 
 -- THE TEST OF A RETIRE, NAMING BY NAMING
 
-settled-all : (cells : List Cell) (behind ns : List (ℕ × ℕ)) → ((at : ℕ) → length (cell_of cells at).owed ≤ length (values_of at behind)) → namings_settled cells behind ns ≡ true
+-- where no word owes more than is named behind, all is settled
+pub settled-all : (cells : List Cell) (behind ns : List (ℕ × ℕ)) → ((at : ℕ) → length (cell_of cells at).owed ≤ length (values_of at behind)) → namings_settled cells behind ns ≡ true
 settled-all cells behind [] all = refl
 settled-all cells behind (n ∷ ns) all = rw (le-true (length (cell_of cells n.0).owed) (length (values_of n.0 behind)) (all n.0)) (settled-all cells behind ns all)
 
-and-left : (a b : Bool) → (a && b) ≡ true → a ≡ true
+pub and-left : (a b : Bool) → (a && b) ≡ true → a ≡ true
 and-left true b h = refl
 and-left false b h = h
 
-and-right : (a b : Bool) → (a && b) ≡ true → b ≡ true
+pub and-right : (a b : Bool) → (a && b) ≡ true → b ≡ true
 and-right true b h = h
 and-right false b h = absurd (cc)
 
-settled-one : (cells : List Cell) (behind ns : List (ℕ × ℕ)) (at : ℕ) → namings_settled cells behind ns ≡ true
+-- a word that is named there owes no more than is named behind
+pub word-settled : (cells : List Cell) (behind ns : List (ℕ × ℕ)) (at : ℕ) → namings_settled cells behind ns ≡ true
     → (values_of at ns ≡ []) ⊎ (length (cell_of cells at).owed ≤ length (values_of at behind))
-settled-one cells behind [] at all = inl refl
-settled-one cells behind (n ∷ ns) at all =
+word-settled cells behind [] at all = inl refl
+word-settled cells behind (n ∷ ns) at all =
     let here = nat_le (length (cell_of cells n.0).owed) (length (values_of n.0 behind)) in
-    let rest = settled-one cells behind ns at (and-right here (namings_settled cells behind ns) all) in
+    let rest = word-settled cells behind ns at (and-right here (namings_settled cells behind ns) all) in
     elim (cases_eq n.0 at) [
       | inl is ↦ inr (subst (λ (k : ℕ). length (cell_of cells k).owed ≤ length (values_of k behind)) is (le-of (length (cell_of cells n.0).owed) (length (values_of n.0 behind)) (and-left here (namings_settled cells behind ns) all)))
       | inr not ↦ rw (other_test n.0 at not) rest
@@ -254,7 +256,7 @@ owed-left namings words count room at none = one (sides at (length words))
     one (inl inside) = rw (cell-at live words at inside) (omega (arith, ap length all, values-fewer at (word_at words at).mark live))
 
 pub settled-can : (namings : List Naming) (words : List Word) (count room : ℕ) → can_retire (pending_of namings words room) count ≡ true → CanRetire (pending_of namings words room) count
-settled-can namings words count room all = λ at. one at (settled-one (pending_of namings words room).cells (drop count (live_of namings)) (take count (live_of namings)) at all)
+settled-can namings words count room all = λ at. one at (word-settled (pending_of namings words room).cells (drop count (live_of namings)) (take count (live_of namings)) at all)
   where
     one : (at : ℕ) → (values_of at (take count (live_of namings)) ≡ []) ⊎ (length (cell_of (pending_of namings words room).cells at).owed ≤ length (values_of at (drop count (live_of namings))))
         → length (cell_of (pending_of namings words room).cells at).owed ≤ length (values_of at (drop count (live_of namings)))

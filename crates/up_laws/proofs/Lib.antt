@@ -1,5 +1,4 @@
 pub mod SlaveLaws
-pub mod WearLaws
 pub mod LineLaws
 pub mod GoesLaws
 pub mod RomLaws

@@ -1,6 +1,6 @@
-//! The laws of the whole station while its book is open: what each step of a slave keeps, wear, that a station stays up through
-//! each step of a slave and each action of its disk, and that whatever a stop leaves of disk and slaves is kept. A function here
-//! does nothing: its contract is the law.
+//! The laws of the whole station while its book is open: what each step of a slave keeps, that a station stays up through each
+//! step of a slave and each action of its disk, and that whatever a stop leaves of disk and slaves is kept. A function here does
+//! nothing: its contract is the law.
 #![tactic(auto)]
 
 pub mod asking;
@@ -10,4 +10,3 @@ pub mod opening;
 pub mod rom;
 pub mod slaves;
 pub mod up;
-pub mod wear;
