@@ -1,6 +1,6 @@
 -- What submitting a command answers, once it is judged.
 use Rattle.std.proofs.Common.{◌≡◌, ◌∙◌, ◌⊎◌, inl, inr, ℕ, Bool, true, false, List, [], ◌∷◌, length, Result, Ok, Err, refl, sym, ap, subst}
-use Rattle.std.specs.Prelude.{IfErr, is_some, if◌then◌else◌}
+use Rattle.std.specs.Prelude.{IsErrAnd, is_some, if◌then◌else◌}
 use Rattle.sii_runs.specs.declared.run.Run.{Run}
 use Rattle.sii_runs.specs.Redo.{redone}
 use Rattle.sii_edit.specs.declared.command.Command.{Command}
@@ -33,7 +33,7 @@ judged book command judges = rw (judges.not_closed, judges.version) refl
 
 pub memory-answer : (book : Book) (command : Command) (refusal : SubmitRefusal) (result : Result ℕ SubmitRefusal) → Judges book → OutOfMemory refusal → result ≡ Err refusal → IsSubmitted book command result
 memory-answer book command refusal result judges memory is =
-    out_of_memory (subst (λ (r : Result ℕ SubmitRefusal). IfErr r OutOfMemory) (sym is) memory) judges.not_closed judges.version
+    out_of_memory (subst (λ (r : Result ℕ SubmitRefusal). IsErrAnd r OutOfMemory) (sym is) memory) judges.not_closed judges.version
 
 -- a refusal on the contents
 pub refused-answer : (book : Book) (command : Command) (refusal : Refusal) (result : Result ℕ SubmitRefusal) → Judges book

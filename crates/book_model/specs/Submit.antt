@@ -1,5 +1,5 @@
 -- What submitting a command answers.
-use Rattle.std.specs.Prelude.{◌≡◌, ◌⊎◌, ℕ, ◌+◌, ◌-◌, ◌^◌, Bool, true, false, not, ◌||◌, nat_le, nat_lt, List, [], ◌∷◌, ◌++◌, length, Option, Some, None, is_none, Result, Ok, Err, IfErr, if◌then◌else◌}
+use Rattle.std.specs.Prelude.{◌≡◌, ◌⊎◌, ℕ, ◌+◌, ◌-◌, ◌^◌, Bool, true, false, not, ◌||◌, nat_le, nat_lt, List, [], ◌∷◌, ◌++◌, length, Option, Some, None, is_none, Result, Ok, Err, IsErrAnd, if◌then◌else◌}
 use Rattle.sii_edit.specs.declared.command.Command.{Command}
 use Rattle.sii_edit.specs.declared.refusal.Refusal.{Refusal}
 use Rattle.sii_runs.specs.declared.run.Run.{Run}
@@ -49,7 +49,7 @@ submit book command =
 -- Want of memory comes in place of any answer but the first two.
 pub data IsSubmitted (book : Book) (command : Command) (result : Result ℕ SubmitRefusal) : Type 0 where
   answered : result ≡ submit book command → IsSubmitted book command result
-  out_of_memory : IfErr result OutOfMemory → is_closed book ≡ false → is_version_2 book.form ≡ true → IsSubmitted book command result
+  out_of_memory : IsErrAnd result OutOfMemory → is_closed book ≡ false → is_version_2 book.form ≡ true → IsSubmitted book command result
 
 abbrev pub with_command : Book → Command → Book
 with_command book command = record book { accepted = book.accepted ++ command ∷ [] }
