@@ -1,0 +1,4 @@
+pub mod Counting
+pub mod SlaveLaws
+pub mod LineLaws
+pub mod SizeLaws
