@@ -45,7 +45,7 @@ runs-found : (found rest : List Entry) → runs_of (map as_found found ++ rest) 
 runs-found [] rest = refl
 runs-found (f ∷ fs) rest = ap (λ (l : List Run). f.runs ++ l) (runs-found fs rest)
 
-prefix-found : (cells : List (List Cell)) (found rest : List Entry) → settled_prefix cells (map as_found found ++ rest) ≡ settled_prefix cells (found ++ rest)
+pub prefix-found : (cells : List (List Cell)) (found rest : List Entry) → settled_prefix cells (map as_found found ++ rest) ≡ settled_prefix cells (found ++ rest)
 prefix-found cells [] rest = refl
 prefix-found cells (f ∷ fs) rest =
     ap (λ (l : List Run). if runs_settled cells l f.runs then suc (settled_prefix cells (map as_found fs ++ rest)) else 0) (runs-found fs rest)
@@ -60,7 +60,7 @@ from-free first (c ∷ cs) behind runs few =
     let later = from-free (suc first) cs behind runs (λ k at. subst (λ (n : ℕ). length (cell_at cs k at).owed ≤ length (values behind n at)) (omega arith) (few (suc k) at)) in
     rw (here, later) refl
 
-prefix-gone : (cells : List (List Cell)) (gone live : List Entry) → ((k at : ℕ) → length (cell_at cells k at).owed ≤ length (values (runs_of live) k at))
+pub prefix-gone : (cells : List (List Cell)) (gone live : List Entry) → ((k at : ℕ) → length (cell_at cells k at).owed ≤ length (values (runs_of live) k at))
     → settled_prefix cells (gone ++ live) ≡ length gone + settled_prefix cells live
 prefix-gone cells [] live few = sym (zero-add (settled_prefix cells live))
 prefix-gone cells (g ∷ gone) live few =

@@ -8,6 +8,7 @@ pub mod LiveLaws
 pub mod LedgerLaws
 pub mod DoneLaws
 pub mod AppliedLaws
+pub mod SettledLaws
 pub mod SubmitLaws
 pub mod ShownLaws
 pub mod AcceptLaws

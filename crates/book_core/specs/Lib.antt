@@ -6,3 +6,4 @@ pub mod Submit
 pub mod Plan
 pub mod Handing
 pub mod Found
+pub mod Settled

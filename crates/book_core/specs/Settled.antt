@@ -1,0 +1,8 @@
+-- Whether all is settled.
+use Rattle.std.specs.Prelude.{◌==◌, Bool, length}
+use Rattle.book_model.specs.Book.{Book, all_cells}
+use Rattle.book_model.specs.Reading.{settled_prefix, all_entries}
+
+-- all that was found at the open, and all that has become durable since
+abbrev pub is_settled : Book → Bool
+is_settled book = settled_prefix (all_cells book.slaves) (all_entries book) == length (all_entries book)
