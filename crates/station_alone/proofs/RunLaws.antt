@@ -1,0 +1,70 @@
+-- Steps in a row.
+use Rattle.std.proofs.Common.{◌≡◌, ℕ, ◌+◌, ◌≤◌, List, [], ◌∷◌, ◌++◌, length, take, refl, sym, ◌∙◌, ap, subst, arith, append_assoc}
+use Rattle.std.proofs.lemmas.List.{append-nil, take_all}
+use Rattle.sii_edit.specs.declared.command.Command.{Command}
+use Rattle.station_alone.specs.declared.choice.Choice.{Choice}
+use Rattle.station_alone.specs.declared.choice.Answer.{Answer}
+use Rattle.station_alone.specs.Station.{Station}
+use Rattle.station_alone.specs.Steps.{Steps, StepsInOrder, most_calls, most_calls_of}
+use Rattle.station_alone.specs.Keeping.{GoesOn, Keeps, accepted_by, accepted_in}
+use Rattle.station_alone.proofs.KeepLaws.{keeps-then, keeps-while-still}
+
+-- one step more
+pub steps-push : (choices : List Choice) (answers : List Answer) (choice : Choice) (answer : Answer) (a b c : Station) → StepsInOrder choices a answers b → Steps choice b answer c
+    → StepsInOrder (choices ++ choice ∷ []) a (answers ++ answer ∷ []) c
+steps-push [] [] choice answer a b c first last = (c, subst (λ (s : Station). Steps choice s answer c) first last, refl)
+steps-push [] (other ∷ answers) choice answer a b c first last = absurd first
+steps-push (other ∷ choices) [] choice answer a b c first last = absurd first
+steps-push (other ∷ choices) (told ∷ answers) choice answer a b c first last = (first.0, first.1, steps-push choices answers choice answer first.0 b c first.2 last)
+
+accepted-push : (choices : List Choice) (answers : List Answer) (choice : Choice) (answer : Answer) (a b : Station) → StepsInOrder choices a answers b
+    → accepted_in (choices ++ choice ∷ []) (answers ++ answer ∷ []) ≡ accepted_in choices answers ++ accepted_by choice answer
+accepted-push [] [] choice answer a b steps = append-nil (accepted_by choice answer)
+accepted-push [] (other ∷ answers) choice answer a b steps = absurd steps
+accepted-push (other ∷ choices) [] choice answer a b steps = absurd steps
+accepted-push (other ∷ choices) (told ∷ answers) choice answer a b steps =
+    ap (λ (l : List Command). accepted_by other told ++ l) (accepted-push choices answers choice answer steps.0 b steps.2)
+    ∙ sym (append_assoc (accepted_by other told) (accepted_in choices answers) (accepted_by choice answer))
+
+calls-push : (choices : List Choice) (choice : Choice) → most_calls_of (choices ++ choice ∷ []) ≡ most_calls_of choices + most_calls choice
+calls-push [] choice = omega arith
+calls-push (other ∷ choices) choice = let e = calls-push choices choice in omega (arith, e)
+
+goes-then : (first second : List Command) (m n : ℕ) (a b c : Station) → GoesOn first m a b → GoesOn second n b c → GoesOn (first ++ second) (m + n) a c
+goes-then first second m n a b c one two = record {
+  line = two.line ∙ one.line;
+  words = two.words ∙ one.words;
+  found = two.found ∙ one.found;
+  accepted = two.accepted ∙ ap (λ (l : List Command). l ++ second) one.accepted ∙ append_assoc a.book.accepted first second;
+  durable = let x = one.durable in let y = two.durable in omega (arith, x, y);
+  within = let x = one.within in let y = two.within in omega (arith, x, y);
+}
+
+-- what a run of steps leaves
+pub record Ran (choices : List Choice) (answers : List Answer) (old new : Station) : Type 0 where
+  pub steps : StepsInOrder choices old answers new
+  pub goes_on : GoesOn (accepted_in choices answers) (most_calls_of choices) old new
+  pub keeps : Keeps (accepted_in choices answers) old new
+
+pub ran-push : (choices : List Choice) (answers : List Answer) (choice : Choice) (answer : Answer) (a b c : Station) → Ran choices answers a b → Steps choice b answer c
+    → GoesOn (accepted_by choice answer) (most_calls choice) b c → Keeps (accepted_by choice answer) b c → Ran (choices ++ choice ∷ []) (answers ++ answer ∷ []) a c
+ran-push choices answers choice answer a b c ran step goes keeps =
+    let accepted = accepted-push choices answers choice answer a b ran.steps in
+    record {
+      steps = steps-push choices answers choice answer a b c ran.steps step;
+      goes_on = subst (λ (n : ℕ). GoesOn (accepted_in (choices ++ choice ∷ []) (answers ++ answer ∷ [])) n a c) (sym (calls-push choices choice))
+          (subst (λ (l : List Command). GoesOn l (most_calls_of choices + most_calls choice) a c) (sym accepted)
+          (goes-then (accepted_in choices answers) (accepted_by choice answer) (most_calls_of choices) (most_calls choice) a b c ran.goes_on goes));
+      keeps = subst (λ (l : List Command). Keeps l a c) (sym accepted) (keeps-then (accepted_in choices answers) (accepted_by choice answer) (most_calls_of choices) a b c ran.goes_on ran.keeps keeps);
+    }
+
+pub ran-none : (s : Station) → Ran [] [] s s
+ran-none s = record {
+  steps = refl;
+  goes_on = record { line = refl; words = refl; found = refl; accepted = sym (append-nil s.book.accepted); durable = omega arith; within = omega arith };
+  keeps = keeps-while-still s s refl refl;
+}
+
+-- all of them were made
+pub ran-whole : (choices : List Choice) (count : ℕ) (answers : List Answer) (old new : Station) → length choices ≤ count → Ran (take count choices) answers old new → Ran choices answers old new
+ran-whole choices count answers old new all ran = subst (λ (l : List Choice). Ran l answers old new) (take_all count choices all) ran

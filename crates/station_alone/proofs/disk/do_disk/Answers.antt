@@ -1,0 +1,14 @@
+use Rattle.std.proofs.Common.{◌≡◌, ◌∙◌, sym, None}
+use Rattle.station_alone.specs.Steps.{told_at_once}
+use Rattle.station_alone.proofs.DiskLaws.{is-none, steps-done}
+use Rattle.station_alone.proofs.disk.do_disk.Goals as goal
+
+pub returns-clause-steps : goal.returns-clause-steps
+returns-clause-steps g c =
+    let line = g.S.Site.line c.args.site.now in
+    let seen = g.S.Site.seen c.args.site.now in
+    let later = g.S.Site.line c.do_action-result.new.site in
+    let now = g.S.Site.seen c.do_action-result.new.site in
+    let none : told_at_once c.in-Ok.action ≡ None = sym c.told_at_once.ensures ∙ is-none c.told_at_once.result c.in_default.not-Some in
+    steps-done c.args.core.now line seen c.disk_next.new.self c.in-Ok.ensures.book c.requires later now c.do_action-result.result c.disk_done.new.self c.disk_done.ensures c.in-Ok.action c.outcome.result c.in-Ok.ensures.answer
+    none c.do_action-result.ensures.does c.outcome.ensures

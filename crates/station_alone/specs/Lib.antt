@@ -1,0 +1,4 @@
+pub mod Station
+pub mod Steps
+pub mod Keeping
+pub mod Opening

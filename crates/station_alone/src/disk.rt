@@ -1,0 +1,48 @@
+ghost use Rattle.std.specs.Prelude.{◌≡◌};
+ghost use Rattle.station_alone.specs.Station.{station, Stands};
+ghost use Rattle.station_alone.specs.Steps.{StepsDisk, done_with, told_at_once};
+
+use crate::choice::Answer;
+use book_core::Core;
+use book_model::{CoreFault, DiskNext};
+use site_core::Site;
+use site_journal::do_action;
+
+/// What is told where nothing is to be done with the disk.
+fn told_at_once(action: &DiskNext) -> Option<Answer>
+    ensures { result ≡ told_at_once action.now }
+{
+    match action {
+        DiskNext::Idle => Some(Answer::Idle),
+        DiskNext::Stop => Some(Answer::Ended),
+        DiskNext::Write { .. } | DiskNext::Gate { .. } | DiskNext::Sync => None,
+    }
+}
+
+/// Carries out the next action of the disk: it is handed out, done, and told to the book.
+pub(crate) fn do_disk<S: Site>(core: &mut Core, site: &mut S) -> Answer
+    requires { Stands (station core.old (S.line site.old) (S.seen site.old)) }
+    ensures steps { StepsDisk (station core.old (S.line site.old) (S.seen site.old)) result (station core.new (S.line site.new) (S.seen site.new)) }
+    ensures line { S.line site.new ≡ S.line site.old }
+{
+    let action = match core.disk_next() {
+        Ok(action) => action,
+        Err(CoreFault::Memory) => return Answer::NoMemory,
+    };
+    if let Some(told) = told_at_once(&action) {
+        return told;
+    }
+    let result = do_action(site, &action);
+    core.disk_done(result);
+    outcome(core)
+}
+
+/// What came of an action that was carried out: the fault that it met, if any.
+pub(crate) fn outcome(core: &Core) -> Answer
+    ensures { result ≡ done_with core.now.fault }
+{
+    match core.fault() {
+        Some(fault) => Answer::Failed(fault),
+        None => Answer::Did,
+    }
+}

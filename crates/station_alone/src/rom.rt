@@ -1,0 +1,56 @@
+ghost use Rattle.std.specs.Prelude.{◌≡◌};
+ghost use Rattle.book_model.specs.RomSteps.{rom_next};
+ghost use Rattle.runner_laws.specs.Ready.{issue_outcome, settle_outcome};
+ghost use Rattle.station_alone.specs.Station.{station, Stands};
+ghost use Rattle.station_alone.specs.Steps.{Serves};
+
+use crate::choice::Answer;
+use crate::disk::outcome;
+use book_core::Core;
+use book_model::{RomNext, RomOutcome};
+use esc_rom::{issue, settle};
+use site_core::{DeviceFault, Issued, Settled, Site};
+
+/// What the book is told of an issue.
+fn issue_outcome(came: Result<Issued, DeviceFault>) -> RomOutcome
+    ensures { result ≡ issue_outcome came }
+{
+    match came {
+        Ok(issued) => RomOutcome::Issued(issued),
+        Err(_) => RomOutcome::Stopped,
+    }
+}
+
+/// What the book is told of a settle.
+fn settle_outcome(came: Result<Settled, DeviceFault>) -> RomOutcome
+    ensures { result ≡ settle_outcome came }
+{
+    match came {
+        Ok(settled) => RomOutcome::Settled(settled),
+        Err(_) => RomOutcome::Stopped,
+    }
+}
+
+/// Carries out what is to be done next with a slave: it is handed out, done, and told to the book. What was handed out comes with the
+/// answer.
+pub(crate) fn do_rom<S: Site>(core: &mut Core, site: &mut S, slave: u16) -> (RomNext, Answer)
+    requires { Stands (station core.old (S.line site.old) (S.seen site.old)) }
+    ensures next { result.0 ≡ (rom_next core.old slave).0 }
+    ensures serves { Serves (rom_next core.old slave).0 slave (station core.old (S.line site.old) (S.seen site.old)) result.1 (station core.new (S.line site.new) (S.seen site.new)) }
+    ensures line { S.line site.new ≡ S.line site.old }
+{
+    let next = core.rom_next(slave);
+    match next {
+        RomNext::Issue { word, value } => {
+            let issued = issue(site, slave, word, value);
+            core.rom_done(slave, issue_outcome(issued));
+        }
+        RomNext::Settle { taken } => {
+            let settled = settle(site, slave, taken);
+            core.rom_done(slave, settle_outcome(settled));
+        }
+        RomNext::Idle => return (next, Answer::Idle),
+        RomNext::Stop => return (next, Answer::Ended),
+    }
+    (next, outcome(core))
+}
