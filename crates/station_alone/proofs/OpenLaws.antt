@@ -115,7 +115,7 @@ pub reads-found : (its later : Line) (sizes : List ℕ) (old mid new : Seen) (ca
     → ReadsLine {T = Vec Words Global} (λ plant. plant.items) later.sizes mid (Ok words) new → ReadsFound its old (record { capacity = capacity; journal = journal; words = words }) new
 reads-found its later sizes old mid new capacity journal words are later_is reads slaves =
     let line : ReadsLine {T = Vec Words Global} (λ plant. plant.items) its.sizes mid (Ok words) new =
-        subst (λ (l : Line). ReadsLine {T = Vec Words Global} (λ plant. plant.items) l.sizes mid (Ok words) new) later_is slaves in
+    subst (λ (l : Line). ReadsLine {T = Vec Words Global} (λ plant. plant.items) l.sizes mid (Ok words) new) later_is slaves in
     let bytes = bytes-are sizes its old mid new capacity journal words.items are reads line.read in
     let many : length words.items ≡ length sizes = sym (length-map words.items _) ∙ ap (λ (l : List ℕ). length l) (sizes-are sizes its old mid new capacity journal words.items are reads line.read) in
     let some = are.some in

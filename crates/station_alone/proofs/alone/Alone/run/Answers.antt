@@ -27,7 +27,7 @@ loop-choice-preserved g c =
     let choices = c.args.choices.now in
     let ran = c.loop-choice.invariant.ran in
     let more : take (i + 1) choices ≡ take i choices ++ c.choice-item.result ∷ [] =
-        take_more choices i c.choice-item.result c.loop-choice-test.true ∙ ap (λ (x : Choice). take i choices ++ x ∷ []) (sym c.choice-item.is) in
+    take_more choices i c.choice-item.result c.loop-choice-test.true ∙ ap (λ (x : Choice). take i choices ++ x ∷ []) (sym c.choice-item.is) in
     record {
       ran = subst (λ (l : List Choice). Ran l c.push_reserved.new.self.items c.args.self.now c.act.new.self) (sym more)
           (subst (λ (l : List Answer). Ran (take i choices ++ c.choice-item.result ∷ []) l c.args.self.now c.act.new.self) (sym c.push_reserved.ensures.items)
