@@ -1,0 +1,86 @@
+//! What a book asks of the disk.
+
+use book_core::Core;
+use book_model::DiskNext;
+use site_core::DeviceFault;
+use std::test::Fail;
+
+/// A step of the disk.
+#[derive(Clone, Copy, PartialEq)]
+pub(crate) enum Step {
+    /// Where, how many bytes, and the first of them.
+    Write(usize, usize, u8),
+    /// The gate there.
+    Open(usize),
+    Close(usize),
+    Sync,
+    Idle,
+    Stop,
+}
+
+/// Steps of the disk, and what is to come of them.
+#[derive(Clone, Copy)]
+pub(crate) enum Disk {
+    /// A batch is appended behind the gate there: so many bytes behind the gate, and the generation.
+    Append(u16, usize, u8),
+    /// The half with the first gate there is retired.
+    Retire(u16),
+    /// A step that is done.
+    Did(Step),
+    /// A step that isn't done yet.
+    Waits(Step),
+    Done(Result<(), DeviceFault>),
+}
+
+fn step_of(next: &DiskNext) -> Step {
+    match next {
+        DiskNext::Write { at, bytes } => {
+            let bytes = bytes.as_slice();
+            Step::Write(*at, bytes.len(), *bytes.first().unwrap_or(&0xFF))
+        }
+        DiskNext::Gate { at, closed: true } => Step::Close(*at),
+        DiskNext::Gate { at, closed: false } => Step::Open(*at),
+        DiskNext::Sync => Step::Sync,
+        DiskNext::Idle => Step::Idle,
+        DiskNext::Stop => Step::Stop,
+    }
+}
+
+fn is_next(core: &mut Core, wanted: Step) -> Result<bool, Fail> {
+    let next = core.disk_next()?;
+    Ok(step_of(&next) == wanted)
+}
+
+/// Whether these steps come, each of which is done.
+fn are_done(core: &mut Core, wanted: &[Step]) -> Result<bool, Fail> {
+    for step in wanted {
+        if !is_next(core, *step)? {
+            return Ok(false);
+        }
+        core.disk_done(Ok(()));
+    }
+    Ok(true)
+}
+
+fn is_appended(core: &mut Core, gate: usize, count: usize, first: u8) -> Result<bool, Fail> {
+    let write = Step::Write(gate.saturating_add(1), count, first);
+    are_done(core, &[write, Step::Sync, Step::Open(gate), Step::Sync])
+}
+
+fn is_retired(core: &mut Core, gate: usize) -> Result<bool, Fail> {
+    are_done(core, &[Step::Close(gate), Step::Sync])
+}
+
+/// Whether the disk's steps come so.
+pub(crate) fn disk_comes(core: &mut Core, disk: &Disk) -> Result<bool, Fail> {
+    match *disk {
+        Disk::Append(gate, count, first) => is_appended(core, usize::from(gate), count, first),
+        Disk::Retire(gate) => is_retired(core, usize::from(gate)),
+        Disk::Did(step) => are_done(core, &[step]),
+        Disk::Waits(step) => is_next(core, step),
+        Disk::Done(outcome) => {
+            core.disk_done(outcome);
+            Ok(true)
+        }
+    }
+}

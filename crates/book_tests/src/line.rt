@@ -1,0 +1,84 @@
+//! Books over lines of slaves, on journals as their bytes are.
+
+ghost use Rattle.std.specs.Prelude.{◌≡◌, IfOk};
+ghost use Rattle.book_model.specs.Entries.{sizes_of};
+
+use book_core::Core;
+use jrn_format::{capacity, scan};
+use sii_words::Words;
+use std::alloc::{AllocError, Global};
+use std::process::Abort;
+use std::test::Fail;
+
+/// A slave of so many bytes, all 0 but for the check byte 0x30 and for these from these places on.
+pub(crate) type Slave = (usize, &'static [(usize, &'static [u8])]);
+
+/// The slaves of a line, and its journal: the header, how many bytes a half has, and those in front of each half.
+#[derive(Clone, Copy)]
+pub(crate) struct Line {
+    pub slaves: &'static [Slave],
+    pub header: [u8; 8],
+    pub half: u16,
+    pub first: &'static [u8],
+    pub second: &'static [u8],
+}
+
+fn patch(bytes: &mut [u8], from: usize, new: &[u8]) {
+    for (byte, value) in bytes.iter_mut().skip(from).zip(new) {
+        *byte = *value;
+    }
+}
+
+fn slave(alloc: Global, slave: &Slave) -> Result<Words, Fail> {
+    let (count, patches) = slave;
+    let mut bytes = vec![in alloc; 0u8; *count]?;
+    patch(&mut bytes, 14, &[0x30]);
+    for (from, new) in *patches {
+        patch(&mut bytes, *from, new);
+    }
+    Ok(Words::from_bytes(alloc, &bytes)?)
+}
+
+fn slaves(alloc: Global, line: &Line) -> Result<Vec<Words>, Fail> {
+    let mut slaves = Vec::new(alloc);
+    for one in line.slaves {
+        slaves.push(slave(alloc, one)?)?;
+    }
+    Ok(slaves)
+}
+
+/// The journal's file. One byte stands behind the halves.
+fn file(alloc: Global, line: &Line) -> Result<Vec<u8>, AllocError> {
+    let half = usize::from(line.half);
+    let mut file = Vec::from_slice(alloc, &line.header)?;
+    file.extend_from_slice(line.first)?;
+    file.resize(8 + half, 0)?;
+    file.extend_from_slice(line.second)?;
+    file.resize(9 + 2 * half, 0)?;
+    Ok(file)
+}
+
+/// How many words each slave has.
+fn sizes(alloc: Global, slaves: &[Words]) -> Result<Vec<u16>, AllocError>
+    ensures { IfOk result (λ sizes. sizes.items ≡ sizes_of slaves.now) }
+{
+    let mut sizes = Vec::new(alloc);
+    for words in slaves {
+        sizes.push(words.len() as u16)?;
+    }
+    Ok(sizes)
+}
+
+/// A book on a journal of these bytes.
+fn open(rt: &impl Abort, alloc: Global, slaves: Vec<Words>, file: &[u8]) -> Result<Core, Fail> {
+    assert!(rt; slaves.len() >= 1 && slaves.len() <= 64 && file.len() >= 8);
+    let sizes = sizes(alloc, &slaves)?;
+    let journal = scan(alloc, file, &sizes)?;
+    Ok(Core::open(alloc, slaves, capacity(file), journal)?)
+}
+
+/// The book of such a line.
+pub(crate) fn book(rt: &impl Abort, alloc: Global, line: &Line) -> Result<Core, Fail> {
+    let file = file(alloc, line)?;
+    open(rt, alloc, slaves(alloc, line)?, &file)
+}

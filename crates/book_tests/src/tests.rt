@@ -1,0 +1,491 @@
+//! Books from their opening on: what they answer, call by call.
+
+use crate::asks::Ask::{Alias, Group, Image, Inputs, Swap};
+use crate::disk::Disk::{Append, Did, Done, Retire, Waits};
+use crate::disk::Step::{Close, Idle, Open, Stop, Sync, Write};
+use crate::events::Call::{Fault, Finish, Migrate, Plan, Status};
+use crate::events::Event::{Call, Disk, Fill, Rom, Submit};
+use crate::events::{Event, told};
+use crate::line::{Line, Slave, book};
+use crate::rom::Rom::{Next, Outcome, Serves, Writes};
+use book_model::{Fault as Faults, RomNext, RomOutcome, SubmitRefusal};
+use sii_edit::{Cause, Refusal};
+use site_core::{DeviceFault, Issued, Settled};
+use std::alloc::Global;
+use std::process::Abort;
+use std::test::Fail;
+
+/// A line, and what comes of its book.
+type Case = (Line, &'static [Event]);
+
+/// Whether all comes as each case tells it.
+fn all_come(rt: &impl Abort, alloc: Global, cases: &[Case]) -> Result<(), Fail> {
+    for (line, events) in cases {
+        let mut core = book(rt, alloc, line)?;
+        let count = told(alloc, &mut core, events)?;
+        assert_eq!(rt; count, events.len());
+    }
+    Ok(())
+}
+
+/// A slave of 64 words without alias, one of alias 1, and one of 4,096 words whose categories end at word 64.
+const ZERO: Slave = (128, &[]);
+
+const ONE: Slave = (128, &[(8, &[1]), (14, &[0x19])]);
+
+const LONG: Slave = (8192, &[(128, &[0xFF, 0xFF])]);
+
+/// A command without runs, as a batch of generation 0 and of generation 255.
+const OF_0: [u8; 18] = [0xa5, 0, 0x0c, 0, 0, 0, 1, 0, 0, 0, 0, 0, 0, 0, 0, 0, 0, 0];
+
+const OF_255: [u8; 18] = [
+    0xa5, 0xff, 0x0c, 0, 0, 0, 1, 0, 0, 0, 0, 0, 0, 0, 0, 0, 0, 0,
+];
+
+/// An empty journal of one slave, with an area of 4,096 bytes.
+const ALONE: Line = Line {
+    slaves: &[ZERO],
+    header: [0xa5, 2, 1, 0, 0, 0x10, 0, 0],
+    half: 2048,
+    first: &[],
+    second: &[],
+};
+
+const LONG_ALONE: Line = Line {
+    slaves: &[LONG],
+    ..ALONE
+};
+
+const SAME_SLAVE: SubmitRefusal = SubmitRefusal::Command(Refusal {
+    cause: Cause::SameSlave,
+    position: None,
+});
+
+const NO_SLAVE: SubmitRefusal = SubmitRefusal::Command(Refusal {
+    cause: Cause::NoSlave,
+    position: None,
+});
+
+/// What comes of a word.
+const TAKEN: RomOutcome = RomOutcome::Issued(Issued::Taken);
+
+const AGAIN: RomOutcome = RomOutcome::Settled(Settled::Again);
+
+const WRITTEN: RomOutcome = RomOutcome::Settled(Settled::Written);
+
+const ISSUE: RomNext = RomNext::Issue { word: 4, value: 1 };
+
+const SETTLE: RomNext = RomNext::Settle { taken: true };
+
+/// Two aliases change places.
+const SWAPPED: [Event; 18] = [
+    Submit(Swap(0, 1), Ok(0)),
+    Call(Status(1, 0, 0, 0)),
+    Rom(0, Next(RomNext::Idle)),
+    Disk(Append(8, 50, 0)),
+    Call(Status(1, 1, 0, 50)),
+    Disk(Waits(Idle)),
+    Rom(0, Writes(4, 0)),
+    Rom(0, Writes(7, 0x30)),
+    Rom(1, Writes(4, 1)),
+    Call(Status(1, 1, 0, 50)),
+    Rom(1, Writes(7, 0x19)),
+    Call(Status(1, 1, 1, 50)),
+    Disk(Retire(8)),
+    Call(Status(1, 1, 1, 0)),
+    Call(Finish),
+    Disk(Waits(Stop)),
+    Rom(0, Next(RomNext::Stop)),
+    Submit(Alias(0, 7), Err(SubmitRefusal::Closed)),
+];
+
+/// Outcomes that nothing waits for, or that are of another kind.
+const OUT_OF_ORDER: [Event; 24] = [
+    Disk(Done(Err(DeviceFault::Disk))),
+    Rom(0, Outcome(RomOutcome::Stopped)),
+    Submit(Alias(0, 1), Ok(0)),
+    Disk(Waits(Write(9, 34, 0))),
+    Disk(Waits(Idle)),
+    Disk(Done(Err(DeviceFault::Lost))),
+    Disk(Waits(Idle)),
+    Disk(Done(Ok(()))),
+    Disk(Done(Ok(()))),
+    Disk(Did(Sync)),
+    Disk(Did(Open(8))),
+    Disk(Did(Sync)),
+    Rom(0, Next(ISSUE)),
+    Rom(0, Outcome(WRITTEN)),
+    Rom(0, Next(RomNext::Idle)),
+    Rom(0, Outcome(TAKEN)),
+    Rom(0, Next(SETTLE)),
+    Rom(0, Outcome(TAKEN)),
+    Rom(0, Next(RomNext::Idle)),
+    Rom(0, Outcome(WRITTEN)),
+    Rom(0, Outcome(WRITTEN)),
+    Rom(1, Outcome(RomOutcome::Stopped)),
+    Rom(0, Writes(7, 0x19)),
+    Call(Fault(None)),
+];
+
+/// The first word fails once.
+const AGAIN_ONCE: [Event; 8] = [
+    Submit(Alias(0, 1), Ok(0)),
+    Disk(Append(8, 34, 0)),
+    Rom(0, Next(ISSUE)),
+    Rom(0, Outcome(TAKEN)),
+    Rom(0, Next(SETTLE)),
+    Rom(0, Outcome(AGAIN)),
+    Rom(0, Serves(2, 1)),
+    Call(Status(1, 1, 1, 34)),
+];
+
+/// The first word fails three times.
+const GIVEN_UP: [Event; 20] = [
+    Submit(Alias(0, 1), Ok(0)),
+    Disk(Append(8, 34, 0)),
+    Rom(0, Next(ISSUE)),
+    Rom(0, Outcome(TAKEN)),
+    Rom(0, Next(SETTLE)),
+    Rom(0, Outcome(AGAIN)),
+    Rom(0, Next(ISSUE)),
+    Rom(0, Outcome(TAKEN)),
+    Rom(0, Next(SETTLE)),
+    Rom(0, Outcome(AGAIN)),
+    Rom(0, Next(ISSUE)),
+    Rom(0, Outcome(TAKEN)),
+    Rom(0, Next(SETTLE)),
+    Call(Fault(None)),
+    Rom(0, Outcome(AGAIN)),
+    Call(Fault(Some(Faults::SlaveDead { slave: 0 }))),
+    Rom(0, Next(RomNext::Stop)),
+    Disk(Waits(Stop)),
+    Submit(Alias(0, 2), Err(SubmitRefusal::Closed)),
+    Call(Migrate(false)),
+];
+
+/// Two are refused, and one has no runs.
+const WITHOUT_RUNS: [Event; 8] = [
+    Submit(Swap(2, 2), Err(SAME_SLAVE)),
+    Submit(Swap(3, 3), Err(NO_SLAVE)),
+    Submit(Alias(0, 0), Ok(0)),
+    Disk(Append(8, 18, 0)),
+    Call(Status(1, 1, 1, 18)),
+    Rom(0, Next(RomNext::Idle)),
+    Disk(Retire(8)),
+    Call(Status(1, 1, 1, 0)),
+];
+
+/// Three commands in one batch name each word of two slaves twice. The first is settled before any word is written: the second
+/// takes its alias away again.
+const ONCE: [Event; 9] = [
+    Submit(Alias(0, 1), Ok(0)),
+    Submit(Swap(0, 1), Ok(1)),
+    Submit(Group(&[(2, 7), (0, 9)]), Ok(2)),
+    Disk(Append(8, 118, 0)),
+    Call(Status(3, 3, 1, 118)),
+    Rom(0, Serves(2, 9)),
+    Rom(1, Serves(2, 1)),
+    Rom(2, Serves(2, 7)),
+    Call(Status(3, 3, 3, 118)),
+];
+
+/// Lines with an empty journal, and what comes of their books.
+const SERVED: [Case; 6] = [
+    (
+        Line {
+            slaves: &[ONE, ZERO],
+            header: [0xa5, 2, 2, 0, 0, 0x10, 0, 0],
+            ..ALONE
+        },
+        &SWAPPED,
+    ),
+    (ALONE, &OUT_OF_ORDER),
+    (ALONE, &AGAIN_ONCE),
+    (ALONE, &GIVEN_UP),
+    (
+        Line {
+            slaves: &[ZERO, ZERO, ZERO],
+            header: [0xa5, 2, 3, 0, 0, 0x10, 0, 0],
+            ..ALONE
+        },
+        &WITHOUT_RUNS,
+    ),
+    (
+        Line {
+            slaves: &[ZERO, ZERO, ZERO],
+            header: [0xa5, 2, 3, 0, 0, 0x10, 0, 0],
+            ..ALONE
+        },
+        &ONCE,
+    ),
+];
+
+#[test]
+fn commands_are_served(rt: HostRuntime) -> Result<(), Fail> {
+    all_come(&rt, rt.alloc(), &SERVED)
+}
+
+/// The last byte of a half of 2,048 bytes stays free: a batch has an even number of bytes, and a closed gate behind it.
+const FILLED: [Event; 15] = [
+    Submit(Image((0, 0x30), 1012, 0x1111), Err(SubmitRefusal::TooLarge)),
+    Submit(Image((0, 0x30), 1011, 0x1111), Ok(0)),
+    Disk(Append(8, 2046, 0)),
+    Call(Status(1, 1, 0, 2046)),
+    Submit(Image((0, 0x30), 1011, 0x2222), Ok(1)),
+    Disk(Append(2056, 2046, 1)),
+    Call(Status(2, 2, 0, 4092)),
+    Submit(Alias(0, 2), Err(SubmitRefusal::Full)),
+    Rom(0, Serves(1011, 0)),
+    Disk(Did(Close(8))),
+    Submit(Alias(0, 2), Err(SubmitRefusal::Full)),
+    Disk(Did(Sync)),
+    Submit(Alias(0, 2), Ok(2)),
+    Disk(Append(8, 34, 2)),
+    Rom(0, Serves(2, 2)),
+];
+
+/// A half of 2,049 bytes is filled to its last one.
+const FILLED_WHOLLY: [Event; 6] = [
+    Submit(Image((0, 0x30), 1013, 0x1111), Err(SubmitRefusal::TooLarge)),
+    Submit(Image((0, 0x30), 1012, 0x1111), Ok(0)),
+    Disk(Append(8, 2048, 0)),
+    Submit(Image((0, 0x30), 1012, 0x2222), Ok(1)),
+    Disk(Append(2057, 2048, 1)),
+    Submit(Alias(0, 0), Err(SubmitRefusal::Full)),
+];
+
+/// An image that gives the slave alias 1, and then alias 2 in the other half: alias 1 is never written.
+const OVERWRITTEN: [Event; 9] = [
+    Submit(Image((1, 0x19), 1000, 0x1111), Ok(0)),
+    Disk(Append(8, 2040, 0)),
+    Submit(Alias(0, 2), Ok(1)),
+    Disk(Append(2056, 34, 1)),
+    Rom(0, Serves(1002, 2)),
+    Call(Status(2, 2, 2, 2074)),
+    Disk(Retire(8)),
+    Call(Status(2, 2, 2, 34)),
+    Disk(Retire(2056)),
+];
+
+/// Generation 0 behind generation 255: found in the second half, found in the first, and come to.
+const NEWER_SECOND: [Event; 6] = [
+    Call(Status(0, 0, 0, 36)),
+    Submit(Alias(0, 1), Ok(0)),
+    Disk(Append(2074, 34, 0)),
+    Disk(Retire(8)),
+    Call(Status(1, 1, 0, 52)),
+    Disk(Waits(Idle)),
+];
+
+const NEWER_FIRST: [Event; 4] = [
+    Submit(Alias(0, 1), Ok(0)),
+    Disk(Append(26, 34, 0)),
+    Disk(Retire(2056)),
+    Disk(Waits(Idle)),
+];
+
+const COME_TO: [Event; 4] = [
+    Submit(Image((0, 0x30), 1011, 0x1111), Ok(0)),
+    Disk(Append(2056, 2046, 0)),
+    Disk(Retire(8)),
+    Disk(Waits(Idle)),
+];
+
+/// Journals with something live in them or a large area to fill, and what comes of their books.
+const HALVES: [Case; 6] = [
+    (LONG_ALONE, &FILLED),
+    (
+        Line {
+            slaves: &[LONG],
+            header: [0xa5, 2, 1, 0, 3, 0x10, 0, 0],
+            half: 2049,
+            ..ALONE
+        },
+        &FILLED_WHOLLY,
+    ),
+    (LONG_ALONE, &OVERWRITTEN),
+    (
+        Line {
+            first: &OF_255,
+            second: &OF_0,
+            ..ALONE
+        },
+        &NEWER_SECOND,
+    ),
+    (
+        Line {
+            first: &OF_0,
+            second: &OF_255,
+            ..ALONE
+        },
+        &NEWER_FIRST,
+    ),
+    (
+        Line {
+            slaves: &[LONG],
+            first: &OF_255,
+            ..ALONE
+        },
+        &COME_TO,
+    ),
+];
+
+#[test]
+fn halves_are_filled_and_retired(rt: HostRuntime) -> Result<(), Fail> {
+    all_come(&rt, rt.alloc(), &HALVES)
+}
+
+/// A slave gets alias 1, as a batch of version 1.
+const PLAIN: [u8; 33] = [
+    0xa5, 0x1c, 0, 0, 0, 1, 0, 0, 0, 0, 0, 0, 0, 0, 0, 2, 0, 0, 0, 4, 0, 1, 0, 1, 0, 0, 0, 7, 0, 1,
+    0, 0x19, 0,
+];
+
+/// A closed gate and the mark of a migration.
+const MARK: [u8; 5] = [0, 0x4d, 0x49, 0x47, 0x32];
+
+/// What is live is retired, and then the journal is migrated.
+const MIGRATED: [Event; 16] = [
+    Submit(Alias(0, 2), Err(SubmitRefusal::OldJournal)),
+    Call(Migrate(true)),
+    Call(Status(0, 0, 0, 33)),
+    Rom(0, Serves(2, 1)),
+    Disk(Retire(8)),
+    Disk(Did(Close(2056))),
+    Disk(Did(Write(9, 4, 0x4d))),
+    Disk(Did(Sync)),
+    Disk(Did(Write(1, 1, 2))),
+    Submit(Alias(0, 2), Err(SubmitRefusal::OldJournal)),
+    Disk(Did(Sync)),
+    Call(Migrate(false)),
+    Submit(Alias(0, 2), Ok(0)),
+    Disk(Append(8, 34, 0)),
+    Rom(0, Serves(2, 2)),
+    Call(Status(1, 1, 1, 34)),
+];
+
+/// A migration that was stopped goes on without its mark.
+const MIGRATED_ON: [Event; 8] = [
+    Submit(Alias(0, 1), Err(SubmitRefusal::OldJournal)),
+    Disk(Waits(Idle)),
+    Call(Migrate(true)),
+    Disk(Did(Close(2056))),
+    Disk(Did(Sync)),
+    Disk(Did(Write(1, 1, 2))),
+    Disk(Did(Sync)),
+    Submit(Alias(0, 1), Ok(0)),
+];
+
+/// Old journals, and what comes of their books.
+const OLD: [Case; 2] = [
+    (
+        Line {
+            header: [0xa5, 1, 1, 0, 0, 0x10, 0, 0],
+            first: &PLAIN,
+            ..ALONE
+        },
+        &MIGRATED,
+    ),
+    (
+        Line {
+            header: [0xa5, 0x77, 1, 0, 0, 0x10, 0, 0],
+            first: &MARK,
+            ..ALONE
+        },
+        &MIGRATED_ON,
+    ),
+];
+
+#[test]
+fn old_journals_are_migrated(rt: HostRuntime) -> Result<(), Fail> {
+    all_come(&rt, rt.alloc(), &OLD)
+}
+
+/// A slave with managers 2 and 3 for process data, an RxPDO of 8 bits and a TxPDO of 32, and one with a TxPDO of 12 bits.
+const DRIVE: Slave = (
+    256,
+    &[
+        (
+            128,
+            &[
+                0x29, 0, 16, 0, 0, 0x10, 0x80, 0, 0x26, 0, 1, 1, 0x80, 0x10, 0x80, 0, 0x22, 0, 1,
+                2, 0, 0x11, 1, 0, 0x24, 0, 1, 3, 0x80, 0x11, 4, 0, 0x20, 0, 1, 4,
+            ],
+        ),
+        (
+            164,
+            &[
+                0x33, 0, 8, 0, 0, 0x16, 1, 2, 0, 0, 0, 0, 0, 0x70, 1, 0, 5, 8, 0, 0,
+            ],
+        ),
+        (
+            184,
+            &[
+                0x32, 0, 12, 0, 0, 0x1a, 2, 3, 0, 0, 0, 0, 0, 0x60, 1, 0, 6, 0x10, 0, 0, 0, 0x60,
+                2, 0, 6, 0x10, 0, 0, 0xFF, 0xFF,
+            ],
+        ),
+    ],
+);
+
+const SENSOR: Slave = (
+    256,
+    &[
+        (128, &[0x29, 0, 4, 0, 0, 0x10, 2, 0, 0x20, 0, 1, 4]),
+        (
+            140,
+            &[
+                0x32, 0, 8, 0, 0, 0x1a, 1, 0, 0, 0, 0, 0, 0, 0x60, 1, 0, 0, 0x0c, 0, 0, 0xFF, 0xFF,
+            ],
+        ),
+    ],
+);
+
+/// The process image follows the commands that are settled, one after the other: the sensor's input grows to 20 bits.
+const PLANNED: [Event; 9] = [
+    Call(Plan(0, 1, 6)),
+    Submit(Inputs(1, &[0x1a00, 1, 0, 0, 0x6000, 1, 0x1400, 0]), Ok(0)),
+    Submit(Alias(0, 1), Ok(1)),
+    Disk(Append(8, 52, 0)),
+    Call(Plan(0, 1, 6)),
+    Rom(1, Serves(1, 0)),
+    Call(Plan(1, 1, 7)),
+    Rom(0, Serves(2, 1)),
+    Call(Plan(2, 1, 7)),
+];
+
+const CELL: Line = Line {
+    slaves: &[DRIVE, SENSOR],
+    header: [0xa5, 2, 2, 0, 0, 0x10, 0, 0],
+    ..ALONE
+};
+
+const IMAGES: [Case; 1] = [(CELL, &PLANNED)];
+
+#[test]
+fn the_process_image_follows(rt: HostRuntime) -> Result<(), Fail> {
+    all_come(&rt, rt.alloc(), &IMAGES)
+}
+
+const WIDE: Line = Line {
+    header: [0xa5, 2, 1, 0, 0, 0, 1, 0],
+    half: 32_768,
+    ..ALONE
+};
+
+/// A full queue goes into one batch.
+const QUEUED: [Event; 6] = [
+    Fill(Alias(0, 0), 1024),
+    Submit(Alias(9, 0), Err(NO_SLAVE)),
+    Submit(Alias(0, 0), Err(SubmitRefusal::Full)),
+    Disk(Append(8, 10_248, 0)),
+    Call(Status(1024, 1024, 1024, 10_248)),
+    Submit(Alias(0, 0), Ok(1024)),
+];
+
+const QUEUES: [Case; 1] = [(WIDE, &QUEUED)];
+
+#[test]
+fn the_queue_holds_1024_commands(rt: HostRuntime) -> Result<(), Fail> {
+    all_come(&rt, rt.alloc(), &QUEUES)
+}
