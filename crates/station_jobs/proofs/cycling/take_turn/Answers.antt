@@ -1,0 +1,29 @@
+use Rattle.std.proofs.Common.{ℕ, length, replicate, refl, ap, subst, Ok, Result, ◌∙◌}
+use Rattle.cyclic.specs.declared.fault.CycleFault.{CycleFault}
+use Rattle.station_jobs.specs.Setting.{SetsLine}
+use Rattle.station_jobs.proofs.TakingLaws.{ok-of, turn-in}
+use Rattle.station_jobs.proofs.cycling.take_turn.Goals as goal
+
+pub returns-clause-takes : goal.returns-clause-takes
+returns-clause-takes g c =
+    let old = g.S.Site.seen c.args.site.now in
+    let mid = g.S.Site.seen c.set_line.new.site in
+    let job = c.args.job in
+    let buffer = c.zeros-inputs.result.items in
+    record {
+      set = Ok tt;
+      mid = mid;
+      sets =
+          subst (λ (r : Result (Unit {0}) CycleFault). SetsLine (length (g.S.Site.line c.args.site.now).sizes) c.args.last.now job.plan old r mid)
+          (ok-of c.set_line.result c.in_default.not-Err) c.set_line.ensures.sends;
+      goes_on = (
+        refl,
+        record {
+          nothing = c.turn-result.ensures.nothing;
+          turn = λ some.
+              turn-in job.plan.image c.deref.result.now job.outputs.items c.deref_mut.result.now (replicate job.plan.image.inputs 0) buffer c.turn-result.new.inputs mid (g.S.Site.seen c.turn-result.new.site)
+              c.turn-result.result c.deref.ensures.0 c.deref_mut.ensures.value (c.zeros-inputs.ensures ∙ ap (λ (n : ℕ). replicate n 0) c.inputs.ensures.inputs) c.turn-result.auto.inputs
+              (c.turn-result.ensures.turn some);
+        },
+      );
+    }

@@ -1,0 +1,45 @@
+use Rattle.std.proofs.Common.{◌≡◌, List, true, Err, sym, ap, subst, ◌∙◌, Result}
+use Rattle.site_core.specs.declared.fault.DeviceFault.{DeviceFault}
+use Rattle.site_core.specs.declared.fault.DeviceFault.TheVariants as device
+use Rattle.book_model.specs.declared.next.DiskNext.{DiskNext}
+use Rattle.station_jobs.specs.declared.log.Assignment.{Assignment}
+use Rattle.station_jobs.specs.Dispatch.{with_outcome}
+use Rattle.station_jobs.specs.Jobs.{DoneInTurn}
+use Rattle.station_jobs.specs.Flushing.{DoesAction}
+use Rattle.station_jobs.proofs.ActionLaws.{action-goes, still-begins, flushed}
+use Rattle.station_jobs.proofs.JobLoops.{told-turn, led-all, led-told}
+use Rattle.station_jobs.proofs.flushing.flush.Goals as goal
+use Rattle.station_jobs.proofs.flushing.flush.Goals.{in-None, in-Some+in-Stop, in-Some+in-Work+then-eq}
+
+pub loop-preserved : goal.loop-preserved
+loop-preserved g c =
+    let start = g.S.Site.seen c.of-start.result.value in
+    let now = g.S.Site.seen c.loop.site in
+    let new = g.S.Site.seen c.act-result.new.site in
+    let log = g.D.Dispatch.log c.loop.dispatch in
+    let action = c.in-Work.action in
+    let result = c.act-result.result in
+    let not : result ≡ Err device.Stopped → ⊥ = λ is. (let never = c.if-eq.false in let eq : c.eq.result ≡ true = rw is at c.eq.ensures in absurd cc) in
+    let does = c.act-result.ensures.does in
+    let told = c.done.ensures.log ∙ ap (λ (l : List (Assignment DiskNext (Result (Unit {0}) DeviceFault))). with_outcome l result) c.in-Work.ensures.log in (
+      subst (λ (l : List (Assignment DiskNext (Result (Unit {0}) DeviceFault))). DoneInTurn DoesAction l start new) (sym told)
+          (told-turn DoesAction log action result start now new c.loop.invariant.0 does (action-goes action result now new does not)),
+      (λ next may. still-begins action next result now new does not (c.loop.invariant.1 next (c.in-Work.ensures.no_more next (c.done.ensures.no_more next may)))),
+      c.act-result.ensures.line ∙ c.loop.invariant.2,
+      c.loop.invariant.3,
+    )
+
+pub new-requires-clause-leads : goal.new-requires-clause-leads
+new-requires-clause-leads g c =
+    let start = g.S.Site.seen c.of-start.result.value in
+    let now = g.S.Site.seen c.loop.site in
+    let log = g.D.Dispatch.log c.loop.dispatch in
+    let turn = c.loop.invariant.0 in
+    elim c.match-next.branch [
+      | in-None w ↦ rw (c.into_log.ensures, w.dispatch-is, w.site-is) (flushed log start now (led-all DoesAction log start now turn))
+      | in-Some+in-Stop w ↦ rw (c.into_log.ensures, w.dispatch-is, w.site-is, w.in-Stop.ensures.log) (flushed log start now (led-all DoesAction log start now turn))
+      | in-Some+in-Work+then-eq w ↦
+          let new = g.S.Site.seen w.act-result.new.site in
+          rw (c.into_log.ensures, w.dispatch-is, w.site-is, w.done.ensures.log, w.in-Work.ensures.log)
+          (flushed _ start new (led-told DoesAction log w.in-Work.action w.act-result.result start now new turn w.act-result.ensures.does))
+    ]

@@ -1,0 +1,52 @@
+use Rattle.std.proofs.Common.{◌≡◌, List, true, sym, ap, subst, ◌∙◌}
+use Rattle.book_model.specs.declared.next.RomNext.{RomNext}
+use Rattle.book_model.specs.declared.next.RomOutcome.{RomOutcome}
+use Rattle.book_model.specs.declared.next.RomOutcome.TheVariants as outcomes
+use Rattle.station_jobs.specs.declared.log.Assignment.{Assignment}
+use Rattle.station_jobs.specs.Dispatch.{with_outcome}
+use Rattle.station_jobs.specs.Jobs.{DoneInTurn}
+use Rattle.station_jobs.specs.Working.{CallsSlave}
+use Rattle.station_jobs.proofs.CallLaws.{call-goes, worked}
+use Rattle.station_jobs.proofs.JobLoops.{told-turn, led-all, led-told, led-untold}
+use Rattle.station_jobs.proofs.working.work.Goals as goal
+use Rattle.station_jobs.proofs.working.work.Goals.{in-None, in-Some+in-Stop, in-Some+in-Work+then-not-pass, in-Some+in-Work+else-not-pass+then-eq}
+
+pub loop-preserved : goal.loop-preserved
+loop-preserved g c =
+    let start = g.S.Site.seen c.of-start.result.value in
+    let now = g.S.Site.seen c.loop.site in
+    let new = g.S.Site.seen c.call-outcome.new.site in
+    let log = g.D.Dispatch.log c.loop.dispatch in
+    let Does = CallsSlave c.args.slave in
+    let job = c.in-Work.job in
+    let outcome = c.call-outcome.result in
+    let not : outcome ≡ outcomes.Stopped → ⊥ = λ is. (let never = c.if-eq.false in let eq : c.eq.result ≡ true = rw is at c.eq.ensures in absurd cc) in
+    let calls = c.call-outcome.ensures.calls in
+    let told = c.done.ensures.log ∙ ap (λ (l : List (Assignment RomNext RomOutcome)). with_outcome l outcome) c.in-Work.ensures.log in (
+      subst (λ (l : List (Assignment RomNext RomOutcome)). DoneInTurn Does l start new) (sym told)
+          (told-turn Does log job outcome start now new c.loop.invariant.0 calls (call-goes c.args.slave job outcome now new calls not)),
+      (λ next may. c.loop.invariant.1 next (c.in-Work.ensures.no_more next (c.done.ensures.no_more next may))),
+      c.call-outcome.ensures.line ∙ c.loop.invariant.2,
+      c.loop.invariant.3,
+    )
+
+pub new-requires-clause-leads : goal.new-requires-clause-leads
+new-requires-clause-leads g c =
+    let start = g.S.Site.seen c.of-start.result.value in
+    let now = g.S.Site.seen c.loop.site in
+    let log = g.D.Dispatch.log c.loop.dispatch in
+    let slave = c.args.slave in
+    let Does = CallsSlave slave in
+    let turn = c.loop.invariant.0 in
+    elim c.match-next.branch [
+      | in-None w ↦ rw (c.into_log.ensures, w.dispatch-is, w.site-is) (worked slave log start now (led-all Does log start now turn))
+      | in-Some+in-Stop w ↦ rw (c.into_log.ensures, w.dispatch-is, w.site-is, w.in-Stop.ensures.log) (worked slave log start now (led-all Does log start now turn))
+      | in-Some+in-Work+then-not-pass w ↦
+          let new = g.S.Site.seen w.call-outcome.new.site in
+          rw (c.into_log.ensures, w.dispatch-is, w.site-is, w.in-Work.ensures.log)
+          (worked slave _ start new (led-untold Does log w.in-Work.job w.call-outcome.result start now new turn w.call-outcome.ensures.calls))
+      | in-Some+in-Work+else-not-pass+then-eq w ↦
+          let new = g.S.Site.seen w.call-outcome.new.site in
+          rw (c.into_log.ensures, w.dispatch-is, w.site-is, w.done.ensures.log, w.in-Work.ensures.log)
+          (worked slave _ start new (led-told Does log w.in-Work.job w.call-outcome.result start now new turn w.call-outcome.ensures.calls))
+    ]

@@ -1,0 +1,40 @@
+-- What a flusher does: actions of the disk, one after another, as the events of the law have them.
+use Rattle.std.specs.Prelude.{◌≡◌, ◌≤◌, List, length, Result, Ok, Err, Some}
+use Rattle.site_core.specs.declared.fault.DeviceFault.{DeviceFault}
+use Rattle.site_core.specs.Disk.{Disk}
+use Rattle.site_core.specs.State.{State, Pair, Seen, Leaves}
+use Rattle.book_model.specs.declared.next.DiskNext.{DiskNext}
+use Rattle.book_model.specs.declared.next.DiskNext.TheVariants as next
+use Rattle.disk_laws.specs.Events.{begun_on, ended_on, FailsOn}
+use Rattle.runner_laws.specs.Running.{CallsDisk}
+use Rattle.station_jobs.specs.declared.log.Assignment.{Assignment}
+use Rattle.station_jobs.specs.Left.{Served}
+
+-- there is something to do, and a write begins inside the disk or right behind it
+abbrev pub CanBegin : DiskNext → Disk → Type 0
+CanBegin (next.Write at bytes) disk = at ≤ length disk.bytes
+CanBegin (next.Gate at closed) disk = at ≤ length disk.bytes
+CanBegin next.Sync disk = Unit {0}
+CanBegin next.Idle disk = ⊥
+CanBegin next.Stop disk = ⊥
+
+-- the one device call that the action is
+abbrev pub DoesAction : DiskNext → Result (Unit {0}) DeviceFault → Seen → Seen → Type 0
+DoesAction action result old new = CallsDisk action old result new
+
+-- the state while the action is in progress
+abbrev pub begun : DiskNext → State → State
+begun action state = record state { disk = begun_on (Some action) state.disk }
+
+-- the action began, and came back so
+abbrev pub ActionReturns : DiskNext → Result (Unit {0}) DeviceFault → State → State → Type 0
+ActionReturns action (Ok done) old new = new ≡ record old { disk = ended_on (Some action) (begun_on (Some action) old.disk) }
+ActionReturns action (Err fault) old new = (disk : Disk) × FailsOn (Some action) (begun_on (Some action) old.disk) disk × (new ≡ record old { disk = disk })
+
+-- what a stop may leave while it is in progress
+abbrev pub LeftInAction : DiskNext → State → Pair → Type 0
+LeftInAction action state pair = Leaves (begun action state) pair
+
+-- the actions of a log, one after another
+abbrev pub IsFlushed : List (Assignment DiskNext (Result (Unit {0}) DeviceFault)) → Seen → Seen → Type 0
+IsFlushed log old new = Served DoesAction ActionReturns LeftInAction log old new

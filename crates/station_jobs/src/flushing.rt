@@ -1,0 +1,54 @@
+//! Serving the disk.
+
+ghost use Rattle.std.specs.Prelude.{◌≡◌, [], IsTrue};
+ghost use Rattle.station_jobs.specs.Flushing.{CanBegin, DoesAction};
+
+use crate::dispatch::{Dispatch, Turn};
+use crate::end::End;
+use crate::log::DiskLog;
+use book_model::DiskNext;
+use site_core::{DeviceFault, Site};
+use site_journal::do_action;
+use std::snapshot::Snapshot;
+use std::sync::Wait;
+
+/// Does an action.
+fn act<S: Site>(site: &mut S, action: DiskNext) -> Result<(), DeviceFault>
+    requires disk { IsTrue (S.line site.old).has_disk }
+    requires begins { CanBegin action (S.seen site.old).state.disk }
+    ensures does { DoesAction action result (S.seen site.old) (S.seen site.new) }
+    ensures line { S.line site.new ≡ S.line site.old }
+{
+    do_action(site, &action)
+}
+
+/// Does one action after another with the disk, as the dispatch hands them out, and tells what came of each, until the dispatch says
+/// `Stop` or the site has stopped. It waits with the dispatch, and asks again at `Again`.
+///
+/// Each action that the dispatch may hand out has to begin inside the disk, or right behind its end.
+pub fn flush<S: Site, D: Dispatch<DiskLog>, R: Wait>(
+    rt: &R,
+    mut site: S,
+    mut dispatch: D,
+) -> End<S, DiskLog>
+    requires disk { IsTrue (S.line site).has_disk }
+    requires fresh { D.log dispatch ≡ [] }
+    requires begins { (action : DiskNext) → D.may_hand dispatch action → CanBegin action (S.seen site).state.disk }
+    ensures { result.start ≡ site }
+{
+    let start = Snapshot::of(&site);
+    for _ in rt.forever() {
+        match dispatch.next(rt) {
+            Turn::Again => {}
+            Turn::Stop => break,
+            Turn::Work(action) => {
+                let result = act(&mut site, action);
+                dispatch.done(rt, result);
+                if result == Err(DeviceFault::Stopped) {
+                    break;
+                }
+            }
+        }
+    }
+    End::new(site, dispatch.into_log(), start)
+}

@@ -1,0 +1,75 @@
+//! Serving one slave.
+
+ghost use Rattle.std.specs.Prelude.{◌≡◌, []};
+ghost use Rattle.site_core.specs.Line.{Owns};
+ghost use Rattle.station_jobs.specs.Working.{CallsSlave, IsCall};
+
+use crate::dispatch::{Dispatch, Turn};
+use crate::end::End;
+use crate::gate::Gate;
+use crate::log::{RomLog, SlaveLog};
+use book_model::{RomNext, RomOutcome};
+use esc_rom::{issue, settle};
+use site_core::Site;
+use std::snapshot::Snapshot;
+use std::sync::Wait;
+
+/// Issues or settles a word of a slave.
+fn call<S: Site>(site: &mut S, slave: u16, job: RomNext) -> RomOutcome
+    requires owns { Owns (S.line site.old) slave }
+    requires call { IsCall job }
+    ensures calls { CallsSlave slave job result (S.seen site.old) (S.seen site.new) }
+    ensures line { S.line site.new ≡ S.line site.old }
+{
+    match job {
+        RomNext::Issue { word, value } => match issue(site, slave, word, value) {
+            Ok(issued) => RomOutcome::Issued(issued),
+            Err(_) => RomOutcome::Stopped,
+        },
+        RomNext::Settle { taken } => match settle(site, slave, taken) {
+            Ok(settled) => RomOutcome::Settled(settled),
+            Err(_) => RomOutcome::Stopped,
+        },
+        RomNext::Idle | RomNext::Stop => unreachable!(),
+    }
+}
+
+/// Issues and settles the words of one slave, one after another, as the dispatch hands them out, and tells what came of each, until
+/// the dispatch says `Stop`, the site has stopped, or the gate isn't passed: the last outcome isn't told then. It waits with the
+/// dispatch and at the gate, and asks again at `Again`.
+pub fn work<S: Site, D: Dispatch<RomLog>, G: Gate, R: Wait>(
+    rt: &R,
+    mut site: S,
+    slave: u16,
+    mut dispatch: D,
+    gate: &G,
+) -> End<S, SlaveLog>
+    requires owns { Owns (S.line site) slave }
+    requires fresh { D.log dispatch ≡ [] }
+    requires calls { (job : RomNext) → D.may_hand dispatch job → IsCall job }
+    ensures start { result.start ≡ site }
+    ensures slave { result.log.slave ≡ slave }
+{
+    let start = Snapshot::of(&site);
+    for _ in rt.forever() {
+        match dispatch.next(rt) {
+            Turn::Again => {}
+            Turn::Stop => break,
+            Turn::Work(job) => {
+                let outcome = call(&mut site, slave, job);
+                if !gate.pass(slave) {
+                    break;
+                }
+                dispatch.done(rt, outcome);
+                if outcome == RomOutcome::Stopped {
+                    break;
+                }
+            }
+        }
+    }
+    let log = SlaveLog {
+        slave,
+        jobs: dispatch.into_log(),
+    };
+    End::new(site, log, start)
+}
