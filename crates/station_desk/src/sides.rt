@@ -1,0 +1,237 @@
+//! The dispatches of a desk.
+
+ghost use Rattle.std.specs.Prelude.{◌≡◌, ◌≤◌, ◌++◌, ◌∷◌, [], Bool, true, Option, Some, replicate};
+ghost use Rattle.station_desk.specs.Sides.{BeginsBelow, begins_below};
+
+use crate::desk::Desk;
+use crate::heard::Heard;
+use crate::naming::{Refusals, Tickets};
+use crate::notes::Notes;
+use crate::turns::note_of;
+use arrayvec::ArrayVec;
+use book_model::{DiskNext, RomNext, RomOutcome};
+use item_list::ItemList;
+use sii_image::Plan;
+use site_core::DeviceFault;
+use station_jobs::{
+    CycleJob, CycleLog, CycleNote, CycleOutcome, DiskLog, Dispatch, IMAGE_BYTES, RomLog, Turn,
+};
+use std::sync::Wait;
+
+/// Hands out the jobs of the disk.
+#[derive(Drop)]
+pub struct DiskSide<'a, T: Tickets, R: Refusals> {
+    desk: &'a Desk<T, R>,
+    pub(crate) notes: Notes<DiskNext, Result<(), DeviceFault>>,
+    has_job: bool,
+    pub(crate) limit: usize,
+}
+
+/// Hands out the jobs of a slave.
+#[derive(Drop)]
+pub struct RomSide<'a, T: Tickets, R: Refusals> {
+    desk: &'a Desk<T, R>,
+    pub(crate) slave: u16,
+    pub(crate) notes: Notes<RomNext, RomOutcome>,
+    has_job: bool,
+}
+
+/// Hands out the turns of the cycle.
+#[derive(Drop)]
+pub struct CycleSide<'a, T: Tickets, R: Refusals> {
+    desk: &'a Desk<T, R>,
+    pub(crate) turns: Vec<CycleNote>,
+    has_job: bool,
+}
+
+impl<'a, T: Tickets, R: Refusals> DiskSide<'a, T, R> {
+    pub(crate) fn new(desk: &'a Desk<T, R>) -> Self
+        ensures limit { result.limit ≡ desk.now.limit }
+        ensures fresh { result.notes.entries ≡ [] }
+    {
+        DiskSide {
+            desk,
+            notes: Notes::new(desk.alloc),
+            has_job: false,
+            limit: desk.limit,
+        }
+    }
+}
+
+impl<'a, T: Tickets, R: Refusals> RomSide<'a, T, R> {
+    pub(crate) fn new(desk: &'a Desk<T, R>, slave: u16) -> Self
+        ensures slave { result.slave ≡ slave }
+        ensures fresh { result.notes.entries ≡ [] }
+    {
+        RomSide {
+            desk,
+            slave,
+            notes: Notes::new(desk.alloc),
+            has_job: false,
+        }
+    }
+}
+
+impl<'a, T: Tickets, R: Refusals> CycleSide<'a, T, R> {
+    pub(crate) fn new(desk: &'a Desk<T, R>) -> Self
+        ensures { result.turns.items ≡ [] }
+    {
+        CycleSide {
+            desk,
+            turns: Vec::new(desk.alloc),
+            has_job: false,
+        }
+    }
+}
+
+/// Whether it is to be done, and a write begins no further back than this.
+fn begins_below(job: &DiskNext, limit: usize) -> bool
+    ensures { result ≡ begins_below limit job.now }
+{
+    match job {
+        DiskNext::Write { at, .. } => *at <= limit,
+        DiskNext::Gate { at, .. } => *at <= limit,
+        DiskNext::Sync => true,
+        DiskNext::Idle | DiskNext::Stop => false,
+    }
+}
+
+impl<'a, T: Tickets, R: Refusals> Dispatch<DiskLog> for DiskSide<'a, T, R> {
+    ghost use Rattle.std.specs.Prelude.{◌≡◌, true};
+    ghost use Rattle.station_desk.specs.Sides.{BeginsBelow};
+
+    ghost log = { λ side. side.notes.entries };
+
+    ghost has_job = { λ side. side.has_job };
+
+    ghost may_hand = { λ side job. BeginsBelow side.limit job };
+
+    /// Nothing outside the journal is handed out.
+    fn next<W: Wait>(&mut self, rt: &W) -> Turn<DiskNext> {
+        let Ok(()) = self.notes.reserve() else {
+            return Turn::Again;
+        };
+        let mut served = self.desk.served.lock(rt);
+        match served.disk_next() {
+            Heard::Work((job, copy)) => {
+                if !begins_below(&job, self.limit) {
+                    return Turn::Stop;
+                }
+                self.notes.hand_out(copy);
+                self.has_job = true;
+                Turn::Work(job)
+            }
+            Heard::Nothing => {
+                self.desk.changed.wait(rt, served);
+                Turn::Again
+            }
+            Heard::NoMemory => Turn::Again,
+            Heard::Stop => Turn::Stop,
+        }
+    }
+
+    fn done<W: Wait>(&mut self, rt: &W, outcome: Result<(), DeviceFault>) {
+        self.desk.served.lock(rt).disk_done(outcome);
+        self.desk.changed.notify_all();
+        self.notes.tell(outcome);
+    }
+
+    fn into_log(self) -> DiskLog {
+        self.notes.into_list()
+    }
+}
+
+impl<'a, T: Tickets, R: Refusals> Dispatch<RomLog> for RomSide<'a, T, R> {
+    ghost use Rattle.std.specs.Prelude.{◌≡◌, true};
+    ghost use Rattle.station_desk.specs.Asking.{is_rom_job};
+
+    ghost log = { λ side. side.notes.entries };
+
+    ghost has_job = { λ side. side.has_job };
+
+    ghost may_hand = { λ _ job. is_rom_job job ≡ true };
+
+    fn next<W: Wait>(&mut self, rt: &W) -> Turn<RomNext> {
+        let Ok(()) = self.notes.reserve() else {
+            return Turn::Again;
+        };
+        let mut served = self.desk.served.lock(rt);
+        match served.slave_next(self.slave) {
+            Heard::Work(job) => {
+                self.notes.hand_out(job);
+                self.has_job = true;
+                Turn::Work(job)
+            }
+            Heard::Nothing => {
+                self.desk.changed.wait(rt, served);
+                Turn::Again
+            }
+            Heard::NoMemory => Turn::Again,
+            Heard::Stop => Turn::Stop,
+        }
+    }
+
+    fn done<W: Wait>(&mut self, rt: &W, outcome: RomOutcome) {
+        self.desk.served.lock(rt).slave_done(self.slave, outcome);
+        self.desk.changed.notify_all();
+        self.notes.tell(outcome);
+    }
+
+    fn into_log(self) -> RomLog {
+        self.notes.into_list()
+    }
+}
+
+/// So many zeros.
+fn zeros(count: usize) -> ArrayVec<u8, IMAGE_BYTES>
+    requires { count ≤ 1486 }
+    ensures { result.items ≡ replicate count 0 }
+{
+    let mut bytes = ArrayVec::from([0; IMAGE_BYTES]);
+    bytes.truncate(count);
+    bytes
+}
+
+/// A turn by this plan, with outputs of zeros.
+fn blank_turn(plan: Plan) -> CycleJob
+    ensures { result.plan ≡ plan }
+{
+    let outputs = zeros(plan.image.outputs());
+    CycleJob { plan, outputs }
+}
+
+impl<'a, T: Tickets, R: Refusals> Dispatch<CycleLog> for CycleSide<'a, T, R> {
+    ghost log = { λ side. side.turns.items };
+
+    ghost has_job = { λ side. side.has_job };
+
+    ghost may_hand = { λ _ _. Unit {0} };
+
+    fn next<W: Wait>(&mut self, rt: &W) -> Turn<CycleJob> {
+        let Ok(()) = self.turns.reserve(1) else {
+            return Turn::Again;
+        };
+        let mut served = self.desk.served.lock(rt);
+        match served.cycle_next() {
+            Heard::Work(plan) => {
+                self.turns.push_reserved(note_of(&plan));
+                self.has_job = true;
+                Turn::Work(blank_turn(plan))
+            }
+            Heard::Nothing => {
+                self.desk.changed.wait(rt, served);
+                Turn::Again
+            }
+            Heard::NoMemory => Turn::Again,
+            Heard::Stop => Turn::Stop,
+        }
+    }
+
+    fn done<W: Wait>(&mut self, _rt: &W, _outcome: CycleOutcome) {
+        self.has_job = false;
+    }
+
+    fn into_log(self) -> CycleLog {
+        ItemList::from_vec(self.turns)
+    }
+}
