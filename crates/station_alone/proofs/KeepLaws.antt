@@ -6,7 +6,7 @@ use Rattle.jrn_format.specs.declared.journal.Entry.{Entry}
 use Rattle.site_core.specs.State.{State, Pair, Seen}
 use Rattle.site_core.specs.Passes.{LeavesOnly, StaysWithin}
 use Rattle.site_core.proofs.Runs.{Passes-none, Passes-weaker, Passes-stays}
-use Rattle.book_model.specs.Book.{Book, base_of}
+use Rattle.book_model.specs.Book.{base_of}
 use Rattle.book_model.specs.Machine.{Machine}
 use Rattle.disk_laws.specs.Keeping.{IsOfBook}
 use Rattle.runner_laws.specs.Running.{KeepsAll, KeepsWith, KeptWith, with_commands}

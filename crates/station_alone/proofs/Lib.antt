@@ -6,3 +6,4 @@ pub mod StepLaws
 pub mod DiskLaws
 pub mod RunLaws
 pub mod OpenLaws
+pub mod SettledLaws

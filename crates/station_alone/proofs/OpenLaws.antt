@@ -1,5 +1,5 @@
 -- A station that is opened.
-use Rattle.std.proofs.Common.{◌≡◌, ℕ, ◌+◌, ◌^◌, ◌<◌, ◌≤◌, Bool, false, List, [], ◌∷◌, ◌++◌, length, get_or, map, take, drop, refl, sym, ◌∙◌, ap, subst, arith, length-append, Result, Ok, Err, Vec, Global}
+use Rattle.std.proofs.Common.{◌≡◌, ℕ, ◌+◌, ◌^◌, ◌<◌, ◌≤◌, Bool, false, List, [], ◌∷◌, length, get_or, map, take, drop, refl, sym, ◌∙◌, ap, subst, arith, length-append, Result, Ok, Err, Vec, Global}
 use Rattle.std.specs.Prelude.{IsTrue, IfErr, IsErrAnd}
 use Rattle.std.proofs.lemmas.List.{length-map, take-append-drop}
 use Rattle.std.proofs.lemmas.List.Concat.{flat_map-append}
@@ -15,6 +15,7 @@ use Rattle.jrn_laws.proofs.OpenLaws.{journal-can-be-live}
 use Rattle.esc_model.specs.SlaveHalf.{SlaveHalf}
 use Rattle.esc_model.proofs.Resting.{MayLeave-same}
 use Rattle.esc_rom.specs.declared.fault.RomFault.{RomFault}
+use Rattle.esc_rom.specs.declared.fault.RomFault.TheVariants as rom
 use Rattle.esc_rom.specs.Runs.{Quiet}
 use Rattle.esc_rom.proofs.Runs.{Quiet-none, Quiet-then}
 use Rattle.site_core.specs.declared.fault.DeviceFault.{DeviceFault}
@@ -29,7 +30,7 @@ use Rattle.site_line.specs.Reading.{AreRead, ReadsLine, most_calls}
 use Rattle.book_model.specs.Entries.{entries_of, sizes_of}
 use Rattle.book_model.specs.Book.{Book, contents_of}
 use Rattle.book_model.specs.Open.{open_book}
-use Rattle.book_model.specs.Machine.{Machine, reopened}
+use Rattle.book_model.specs.Machine.{reopened}
 use Rattle.book_core.proofs.FoundLaws.{entries-more}
 use Rattle.disk_laws.specs.Keeping.{IsOfBook}
 use Rattle.up_laws.specs.Opening.{words_in, capacity_in, IsSynced, IsFound, book_on}
@@ -39,11 +40,10 @@ use Rattle.runner_laws.specs.Ready.{IsReady}
 use Rattle.runner_laws.proofs.GoLaws.{keeps-still}
 use Rattle.runner_laws.proofs.ReadyLaws.{opened-ready}
 use Rattle.recovery_laws.proofs.OpenLaws.{little-found}
-use Rattle.station_alone.specs.declared.fault.OpenFault.{OpenFault}
 use Rattle.station_alone.specs.declared.fault.OpenFault.TheVariants as faults
 use Rattle.station_alone.specs.declared.opening.Reading.{Reading}
 use Rattle.station_alone.specs.Station.{Station, station, Stands}
-use Rattle.station_alone.specs.Opening.{ReadsFound, OpensOn, FailsToOpen, Begins, BeginsSession, KeepsOpening, most_calls_to_open}
+use Rattle.station_alone.specs.Opening.{ReadsFound, OpensOn, FailsToOpen, BeginsSession, KeepsOpening, most_calls_to_open}
 
 -- the exit of a `?`
 pub err-exit : {T E : Type 0} (r : Result T E) (e : E) (P : E → Type 0) → IsErrAnd r (λ given. given ≡ e) → P e → IfErr r P
@@ -74,6 +74,9 @@ pub fails-without-memory : (its : Line) (seen : Seen) → FailsToOpen its seen f
 fails-without-memory its seen = record { line = refl; quiet = Quiet-none seen (most_calls_to_open its.sizes); why = tt }
 
 module _ (T : Type 0) (plant_of : T → List (List ℕ)) (its later last : Line) (sizes : List ℕ) (old mid new : Seen) (are : AreSizes sizes its old) (later_is : later ≡ its) (last_is : last ≡ later) where
+  fault-is : (result : Result T RomFault) (fault other : RomFault) → result ≡ Err fault → result ≡ Err other → fault ≡ other
+  fault-is result fault other one two = cc
+
   pub fails-at-slave : (found : ℕ × Journal) (fault : RomFault) → ReadsJournal sizes old (Ok found) mid → ReadsLine {T = T} plant_of later.sizes mid (Err fault) new → FailsToOpen its old (faults.Slave fault) last new
   fails-at-slave found fault reads slaves =
       let journal : ReadsJournal its.sizes old (Ok found) mid = subst (λ (s : List ℕ). ReadsJournal s old (Ok found) mid) are.of_line reads in
@@ -81,7 +84,7 @@ module _ (T : Type 0) (plant_of : T → List (List ℕ)) (its later last : Line)
       record {
         line = last_is ∙ later_is;
         quiet = Quiet-then {a = old} {b = mid} {c = new} {m = 3} {n = most_calls its.sizes} {most = most_calls_to_open its.sizes} (omega arith) (runs-quiet old 3 _ mid journal.syncs.runs) line.quiet;
-        why = record { found = found; read = mid; journal = journal; ends = line.faults };
+        why = record { found = found; read = mid; journal = journal; ends = line.faults; stopped = (λ is. fault-is (Err fault) fault rom.Stopped refl (line.stopped.0 is), λ is. line.stopped.1 (ap Err is)) };
       }
 
 -- ---- what is read
@@ -123,6 +126,7 @@ reads-found its later sizes old mid new capacity journal words are later_is read
     record {
       quiet = Quiet-then {a = old} {b = mid} {c = new} {m = 3} {n = most_calls its.sizes} {most = most_calls_to_open its.sizes} (omega arith) (runs-quiet old 3 _ mid reads.syncs.runs) line.quiet;
       bytes = bytes;
+      is_journal = subst (λ (s : List ℕ). IsJournal old.state.disk.bytes s journal) are.of_line reads.finds.0;
       found = found-is sizes its old mid new capacity journal words.items are reads line.read;
       capacity = reads.finds.1 ∙ ap capacity_in (sym bytes);
       words = line.read.words;

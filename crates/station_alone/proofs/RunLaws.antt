@@ -1,6 +1,6 @@
 -- Steps in a row.
-use Rattle.std.proofs.Common.{◌≡◌, ℕ, ◌+◌, ◌≤◌, List, [], ◌∷◌, ◌++◌, length, take, refl, sym, ◌∙◌, ap, subst, arith, append_assoc}
-use Rattle.std.proofs.lemmas.List.{append-nil, take_all}
+use Rattle.std.proofs.Common.{◌≡◌, ℕ, ◌+◌, ◌<◌, ◌≤◌, List, [], ◌∷◌, ◌++◌, length, get_or, take, refl, sym, ◌∙◌, ap, subst, arith, append_assoc}
+use Rattle.std.proofs.lemmas.List.{append-nil, take_all, take_more}
 use Rattle.sii_edit.specs.declared.command.Command.{Command}
 use Rattle.station_alone.specs.declared.choice.Choice.{Choice}
 use Rattle.station_alone.specs.declared.choice.Answer.{Answer}
@@ -68,3 +68,11 @@ ran-none s = record {
 -- all of them were made
 pub ran-whole : (choices : List Choice) (count : ℕ) (answers : List Answer) (old new : Station) → length choices ≤ count → Ran (take count choices) answers old new → Ran choices answers old new
 ran-whole choices count answers old new all ran = subst (λ (l : List Choice). Ran l answers old new) (take_all count choices all) ran
+
+-- the next of the choices was made
+pub ran-more : (choices : List Choice) (i : ℕ) (choice : Choice) (answers later : List Answer) (answer : Answer) (a b c : Station) → i < length choices → choice ≡ get_or choices i choice → later ≡ answers ++ answer ∷ []
+    → Ran (take i choices) answers a b → Steps choice b answer c → GoesOn (accepted_by choice answer) (most_calls choice) b c → Keeps (accepted_by choice answer) b c → Ran (take (i + 1) choices) later a c
+ran-more choices i choice answers later answer a b c within is pushed ran step goes keeps =
+    let more : take (i + 1) choices ≡ take i choices ++ choice ∷ [] = take_more choices i choice within ∙ ap (λ (x : Choice). take i choices ++ x ∷ []) (sym is) in
+    subst (λ (l : List Choice). Ran l later a c) (sym more)
+    (subst (λ (l : List Answer). Ran (take i choices ++ choice ∷ []) l a c) (sym pushed) (ran-push (take i choices) answers choice answer a b c ran step goes keeps))

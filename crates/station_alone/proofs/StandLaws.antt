@@ -1,5 +1,5 @@
 -- What a station needs for its next step, and that it has it again behind each step.
-use Rattle.std.proofs.Common.{◌≡◌, ℕ, ◌<◌, Bool, List, ◌∷◌, [], length, refl, sym, ◌∙◌, ap, subst, arith, Result}
+use Rattle.std.proofs.Common.{◌≡◌, ℕ, ◌<◌, Bool, List, length, sym, ◌∙◌, ap, subst, arith, Result}
 use Rattle.std.specs.Prelude.{IsTrue, is_some, false}
 use Rattle.edit_laws.specs.Fitting.{PlantFits}
 use Rattle.site_core.specs.declared.fault.DeviceFault.{DeviceFault}

@@ -1,5 +1,5 @@
 -- Each step of a station leaves it standing, and what a stop may leave of it on the way is kept.
-use Rattle.std.proofs.Common.{◌≡◌, ℕ, ◌+◌, ◌<◌, ◌≤◌, Bool, true, false, List, [], ◌∷◌, ◌++◌, length, refl, sym, ◌∙◌, ap, subst, arith, length-append, Result, Ok, Err}
+use Rattle.std.proofs.Common.{◌≡◌, ℕ, ◌+◌, ◌≤◌, Bool, true, false, List, [], ◌∷◌, length, refl, sym, ◌∙◌, ap, subst, arith, length-append, Result, Ok, Err}
 use Rattle.std.specs.Prelude.{◌||◌, is_some}
 use Rattle.std.proofs.lemmas.List.{append-nil}
 use Rattle.sii_edit.specs.declared.command.Command.{Command}
@@ -8,14 +8,11 @@ use Rattle.sii_edit.specs.declared.refusal.Cause.TheVariants as causes
 use Rattle.sii_edit.proofs.FoldLaws.{contents-push}
 use Rattle.edit_laws.specs.Fitting.{PlantFits, CommandFits}
 use Rattle.edit_laws.proofs.PlantLaws.{fit-after}
-use Rattle.esc_rom.specs.Access.{IssuesWord, SettlesSlave}
 use Rattle.site_core.specs.declared.fault.DeviceFault.{DeviceFault}
 use Rattle.site_core.specs.declared.fault.DeviceFault.TheVariants as device
-use Rattle.site_core.specs.declared.answers.Issued.{Issued}
-use Rattle.site_core.specs.declared.answers.Settled.{Settled}
 use Rattle.site_core.specs.Line.{Line}
-use Rattle.site_core.specs.State.{Moment, Pair, Seen, clock}
-use Rattle.site_core.specs.Calls.{WritesDisk, SyncsDisk}
+use Rattle.site_core.specs.State.{Moment, Seen, clock}
+use Rattle.site_core.specs.Calls.{WritesDisk}
 use Rattle.site_core.specs.Passes.{LeavesOnly}
 use Rattle.book_model.specs.declared.next.DiskNext.{DiskNext}
 use Rattle.book_model.specs.declared.next.DiskNext.TheVariants as disk
@@ -32,13 +29,12 @@ use Rattle.book_model.specs.Open.{migrate}
 use Rattle.book_model.specs.Machine.{Machine, accepts}
 use Rattle.disk_laws.specs.Frame.{Frame}
 use Rattle.disk_laws.specs.Keeping.{IsOfBook}
-use Rattle.up_laws.specs.Up.{Up}
 use Rattle.up_laws.specs.Steps.{acknowledged_by}
 use Rattle.up_laws.proofs.LineLaws.{up-kept}
 use Rattle.up_laws.proofs.CallLaws.{up-migrates}
 use Rattle.up_laws.proofs.SubmitLaws.{up-submits}
 use Rattle.up_laws.proofs.SlaveEventLaws.{IsNothing}
-use Rattle.runner_laws.specs.Running.{CallsDisk, KeepsAll, UpAfterDisk, UpAfterIssue, UpAfterSettle, with_commands}
+use Rattle.runner_laws.specs.Running.{CallsDisk, KeepsAll, UpAfterDisk}
 use Rattle.runner_laws.specs.Ready.{IsReady, issue_outcome, settle_outcome}
 use Rattle.runner_laws.proofs.DiskRuns.{IsAction, disk-runs}
 use Rattle.runner_laws.proofs.GoLaws.{keeps-more}
@@ -50,9 +46,9 @@ use Rattle.station_alone.specs.declared.choice.Answer.{Answer}
 use Rattle.station_alone.specs.Station.{Station, station, Stands}
 use Rattle.station_alone.specs.Steps as steps
 use Rattle.station_alone.specs.Steps.{DoesNothing, Submits, DoesDisk, CarriesOut, StepsDisk, carried_out, DoesIssue, DoesSettle, Serves, AsksMigration, Steps, told_number, told_refusal, submitted, most_calls}
-use Rattle.station_alone.specs.Keeping.{GoesOn, KeptFor, KeepsFor, Keeps, Went, accepted_by}
+use Rattle.station_alone.specs.Keeping.{GoesOn, KeptFor, Keeps, Went, accepted_by}
 use Rattle.station_alone.proofs.HandedLaws.{open-still, rom-open}
-use Rattle.station_alone.proofs.SessionLaws.{Same, SameOrMore, same, no-fewer, same-then, more-then, same-contents, next-same, failed-same, done-same, rom-next-same, rom-done-same, asked-same}
+use Rattle.station_alone.proofs.SessionLaws.{Same, SameOrMore, same, no-fewer, same-then, more-then, next-same, failed-same, done-same, rom-next-same, rom-done-same, asked-same}
 use Rattle.station_alone.proofs.StandLaws.{up-for, stands-with, stands-still}
 use Rattle.station_alone.proofs.KeepLaws.{acknowledged-so, keeps-none, keeps-for-none, keeps-while-still, still}
 

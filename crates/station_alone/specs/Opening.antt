@@ -1,12 +1,13 @@
 -- A station is opened on whatever is found: the disk is synced and read, and then each slave is opened and read.
-use Rattle.std.specs.Prelude.{◌≡◌, ℕ, ◌+◌, ◌≤◌, List, length, Result, Ok, Err}
+use Rattle.std.specs.Prelude.{◌≡◌, ◌↔◌, ℕ, ◌+◌, ◌≤◌, List, length, Ok, Err, IsTrue}
 use Rattle.jrn_format.specs.declared.journal.Journal.{Journal}
+use Rattle.jrn_format.specs.Journal.{IsJournal}
 use Rattle.esc_rom.specs.declared.fault.RomFault.{RomFault}
+use Rattle.esc_rom.specs.declared.fault.RomFault.TheVariants as rom
 use Rattle.esc_rom.specs.Runs.{Quiet}
 use Rattle.site_core.specs.Line.{Line}
 use Rattle.site_core.specs.State.{Seen}
 use Rattle.site_core.specs.Passes.{LeavesOnly}
-use Rattle.site_journal.specs.declared.fault.ReadFault.{ReadFault}
 use Rattle.site_journal.specs.Reading.{ReadsJournal}
 use Rattle.site_line.specs.Reading.{EndsLine, most_calls}
 use Rattle.book_model.specs.Entries.{entries_of}
@@ -27,10 +28,11 @@ most_calls_to_open sizes = 3 + most_calls sizes
 
 -- ---- what is read
 
--- The journal and the words were read, so many at least as a book wants. Nothing was added to what a stop may leave.
+-- The journal and the words were read, those of as many slaves as a book wants. Nothing was added to what a stop may leave.
 pub record ReadsFound (line : Line) (old : Seen) (reading : Reading) (new : Seen) : Type 0 where
   pub quiet : Quiet old (most_calls_to_open line.sizes) new
   pub bytes : new.state.disk.bytes ≡ old.state.disk.bytes
+  pub is_journal : IsJournal old.state.disk.bytes line.sizes reading.journal
   pub found : IsFound reading.journal new.state
   pub capacity : reading.capacity ≡ capacity_in new.state.disk.bytes
   pub words : reading.words.items ≡ words_in new.state.halves
@@ -46,6 +48,7 @@ pub record OpensOn (its : Line) (old : Seen) (journal : Journal) (new : Station)
   pub line : new.line ≡ its
   pub quiet : Quiet old (most_calls_to_open its.sizes) new.seen
   pub bytes : new.seen.state.disk.bytes ≡ old.state.disk.bytes
+  pub is_journal : IsJournal old.state.disk.bytes its.sizes journal
   pub found : IsFound journal new.seen.state
   pub book : new.book ≡ book_on new.seen.state journal
 
@@ -68,6 +71,7 @@ pub record FailsAtSlave (sizes : List ℕ) (old : Seen) (fault : RomFault) (new 
   pub read : Seen
   pub journal : ReadsJournal sizes old (Ok found) read
   pub ends : EndsLine sizes read fault new
+  pub stopped : IsTrue new.is_stopped ↔ (fault ≡ rom.Stopped)
 
 -- A journal that is refused causes no exchange.
 abbrev pub WhyNot : OpenFault → List ℕ → Seen → Seen → Type 0

@@ -120,7 +120,8 @@ impl<S: Site> Alone<S> {
         }
     }
 
-    fn submit(&mut self, command: &Command) -> Answer
+    /// Submits a command that stays the caller's, as a step does.
+    pub fn submit(&mut self, command: &Command) -> Answer
         ensures { Went (Choice.Submit command.now) self.old result self.new }
     {
         do_submit(&mut self.core, command)

@@ -5,6 +5,7 @@ mod alone;
 mod choice;
 mod disk;
 mod fault;
+pub mod laws;
 mod migration;
 mod opening;
 mod rom;

@@ -1,4 +1,4 @@
-use Rattle.std.proofs.Common.{sym, subst, ◌∙◌, List, ℕ, Ok, Vec, Global}
+use Rattle.std.proofs.Common.{subst, List, ℕ, Ok, Vec, Global}
 use Rattle.sii_words.specs.declared.words.Words.{Words}
 use Rattle.jrn_format.specs.declared.journal.Journal.{Journal}
 use Rattle.site_journal.specs.Reading.{ReadsJournal}

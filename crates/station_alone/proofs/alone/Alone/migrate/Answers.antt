@@ -2,7 +2,7 @@ use Rattle.std.proofs.Common.{refl, subst}
 use Rattle.station_alone.specs.declared.choice.Choice.TheVariants.{Migrate}
 use Rattle.station_alone.specs.Station.{Station, station}
 use Rattle.station_alone.specs.Keeping.{Went}
-use Rattle.station_alone.proofs.StepLaws.{step-goes, step-went, Goes}
+use Rattle.station_alone.proofs.StepLaws.{step-goes, step-went}
 use Rattle.station_alone.proofs.alone.Alone.migrate.Goals as goal
 
 pub invariant_of-self : goal.invariant_of-self

@@ -1,10 +1,6 @@
-use Rattle.std.proofs.Common.{◌≡◌, ℕ, ◌+◌, List, [], ◌∷◌, ◌++◌, ◌∙◌, ap, sym, subst, arith, take}
-use Rattle.std.proofs.lemmas.List.{take_all, take_more}
-use Rattle.station_alone.specs.declared.choice.Choice.{Choice}
+use Rattle.std.proofs.Common.{ℕ, ◌+◌, List, [], ◌∙◌, ap, sym, subst, arith}
 use Rattle.station_alone.specs.declared.choice.Answer.{Answer}
-use Rattle.station_alone.specs.Steps.{Steps}
-use Rattle.station_alone.specs.Keeping.{GoesOn, Keeps}
-use Rattle.station_alone.proofs.RunLaws.{Ran, ran-none, ran-push, ran-whole}
+use Rattle.station_alone.proofs.RunLaws.{Ran, ran-none, ran-more, ran-whole}
 use Rattle.station_alone.proofs.alone.Alone.run.Goals as goal
 
 pub loop-choice-init : goal.loop-choice-init
@@ -22,19 +18,12 @@ push_reserved-requires g c =
     omega (arith, room, count, c.loop-choice-test.true)
 
 pub loop-choice-preserved : goal.loop-choice-preserved
-loop-choice-preserved g c =
-    let i = c.loop-choice.choice-index in
-    let choices = c.args.choices.now in
-    let ran = c.loop-choice.invariant.ran in
-    let more : take (i + 1) choices ≡ take i choices ++ c.choice-item.result ∷ [] =
-    take_more choices i c.choice-item.result c.loop-choice-test.true ∙ ap (λ (x : Choice). take i choices ++ x ∷ []) (sym c.choice-item.is) in
-    record {
-      ran = subst (λ (l : List Choice). Ran l c.push_reserved.new.self.items c.args.self.now c.act.new.self) (sym more)
-          (subst (λ (l : List Answer). Ran (take i choices ++ c.choice-item.result ∷ []) l c.args.self.now c.act.new.self) (sym c.push_reserved.ensures.items)
-          (ran-push (take i choices) c.loop-choice.answers.items c.choice-item.result c.act.result c.args.self.now c.loop-choice.self c.act.new.self ran c.act.ensures.steps c.act.ensures.goes_on c.act.ensures.keeps));
-      room = c.push_reserved.ensures.capacity ∙ c.loop-choice.invariant.room;
-      count = c.push_reserved.ensures.len ∙ ap (λ (n : ℕ). n + 1) c.loop-choice.invariant.count;
-    }
+loop-choice-preserved g c = record {
+  ran = ran-more c.args.choices.now c.loop-choice.choice-index c.choice-item.result c.loop-choice.answers.items c.push_reserved.new.self.items c.act.result c.args.self.now c.loop-choice.self c.act.new.self
+      c.loop-choice-test.true c.choice-item.is c.push_reserved.ensures.items c.loop-choice.invariant.ran c.act.ensures.steps c.act.ensures.goes_on c.act.ensures.keeps;
+  room = c.push_reserved.ensures.capacity ∙ c.loop-choice.invariant.room;
+  count = c.push_reserved.ensures.len ∙ ap (λ (n : ℕ). n + 1) c.loop-choice.invariant.count;
+}
 
 pub returns-clause-steps : goal.returns-clause-steps
 returns-clause-steps g c =

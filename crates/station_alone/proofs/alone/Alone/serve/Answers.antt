@@ -1,7 +1,7 @@
 use Rattle.std.proofs.Common.{[], subst}
 use Rattle.station_alone.specs.Station.{Station, station}
 use Rattle.station_alone.specs.Keeping.{GoesOn, Keeps}
-use Rattle.station_alone.proofs.StepLaws.{serve-goes, Goes}
+use Rattle.station_alone.proofs.StepLaws.{serve-goes}
 use Rattle.station_alone.proofs.alone.Alone.serve.Goals as goal
 
 pub invariant_of-self : goal.invariant_of-self

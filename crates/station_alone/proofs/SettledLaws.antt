@@ -1,0 +1,32 @@
+-- Slaves that owe nothing hold the contents.
+use Rattle.std.proofs.Common.{List, [], ◌++◌, sym, ◌∙◌, ap, subst, arith}
+use Rattle.std.proofs.lemmas.List.{append-nil, take_all}
+use Rattle.sii_edit.specs.declared.command.Command.{Command}
+use Rattle.sii_edit.specs.Fold.{contents}
+use Rattle.sii_runs.specs.declared.run.Run.{Run}
+use Rattle.sii_runs.specs.Redo.{redone}
+use Rattle.sii_runs.proofs.RedoLaws.{redone-nil}
+use Rattle.jrn_laws.specs.Halves.{live}
+use Rattle.book_model.specs.Entries.{live_runs}
+use Rattle.book_model.specs.Book.{all_cells, base_of}
+use Rattle.book_laws.specs.Plants.{AllFit}
+use Rattle.book_laws.proofs.CommandLaws.{entries-contents}
+use Rattle.book_laws.proofs.PlantLaws.{plant-leads-retired}
+use Rattle.book_laws.proofs.SettledLaws.{retire-settled}
+use Rattle.up_laws.proofs.LineLaws.{holds-all}
+use Rattle.station_alone.specs.Station.{Station, Stands}
+use Rattle.station_alone.specs.Settled.{HasSettled, HoldsContents}
+
+pub settled-holds : (s : Station) → Stands s → HasSettled s.book → HoldsContents s
+settled-holds s stands settled pair leaves =
+    let book = s.book in
+    let u = stands.ready.up settled.no_fault in
+    let up = u.3 in
+    let cells = all_cells book.slaves in
+    let lives = live_runs (live book.halves) in
+    let may = holds-all book.words s.seen.state.halves book.slaves u.1 pair.words up.same up.slaves leaves.words in
+    let fit : AllFit book.words up.gone (lives ++ []) cells = subst (λ (r : List Run). AllFit book.words up.gone r cells) (sym (append-nil lives)) up.fits.fit in
+    let all = retire-settled book.words up.gone lives [] cells up.same fit settled.live in
+    let leads = plant-leads-retired book.words up.gone lives [] cells pair.words fit all may in
+    sym (redone-nil pair.words) ∙ leads ∙ ap (λ (r : List Run). redone book.words (up.gone ++ r)) (append-nil lives) ∙ sym up.fits.contents ∙ entries-contents 0 (base_of book) book.accepted book.durable
+    ∙ ap (λ (l : List Command). contents (base_of book) l) (take_all book.durable book.accepted (omega (arith, settled.durable)))
