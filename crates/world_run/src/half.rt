@@ -1,0 +1,119 @@
+//! The half of one slave, as a world has it: between its datagrams it is idle, or a word is in flight.
+ghost use Rattle.std.specs.Prelude.{◌≡◌, ◌++◌, ◌<◌, ◌↔◌, IsTrue};
+ghost use Rattle.std.specs.Int.{w16, w32, to_le_bytes};
+ghost use Rattle.esc_model.specs.SlaveHalf.{in_flight, MayRest, MayStop};
+ghost use Rattle.esc_model.specs.WordAccess.{IsAt, IsIdle, IsWell, TakesWord};
+ghost use Rattle.world_run.specs.Left.{torn_half, ended_half};
+ghost use Rattle.world_run.specs.Sides.{StandsAt, HandsTo};
+
+use ecat_frame::{Command, fp};
+use esc_model::{Rest, RomHalf, station_address};
+
+/// Control and status.
+const CONTROL: u16 = 0x0502;
+
+/// Control with write enable, and the command write.
+const WRITE: u16 = 0x0201;
+
+/// From here on the high byte of control and status shows an error, or that the slave is busy.
+const NOT_WELL: u8 = 0x20;
+
+/// How a word in flight ends.
+#[derive(Clone, Copy, Debug, PartialEq, Eq)]
+pub enum WordEnd {
+    /// It holds its value.
+    Well,
+    /// Bit 13 is set, and the word holds this.
+    Failed { left: u16 },
+}
+
+/// Control, the word's number as 32 bits, and its value.
+fn write_content(word: u16, value: u16) -> [u8; 8]
+    ensures { result ≡ to_le_bytes w16 0x0201 ++ to_le_bytes w32 word ++ to_le_bytes w16 value }
+{
+    let [enable, command] = WRITE.to_le_bytes();
+    let [a, b, c, d] = u32::from(word).to_le_bytes();
+    let [low, high] = value.to_le_bytes();
+    [enable, command, a, b, c, d, low, high]
+}
+
+/// An idle half takes the datagram that names this word and value.
+fn hand_word(half: &mut RomHalf, slave: u16, word: u16, value: u16)
+    requires near { slave < 64 }
+    requires here { IsAt slave half.old }
+    requires idle { IsIdle half.old }
+    ensures { TakesWord slave word value half.old half.new }
+{
+    let mut content = write_content(word, value);
+    let address = fp(station_address(slave), CONTROL);
+    let _counted = half.take(Command::Fpwr, address, &mut content);
+}
+
+/// A half is issued a word, which it takes where it is to and is idle. Answers whether it took it.
+pub(crate) fn issue(half: &mut RomHalf, slave: u16, takes: bool, word: u16, value: u16) -> bool
+    requires near { slave < 64 }
+    requires stands { StandsAt slave half.old }
+    ensures { HandsTo slave takes word value half.old result half.new }
+{
+    if !takes || half.in_flight().is_some() {
+        return false;
+    }
+    hand_word(half, slave, word, value);
+    true
+}
+
+/// Whether an idle half shows bits 13 and 14 clear. A poll leaves it as it is.
+fn shows_well(half: &mut RomHalf, slave: u16) -> bool
+    requires near { slave < 64 }
+    requires here { IsAt slave half.old }
+    requires idle { IsIdle half.old }
+    ensures well { IsTrue result ↔ IsWell half.old }
+    ensures same { half.new ≡ half.old }
+{
+    let mut content = [0u8, 0];
+    let address = fp(station_address(slave), CONTROL);
+    let _counted = half.take(Command::Fprd, address, &mut content);
+    content[1] < NOT_WELL
+}
+
+/// Whether a half is idle.
+pub(crate) fn is_idle(half: &RomHalf, slave: u16) -> bool
+    requires { StandsAt slave half.now }
+    ensures { IsTrue result ↔ IsIdle half.now }
+{
+    half.in_flight().is_none()
+}
+
+/// Whether a half is idle with bits 13 and 14 clear.
+pub(crate) fn is_well(half: &mut RomHalf, slave: u16) -> bool
+    requires near { slave < 64 }
+    requires stands { StandsAt slave half.old }
+    ensures well { IsTrue result ↔ IsWell half.old }
+    ensures same { half.new ≡ half.old }
+{
+    if !is_idle(half, slave) {
+        return false;
+    }
+    shows_well(half, slave)
+}
+
+/// The word in flight ends so, if there is one.
+pub(crate) fn end_word(half: &mut RomHalf, end: WordEnd)
+    ensures exact { half.new ≡ ended_half end (in_flight half.old.activity) half.old }
+    ensures rests { MayRest half.old half.new }
+{
+    match end {
+        WordEnd::Well => half.rest(Rest::Well),
+        WordEnd::Failed { left } => half.rest(Rest::Failed(left)),
+    }
+}
+
+/// The word in flight is torn, if there is one and something is to be left in it.
+pub(crate) fn tear_word(half: &mut RomHalf, left: Option<u16>)
+    ensures exact { half.new ≡ torn_half left (in_flight half.old.activity) half.old }
+    ensures stops { MayStop half.old half.new }
+{
+    if let Some(left) = left {
+        half.rest(Rest::Torn(left));
+    }
+}
