@@ -50,11 +50,10 @@ fn slaves(alloc: Global, line: &Line) -> Result<Vec<Words>, Fail> {
 /// The journal's file. One byte stands behind the halves.
 fn file(alloc: Global, line: &Line) -> Result<Vec<u8>, AllocError> {
     let half = usize::from(line.half);
-    let mut file = Vec::from_slice(alloc, &line.header)?;
-    file.extend_from_slice(line.first)?;
-    file.resize(8 + half, 0)?;
-    file.extend_from_slice(line.second)?;
-    file.resize(9 + 2 * half, 0)?;
+    let mut file = vec![in alloc; 0u8; 9 + 2 * half]?;
+    patch(&mut file, 0, &line.header);
+    patch(&mut file, 8, line.first);
+    patch(&mut file, 8 + half, line.second);
     Ok(file)
 }
 
