@@ -1,0 +1,30 @@
+-- A call happens as its event does.
+use Rattle.std.proofs.Common.{◌≡◌, ◌∙◌, sym, ap, Option, Some, Result, Ok, Err, refl, ℕ}
+use Rattle.sii_edit.specs.declared.command.Command.{Command}
+use Rattle.book_model.specs.declared.refusal.SubmitRefusal.{SubmitRefusal}
+use Rattle.book_model.specs.Book.{Book}
+use Rattle.book_model.specs.Submit.{submit, with_command}
+use Rattle.world_law.specs.World.{Told, World}
+use Rattle.world_law.specs.Happenings.{HappensUp, submitted}
+use Rattle.station_desk.specs.declared.call.Call.{Call}
+use Rattle.station_desk.specs.declared.call.Call.TheVariants.{Submitted, DiskAsked, DiskTold, SlaveAsked, SlaveTold, PlanAsked, Finished}
+use Rattle.station_desk.specs.Calls.{after, IsAnswered}
+use Rattle.desk_laws.specs.Events.{event_of}
+
+-- the book of a world
+abbrev up_in : World → Option Book
+up_in world = world.book
+
+submit-after : (book : Book) (command : Command) (answer : Result ℕ SubmitRefusal) → answer ≡ submit book command → (submitted book command (submit book command)).0 ≡ after book (Submitted command answer)
+submit-after book command (Ok number) is = rw (sym is) refl
+submit-after book command (Err refusal) is = rw (sym is) refl
+
+pub happens-after : (book : Book) (call : Call) (world later : World) (told : Told) → world.book ≡ Some book → IsAnswered book call → HappensUp (event_of call) book world told later → later.book ≡ Some (after book call)
+happens-after book (Submitted command answer) world later told up one h = ap up_in h.1 ∙ ap (λ (b : Book). Some b) (submit-after book command answer one)
+happens-after book (DiskAsked answer) world later told up one h = ap up_in h.1
+happens-after book (DiskTold (Ok done)) world later told up one h = ap up_in h.1.1
+happens-after book (DiskTold (Err fault)) world later told up one h = ap up_in h.1.4
+happens-after book (SlaveAsked slave answer) world later told up one h = ap up_in h.1.is
+happens-after book (SlaveTold slave outcome) world later told up one h = ap up_in h.1.is
+happens-after book (PlanAsked answer) world later told up one h = ap up_in h.1 ∙ up
+happens-after book Finished world later told up one h = ap up_in h.1

@@ -1,0 +1,23 @@
+ghost use Rattle.std.specs.Prelude.{◌≡◌, List, Some};
+ghost use Rattle.std.specs.List.{AllByRecursion};
+ghost use Rattle.book_model.specs.Book.{Book, base_of};
+ghost use Rattle.world_law.specs.World.{Told, World};
+ghost use Rattle.world_law.specs.Happenings.{HappensUp};
+ghost use Rattle.station_desk.specs.declared.call.Call.{Call};
+ghost use Rattle.station_desk.specs.Calls.{after, AreAnswered, IsAnswered, replayed};
+ghost use Rattle.station_desk.specs.Logs.{cycle_log};
+ghost use Rattle.desk_laws.specs.Events.{event_of};
+ghost use Rattle.desk_laws.specs.Turns.{IsTurnOf};
+
+/// Each call of a book under its lock is an event of the law: where that happens in a world with this book, whatever its disk and its
+/// slaves do, the book is then what the history has behind the call.
+pub fn calls_are_events()
+    ensures { (book : Book) (call : Call) (world later : World) (told : Told) → world.book ≡ Some book → IsAnswered book call → HappensUp (event_of call) book world told later
+        → later.book ≡ Some (after book call) }
+{}
+
+/// Each turn that was handed out to the cycle is of the contents after some of the commands that are accepted in the end, and has the
+/// size of their process image.
+pub fn turns_have_their_images()
+    ensures { (opened : Book) (calls : List Call) → AreAnswered opened calls → AllByRecursion (IsTurnOf (base_of opened) (replayed opened calls).accepted) (cycle_log calls) }
+{}
