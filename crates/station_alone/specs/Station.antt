@@ -16,8 +16,8 @@ pub record Station : Type 0 where
 abbrev pub station : Book → Line → Seen → Station
 station book line seen = record { book = book; line = line; seen = seen }
 
--- What holds of every station. The site has a disk and all slaves, the book has as many slaves as the line, its contents are words of 16 bits, and the next step can be
--- carried out.
+-- What holds of every station: the site has a disk and all slaves, the book has as many slaves as the line, its contents are words
+-- of 16 bits, and the next step can be carried out.
 pub record Stands (s : Station) : Type 0 where
   pub disk : IsTrue s.line.has_disk
   pub owned : OwnsAll s.line
