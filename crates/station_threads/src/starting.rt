@@ -1,0 +1,140 @@
+//! Starting a thread for each part.
+
+ghost use Rattle.std.specs.Prelude.{◌≡◌, IfOk, IfErr};
+ghost use denote.Param.Send.{IsSync};
+
+use crate::parts::{CyclePart, DiskPart, SlavePart};
+use crate::serving::Meanwhile;
+use site_core::Site;
+use station_jobs::{CycleLog, DiskLog, Dispatch, End, Gate, RomLog, SlaveLog};
+use std::snapshot::Snapshot;
+use std::sync::Wait;
+use std::thread::{Promise, PromisedHandle, Scope, Threads};
+
+/// The end begins where this site was.
+#[derive(Drop)]
+pub(crate) struct Since<S> {
+    site: Snapshot<S>,
+}
+
+impl<S: Site> Promise<End<S, DiskLog>> for Since<S> {
+    ghost kept_by = { λ since end. end.start ≡ since.site.value };
+}
+
+impl<S: Site> Promise<End<S, CycleLog>> for Since<S> {
+    ghost kept_by = { λ since end. end.start ≡ since.site.value };
+}
+
+/// The end is of this slave, and begins where the site was.
+#[derive(Drop)]
+pub(crate) struct SinceOf<S> {
+    slave: u16,
+    site: Snapshot<S>,
+}
+
+impl<S: Site> Promise<End<S, SlaveLog>> for SinceOf<S> {
+    ghost kept_by = { λ since end. (end.log.slave ≡ since.slave) × (end.start ≡ since.site.value) };
+}
+
+/// Starts a flusher; or finishes, and serves the disk here, where no thread can be made.
+pub(crate) fn start_flusher<
+    's,
+    E,
+    S: Site + Send + Drop + 's,
+    D: Dispatch<DiskLog> + Drop + 's,
+    M: Meanwhile,
+    R: Wait + Threads + Sync,
+>(
+    scope: &'s Scope<'s, E>,
+    rt: &'s R,
+    part: DiskPart<S, D>,
+    meanwhile: &mut M,
+) -> Result<PromisedHandle<End<S, DiskLog>, Since<S>>, End<S, DiskLog>>
+    ensures there { IfOk result (λ handle. handle.promise.site.value ≡ part.site) }
+    ensures here { IfErr result (λ end. end.start ≡ part.site) }
+{
+    let since = Since {
+        site: Snapshot::of(&part.site),
+    };
+    let serves = move || -> End<S, DiskLog>
+        requires { IsSync R.row }
+        ensures { result.start ≡ part.site }
+    { part.serve(rt) };
+    match scope.spawn_with(since, serves) {
+        Ok(handle) => Ok(handle),
+        Err(refused) => {
+            meanwhile.finish(rt);
+            Err((refused.value)())
+        }
+    }
+}
+
+/// Starts the worker of a slave; or finishes, and serves the slave here, where no thread can be made.
+pub(crate) fn start_worker<
+    's,
+    E,
+    S: Site + Send + Drop + 's,
+    D: Dispatch<RomLog> + Drop + 's,
+    G: Gate + Sync,
+    M: Meanwhile,
+    R: Wait + Threads + Sync,
+>(
+    scope: &'s Scope<'s, E>,
+    rt: &'s R,
+    gate: &'s G,
+    part: SlavePart<S, D>,
+    meanwhile: &mut M,
+) -> Result<PromisedHandle<End<S, SlaveLog>, SinceOf<S>>, End<S, SlaveLog>>
+    ensures there { IfOk result (λ handle. (handle.promise.slave ≡ part.slave) × (handle.promise.site.value ≡ part.site)) }
+    ensures here { IfErr result (λ end. (end.log.slave ≡ part.slave) × (end.start ≡ part.site)) }
+{
+    let since = SinceOf {
+        slave: part.slave,
+        site: Snapshot::of(&part.site),
+    };
+    let serves = move || -> End<S, SlaveLog>
+        requires { IsSync R.row × IsSync G.row }
+        ensures slave { result.log.slave ≡ part.slave }
+        ensures start { result.start ≡ part.site }
+    { part.serve(rt, gate) };
+    match scope.spawn_with(since, serves) {
+        Ok(handle) => Ok(handle),
+        Err(refused) => {
+            meanwhile.finish(rt);
+            Err((refused.value)())
+        }
+    }
+}
+
+/// Starts the cycle; or finishes, and serves it here, where no thread can be made.
+pub(crate) fn start_cycle<
+    's,
+    E,
+    S: Site + Send + Drop + 's,
+    D: Dispatch<CycleLog> + Drop + 's,
+    M: Meanwhile,
+    R: Wait + Threads + Sync,
+>(
+    scope: &'s Scope<'s, E>,
+    rt: &'s R,
+    part: CyclePart<S, D>,
+    meanwhile: &mut M,
+) -> Result<PromisedHandle<End<S, CycleLog>, Since<S>>, End<S, CycleLog>>
+    ensures there { IfOk result (λ handle. handle.promise.site.value ≡ part.site) }
+    ensures here { IfErr result (λ end. end.start ≡ part.site) }
+{
+    let since = Since {
+        site: Snapshot::of(&part.site),
+    };
+    let serves = move || -> End<S, CycleLog>
+        requires { IsSync R.row }
+        ensures { result.start ≡ part.site }
+    { part.serve(rt) };
+    match scope.spawn_with(since, serves) {
+        Ok(handle) => Ok(handle),
+        Err(refused) => {
+            meanwhile.finish(rt);
+            Err((refused.value)())
+        }
+    }
+}
