@@ -1,0 +1,4 @@
+mod acts;
+mod kept;
+mod random;
+mod recoveries;
