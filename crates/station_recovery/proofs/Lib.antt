@@ -1,0 +1,5 @@
+pub mod RowLaws
+pub mod DiskLaws
+pub mod SlaveLaws
+pub mod RoundLaws
+pub mod EndLaws
