@@ -121,21 +121,27 @@ module _ (old new : Station) (working : IsWorking old) (stands : Stands new) (go
   asks-by answer (refused form is) asks =
       let same : new.book ≡ old.book = asks.book ∙ ap (λ (a : Bool × Book). a.1) is in
       let idle : answer ≡ Idle = asks.answered ∙ ap (λ (a : Bool × Book). if a.0 then Did else Idle) is in
-      inr (idle, record {
-        works = works asks.book asks.seen (ap (λ (b : Book). is_some b.fault) same ∙ working.sound);
-        left = let n : calls_left new.book ≡ calls_left old.book = ap calls_left same in omega (arith, n);
-        yes = λ more. absurd cc;
-        no = λ not. (ap (λ (b : Book). live b.halves) same ∙ (without-byte old.book).0 none, ap (λ (b : Book). is_version_2 b.form) same ∙ form);
-      })
+      inr (
+        idle,
+        record {
+          works = works asks.book asks.seen (ap (λ (b : Book). is_some b.fault) same ∙ working.sound);
+          left = let n : calls_left new.book ≡ calls_left old.book = ap calls_left same in omega (arith, n);
+          yes = λ more. absurd cc;
+          no = λ not. (ap (λ (b : Book). live b.halves) same ∙ (without-byte old.book).0 none, ap (λ (b : Book). is_version_2 b.form) same ∙ form);
+        },
+      )
   asks-by answer (asked is) asks =
       let goes_to : new.book ≡ record old.book { is_migrating = true } = asks.book ∙ ap (λ (a : Bool × Book). a.1) is in
       let did : answer ≡ Did = asks.answered ∙ ap (λ (a : Bool × Book). if a.0 then Did else Idle) is in
-      inl (did, record {
-        works = works asks.book asks.seen (ap (λ (b : Book). is_some b.fault) goes_to ∙ working.sound);
-        left = let n : calls_left new.book ≡ calls_left old.book = ap calls_left goes_to in omega (arith, n);
-        yes = λ more. inr (ap (λ (b : Book). b.is_migrating) goes_to);
-        no = λ not. absurd (not refl);
-      })
+      inl (
+        did,
+        record {
+          works = works asks.book asks.seen (ap (λ (b : Book). is_some b.fault) goes_to ∙ working.sound);
+          left = let n : calls_left new.book ≡ calls_left old.book = ap calls_left goes_to in omega (arith, n);
+          yes = λ more. inr (ap (λ (b : Book). b.is_migrating) goes_to);
+          no = λ not. absurd (not refl);
+        },
+      )
 
   pub asks-migration : (answer : Answer) → AsksMigration old answer new → ((answer ≡ Did) × Asks true old new) ⊎ ((answer ≡ Idle) × Asks false old new)
   asks-migration answer asks =

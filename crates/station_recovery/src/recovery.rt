@@ -21,10 +21,7 @@ pub struct Recovered {
 }
 
 /// Goes on with a station that was opened, in whose journal so much was found.
-fn finish<S: Site>(
-    station: Alone<S>,
-    found: Found,
-) -> Result<(Alone<S>, Recovered), (S, OpenFault)>
+fn finish<S: Site>(station: Alone<S>, found: Found) -> Result<(Alone<S>, Recovered), (S, OpenFault)>
     requires working { IsWorking station }
     requires small { IsSmall station.book }
     ensures done { IfOk result (λ r. IsDone found station r.1 r.0) }
@@ -57,10 +54,7 @@ fn finish<S: Site>(
 ///
 /// As for `Alone::open`; then `Journal` with `Disk` or `Stopped` of the device, `SlaveDead` for a slave that doesn't take a word, and
 /// `Memory`. The site is handed back as the calls so far left it.
-pub fn recover<S: Site>(
-    alloc: Global,
-    site: S,
-) -> Result<(Alone<S>, Recovered), (S, OpenFault)>
+pub fn recover<S: Site>(alloc: Global, site: S) -> Result<(Alone<S>, Recovered), (S, OpenFault)>
     requires disk { IsTrue (S.line site).has_disk }
     requires slaves { OwnsAll (S.line site) }
     ensures line { MatchResult result (λ r. r.0.line ≡ S.line site) (λ e. S.line e.0 ≡ S.line site) }

@@ -15,15 +15,19 @@ fn told(answer: Answer) -> Result<(), OpenFault>
     ensures { result ≡ told answer }
 {
     match answer {
-        Answer::Failed(Fault::Disk) =>
-            Err(OpenFault::Journal(ReadFault::Device(DeviceFault::Disk))),
-        Answer::Failed(Fault::Stopped) =>
-            Err(OpenFault::Journal(ReadFault::Device(DeviceFault::Stopped))),
-        Answer::Failed(Fault::SlaveDead { slave }) =>
-            Err(OpenFault::Slave(RomFault::SlaveDead { slave })),
+        Answer::Failed(Fault::Disk) => Err(OpenFault::Journal(ReadFault::Device(
+            DeviceFault::Disk,
+        ))),
+        Answer::Failed(Fault::Stopped) => Err(OpenFault::Journal(ReadFault::Device(
+            DeviceFault::Stopped,
+        ))),
+        Answer::Failed(Fault::SlaveDead { slave }) => Err(OpenFault::Slave(RomFault::SlaveDead {
+            slave,
+        })),
         Answer::NoMemory => Err(OpenFault::Memory),
-        Answer::Did | Answer::Idle | Answer::Ended | Answer::Accepted(_) | Answer::Refused(_) =>
-            Ok(()),
+        Answer::Did | Answer::Idle | Answer::Ended | Answer::Accepted(_) | Answer::Refused(_) => Ok(
+            (),
+        ),
     }
 }
 
