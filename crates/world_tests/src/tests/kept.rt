@@ -52,10 +52,11 @@ fn redo_batch(aliases: &mut Aliases, batch: &Batch) {
 
 /// What the disk's journal makes of the words. None where it is no journal.
 fn redone(alloc: Global, world: &World) -> Result<Option<Aliases>, Fail> {
-    let mut aliases = [0u16; 2];
-    for (slave, words) in world.words()?.iter().enumerate() {
-        put(&mut aliases, slave as u16, words.alias());
+    let words = world.words()?;
+    if words.len() < 2 {
+        return Ok(None);
     }
+    let mut aliases = [words[0].alias(), words[1].alias()];
     match scan(alloc, world.disk(), &[64, 64]) {
         Ok(journal) => {
             for batch in journal.batches.as_slice() {

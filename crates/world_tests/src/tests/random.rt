@@ -18,7 +18,7 @@ impl Random {
     /// A number below 65,536.
     fn next(&mut self) -> u16 {
         self.0 = self.0.wrapping_mul(1_664_525).wrapping_add(1_013_904_223);
-        (self.0 >> 16) as u16
+        (self.0 / 65_536) as u16
     }
 
     fn bit(&mut self) -> u16 {
