@@ -1,3 +1,0 @@
-pub mod Loaded
-pub mod Saved
-pub mod Submitted

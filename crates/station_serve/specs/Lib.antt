@@ -1,8 +1,0 @@
-pub mod Alias
-pub mod Faults
-pub mod Files
-pub mod ImageText
-pub mod LineFiles
-pub mod Run
-pub mod ScriptFiles
-pub mod Show

@@ -1,7 +1,7 @@
 //! The subcommand `explain`.
 
-use crate::faults::Fault;
 use station_codes::{CODES, Code};
+use station_files::Fault;
 use std::alloc::{AllocError, Global};
 use std::io::Write;
 

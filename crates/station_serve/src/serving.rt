@@ -1,23 +1,18 @@
 //! The program as a function of its arguments and streams.
 
-ghost use Rattle.std.specs.Prelude.{◌≢◌};
-
-use crate::alias::alias;
-use crate::arguments::{Task, read_arguments};
 use crate::explain::explain;
-use crate::faults::{Failure, Fault, Status};
-use crate::layout::layout;
-use crate::run::run;
-use crate::show::show;
-use crate::store::Store;
 use clap::Error;
 use clap::error::ErrorKind;
+use station_arguments::{Task, read_arguments};
+use station_bench::init_line;
+use station_files::{Failure, Fault, Status, Store, report, set_alias, show_image, show_layout};
+use station_session::run_script;
 use std::alloc::Global;
 use std::io;
 use std::io::{Read, Write};
 
 /// Does what the arguments ask for, and answers the exit status: 0 done, 1 a command refused, 2 usage, 3 file or
-/// format, 5 memory. Word 0 of the arguments is the program's name.
+/// format, 4 device or stop, 5 memory. Word 0 of the arguments is the program's name.
 pub fn serve<R: Read, S: Store, W: Write, E: Write>(
     alloc: Global,
     args: &[String],
@@ -27,15 +22,15 @@ pub fn serve<R: Read, S: Store, W: Write, E: Write>(
     faults: &mut E,
 ) -> u8 {
     let status = match read_arguments(alloc, args) {
-        Ok(Task::Alias { value, hex }) => match alias(alloc, value, hex, input, output) {
+        Ok(Task::Alias { value, hex }) => match set_alias(alloc, value, hex, input, output) {
             Ok(()) => Status::Done,
             Err(failure) => report(failure, faults),
         },
-        Ok(Task::Show { hex }) => match show(alloc, hex, input, output) {
+        Ok(Task::Show { hex }) => match show_image(alloc, hex, input, output) {
             Ok(status) => status,
             Err(fault) => report(Failure::Fault(fault), faults),
         },
-        Ok(Task::Layout { line }) => match layout(alloc, line, store, output) {
+        Ok(Task::Layout { line }) => match show_layout(alloc, line, store, output) {
             Ok(()) => Status::Done,
             Err(fault) => report(Failure::Fault(fault), faults),
         },
@@ -43,18 +38,14 @@ pub fn serve<R: Read, S: Store, W: Write, E: Write>(
             Ok(()) => Status::Done,
             Err(fault) => report(Failure::Fault(fault), faults),
         },
-        Ok(Task::Run { line, script }) => run(alloc, line, script, store, output, faults),
+        Ok(Task::Init { line }) => match init_line(alloc, line, store, output) {
+            Ok(()) => Status::Done,
+            Err(fault) => report(Failure::Fault(fault), faults),
+        },
+        Ok(Task::Run { line, script }) => run_script(alloc, line, script, store, output, faults),
         Err(error) => show_usage(&error, output, faults),
     };
     status as u8
-}
-
-/// Prints why the work wasn't done, and answers the status for it.
-pub fn report<E: Write>(failure: Failure, faults: &mut E) -> Status
-    ensures { result ≢ Status.Done }
-{
-    let _ = writeln!(faults, "{failure}");
-    failure.status()
 }
 
 /// Prints the help that was asked for, or what is wrong with the arguments.

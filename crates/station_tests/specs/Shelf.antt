@@ -1,7 +1,6 @@
 -- Files in memory: the latest file of a name stands first.
-use Rattle.std.specs.Prelude.{ℕ, nat_eq, List, find, Option, option_map, string_bytes, String, Vec}
+use Rattle.std.specs.Prelude.{ℕ, nat_eq, List, find, Option, option_map, string_bytes}
 use Rattle.std.specs.Cmp.Lexicographic.{pointwise}
-use Rattle.std.specs.declared.alloc.Global.{Global}
 use Rattle.station_tests.specs.declared.shelf.Held.{Held}
 
 -- the bytes of the file of this name

@@ -59,7 +59,7 @@ impl Shelf {
 }
 
 impl Store for Shelf {
-    ghost files = { λ shelf name. bytes_at shelf.files.items name };
+    ghost files = { λ shelf name. Some (bytes_at shelf.files.items name) };
 
     fn read(&mut self, alloc: Global, name: &str) -> io::Result<Option<Vec<u8>>> {
         match self.bytes(name) {

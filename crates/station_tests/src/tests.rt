@@ -2,6 +2,8 @@
 
 mod case;
 mod images;
+mod journals;
+mod journals;
 mod lines;
 mod scripts;
 mod streams;

@@ -3,6 +3,7 @@
 use crate::shelf::Shelf;
 use station_serve::serve;
 use std::alloc::{AllocError, Global};
+use std::io;
 use std::io::{Read, Write};
 
 /// The bytes of a file or of an input.
@@ -13,6 +14,8 @@ pub enum Bytes {
     Image(usize, &'static [(usize, &'static [u8])]),
     /// So many bytes 0xFF.
     Blank(usize),
+    /// So many bytes, all 0 but for these from these places on.
+    Zeros(usize, &'static [(usize, &'static [u8])]),
 }
 
 pub type Files = &'static [(&'static str, Bytes)];
@@ -55,6 +58,7 @@ pub fn spell(alloc: Global, bytes: Bytes) -> Result<Vec<u8>, AllocError> {
         Bytes::Text(text) => text.as_bytes().to_vec(alloc),
         Bytes::Blank(len) => vec![in alloc; 0xFFu8; len],
         Bytes::Image(len, patches) => spell_image(alloc, len, patches),
+        Bytes::Zeros(len, patches) => spell_zeros(alloc, len, patches),
     }
 }
 
@@ -65,10 +69,24 @@ fn spell_image(
 ) -> Result<Vec<u8>, AllocError> {
     let mut image = vec![in alloc; 0u8; len]?;
     patch(&mut image, 14, &[0x30]);
-    for (at, bytes) in patches {
-        patch(&mut image, *at, bytes);
-    }
+    patch_all(&mut image, patches);
     Ok(image)
+}
+
+fn spell_zeros(
+    alloc: Global,
+    len: usize,
+    patches: &[(usize, &[u8])],
+) -> Result<Vec<u8>, AllocError> {
+    let mut bytes = vec![in alloc; 0u8; len]?;
+    patch_all(&mut bytes, patches);
+    Ok(bytes)
+}
+
+fn patch_all(bytes: &mut [u8], patches: &[(usize, &[u8])]) {
+    for (at, values) in patches {
+        patch(bytes, *at, values);
+    }
 }
 
 fn patch(image: &mut [u8], at: usize, bytes: &[u8]) {
@@ -131,12 +149,51 @@ pub fn differs(alloc: Global, case: &Case) -> Result<&'static str, AllocError> {
     if shelf.writes != case.writes {
         return Ok("how many files it writes");
     }
-    for (name, bytes) in case.left {
+    leaves(alloc, &shelf, case.left)
+}
+
+/// Whether the shelf has these files; what isn't so, empty where it does.
+pub fn leaves(alloc: Global, shelf: &Shelf, left: Files) -> Result<&'static str, AllocError> {
+    for (name, bytes) in left {
         if shelf.bytes(name) != Some(spell(alloc, *bytes)?.as_slice()) {
             return Ok("a file");
         }
     }
     Ok("")
+}
+
+/// A run over the files that the one before it left: its words, its status, its output, its faults, and how many files it writes.
+#[derive(Clone, Copy)]
+pub struct Step {
+    pub words: &'static str,
+    pub status: u8,
+    pub output: &'static str,
+    pub faults: &'static str,
+    pub writes: usize,
+}
+
+/// What of runs in a row isn't as it is wanted; empty where all is.
+pub fn goes(
+    alloc: Global,
+    files: Files,
+    steps: &[Step],
+    left: Files,
+) -> Result<&'static str, AllocError> {
+    let mut shelf = shelf_with(alloc, files)?;
+    for step in steps {
+        shelf.writes = 0;
+        let run = run_words(alloc, step.words, &mut io::empty(), &mut shelf)?;
+        let case = Case {
+            status: step.status,
+            output: step.output,
+            faults: step.faults,
+            ..ALONE
+        };
+        if !judge(&case, &run).is_empty() || shelf.writes != step.writes {
+            return Ok(step.words);
+        }
+    }
+    leaves(alloc, &shelf, left)
 }
 
 fn judge(case: &Case, run: &Printed) -> &'static str {

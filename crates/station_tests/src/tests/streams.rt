@@ -100,6 +100,14 @@ const FILES: Files = &[
         Bytes::Text("journal = 'j.bin'\n[[slave]]\nimage = 's0.bin'"),
     ),
     ("s0.bin", Bytes::Image(128, &[])),
+    (
+        "new.toml",
+        Bytes::Text("journal = 'k.bin'\n[[slave]]\nimage = 's0.bin'"),
+    ),
+    (
+        "new.toml",
+        Bytes::Text("journal = 'k.bin'\n[[slave]]\nimage = 's0.bin'"),
+    ),
     ("script.toml", Bytes::Text("command = []")),
 ];
 
@@ -124,6 +132,8 @@ fn writers_that_fail(rt: HostRuntime) -> Result<(), Fail> {
     let runs = [
         "station show",
         "station layout line.toml",
+        "station init new.toml",
+        "station init new.toml",
         "station run line.toml script.toml",
         "station explain",
         "station --help",

@@ -5,13 +5,15 @@ use std::io;
 use std::test::Fail;
 
 /// Words that are no use of the program.
-const WRONG: [&str; 18] = [
+const WRONG: [&str; 19] = [
     "station",
     "station show 1",
     "station show --hex --hex",
     "station run",
     "station run line.toml",
     "station run line.toml script.toml more",
+    "station init",
+    "station init",
     "station layout",
     "station layout line.toml more",
     "station layout --hex",
@@ -27,7 +29,7 @@ const WRONG: [&str; 18] = [
 ];
 
 /// Words that ask for help, and what it shows.
-const HELP: [(&str, &str); 9] = [
+const HELP: [(&str, &str); 10] = [
     ("station --help", "Example:\n"),
     ("station help", "Example:\n"),
     ("station show --help", "Example:\n"),
@@ -35,6 +37,8 @@ const HELP: [(&str, &str); 9] = [
     ("station run --help", "swap = [0, 1]\n"),
     ("station run --help", "area = 65536\n"),
     ("station run --help", "refused CODE NAME"),
+    ("station init --help", "formatted AREA"),
+    ("station init --help", "formatted AREA"),
     ("station layout --help", "area = 65536\n"),
     ("station explain --help", "Example:\n"),
 ];

@@ -1,0 +1,294 @@
+//! The program's command line.
+
+use clap::error::ErrorKind;
+use clap::{Arg, ArgAction, ArgMatches, Command, Error, value_parser};
+use station_codes::{Code, find_code};
+use std::alloc::{AllocError, Global};
+
+/// What the command line asks for.
+#[derive(Clone, Copy)]
+pub enum Task<'a> {
+    /// Sets the alias of the image on standard input.
+    Alias { value: u16, hex: bool },
+    /// Prints what the image on standard input says.
+    Show { hex: bool },
+    /// Formats the journal of a line, the name of a file.
+    Init { line: &'a str },
+    /// Runs a script on a line; both are names of files.
+    Run { line: &'a str, script: &'a str },
+    /// Prints the process image of a line, the name of a file.
+    Layout { line: &'a str },
+    /// Prints what a code means, or what all of them do.
+    Explain { code: Option<Code> },
+}
+
+/// What `--version` prints behind the program's name.
+const VERSION: &str = "0.1.0";
+
+/// What the help says of a line file.
+const LINE_FILE: &str = "The line file: the slaves' image files and the journal's, in TOML:
+
+  journal = \"journal.bin\"
+  area = 65536
+  [[slave]]
+  image = \"s0.bin\"
+  [[slave]]
+  image = \"s1.bin\"
+
+The journal's area has 4096 to 4194304 bytes, 65536 where nothing is said.
+There are 1 to 64 slaves, numbered from 0. Each image is a whole EEPROM of
+64 to 4096 words, a multiple of 64. Names are relative to the current folder.";
+
+/// What the help says of a script file.
+const SCRIPT_FILE: &str = "The script file: the commands, in order, in TOML, here one of each kind:
+
+  [[command]]
+  alias = { slave = 0, value = 1001 }
+  [[command]]
+  swap = [0, 1]
+  [[command]]
+  category = { slave = 0, kind = 51, content = \"0016010000000000\" }
+  [[command]]
+  image = { slave = 1, file = \"new.bin\" }
+  [[command]]
+  group = [
+    { alias = { slave = 0, value = 7 } },
+    { alias = { slave = 1, value = 8 }, expect = { vendor = 2, product = 0, revision = 0 } },
+  ]
+
+A category's content is hexadecimal text of whole words; \"\" removes the
+category. A group is 1 to 64 edits, alias, category or image, that are done as
+one act. An edit with expect is refused where the slave has another identity.";
+
+/// What `init` prints, and how it ends.
+const INIT_ANSWERS: &str = "Answers:
+  formatted AREA   the journal is there, and empty; its area has AREA bytes
+Faults go to standard error as: fault CODE NAME. The subcommand explain says what
+a code means.
+
+Exit status: 0 done, 2 wrong usage, 3 a file or its form, or a journal is there
+already, 4 a device, 5 no memory.
+
+Example:
+  sii_station init line.toml";
+
+/// What `run` prints, and how it ends.
+const RUN_ANSWERS: &str = "Answers:
+  command I accepted N           command I of the script is the Nth that is done
+  command I refused CODE NAME    it isn't done, and changes nothing
+  ... at P                       of a group, edit P is the reason
+  accepted A durable D settled S
+                                 how many commands were accepted, are in the
+                                 journal, and are in the slaves
+Faults go to standard error as: fault CODE NAME. The subcommand explain says what
+a code means.
+
+Exit status: 0 done, 1 a command was refused, 2 wrong usage, 3 a file or its
+form, 5 no memory.
+
+Example:
+  sii_station run line.toml script.toml";
+
+/// What `layout` prints, and how it ends.
+const LAYOUT_ANSWERS: &str = "Answers:
+  slave P sm M out offset O size S bits B
+                   the outputs of sync manager M of slave P: where they begin
+                   in the process image, and their length in bytes and in bits
+  slave P sm M in ..
+                   the same of inputs
+  outputs A inputs B counter C
+                   all outputs and inputs in bytes, and the working counter of
+                   a cycle that every slave takes part in
+
+Exit status: 0 done, 2 wrong usage, 3 a file or its form, or no process image,
+5 no memory.
+
+Example:
+  sii_station layout line.toml";
+
+/// Reads the words of a command line, the program's name first.
+pub fn read_arguments<'a>(alloc: Global, words: &'a [String]) -> Result<Task<'a>, Error> {
+    let mut command = station(alloc)?;
+    let matches = command.try_get_matches_from_mut(words)?;
+    if let Some(alias) = matches.subcommand_matches("alias") {
+        return alias_task(&mut command, alias);
+    }
+    if let Some(show) = matches.subcommand_matches("show") {
+        return Ok(Task::Show {
+            hex: show.get_flag("hex"),
+        });
+    }
+    if let Some(init) = matches.subcommand_matches("init") {
+        return Ok(init_task(init));
+    }
+    if let Some(run) = matches.subcommand_matches("run") {
+        return Ok(run_task(run));
+    }
+    if let Some(layout) = matches.subcommand_matches("layout") {
+        return Ok(layout_task(layout));
+    }
+    if let Some(explain) = matches.subcommand_matches("explain") {
+        return explain_task(&mut command, explain);
+    }
+    Err(command.error(ErrorKind::MissingSubcommand, "a subcommand is needed")?)
+}
+
+/// The whole command line.
+fn station<'a>(alloc: Global) -> Result<Command<'a>, AllocError> {
+    Command::new(alloc, "sii_station")
+        .about("Reprograms the SII EEPROMs of a line of EtherCAT slaves")
+        .version(VERSION)
+        .after_help("Example:\n  sii_station alias 1001 < slave.bin > renamed.bin")
+        .subcommand_required(true)
+        .subcommand(show_command(alloc)?)?
+        .subcommand(alias_command(alloc)?)?
+        .subcommand(init_command(alloc)?)?
+        .subcommand(run_command(alloc)?)?
+        .subcommand(layout_command(alloc)?)?
+        .subcommand(explain_command(alloc)?)
+}
+
+fn show_command<'a>(alloc: Global) -> Result<Command<'a>, AllocError> {
+    let hex = Arg::new(alloc, "hex")
+        .long("hex")
+        .help("Reads hexadecimal text in place of bytes")
+        .action(ArgAction::SetTrue);
+    Command::new(alloc, "show")
+        .about("Prints what an EEPROM image says")
+        .long_about(
+            "Reads the image of a slave's EEPROM from standard input and prints its alias, whether its check byte is right, its identity and its categories. An image has 64 to 4096 words, low byte first.",
+        )
+        .after_help("Example:\n  sii_station show < slave.bin")
+        .arg(hex)
+}
+
+fn alias_command<'a>(alloc: Global) -> Result<Command<'a>, AllocError> {
+    let value = Arg::new(alloc, "VALUE")
+        .help("The new alias, 0 to 65535")
+        .required(true)
+        .value_parser(value_parser!(u16));
+    let hex = Arg::new(alloc, "hex")
+        .long("hex")
+        .help("Reads and writes hexadecimal text in place of bytes")
+        .action(ArgAction::SetTrue);
+    Command::new(alloc, "alias")
+        .about(
+            "Sets the configured station alias of an EEPROM image, and the check byte that goes with it",
+        )
+        .long_about(
+            "Reads the image of a slave's EEPROM from standard input, sets the configured station alias and the check byte that goes with it, and writes the image to standard output. An image has 64 to 4096 words, low byte first.",
+        )
+        .after_help("Example:\n  sii_station alias 1001 < slave.bin > renamed.bin")
+        .arg(value)?
+        .arg(hex)
+}
+
+fn init_command<'a>(alloc: Global) -> Result<Command<'a>, AllocError> {
+    Command::new(alloc, "init")
+        .about("Formats the journal of a line of slaves")
+        .long_about(
+            "Reads a line file and the EEPROM images that it names, and makes an empty journal in the file that it names for it. That file must not be there yet.",
+        )
+        .after_help("Example:\n  sii_station init line.toml")
+        .after_long_help(INIT_ANSWERS)
+        .arg(line_argument(alloc))
+}
+
+fn run_command<'a>(alloc: Global) -> Result<Command<'a>, AllocError> {
+    let script = Arg::new(alloc, "SCRIPT")
+        .help("The script file: the commands, in order")
+        .long_help(SCRIPT_FILE)
+        .required(true);
+    Command::new(alloc, "run")
+        .about("Runs a script of commands on a line of slaves")
+        .long_about(
+            "Reads a line file, the EEPROM images that it names and a script file, submits the script's commands in order, prints the answer to each, and saves the images.",
+        )
+        .after_help("Example:\n  sii_station run line.toml script.toml")
+        .after_long_help(RUN_ANSWERS)
+        .arg(line_argument(alloc))?
+        .arg(script)
+}
+
+fn layout_command<'a>(alloc: Global) -> Result<Command<'a>, AllocError> {
+    Command::new(alloc, "layout")
+        .about("Prints the process image of a line of slaves")
+        .long_about(
+            "Reads a line file and the EEPROM images that it names, and prints where the process data of each sync manager lies in the process image, then the sizes of outputs and inputs in bytes and the working counter that is expected. No file is written.",
+        )
+        .after_help("Example:\n  sii_station layout line.toml")
+        .after_long_help(LAYOUT_ANSWERS)
+        .arg(line_argument(alloc))
+}
+
+fn line_argument<'a>(alloc: Global) -> Arg<'a> {
+    Arg::new(alloc, "LINE")
+        .help("The line file: the slaves' image files and the journal's")
+        .long_help(LINE_FILE)
+        .required(true)
+}
+
+fn explain_command<'a>(alloc: Global) -> Result<Command<'a>, AllocError> {
+    let code = Arg::new(alloc, "CODE").help("The number or the name of a fault or a refusal");
+    Command::new(alloc, "explain")
+        .about("Says what the code of a fault or a refusal means")
+        .long_about(
+            "Prints what the code of a fault or a refusal means, why it comes and what to do about it. Without CODE it prints that of all codes.",
+        )
+        .after_help("Example:\n  sii_station explain 15\n  sii_station explain BadCheck")
+        .arg(code)
+}
+
+/// The name is required, so it is there.
+fn init_task<'a>(matches: &ArgMatches<'a>) -> Task<'a> {
+    Task::Init {
+        line: matches.get_str("LINE").unwrap_or(""),
+    }
+}
+
+/// Both names are required, so they are there.
+fn run_task<'a>(matches: &ArgMatches<'a>) -> Task<'a> {
+    Task::Run {
+        line: matches.get_str("LINE").unwrap_or(""),
+        script: matches.get_str("SCRIPT").unwrap_or(""),
+    }
+}
+
+/// The name is required, so it is there.
+fn layout_task<'a>(matches: &ArgMatches<'a>) -> Task<'a> {
+    Task::Layout {
+        line: matches.get_str("LINE").unwrap_or(""),
+    }
+}
+
+/// A value is digits alone: a sign isn't part of it.
+fn alias_task<'a>(command: &mut Command<'a>, matches: &ArgMatches<'a>) -> Result<Task<'a>, Error> {
+    let text = matches.get_str("VALUE").unwrap_or("");
+    match matches.get_one::<u16>("VALUE") {
+        Some(value) if text.bytes().all(|byte| byte.is_ascii_digit()) => Ok(Task::Alias {
+            value,
+            hex: matches.get_flag("hex"),
+        }),
+        _ => Err(command.error(
+            ErrorKind::ValueValidation,
+            "VALUE is a number in digits, 0 to 65535",
+        )?),
+    }
+}
+
+/// A code is given by its number or its name.
+fn explain_task<'a>(
+    command: &mut Command<'a>,
+    matches: &ArgMatches<'a>,
+) -> Result<Task<'a>, Error> {
+    let Some(text) = matches.get_str("CODE") else {
+        return Ok(Task::Explain { code: None });
+    };
+    match find_code(text) {
+        Some(code) => Ok(Task::Explain { code: Some(code) }),
+        None => Err(command.error(
+            ErrorKind::ValueValidation,
+            "CODE is the number or the name of a fault or a refusal",
+        )?),
+    }
+}

@@ -1,0 +1,6 @@
+//! The program's command line: what it asks for, and what its help says.
+#![tactic(auto)]
+
+mod arguments;
+
+pub use arguments::{Task, read_arguments};

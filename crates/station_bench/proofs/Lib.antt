@@ -1,0 +1,4 @@
+pub mod Formatted
+pub mod Refused
+pub mod Saved
+pub mod SwitchedOn

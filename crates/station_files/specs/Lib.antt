@@ -1,0 +1,7 @@
+pub mod Alias
+pub mod Faults
+pub mod Files
+pub mod ImageText
+pub mod LineFiles
+pub mod ScriptFiles
+pub mod Show

@@ -1,0 +1,40 @@
+//! The subcommand `layout`.
+ghost use Rattle.std.specs.Prelude.{◌≡◌, IfOk, IfErr, OnOk};
+ghost use Rattle.station_files.specs.LineFiles.{ListsFiles, RefusesLayout};
+ghost use Rattle.station_listing.specs.declared.layout_listing.LayoutListing.{LayoutListing};
+
+use crate::faults::Fault;
+use crate::line::load_plant;
+use crate::store::Store;
+use station_listing::{LayoutListing, list_layout};
+use std::alloc::Global;
+use std::io::Write;
+
+/// Reads a line and its slaves' files as they are, and prints the line's process image. The journal isn't read, and no file
+/// is written. Nothing is printed where there is no image, or where memory is refused.
+pub fn show_layout<S: Store, W: Write>(
+    alloc: Global,
+    line: &str,
+    store: &mut S,
+    output: &mut W,
+) -> Result<(), Fault>
+    ensures listed { OnOk result ((listing : LayoutListing) × ListsFiles (S.files store.old) line.now listing) }
+    ensures refused { IfErr result (RefusesLayout (S.files store.old) line.now) }
+    ensures same { S.files store.new ≡ S.files store.old }
+{
+    let listing = list_line(alloc, line, store)?;
+    let text = format!(in alloc; "{listing}")?;
+    output.write_all(text.as_bytes())?;
+    output.flush()?;
+    Ok(())
+}
+
+/// Lists the process image of a line whose line file has this name.
+fn list_line<S: Store>(alloc: Global, name: &str, store: &mut S) -> Result<LayoutListing, Fault>
+    ensures listing { IfOk result (ListsFiles (S.files store.old) name.now) }
+    ensures refused { IfErr result (RefusesLayout (S.files store.old) name.now) }
+    ensures same { S.files store.new ≡ S.files store.old }
+{
+    let plant = load_plant(alloc, name, store)?;
+    Ok(list_layout(alloc, &plant)?)
+}

@@ -1,0 +1,26 @@
+//! The files of a line and of a script as values, and back; the faults that they end in; and what the program does without a
+//! journal.
+#![tactic(auto)]
+
+mod alias;
+mod faults;
+mod image;
+mod layout;
+mod line;
+mod reading;
+mod reporting;
+mod saving;
+mod script;
+mod script_images;
+mod show;
+mod store;
+
+pub use alias::set_alias;
+pub use faults::{Failure, Fault, Refused, Status, worse};
+pub use layout::show_layout;
+pub use line::{load_line, load_slaves};
+pub use reporting::report;
+pub use saving::{save_slaves, write_files};
+pub use script::load_script;
+pub use show::show_image;
+pub use store::{FileStore, Store, read_file};

@@ -1,0 +1,51 @@
+//! Saving the contents of a line to the slaves' files.
+ghost use Rattle.std.specs.Prelude.{◌≡◌, length, map, string_bytes, IfErr, IfOk, OnOk};
+ghost use Rattle.sii_words.specs.Words.{bytes_of};
+ghost use Rattle.station_files.specs.Faults.{IsOfStream};
+ghost use Rattle.station_files.specs.Files.{ChangesAmong, HoldsAll};
+
+use crate::faults::Fault;
+use crate::store::Store;
+use sii_words::Plant;
+use std::alloc::{AllocError, Global};
+use std::io;
+
+/// Writes every slave's contents to its file. All memory is taken before the first is written.
+pub fn save_slaves<S: Store>(
+    alloc: Global,
+    images: &[String],
+    contents: &Plant,
+    store: &mut S,
+) -> Result<(), Fault>
+    requires { length images.now ≡ length contents.now }
+    ensures saved { OnOk result (HoldsAll (S.files store.new) (map (λ name. string_bytes name) images.now) (map bytes_of contents.now)) }
+    ensures others { ChangesAmong (S.files store.old) (S.files store.new) (map (λ name. string_bytes name) images.now) }
+    ensures failed { IfErr result IsOfStream }
+{
+    let files = spell_slaves(alloc, contents)?;
+    write_files(images, &files, store)?;
+    Ok(())
+}
+
+/// The bytes of each slave's file.
+fn spell_slaves(alloc: Global, contents: &Plant) -> Result<Vec<Vec<u8>>, AllocError>
+    ensures { IfOk result (λ files. map (λ file. file.items) files.items ≡ map bytes_of contents.now) }
+{
+    let mut files = Vec::new(alloc);
+    for slave in 0..contents.len() {
+        files.push(contents.slave(slave).to_bytes()?)?;
+    }
+    Ok(files)
+}
+
+/// Makes these the bytes of these files, one after the other.
+pub fn write_files<S: Store>(images: &[String], files: &[Vec<u8>], store: &mut S) -> io::Result<()>
+    requires { length images.now ≡ length files.now }
+    ensures written { OnOk result (HoldsAll (S.files store.new) (map (λ name. string_bytes name) images.now) (map (λ file. file.items) files.now)) }
+    ensures others { ChangesAmong (S.files store.old) (S.files store.new) (map (λ name. string_bytes name) images.now) }
+{
+    for slave in 0..images.len() {
+        store.write(images[slave].as_str(), &files[slave])?;
+    }
+    Ok(())
+}

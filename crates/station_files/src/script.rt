@@ -1,0 +1,35 @@
+//! The commands of a script, from the files that say what they are.
+ghost use Rattle.std.specs.Prelude.{◌≡◌, IfOk};
+ghost use Rattle.station_files.specs.ScriptFiles.{SpellsCommands};
+ghost use Rattle.station_text.specs.ScriptText.{SpellsScriptFile};
+
+use crate::faults::Fault;
+use crate::script_images::load_commands;
+use crate::store::{Store, read_file};
+use sii_edit::Command;
+use station_text::{ScriptCommand, read_script};
+use std::alloc::Global;
+
+/// The commands of the script file of this name. The images that it names are read once all of its text is judged.
+pub fn load_script<S: Store>(
+    alloc: Global,
+    name: &str,
+    store: &mut S,
+) -> Result<Vec<Command>, Fault>
+    ensures commands { IfOk result (λ commands. SpellsCommands (S.files store.old) name.now commands.items) }
+    ensures same { S.files store.new ≡ S.files store.old }
+{
+    let bytes = read_file(alloc, name, store)?;
+    let script = spelt_script(alloc, &bytes)?;
+    load_commands(alloc, &script, store)
+}
+
+/// The commands of a script of these bytes.
+fn spelt_script(alloc: Global, bytes: &[u8]) -> Result<Vec<ScriptCommand>, Fault>
+    ensures { IfOk result (λ script. SpellsScriptFile bytes.now script.items) }
+{
+    let Ok(text) = str::from_utf8(bytes) else {
+        return Err(Fault::BadScript { command: 0 });
+    };
+    Ok(read_script(alloc, text)?)
+}

@@ -1,0 +1,135 @@
+//! The images that a script's commands name.
+ghost use Rattle.std.specs.Prelude.{◌≡◌, ◌↔◌, All, IfOk, IsTrue};
+ghost use Rattle.std.specs.List.{AllZip};
+ghost use Rattle.station_files.specs.ScriptFiles.{IsPlain, LoadsCommand, LoadsEdit, LoadsGroup, LoadsGuarded};
+
+use crate::faults::Fault;
+use crate::store::{Store, read_file};
+use sii_edit::{Command, Edit, EditList, GuardedEdit, GuardedEditList};
+use sii_words::ImageFile;
+use station_text::{ScriptCommand, ScriptEdit, ScriptGroupEdit};
+use std::alloc::Global;
+
+/// The commands of a script, with the images from their files. The files are read in the commands' order, each judged
+/// before the next.
+pub fn load_commands<S: Store>(
+    alloc: Global,
+    script: &[ScriptCommand],
+    store: &mut S,
+) -> Result<Vec<Command>, Fault>
+    ensures commands { IfOk result (λ commands. AllZip (LoadsCommand (S.files store.old)) script.now commands.items) }
+    ensures same { S.files store.new ≡ S.files store.old }
+{
+    let mut commands = Vec::with_capacity(alloc, script.len())?;
+    for command in script {
+        commands.push(load_command(alloc, command, store)?)?;
+    }
+    Ok(commands)
+}
+
+fn load_command<S: Store>(
+    alloc: Global,
+    command: &ScriptCommand,
+    store: &mut S,
+) -> Result<Command, Fault>
+    ensures command { IfOk result (LoadsCommand (S.files store.old) command.now) }
+    ensures same { S.files store.new ≡ S.files store.old }
+{
+    match command {
+        ScriptCommand::One(edit) => Ok(Command::One(load_edit(alloc, edit, store)?)),
+        ScriptCommand::Swap { a, b } => Ok(Command::Swap { a: *a, b: *b }),
+        ScriptCommand::Group(edits) => load_group(alloc, edits, store),
+    }
+}
+
+/// A group in which no edit is guarded is a plain one.
+fn load_group<S: Store>(
+    alloc: Global,
+    edits: &[ScriptGroupEdit],
+    store: &mut S,
+) -> Result<Command, Fault>
+    ensures command { IfOk result (LoadsGroup (S.files store.old) edits.now) }
+    ensures same { S.files store.new ≡ S.files store.old }
+{
+    if is_plain(edits) {
+        let plain = load_edits(alloc, edits, store)?;
+        return Ok(Command::Group(EditList::from_vec(plain)));
+    }
+    let guarded = load_guarded_edits(alloc, edits, store)?;
+    Ok(Command::Guarded(GuardedEditList::from_vec(guarded)))
+}
+
+fn is_plain(edits: &[ScriptGroupEdit]) -> bool
+    ensures { IsTrue result ↔ All IsPlain edits.now }
+{
+    edits.iter().all(|edit| edit.expect.is_none())
+}
+
+fn load_edits<S: Store>(
+    alloc: Global,
+    edits: &[ScriptGroupEdit],
+    store: &mut S,
+) -> Result<Vec<Edit>, Fault>
+    ensures edits { IfOk result (λ loaded. AllZip (λ one edit. LoadsEdit (S.files store.old) one.edit edit) edits.now loaded.items) }
+    ensures same { S.files store.new ≡ S.files store.old }
+{
+    let mut loaded = Vec::with_capacity(alloc, edits.len())?;
+    for one in edits {
+        loaded.push(load_edit(alloc, &one.edit, store)?)?;
+    }
+    Ok(loaded)
+}
+
+fn load_guarded_edits<S: Store>(
+    alloc: Global,
+    edits: &[ScriptGroupEdit],
+    store: &mut S,
+) -> Result<Vec<GuardedEdit>, Fault>
+    ensures edits { IfOk result (λ loaded. AllZip (LoadsGuarded (S.files store.old)) edits.now loaded.items) }
+    ensures same { S.files store.new ≡ S.files store.old }
+{
+    let mut loaded = Vec::with_capacity(alloc, edits.len())?;
+    for one in edits {
+        loaded.push(load_guarded_edit(alloc, one, store)?)?;
+    }
+    Ok(loaded)
+}
+
+fn load_guarded_edit<S: Store>(
+    alloc: Global,
+    one: &ScriptGroupEdit,
+    store: &mut S,
+) -> Result<GuardedEdit, Fault>
+    ensures edit { IfOk result (LoadsGuarded (S.files store.old) one.now) }
+    ensures same { S.files store.new ≡ S.files store.old }
+{
+    Ok(GuardedEdit {
+        expect: one.expect,
+        edit: load_edit(alloc, &one.edit, store)?,
+    })
+}
+
+fn load_edit<S: Store>(alloc: Global, edit: &ScriptEdit, store: &mut S) -> Result<Edit, Fault>
+    ensures edit { IfOk result (LoadsEdit (S.files store.old) edit.now) }
+    ensures same { S.files store.new ≡ S.files store.old }
+{
+    match edit {
+        ScriptEdit::Alias { slave, value } => Ok(Edit::Alias {
+            slave: *slave,
+            value: *value,
+        }),
+        ScriptEdit::Category { slave, kind, words } => Ok(Edit::Category {
+            slave: *slave,
+            kind: *kind,
+            words: words.try_copy()?,
+        }),
+        ScriptEdit::Image { slave, file } => {
+            let bytes = read_file(alloc, file.as_str(), store)?;
+            let image = ImageFile::from_bytes(alloc, &bytes)?;
+            Ok(Edit::Image {
+                slave: *slave,
+                image,
+            })
+        }
+    }
+}
