@@ -1,4 +1,0 @@
-mod acts;
-mod kept;
-mod random;
-mod recoveries;
