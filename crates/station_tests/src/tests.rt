@@ -3,7 +3,6 @@
 mod case;
 mod images;
 mod journals;
-mod journals;
 mod lines;
 mod scripts;
 mod streams;

@@ -104,10 +104,6 @@ const FILES: Files = &[
         "new.toml",
         Bytes::Text("journal = 'k.bin'\n[[slave]]\nimage = 's0.bin'"),
     ),
-    (
-        "new.toml",
-        Bytes::Text("journal = 'k.bin'\n[[slave]]\nimage = 's0.bin'"),
-    ),
     ("script.toml", Bytes::Text("command = []")),
 ];
 
@@ -132,7 +128,6 @@ fn writers_that_fail(rt: HostRuntime) -> Result<(), Fail> {
     let runs = [
         "station show",
         "station layout line.toml",
-        "station init new.toml",
         "station init new.toml",
         "station run line.toml script.toml",
         "station explain",
