@@ -8,7 +8,7 @@ use Rattle.site_core.specs.declared.fault.DeviceFault.TheVariants as faults
 use Rattle.site_core.specs.Disk.{Disk, no_disk, StopImage, DiskStopped}
 use Rattle.site_core.specs.State.{State, Seen, with_half, last_of}
 use Rattle.site_core.specs.Calls.{ExchangesFrame, CyclesFrame}
-use Rattle.site_mem.specs.Unsynced.{of_bytes}
+use Rattle.disk_mem.specs.Unsynced.{of_bytes}
 use Rattle.site_mem.specs.Parts.{bytes_or_none}
 
 pub absent-opened : (disk : Option (Vec ℕ)) → ¬ IsTrue (is_some disk) → of_bytes (bytes_or_none disk) ≡ no_disk

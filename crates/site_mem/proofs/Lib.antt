@@ -1,4 +1,3 @@
-pub mod Remembered
 pub mod Calling
 pub mod Lengths
 pub mod LineHalves

@@ -3,7 +3,7 @@ use Rattle.std.specs.Prelude.{◌≡◌, ℕ, false, List, [], replicate, Option
 use Rattle.std.specs.Global.{Vec}
 use Rattle.site_core.specs.Disk.{StopImage}
 use Rattle.site_mem.specs.declared.site.Parts.{Parts}
-use Rattle.site_mem.specs.Unsynced.{of_bytes}
+use Rattle.disk_mem.specs.Unsynced.{of_bytes}
 use Rattle.site_mem.specs.Line.{halves_of, word_counts}
 use Rattle.site_mem.specs.Process.{memories_of}
 use Rattle.site_mem.specs.Site.{SiteValue, value_of, IsWhole}

@@ -1,16 +1,7 @@
-/// What the unsynced bytes, and a word that is torn, hold after a stop.
-#[derive(Clone, Copy, Debug, PartialEq, Eq)]
-pub enum Pattern {
-    /// What the last sync left, and the word's old value.
-    Old,
-    /// What was written, and the word's new value.
-    New,
-    /// The low byte of this in each byte, and this in the word.
-    Fill(u16),
-}
+use disk_mem::Pattern;
 
 /// A stop that is to come in a device write.
-#[derive(Clone, Copy, Debug)]
+#[derive(Clone, Copy)]
 struct Fuse {
     /// How many writes pass before it.
     writes: u64,

@@ -3,8 +3,8 @@ ghost use Rattle.std.specs.Prelude.{◌≡◌, length, IfOk};
 ghost use Rattle.esc_model.specs.SlaveHalf.{MayRest, MayStop, Serves};
 ghost use Rattle.site_mem.specs.Going.{HasHalf, HalfTakes, HalfTears};
 
-use crate::faults::Pattern;
 use crate::frames::Header;
+use disk_mem::Pattern;
 use ecat_frame::Command;
 use esc_model::{Rest, RomHalf};
 use std::alloc::{AllocError, Global};

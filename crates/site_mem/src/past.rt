@@ -2,7 +2,7 @@
 ghost use Rattle.std.specs.Prelude.{◌≡◌};
 ghost use Rattle.site_mem.specs.Line.{halves_of};
 
-use crate::disk::MemDisk;
+use disk_mem::MemDisk;
 use ecat_frame::Frame;
 use esc_model::RomHalf;
 use history::History;

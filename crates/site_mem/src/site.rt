@@ -6,10 +6,9 @@ ghost use Rattle.site_mem.specs.Parts.{AreWhole, site_of, bytes_or_none, IsLeftO
 ghost use Rattle.site_mem.specs.Process.{memories_of};
 ghost use Rattle.site_mem.specs.Line.{halves_of};
 
-use crate::disk::MemDisk;
-use crate::faults::Pattern;
 use crate::process::copy_all;
 use crate::track::Track;
+use disk_mem::{MemDisk, Pattern};
 use ecat_frame::Frame;
 use esc_model::{ProcessHalf, RomHalf};
 use site_core::{DeviceFault, Site};

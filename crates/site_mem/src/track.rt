@@ -1,19 +1,19 @@
 ghost use Rattle.std.specs.Prelude.{◌≡◌, ◌≢◌, ℕ, ◌+◌, ◌<◌, ◌≤◌, ◌⊎◌, ◌++◌, ◌∷◌, [], ◌^◌, length, IfErr, IsTrue, IsNone, IfOk, OnOk, OnErr};
 ghost use Rattle.site_core.specs.Disk.{synced, StopImage};
 ghost use Rattle.site_core.specs.State.{Seen, words_held};
-ghost use Rattle.site_mem.specs.Unsynced.{Covers};
+ghost use Rattle.disk_mem.specs.Unsynced.{Covers};
 ghost use Rattle.site_core.specs.Calls.{Reads, GivesLength, ReadsDisk, WritesDisk, SyncsDisk, ExchangesFrame, CyclesFrame, told};
 ghost use Rattle.site_mem.specs.Line.{halves_of, KeepsCounts};
 ghost use Rattle.site_mem.specs.Process.{CyclesHalves};
 ghost use Rattle.site_mem.specs.Going.{TakesOne, Went};
 ghost use Rattle.site_mem.specs.Stopping.{HasStopped, CountsFault, noted, begun, with_bytes_over};
 
-use crate::disk::MemDisk;
-use crate::faults::{FaultPlan, Pattern};
+use crate::faults::FaultPlan;
 use crate::frames::{copy_content, copy_of};
 use crate::halves::{copy_halves, has_taken_word, take_datagram, tear_word};
 use crate::past::{CycleTurn, Instant, Step};
 use crate::process::pass_all;
+use disk_mem::{MemDisk, Pattern};
 use ecat_frame::{Frame, MAX_LEN};
 use esc_model::{ProcessHalf, RomHalf};
 use history::History;

@@ -1,7 +1,7 @@
 use Rattle.std.proofs.Common.{length, sym, ap, subst}
 use Rattle.site_core.specs.Disk.{Disk}
 use Rattle.site_core.specs.State.{Seen}
-use Rattle.site_mem.specs.Unsynced.{Covers}
+use Rattle.disk_mem.specs.Unsynced.{Covers}
 use Rattle.site_mem.proofs.track.Track.lay.Goals as goal
 
 pub lay-requires-clause-begun : goal.lay-requires-clause-begun

@@ -1,9 +1,9 @@
 use Rattle.std.proofs.Common.{◌≡◌, List, [], ◌∷◌, reverse, sym, ap, subst, ◌∙◌}
 use Rattle.std.proofs.lemmas.List.{reverse-append}
 use Rattle.site_core.specs.Disk.{Range}
-use Rattle.site_mem.specs.Unsynced.{Remembers}
-use Rattle.site_mem.proofs.Remembered.{Remembers-begun}
-use Rattle.site_mem.proofs.disk.MemDisk.begin.Goals as goal
+use Rattle.disk_mem.specs.Unsynced.{Remembers}
+use Rattle.disk_mem.proofs.Remembered.{Remembers-begun}
+use Rattle.disk_mem.proofs.disk.MemDisk.begin.Goals as goal
 
 pub invariant_of-self : goal.invariant_of-self
 invariant_of-self c =

@@ -1,5 +1,5 @@
-use Rattle.site_mem.specs.Unsynced.{MarksOnly}
-use Rattle.site_mem.proofs.marks.mark.Given as goal
+use Rattle.disk_mem.specs.Unsynced.{MarksOnly}
+use Rattle.disk_mem.proofs.marks.mark.Given as goal
 
 abbrev pub invariant-loop-place : goal.invariant-loop-place
 invariant-loop-place l = MarksOnly l.initial.before l.at l.end l.before

@@ -1,5 +1,5 @@
-use Rattle.site_mem.specs.Unsynced.{DiffersAtMarks}
-use Rattle.site_mem.proofs.marks.tear.Given as goal
+use Rattle.disk_mem.specs.Unsynced.{DiffersAtMarks}
+use Rattle.disk_mem.proofs.marks.tear.Given as goal
 
 abbrev pub invariant-loop-place : goal.invariant-loop-place
 invariant-loop-place l = DiffersAtMarks l.before l.initial.bytes.items l.bytes.items

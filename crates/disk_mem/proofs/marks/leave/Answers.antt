@@ -1,8 +1,8 @@
 use Rattle.std.proofs.Common.{ℕ, List, take, sym, subst}
 use Rattle.site_core.specs.Disk.{StopImage}
-use Rattle.site_mem.specs.Unsynced.{DiffersAtMarks}
-use Rattle.site_mem.proofs.Remembered.{StopImage-cut}
-use Rattle.site_mem.proofs.marks.leave.Goals as goal
+use Rattle.disk_mem.specs.Unsynced.{DiffersAtMarks}
+use Rattle.disk_mem.proofs.Remembered.{StopImage-cut}
+use Rattle.disk_mem.proofs.marks.leave.Goals as goal
 
 pub returns-in-Old : goal.returns-in-Old
 returns-in-Old c = λ disk bytes synced keeps.

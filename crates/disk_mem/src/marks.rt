@@ -1,9 +1,9 @@
 // Bytes of a disk, and what is remembered of them until a sync.
 ghost use Rattle.std.specs.Prelude.{◌≡◌, ℕ, ◌+◌, ◌<◌, ◌≤◌, ◌^◌, length, slice_get, OnOk, OnErr};
 ghost use Rattle.site_core.specs.Disk.{Disk, StopImage, overlaid};
-ghost use Rattle.site_mem.specs.Unsynced.{DiffersAtMarks, Remembers, MarksOnly};
+ghost use Rattle.disk_mem.specs.Unsynced.{DiffersAtMarks, Remembers, MarksOnly};
 
-use crate::faults::Pattern;
+use crate::pattern::Pattern;
 use std::alloc::AllocError;
 
 /// Remembers the bytes of a range as they are, unless they are remembered already.
@@ -37,15 +37,15 @@ fn mark(before: &mut [Option<u8>], bytes: &[u8], at: usize, end: usize)
 }
 
 /// Lays bytes over others from a place on, past the end too.
-pub(crate) fn lay_over(bytes: &mut Vec<u8>, at: usize, over: &[u8]) -> Result<(), AllocError>
-    requires { at ≤ length bytes.old.items }
+pub fn lay_over(bytes: &mut Vec<u8>, at: usize, over: &[u8]) -> Result<(), AllocError>
     ensures ok { OnOk result (bytes.new.items ≡ overlaid bytes.old.items at over.now) }
     ensures err { OnErr result (bytes.new.items ≡ bytes.old.items) }
 {
-    let inside = over.len().min(bytes.len() - at);
-    let (front, behind) = over.split_at(inside);
+    let front = at.min(bytes.len());
+    let inside = over.len().min(bytes.len() - front);
+    let (kept, behind) = over.split_at(inside);
     bytes.extend_from_slice(behind)?;
-    bytes[at..at + inside].copy_from_slice(front);
+    bytes[front..front + inside].copy_from_slice(kept);
     Ok(())
 }
 

@@ -1,7 +1,7 @@
 -- What is remembered of unsynced bytes.
 use Rattle.std.proofs.Common.{◌≡◌, ℕ, zero, suc, ◌+◌, ◌<◌, ◌≤◌, ◌⊎◌, List, [], ◌∷◌, ◌++◌, length, take, drop, Option, None, Result, Ok, Err, OnOk, OnErr, slice_get, refl, sym, subst, ◌∙◌, inl, inr, arith, length-append, length-take, length-drop}
 use Rattle.site_core.specs.Disk.{Disk, IsOutside, StopImage, overlaid, write_begun}
-use Rattle.site_mem.specs.Unsynced.{Covers, Remembers, MarksOnly, DiffersAtMarks}
+use Rattle.disk_mem.specs.Unsynced.{Covers, Remembers, MarksOnly, DiffersAtMarks}
 
 -- a write that has begun
 pub Remembers-begun : (old new : List (Option ℕ)) (disk : Disk) (at count : ℕ) → Remembers old disk → MarksOnly old at (at + count) new

@@ -1,16 +1,16 @@
 ghost use Rattle.std.specs.Prelude.{◌≡◌, ℕ, ◌+◌, ◌<◌, ◌≤◌, ◌^◌, List, length, slice_get, OnOk, OnErr, IfOk, take};
 ghost use Rattle.site_core.specs.Disk.{Disk, IsSynced, overlaid, write_begun, synced, DiskStopped, StopImage};
-ghost use Rattle.site_mem.specs.Unsynced.{Covers, IsUnmarked, Remembers, of_bytes};
+ghost use Rattle.disk_mem.specs.Unsynced.{Covers, IsUnmarked, Remembers, of_bytes};
 
-use crate::faults::Pattern;
 use crate::marks::{hold, lay_over, leave};
+use crate::pattern::Pattern;
 use history::History;
 use std::alloc::{AllocError, Global};
 use std::marker::Model;
 
 /// A range of bytes that was written.
 #[derive(Drop)]
-pub(crate) struct Stretch {
+struct Stretch {
     start: usize,
     count: usize,
 }
@@ -25,7 +25,7 @@ impl Model for Stretch {
 
 /// A disk in memory. It remembers of each byte that was written since the last sync what the sync had left there.
 #[derive(Drop)]
-pub(crate) struct MemDisk {
+pub struct MemDisk {
     bytes: Vec<u8>,
     /// By place, what the last sync left of a byte that was written since.
     before: Vec<Option<u8>>,
@@ -39,7 +39,7 @@ impl Model for MemDisk {
     ghost Value = { Disk };
 
     ghost use Rattle.std.specs.Prelude.{reverse};
-    ghost use Rattle.site_mem.specs.Unsynced.{Remembers};
+    ghost use Rattle.disk_mem.specs.Unsynced.{Remembers};
 
     ghost view = { λ d. record { bytes = d.bytes.items; unsynced = reverse d.unsynced; synced_length = d.synced_length } };
 
@@ -48,7 +48,7 @@ impl Model for MemDisk {
 
 impl MemDisk {
     /// A disk of these bytes, all of them synced.
-    pub(crate) fn of(alloc: Global, bytes: Vec<u8>) -> MemDisk
+    pub fn of(alloc: Global, bytes: Vec<u8>) -> MemDisk
         ensures { result ≡ of_bytes bytes.items }
     {
         let synced_length = bytes.len();
@@ -61,13 +61,13 @@ impl MemDisk {
     }
 
     /// What a read gives.
-    pub(crate) fn bytes(&self) -> &[u8]
+    pub fn bytes(&self) -> &[u8]
         ensures { result.now ≡ self.now.bytes }
     {
         &self.bytes
     }
 
-    pub(crate) fn into_bytes(self) -> Vec<u8>
+    pub fn into_bytes(self) -> Vec<u8>
         ensures { result.items ≡ self.bytes }
     {
         let MemDisk { bytes, .. } = self;
@@ -76,7 +76,7 @@ impl MemDisk {
 
     /// A write of so many bytes begins: its range is unsynced. Where there is no memory to remember what stands there, a
     /// stop leaves that as it is.
-    pub(crate) fn begin(&mut self, at: usize, count: usize) -> Result<(), AllocError>
+    pub fn begin(&mut self, at: usize, count: usize) -> Result<(), AllocError>
         requires inside { at ≤ length self.old.bytes }
         requires count { count < 2 ^ 63 }
         ensures { self.new ≡ write_begun self.old at count }
@@ -86,7 +86,7 @@ impl MemDisk {
     }
 
     /// Lays the bytes over those from this place on. Their write has begun.
-    pub(crate) fn lay(&mut self, at: usize, over: &[u8]) -> Result<(), AllocError>
+    pub fn lay(&mut self, at: usize, over: &[u8]) -> Result<(), AllocError>
         requires inside { at ≤ length self.old.bytes }
         requires begun { Covers self.old at (length over.now) }
         ensures ok { OnOk result (self.new ≡ record self.old { bytes = overlaid self.old.bytes at over.now }) }
@@ -96,7 +96,7 @@ impl MemDisk {
     }
 
     /// All bytes are synced.
-    pub(crate) fn sync(&mut self)
+    pub fn sync(&mut self)
         ensures { self.new ≡ synced self.old }
     {
         self.before.clear();
@@ -105,7 +105,7 @@ impl MemDisk {
     }
 
     /// A stop, after which the unsynced bytes are those of the pattern.
-    pub(crate) fn stop(&mut self, pattern: Pattern)
+    pub fn stop(&mut self, pattern: Pattern)
         ensures { DiskStopped self.old self.new }
     {
         leave(&mut self.bytes, &self.before, self.synced_length, pattern);
@@ -115,7 +115,7 @@ impl MemDisk {
     }
 
     /// The bytes that a stop by this pattern leaves now.
-    pub(crate) fn snapshot(&self, pattern: Pattern) -> Result<Vec<u8>, AllocError>
+    pub fn snapshot(&self, pattern: Pattern) -> Result<Vec<u8>, AllocError>
         ensures { IfOk result (λ bytes. StopImage self.now bytes.items) }
     {
         let mut bytes = self.bytes.clone()?;

@@ -1,8 +1,8 @@
 use Rattle.std.proofs.Common.{◌≤◌, length, reverse, sym, subst}
 use Rattle.site_core.specs.Disk.{Disk}
-use Rattle.site_mem.specs.Unsynced.{Covers}
-use Rattle.site_mem.proofs.Remembered.{Remembers-laid}
-use Rattle.site_mem.proofs.disk.MemDisk.lay.Goals as goal
+use Rattle.disk_mem.specs.Unsynced.{Covers}
+use Rattle.disk_mem.proofs.Remembered.{Remembers-laid}
+use Rattle.disk_mem.proofs.disk.MemDisk.lay.Goals as goal
 
 pub invariant_of-self : goal.invariant_of-self
 invariant_of-self c =
