@@ -34,32 +34,61 @@ const EMPTIED: [u16; 12] = [END, 8, 0, 0, 0, 0, 0, 0, 0, 0, END, 7];
 /// The same with a category added.
 const LONGER: [u16; 15] = [51, 8, 0, 0, 0, 0, 0, 0, 0, 0, 10, 1, 1, END, 7];
 
-/// The strings of a content, written again.
+/// The same with its only category so long that it fills the device.
+const FULL: [u16; 64] = [
+    51, 62, 0, 0, 0, 0, 0, 0, 0, 0, 0, 0, 0, 0, 0, 0, 0, 0, 0, 0, 0, 0, 0, 0, 0, 0, 0, 0, 0, 0, 0,
+    0, 0, 0, 0, 0, 0, 0, 0, 0, 0, 0, 0, 0, 0, 0, 0, 0, 0, 0, 0, 0, 0, 0, 0, 0, 0, 0, 0, 0, 0, 0, 0,
+    0,
+];
+
+/// What a content is read as.
+#[derive(Clone, Copy)]
+enum Kind {
+    Names,
+    Managers,
+    Pdos,
+    Units,
+}
+
+/// Contents, and what they are once they are read and written again.
+const AGAIN: [(Kind, &[u16], &[u16]); 5] = [
+    (Kind::Names, &NAMES, &NAMES),
+    (Kind::Names, &[], &[0]),
+    (Kind::Managers, &MANAGERS, &MANAGERS),
+    (Kind::Pdos, &INPUTS, &INPUTS),
+    (Kind::Units, &[0x0201, 0x03FF], &[0x0201, 0x03FF]),
+];
+
 fn strings_again(alloc: Global, words: &[u16]) -> Result<Vec<u16>, CatFault> {
     write_strings(alloc, &strings(alloc, words)?)
 }
 
-fn managers_again(alloc: Global, words: &[u16]) -> Result<Vec<u16>, AllocError> {
-    write_syncms(alloc, &syncms(alloc, words)?)
+fn managers_again(alloc: Global, words: &[u16]) -> Result<Vec<u16>, CatFault> {
+    Ok(write_syncms(alloc, &syncms(alloc, words)?)?)
 }
 
 fn pdos_again(alloc: Global, words: &[u16]) -> Result<Vec<u16>, CatFault> {
     write_pdos(alloc, TXPDOS, &pdos(alloc, TXPDOS, words)?)
 }
 
-fn units_again(alloc: Global, words: &[u16]) -> Result<Vec<u16>, AllocError> {
-    write_fmmus(alloc, &fmmus(alloc, words)?)
+fn units_again(alloc: Global, words: &[u16]) -> Result<Vec<u16>, CatFault> {
+    Ok(write_fmmus(alloc, &fmmus(alloc, words)?)?)
+}
+
+fn again(alloc: Global, kind: Kind, words: &[u16]) -> Result<Vec<u16>, CatFault> {
+    match kind {
+        Kind::Names => strings_again(alloc, words),
+        Kind::Managers => managers_again(alloc, words),
+        Kind::Pdos => pdos_again(alloc, words),
+        Kind::Units => units_again(alloc, words),
+    }
 }
 
 #[test]
 fn contents_are_written_as_they_were_read(rt: HostRuntime) -> Result<(), Fail> {
-    assert!(rt; strings_again(rt.alloc(), &NAMES)?.as_slice() == NAMES.as_slice());
-    assert!(rt; strings_again(rt.alloc(), &[])?.as_slice() == [0].as_slice());
-    assert!(rt; managers_again(rt.alloc(), &MANAGERS)?.as_slice() == MANAGERS.as_slice());
-    assert!(rt; pdos_again(rt.alloc(), &INPUTS)?.as_slice() == INPUTS.as_slice());
-    assert!(rt;
-        units_again(rt.alloc(), &[0x0201, 0x03FF])?.as_slice() == [0x0201, 0x03FF].as_slice()
-    );
+    for (kind, words, wanted) in &AGAIN {
+        assert!(rt; again(rt.alloc(), *kind, words)?.as_slice() == *wanted);
+    }
     Ok(())
 }
 
@@ -98,21 +127,35 @@ fn sizes_of_chain(alloc: Global, words: &[u16], then: u16) -> Result<(usize, usi
     Ok((categories.len(), longest.unwrap_or(0)))
 }
 
+/// Chains, the word behind them, and how many categories they have and how many words the longest content.
+const CHAINS: [(&[u16], u16, Result<(usize, usize), ChainFault>); 4] = [
+    (&[], END, Ok((0, 0))),
+    (&[], 0, Ok((32, 0))),
+    (&OLD, 7, Ok((1, 8))),
+    (&[51, 63], 0, Err(ChainFault::RunsOut { at: 64 })),
+];
+
 #[test]
 fn chains(rt: HostRuntime) -> Result<(), Fail> {
-    assert!(rt; sizes_of_chain(rt.alloc(), &[], END) == Ok((0, 0)));
-    assert!(rt; sizes_of_chain(rt.alloc(), &[], 0) == Ok((32, 0)));
-    assert!(rt; sizes_of_chain(rt.alloc(), &OLD, 7) == Ok((1, 8)));
-    let cut = sizes_of_chain(rt.alloc(), &[51, 63], 0);
-    assert!(rt; cut == Err(ChainFault::RunsOut { at: 64 }));
+    for (words, then, wanted) in &CHAINS {
+        assert!(rt; sizes_of_chain(rt.alloc(), words, *then) == *wanted);
+    }
     Ok(())
 }
+
+/// What the only category of `OLD` is exchanged for, or none where one is added, and the chain then.
+const EDITED: [(Option<&[u16]>, &[u16]); 3] = [
+    (Some(&[]), &EMPTIED),
+    (None, &LONGER),
+    // All words are taken, and no end mark is left.
+    (Some(&[0; 62]), &FULL),
+];
 
 /// Such words with their only category exchanged, or taken out.
 fn exchanged(alloc: Global, content: &[u16]) -> Result<Vec<u16>, CatFault> {
     let device = with_chain(alloc, &OLD, 7)?;
     if device.len() != 128 || chain(alloc, &device)?.len() != 1 {
-        return Err(CatFault::NoRoom);
+        return Err(CatFault::BadCategory { kind: END });
     }
     splice(alloc, &device, Some(0), RXPDOS, content)
 }
@@ -121,19 +164,29 @@ fn exchanged(alloc: Global, content: &[u16]) -> Result<Vec<u16>, CatFault> {
 fn with_strings(alloc: Global) -> Result<Vec<u16>, CatFault> {
     let device = with_chain(alloc, &OLD, 7)?;
     if device.len() != 128 {
-        return Err(CatFault::NoRoom);
+        return Err(CatFault::BadCategory { kind: END });
     }
     splice(alloc, &device, None, STRINGS, &[1])
 }
 
+fn edited(alloc: Global, content: Option<&[u16]>) -> Result<Vec<u16>, CatFault> {
+    match content {
+        Some(content) => exchanged(alloc, content),
+        None => with_strings(alloc),
+    }
+}
+
+/// Whether that gives this chain.
+fn gives(alloc: Global, content: Option<&[u16]>, wanted: &[u16]) -> Result<bool, CatFault> {
+    let whole = with_chain(alloc, wanted, 7)?;
+    Ok(edited(alloc, content)?.as_slice() == whole.as_slice())
+}
+
 #[test]
 fn edited_categories(rt: HostRuntime) -> Result<(), Fail> {
-    let emptied = with_chain(rt.alloc(), &EMPTIED, 7)?;
-    assert!(rt; exchanged(rt.alloc(), &[])?.as_slice() == emptied.as_slice());
-    let longer = with_chain(rt.alloc(), &LONGER, 7)?;
-    assert!(rt; with_strings(rt.alloc())?.as_slice() == longer.as_slice());
-    let full = exchanged(rt.alloc(), &[0; 62])?;
-    assert!(rt; full.as_slice().len() == 128 && !full.contains(&END));
+    for (content, wanted) in &EDITED {
+        assert!(rt; gives(rt.alloc(), *content, wanted)?);
+    }
     let over = exchanged(rt.alloc(), &[0; 63]).err();
     assert!(rt; over == Some(CatFault::NoRoom));
     Ok(())

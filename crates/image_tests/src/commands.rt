@@ -7,7 +7,7 @@ use sii_edit::{
 };
 use sii_image::Layout;
 use sii_runs::Run;
-use sii_words::{ImageFile, Plant, Words};
+use sii_words::{ImageFile, Plant, Words, WordsFault};
 use std::alloc::Global;
 use std::test::Fail;
 
@@ -20,11 +20,6 @@ const NAMED: Names = [(1, 0x0019), (0, 0x0030), (0, 0x0030)];
 
 const UNCHECKED: Names = [(0, 0x0030), (0, 0x0031), (0, 0x0030)];
 
-/// A content that fills a device of 128 words to its last one, and one that is a word too long.
-const FILLING: [u16; 62] = [7; 62];
-
-const TOO_LONG: [u16; 63] = [7; 63];
-
 /// An edit as a table holds it.
 #[derive(Clone, Copy)]
 enum Ask {
@@ -36,7 +31,144 @@ enum Ask {
     Image(u16, [u16; 4]),
 }
 
-fn slave(alloc: Global, name: (u16, u16)) -> Result<Words, Fail> {
+/// A command as a table holds it.
+#[derive(Clone, Copy)]
+enum Order {
+    Swap(u16, u16),
+    Group(&'static [Ask]),
+    /// Of each edit a vendor is expected, with product and revision 0.
+    Guarded(&'static [(u32, Ask)]),
+}
+
+/// A content that fills a device of 128 words to its last one, and one that is a word too long.
+const FILLING: [u16; 62] = [7; 62];
+
+const TOO_LONG: [u16; 63] = [7; 63];
+
+const LONGEST: [Ask; 64] = [Ask::Alias(2, 1); 64];
+
+const ONE_MORE: [Ask; 65] = [Ask::Alias(2, 1); 65];
+
+/// An image of vendor 2.
+const VENDOR_2: Ask = Ask::Image(0, [0, 0x0030, 2, 0xFFFF]);
+
+/// Commands, and why they are refused, if they are: the cause, and which edit of a group has it.
+const JUDGED: [(&Names, Order, Option<(Cause, Option<u8>)>); 17] = [
+    (
+        &UNCHECKED,
+        Order::Swap(2, 2),
+        Some((Cause::SameSlave, None)),
+    ),
+    (&UNCHECKED, Order::Swap(3, 3), Some((Cause::NoSlave, None))),
+    (&UNCHECKED, Order::Swap(0, 1), Some((Cause::BadCheck, None))),
+    (&UNCHECKED, Order::Swap(1, 3), Some((Cause::NoSlave, None))),
+    (
+        &ZEROS,
+        Order::Group(&[
+            Ask::Alias(0, 5),
+            Ask::Alias(1, 6),
+            Ask::Category(0, 60, &[]),
+        ]),
+        Some((Cause::NoSuchCategory, Some(2))),
+    ),
+    (
+        &ZEROS,
+        Order::Group(&[Ask::Alias(0, 5), Ask::Category(0, 10, &[0x0202, 0x4C45])]),
+        Some((Cause::BadCategory { kind: 10 }, Some(1))),
+    ),
+    (
+        &ZEROS,
+        Order::Group(&[Ask::Category(2, 0xFFFF, &[1])]),
+        Some((Cause::BadCategory { kind: 0xFFFF }, Some(0))),
+    ),
+    (
+        &ZEROS,
+        Order::Group(&[Ask::Image(1, [0, 0x0030, 0, 10])]),
+        None,
+    ),
+    (
+        &ZEROS,
+        Order::Group(&[Ask::Category(0, 60, &FILLING)]),
+        None,
+    ),
+    (
+        &ZEROS,
+        Order::Group(&[Ask::Category(0, 60, &TOO_LONG)]),
+        Some((Cause::NoRoom, Some(0))),
+    ),
+    (&ZEROS, Order::Group(&[]), Some((Cause::EmptyGroup, None))),
+    (
+        &ZEROS,
+        Order::Group(&ONE_MORE),
+        Some((Cause::GroupTooLong, None)),
+    ),
+    (&ZEROS, Order::Group(&LONGEST), None),
+    // The identity is that just before the edit.
+    (
+        &UNCHECKED,
+        Order::Guarded(&[(0, Ask::Alias(0, 5)), (2, Ask::Alias(2, 6))]),
+        Some((Cause::WrongIdentity, Some(1))),
+    ),
+    (
+        &UNCHECKED,
+        Order::Guarded(&[(0, Ask::Alias(0, 5)), (2, Ask::Alias(1, 6))]),
+        Some((Cause::BadCheck, Some(1))),
+    ),
+    (
+        &UNCHECKED,
+        Order::Guarded(&[(0, VENDOR_2), (2, Ask::Alias(0, 3))]),
+        None,
+    ),
+    (
+        &UNCHECKED,
+        Order::Guarded(&[(0, VENDOR_2), (0, Ask::Alias(0, 3))]),
+        Some((Cause::WrongIdentity, Some(1))),
+    ),
+];
+
+/// Commands, and the runs of one word that they lead to: slave, place and value.
+const LED_TO: [(&Names, Order, &[(u16, u16, u16)]); 3] = [
+    (
+        &NAMED,
+        Order::Swap(0, 1),
+        &[(0, 4, 0), (0, 7, 0x0030), (1, 4, 1), (1, 7, 0x0019)],
+    ),
+    (
+        &NAMED,
+        Order::Group(&[Ask::Alias(2, 7), Ask::Alias(2, 1)]),
+        &[(2, 4, 1), (2, 7, 0x0019)],
+    ),
+    (
+        &NAMED,
+        Order::Group(&[Ask::Alias(2, 1), Ask::Alias(2, 0)]),
+        &[],
+    ),
+];
+
+/// Edits one on the other, and the alias, the vendor and words 64 to 67 of the first slave then.
+const STACKED: [(Order, (u16, u32, [u16; 4])); 3] = [
+    (
+        Order::Group(&[Ask::Category(0, 60, &[9]), Ask::Alias(0, 1)]),
+        (1, 0, [60, 1, 9, 0xFFFF]),
+    ),
+    (
+        Order::Group(&[Ask::Alias(0, 1), Ask::Category(0, 60, &[9])]),
+        (1, 0, [60, 1, 9, 0xFFFF]),
+    ),
+    (
+        Order::Group(&[Ask::Category(0, 60, &[9, 8]), VENDOR_2]),
+        (0, 2, [0xFFFF, 0, 9, 8]),
+    ),
+];
+
+/// Word 7 of an image and the alias that it is to get; whether it gets it, and words 4 and 7 then.
+const RENAMED: [(u16, u16, (bool, u16, u16)); 3] = [
+    (0xAB30, 0x0001, (true, 0x0001, 0xAB19)),
+    (0x0030, 0xFFFF, (true, 0xFFFF, 0x00A6)),
+    (0x0031, 0x0001, (false, 0x0000, 0x0031)),
+];
+
+fn slave(alloc: Global, name: (u16, u16)) -> Result<Words, WordsFault> {
     let mut words = Words::from_bytes(alloc, &[0; 256])?;
     words.set(4, name.0);
     words.set(7, name.1);
@@ -44,13 +176,14 @@ fn slave(alloc: Global, name: (u16, u16)) -> Result<Words, Fail> {
     Ok(words)
 }
 
-fn line(alloc: Global, names: &Names) -> Result<Plant, Fail> {
-    let [first, second, third] = *names;
-    let slaves = vec![in alloc;
-        slave(alloc, first)?,
-        slave(alloc, second)?,
-        slave(alloc, third)?,
-    ]?;
+fn line(alloc: Global, names: &Names) -> Result<Plant, WordsFault> {
+    let mut slaves = Vec::new(alloc);
+    for name in names {
+        slaves.push(slave(alloc, *name)?)?;
+    }
+    if slaves.is_empty() || slaves.len() > 64 {
+        return Err(WordsFault::BadSize);
+    }
     Ok(Plant::of(slaves))
 }
 
@@ -87,7 +220,6 @@ fn group(alloc: Global, asks: &[Ask]) -> Result<Command, Fail> {
     Ok(Command::Group(EditList::from_vec(edits)))
 }
 
-/// Of each edit a vendor is expected, with product and revision 0.
 fn guarded(alloc: Global, asks: &[(u32, Ask)]) -> Result<Command, Fail> {
     let mut edits = Vec::new(alloc);
     for (vendor, ask) in asks {
@@ -102,25 +234,38 @@ fn guarded(alloc: Global, asks: &[(u32, Ask)]) -> Result<Command, Fail> {
     Ok(Command::Guarded(GuardedEditList::from_vec(edits)))
 }
 
-/// Why a command is refused, if it is.
-fn refusal(alloc: Global, names: &Names, command: &Command) -> Result<Option<Refusal>, Fail> {
+fn command(alloc: Global, order: &Order) -> Result<Command, Fail> {
+    match *order {
+        Order::Swap(a, b) => Ok(Command::Swap { a, b }),
+        Order::Group(asks) => group(alloc, asks),
+        Order::Guarded(asks) => guarded(alloc, asks),
+    }
+}
+
+/// Why a command is refused on a line, if it is.
+fn refusal(alloc: Global, plant: &Plant, command: &Command) -> Result<Option<Refusal>, Fail> {
+    let layout = Layout::of(alloc, plant)?;
+    Ok(changes(alloc, plant, &layout, command).err())
+}
+
+/// Why a copy of a command is refused, if it is.
+fn judged(
+    alloc: Global,
+    names: &Names,
+    order: &Order,
+) -> Result<Option<(Cause, Option<u8>)>, Fail> {
     let plant = line(alloc, names)?;
-    let layout = Layout::of(alloc, &plant)?;
-    Ok(changes(alloc, &plant, &layout, command).err())
+    let command = command(alloc, order)?;
+    let refused = refusal(alloc, &plant, &command.try_copy()?)?;
+    Ok(refused.map(|refusal| (refusal.cause, refusal.position)))
 }
 
-fn at(cause: Cause, position: u8) -> Option<Refusal> {
-    Some(Refusal {
-        cause,
-        position: Some(position),
-    })
-}
-
-fn whole(cause: Cause) -> Option<Refusal> {
-    Some(Refusal {
-        cause,
-        position: None,
-    })
+#[test]
+fn commands_are_judged_in_order(rt: HostRuntime) -> Result<(), Fail> {
+    for (names, order, wanted) in &JUDGED {
+        assert_eq!(rt; judged(rt.alloc(), names, order)?, *wanted);
+    }
+    Ok(())
 }
 
 /// Whether the runs have one word each: slave, place and value.
@@ -131,143 +276,46 @@ fn are_words(runs: &[Run], wanted: &[(u16, u16, u16)]) -> bool {
         })
 }
 
-#[test]
-fn swaps_are_judged_in_order(rt: HostRuntime) -> Result<(), Fail> {
-    let swaps = [
-        (2, 2, Cause::SameSlave),
-        (3, 3, Cause::NoSlave),
-        (0, 1, Cause::BadCheck),
-        (1, 3, Cause::NoSlave),
-    ];
-    for (a, b, cause) in swaps {
-        let refused = refusal(rt.alloc(), &UNCHECKED, &Command::Swap { a, b })?;
-        assert_eq!(rt; refused, whole(cause));
-    }
-    Ok(())
-}
-
-#[test]
-fn groups_are_judged_edit_by_edit(rt: HostRuntime) -> Result<(), Fail> {
-    let absent = [
-        Ask::Alias(0, 5),
-        Ask::Alias(1, 6),
-        Ask::Category(0, 60, &[]),
-    ];
-    let strings = [Ask::Alias(0, 5), Ask::Category(0, 10, &[0x0202, 0x4C45])];
-    let end_mark = [Ask::Category(2, 0xFFFF, &[1])];
-    let of_image = [Ask::Image(1, [0, 0x0030, 0, 10])];
-    let filling = [Ask::Category(0, 60, &FILLING)];
-    let too_long = [Ask::Category(0, 60, &TOO_LONG)];
-    let groups: [(&[Ask], Option<Refusal>); 7] = [
-        (&absent, at(Cause::NoSuchCategory, 2)),
-        (&strings, at(Cause::BadCategory { kind: 10 }, 1)),
-        (&end_mark, at(Cause::BadCategory { kind: 0xFFFF }, 0)),
-        (&of_image, None),
-        (&filling, None),
-        (&too_long, at(Cause::NoRoom, 0)),
-        (&[], whole(Cause::EmptyGroup)),
-    ];
-    for (asks, wanted) in groups {
-        let command = group(rt.alloc(), asks)?;
-        assert_eq!(rt; refusal(rt.alloc(), &ZEROS, &command)?, wanted);
-    }
-    Ok(())
-}
-
-#[test]
-fn groups_have_64_edits_at_most(rt: HostRuntime) -> Result<(), Fail> {
-    for (asks, wanted) in [
-        (
-            [Ask::Alias(2, 1); 65].as_slice(),
-            whole(Cause::GroupTooLong),
-        ),
-        ([Ask::Alias(2, 1); 64].as_slice(), None),
-    ] {
-        let command = group(rt.alloc(), asks)?.try_copy()?;
-        assert_eq!(rt; refusal(rt.alloc(), &ZEROS, &command)?, wanted);
-    }
-    Ok(())
-}
-
-#[test]
-fn identity_is_that_just_before(rt: HostRuntime) -> Result<(), Fail> {
-    let vendor_2 = Ask::Image(0, [0, 0x0030, 2, 0xFFFF]);
-    let guards: [(&[(u32, Ask)], Option<Refusal>); 4] = [
-        (
-            &[(0, Ask::Alias(0, 5)), (2, Ask::Alias(2, 6))],
-            at(Cause::WrongIdentity, 1),
-        ),
-        (
-            &[(0, Ask::Alias(0, 5)), (2, Ask::Alias(1, 6))],
-            at(Cause::BadCheck, 1),
-        ),
-        (&[(0, vendor_2), (2, Ask::Alias(0, 3))], None),
-        (
-            &[(0, vendor_2), (0, Ask::Alias(0, 3))],
-            at(Cause::WrongIdentity, 1),
-        ),
-    ];
-    for (asks, wanted) in guards {
-        let command = guarded(rt.alloc(), asks)?.try_copy()?;
-        assert_eq!(rt; refusal(rt.alloc(), &UNCHECKED, &command)?, wanted);
-    }
-    Ok(())
-}
-
-/// The runs of words 4 and 7 that a command leads to.
+/// Whether a command leads to these runs.
 fn leads_to(
     alloc: Global,
     names: &Names,
-    command: &Command,
+    order: &Order,
     wanted: &[(u16, u16, u16)],
 ) -> Result<bool, Fail> {
     let plant = line(alloc, names)?;
-    let (_, runs) = apply(alloc, &plant, command)?;
+    let (_, runs) = apply(alloc, &plant, &command(alloc, order)?)?;
     Ok(are_words(&runs, wanted))
 }
 
 #[test]
 fn aliases_are_runs_of_two_words(rt: HostRuntime) -> Result<(), Fail> {
-    let alloc = rt.alloc();
-    let swap = Command::Swap { a: 0, b: 1 };
-    let swapped = [(0, 4, 0), (0, 7, 0x0030), (1, 4, 1), (1, 7, 0x0019)];
-    assert!(rt; leads_to(alloc, &NAMED, &swap, &swapped)?);
-    let twice = group(alloc, &[Ask::Alias(2, 7), Ask::Alias(2, 1)])?;
-    assert!(rt; leads_to(alloc, &NAMED, &twice, &[(2, 4, 1), (2, 7, 0x0019)])?);
-    let there_and_back = group(alloc, &[Ask::Alias(2, 1), Ask::Alias(2, 0)])?;
-    assert!(rt; leads_to(alloc, &NAMED, &there_and_back, &[])?);
+    for (names, order, wanted) in &LED_TO {
+        assert!(rt; leads_to(rt.alloc(), names, order, wanted)?);
+    }
     Ok(())
 }
 
-/// The alias, the vendor and words 64 to 67 of the first slave after a command.
-fn first_slave(alloc: Global, command: &Command) -> Result<(u16, u32, [u16; 4]), Fail> {
-    let plant = line(alloc, &ZEROS)?;
-    let (new, _) = apply(alloc, &plant, command)?;
-    let _count = new.len();
-    let words = new.slave(0);
-    let slice = words.as_slice();
-    if let [a, b, c, d, ..] = &slice[64..] {
-        return Ok((words.alias(), words.identity().vendor, [*a, *b, *c, *d]));
+/// The alias, the vendor and words 64 to 67 of a slave.
+fn shown(words: &Words) -> (u16, u32, [u16; 4]) {
+    match &words.as_slice()[64..] {
+        [a, b, c, d, ..] => (words.alias(), words.identity().vendor, [*a, *b, *c, *d]),
+        _ => (0, 0, [0; 4]),
     }
-    Ok((0, 0, [0; 4]))
+}
+
+/// The same of the first slave after a command.
+fn first_slave(alloc: Global, order: &Order) -> Result<(u16, u32, [u16; 4]), Fail> {
+    let plant = line(alloc, &ZEROS)?;
+    let (new, _) = apply(alloc, &plant, &command(alloc, order)?)?;
+    let _count = new.len();
+    Ok(shown(new.slave(0)))
 }
 
 #[test]
 fn edits_stand_on_each_other(rt: HostRuntime) -> Result<(), Fail> {
-    let category_first = [Ask::Category(0, 60, &[9]), Ask::Alias(0, 1)];
-    let alias_first = [Ask::Alias(0, 1), Ask::Category(0, 60, &[9])];
-    let behind_an_image = [
-        Ask::Category(0, 60, &[9, 8]),
-        Ask::Image(0, [0, 0x0030, 2, 0xFFFF]),
-    ];
-    let groups: [(&[Ask], (u16, u32, [u16; 4])); 3] = [
-        (&category_first, (1, 0, [60, 1, 9, 0xFFFF])),
-        (&alias_first, (1, 0, [60, 1, 9, 0xFFFF])),
-        (&behind_an_image, (0, 2, [0xFFFF, 0, 9, 8])),
-    ];
-    for (asks, wanted) in groups {
-        let command = group(rt.alloc(), asks)?;
-        assert_eq!(rt; first_slave(rt.alloc(), &command)?, wanted);
+    for (order, wanted) in &STACKED {
+        assert!(rt; first_slave(rt.alloc(), order)? == *wanted);
     }
     Ok(())
 }
@@ -282,13 +330,8 @@ fn aliased(alloc: Global, seven: u16, alias: u16) -> Result<(bool, u16, u16), Fa
 
 #[test]
 fn images_get_aliases(rt: HostRuntime) -> Result<(), Fail> {
-    let images = [
-        (0xAB30, 0x0001, (true, 0x0001, 0xAB19)),
-        (0x0030, 0xFFFF, (true, 0xFFFF, 0x00A6)),
-        (0x0031, 0x0001, (false, 0x0000, 0x0031)),
-    ];
-    for (seven, alias, wanted) in images {
-        assert_eq!(rt; aliased(rt.alloc(), seven, alias)?, wanted);
+    for (seven, alias, wanted) in &RENAMED {
+        assert!(rt; aliased(rt.alloc(), *seven, *alias)? == *wanted);
     }
     Ok(())
 }

@@ -51,60 +51,64 @@ fn line_of(rt: &impl Abort, alloc: Global, stations: &[u16], delay: u32) -> Resu
     Ok(site_of(rt, alloc, parts))
 }
 
+// An issue of word 4 and its settling.
+type Round = (Issued, Settled);
+
+// How many words fail, how many calls pass before one is lost, and what each round answers. The word is written then.
+const WRITTEN: [(u32, Option<u64>, &[Round]); 4] = [
+    (0, None, &[(Issued::Taken, Settled::Written)]),
+    // A word that fails is issued again.
+    (
+        1,
+        None,
+        &[
+            (Issued::Taken, Settled::Again),
+            (Issued::Taken, Settled::Written),
+        ],
+    ),
+    // So is a lost one.
+    (
+        0,
+        Some(0),
+        &[
+            (Issued::Lost, Settled::Again),
+            (Issued::Taken, Settled::Written),
+        ],
+    ),
+    // A lost poll is a poll.
+    (0, Some(1), &[(Issued::Taken, Settled::Written)]),
+];
+
+// Whether each issue of 1 in word 4, and what settles it, answers so.
+fn go_so(site: &mut MemSite, rounds: &[Round]) -> bool {
+    for (issued, settled) in rounds {
+        let answers = site.owns(0)
+            && issue(site, 0, 4, 1) == Ok(*issued)
+            && settle(site, 0, *issued == Issued::Taken) == Ok(*settled);
+        if !answers {
+            return false;
+        }
+    }
+    true
+}
+
 // The alias that the slave has, as a station reads it.
-fn assert_alias(
-    rt: &impl Abort,
-    alloc: Global,
-    site: &mut MemSite,
-    alias: u16,
-) -> Result<(), Fail> {
-    assert!(rt; site.owns(0));
-    let words = read_all(alloc, site, 0)?;
-    assert_eq!(rt; words.alias(), alias);
-    Ok(())
+fn alias_of(rt: &impl Abort, alloc: Global, site: &mut MemSite) -> Result<u16, Fail> {
+    assert!(rt; site.owns(0) && open_slave(site, 0).is_ok());
+    Ok(read_all(alloc, site, 0)?.alias())
 }
 
 #[test]
-fn a_word_is_written(rt: HostRuntime) -> Result<(), Fail> {
-    let mut site = line(&rt, rt.alloc(), 0x1001, 1)?;
-    assert!(rt; site.owns(0));
-    assert_eq!(rt; open_slave(&mut site, 0), Ok(()));
-    assert_eq!(rt; issue(&mut site, 0, 4, 1), Ok(Issued::Taken));
-    assert_eq!(rt; settle(&mut site, 0, true), Ok(Settled::Written));
-    assert_alias(&rt, rt.alloc(), &mut site, 1)
-}
-
-#[test]
-fn a_word_that_fails_is_issued_again(rt: HostRuntime) -> Result<(), Fail> {
-    let mut site = line(&rt, rt.alloc(), 0x1001, 1)?;
-    assert!(rt; site.owns(0));
-    site.fail_writes(0, 1);
-    assert_eq!(rt; issue(&mut site, 0, 4, 1), Ok(Issued::Taken));
-    assert_eq!(rt; settle(&mut site, 0, true), Ok(Settled::Again));
-    assert_eq!(rt; issue(&mut site, 0, 4, 1), Ok(Issued::Taken));
-    assert_eq!(rt; settle(&mut site, 0, true), Ok(Settled::Written));
-    assert_alias(&rt, rt.alloc(), &mut site, 1)
-}
-
-#[test]
-fn a_lost_issue_is_issued_again(rt: HostRuntime) -> Result<(), Fail> {
-    let mut site = line(&rt, rt.alloc(), 0x1001, 1)?;
-    assert!(rt; site.owns(0));
-    site.fail_once(0);
-    assert_eq!(rt; issue(&mut site, 0, 4, 1), Ok(Issued::Lost));
-    assert_eq!(rt; settle(&mut site, 0, false), Ok(Settled::Again));
-    assert_eq!(rt; issue(&mut site, 0, 4, 1), Ok(Issued::Taken));
-    assert_eq!(rt; settle(&mut site, 0, true), Ok(Settled::Written));
-    assert_alias(&rt, rt.alloc(), &mut site, 1)
-}
-
-#[test]
-fn a_lost_poll_is_a_poll(rt: HostRuntime) -> Result<(), Fail> {
-    let mut site = line(&rt, rt.alloc(), 0x1001, 1)?;
-    assert!(rt; site.owns(0));
-    assert_eq!(rt; issue(&mut site, 0, 4, 1), Ok(Issued::Taken));
-    site.fail_once(0);
-    assert_eq!(rt; settle(&mut site, 0, true), Ok(Settled::Written));
+fn words_are_written(rt: HostRuntime) -> Result<(), Fail> {
+    for (failing, passing, rounds) in &WRITTEN {
+        let mut site = line(&rt, rt.alloc(), 0x1001, 1)?;
+        site.fail_writes(0, *failing);
+        if let Some(calls) = passing {
+            site.fail_once(*calls);
+        }
+        assert!(rt; go_so(&mut site, rounds));
+        assert!(rt; alias_of(&rt, rt.alloc(), &mut site)? == 1);
+    }
     Ok(())
 }
 
@@ -112,9 +116,7 @@ fn a_lost_poll_is_a_poll(rt: HostRuntime) -> Result<(), Fail> {
 fn polls_have_an_end(rt: HostRuntime) -> Result<(), Fail> {
     for (delay, settled) in [(9_999, Settled::Written), (10_000, Settled::Dead)] {
         let mut site = line(&rt, rt.alloc(), 0x1001, delay)?;
-        assert!(rt; site.owns(0));
-        assert_eq!(rt; issue(&mut site, 0, 4, 1), Ok(Issued::Taken));
-        assert_eq!(rt; settle(&mut site, 0, true), Ok(settled));
+        assert!(rt; go_so(&mut site, &[(Issued::Taken, settled)]));
     }
     Ok(())
 }
