@@ -1,0 +1,2 @@
+pub mod Zips
+mod Workers

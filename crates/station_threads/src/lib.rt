@@ -5,5 +5,5 @@ mod parts;
 mod serving;
 mod starting;
 
-pub use parts::{CyclePart, DiskPart, Ends, Line, SlavePart};
-pub use serving::{Meanwhile, serve};
+pub use parts::{CyclePart, DiskPart, Line, LineEnds, LineParts, SlavePart};
+pub use serving::{Meanwhile, Room, serve};

@@ -6,6 +6,7 @@ ghost use Rattle.book_model.specs.declared.next.DiskNext.{DiskNext};
 ghost use Rattle.book_model.specs.declared.next.RomNext.{RomNext};
 ghost use Rattle.station_jobs.specs.Flushing.{CanBegin};
 ghost use Rattle.station_jobs.specs.Working.{IsCall};
+ghost use Rattle.station_threads.specs.Parts.{IsEndOf, IsEndOfSlave};
 
 use site_core::Site;
 use station_jobs::{
@@ -47,7 +48,7 @@ impl<S: Site, D: Dispatch<DiskLog>> DiskPart<S, D> {
 
     /// Serves the disk.
     pub(crate) fn serve<R: Wait>(self, rt: &R) -> End<S, DiskLog>
-        ensures { result.start ≡ self.site }
+        ensures { IsEndOf self result }
     {
         let DiskPart { site, dispatch } = self;
         flush(rt, site, dispatch)
@@ -93,8 +94,7 @@ impl<S: Site, D: Dispatch<RomLog>> SlavePart<S, D> {
 
     /// Serves the slave.
     pub(crate) fn serve<G: Gate, R: Wait>(self, rt: &R, gate: &G) -> End<S, SlaveLog>
-        ensures start { result.start ≡ self.site }
-        ensures slave { result.log.slave ≡ self.slave }
+        ensures { IsEndOfSlave self.slave self.site result }
     {
         let SlavePart {
             slave,
@@ -135,25 +135,23 @@ impl<S: Site, D: Dispatch<CycleLog>> CyclePart<S, D> {
 
     /// Serves the process data.
     pub(crate) fn serve<R: Wait>(self, rt: &R) -> End<S, CycleLog>
-        ensures { result.start ≡ self.site }
+        ensures { IsEndOf self result }
     {
         let CyclePart { site, dispatch } = self;
         cycle_loop(rt, site, dispatch)
     }
 }
 
-/// All that is served.
+/// Something for the disk, for each slave in the order of the line, and for the process data where they are exchanged.
 #[derive(Drop)]
-pub struct Line<S: Site, F: Dispatch<DiskLog>, W: Dispatch<RomLog>, C: Dispatch<CycleLog>> {
-    pub disk: DiskPart<S, F>,
-    pub slaves: Vec<SlavePart<S, W>>,
-    pub cycle: Option<CyclePart<S, C>>,
+pub struct Line<D, W, C> {
+    pub disk: D,
+    pub slaves: Vec<W>,
+    pub cycle: Option<C>,
 }
 
+/// All that is served.
+pub type LineParts<S, D, W, C> = Line<DiskPart<S, D>, SlavePart<S, W>, CyclePart<S, C>>;
+
 /// The end of each part.
-#[derive(Drop)]
-pub struct Ends<S: Site> {
-    pub flusher: End<S, DiskLog>,
-    pub workers: Vec<End<S, SlaveLog>>,
-    pub cycle: Option<End<S, CycleLog>>,
-}
+pub type LineEnds<S> = Line<End<S, DiskLog>, End<S, SlaveLog>, End<S, CycleLog>>;

@@ -1,20 +1,23 @@
 //! Serving all parts at once.
 
-ghost use Rattle.std.specs.Prelude.{◌≡◌, ◌≤◌, ◌+◌, is_some, vec_len, vec_capacity, IfOk, IfErr};
+ghost use Rattle.std.specs.Prelude.{◌≡◌, ◌≤◌, [], vec_len, vec_capacity, IfOk, MatchResult};
+ghost use Rattle.station_threads.specs.Parts.{IsEndOf, IsEndOfCycle, AreEndsOf};
+ghost use Rattle.station_threads.specs.Starting.{IsTurning, TurnsInto, AreWorkersOf, EndAs};
 
-use crate::parts::{Ends, Line, SlavePart};
+use crate::parts::{CyclePart, Line, LineEnds, LineParts, SlavePart};
 use crate::starting::{Since, SinceOf, start_cycle, start_flusher, start_worker};
 use site_core::Site;
 use station_jobs::{CycleLog, DiskLog, Dispatch, End, Gate, RomLog, SlaveLog};
-use std::alloc::Global;
+use std::alloc::{AllocError, Global};
+use std::marker::Model;
 use std::sync::Wait;
 use std::thread;
 use std::thread::{Promise, PromisedHandle, Scope, Threads};
 
 /// What is done on the calling thread while the line is served.
 pub trait Meanwhile {
-    /// Drives the work, once all threads are started. Left out where a thread couldn't be made.
-    fn drive<R: Wait>(&mut self, rt: &R);
+    /// Drives the work, once all threads are started. It may start others. Left out where a thread couldn't be made.
+    fn drive<R: Wait + Threads + Sync>(&mut self, rt: &R);
 
     /// Tells the dispatches that nothing more will come, so that each part comes to its end. May be called again.
     fn finish<R: Wait>(&mut self, rt: &R);
@@ -23,7 +26,42 @@ pub trait Meanwhile {
 /// A worker that was started, or has served already.
 type Worker<S> = Result<PromisedHandle<End<S, SlaveLog>, SinceOf<S>>, End<S, SlaveLog>>;
 
-/// Starts the workers, the last first. False where one of them was served here.
+/// The memory for the workers of a line and their ends. Contracts see for how many slaves.
+#[derive(Drop)]
+pub struct Room<S: Site> {
+    slaves: usize,
+    workers: Vec<Worker<S>>,
+    ends: Vec<End<S, SlaveLog>>,
+}
+
+impl<S: Site> Model for Room<S> {
+    ghost use Rattle.std.specs.Prelude.{ℕ, ◌≡◌, ◌≤◌, [], vec_capacity};
+
+    ghost Value = { ℕ };
+
+    ghost view = { λ room. room.slaves };
+
+    ghost invariant = { λ room. (room.workers.items ≡ []) × (room.slaves ≤ vec_capacity room.workers) × (room.ends.items ≡ []) × (room.slaves ≤ vec_capacity room.ends) };
+}
+
+impl<S: Site + Drop> Room<S> {
+    /// Room for so many slaves.
+    ///
+    /// # Errors
+    ///
+    /// There was no memory.
+    pub fn new(alloc: Global, slaves: usize) -> Result<Self, AllocError>
+        ensures { IfOk result (λ room. room ≡ slaves) }
+    {
+        Ok(Room {
+            slaves,
+            workers: Vec::with_capacity(alloc, slaves)?,
+            ends: Vec::with_capacity(alloc, slaves)?,
+        })
+    }
+}
+
+/// Starts the workers, in order. False where one of them was served here.
 fn start_workers<
     's,
     E,
@@ -40,12 +78,12 @@ fn start_workers<
     workers: &mut Vec<Worker<S>>,
     meanwhile: &mut M,
 ) -> bool
-    requires { vec_len workers.old + vec_len parts ≤ vec_capacity workers.old }
-    ensures { vec_len workers.new ≡ vec_len workers.old + vec_len parts }
+    requires empty { workers.old.items ≡ [] }
+    requires room { vec_len parts ≤ vec_capacity workers.old }
+    ensures { AreWorkersOf parts.items workers.new.items }
 {
-    let mut left = parts;
     let mut all_there = true;
-    while let Some(part) = left.pop() {
+    for part in parts {
         let worker = start_worker(scope, rt, gate, part, meanwhile);
         all_there = all_there && worker.is_ok();
         workers.push_reserved(worker);
@@ -55,8 +93,7 @@ fn start_workers<
 
 /// Waits for the end of a part, unless it was served already.
 fn join<T: Drop, P: Promise<T>, R: Threads>(rt: &R, started: Result<PromisedHandle<T, P>, T>) -> T
-    ensures there { IfOk started (λ handle. P.kept_by handle.promise result) }
-    ensures here { IfErr started (λ end. result ≡ end) }
+    ensures { MatchResult started (λ handle. P.kept_by handle.promise result) (λ end. result ≡ end) }
 {
     match started {
         Ok(handle) => handle.join(rt),
@@ -64,54 +101,62 @@ fn join<T: Drop, P: Promise<T>, R: Threads>(rt: &R, started: Result<PromisedHand
     }
 }
 
-/// Waits for the end of each worker, the last that was started first.
+/// Waits for the end of each worker, in order.
 fn join_workers<S: Site + Drop, R: Threads>(
     rt: &R,
     workers: Vec<Worker<S>>,
     ends: &mut Vec<End<S, SlaveLog>>,
 )
-    requires { vec_len ends.old + vec_len workers ≤ vec_capacity ends.old }
-    ensures { vec_len ends.new ≡ vec_len ends.old + vec_len workers }
+    requires empty { ends.old.items ≡ [] }
+    requires room { vec_len workers ≤ vec_capacity ends.old }
+    ensures { EndAs workers.items ends.new.items }
 {
-    let mut left = workers;
-    while let Some(worker) = left.pop() {
+    for worker in workers {
         ends.push_reserved(join(rt, worker));
+    }
+}
+
+/// The process data, where they were started in a thread, or have been served already.
+type Turning<S> = Option<Result<PromisedHandle<End<S, CycleLog>, Since<S>>, End<S, CycleLog>>>;
+
+/// Starts the process data, where there is a part for them.
+fn start_turning<
+    's,
+    E,
+    S: Site + Send + Drop + 's,
+    C: Dispatch<CycleLog> + Drop + 's,
+    M: Meanwhile,
+    R: Wait + Threads + Sync,
+>(
+    scope: &'s Scope<'s, E>,
+    rt: &'s R,
+    part: Option<CyclePart<S, C>>,
+    meanwhile: &mut M,
+) -> Turning<S>
+    ensures { IsTurning part result }
+{
+    match part {
+        Some(part) => Some(start_cycle(scope, rt, part, meanwhile)),
+        None => None,
+    }
+}
+
+/// Waits for the end of the process data, where they were started.
+fn join_turning<S: Site + Drop, R: Threads>(rt: &R, turning: Turning<S>) -> Option<End<S, CycleLog>>
+    ensures { TurnsInto turning result }
+{
+    match turning {
+        Some(started) => Some(join(rt, started)),
+        None => None,
     }
 }
 
 /// A line with the memory for its workers and their ends.
 #[derive(Drop)]
 struct Prepared<S: Site, F: Dispatch<DiskLog>, D: Dispatch<RomLog>, C: Dispatch<CycleLog>> {
-    line: Line<S, F, D, C>,
-    workers: Vec<Worker<S>>,
-    ends: Vec<End<S, SlaveLog>>,
-    ghost no_worker: { vec_len workers ≡ 0 },
-    ghost no_end: { vec_len ends ≡ 0 },
-    ghost room: { vec_len line.slaves ≤ vec_capacity workers },
-    ghost end_room: { vec_len line.slaves ≤ vec_capacity ends },
-}
-
-/// Takes the memory. Without it the line comes back.
-fn prepare<
-    S: Site + Drop,
-    F: Dispatch<DiskLog> + Drop,
-    D: Dispatch<RomLog> + Drop,
-    C: Dispatch<CycleLog> + Drop,
->(alloc: Global, line: Line<S, F, D, C>) -> Result<Prepared<S, F, D, C>, Line<S, F, D, C>>
-    ensures line { IfOk result (λ prepared. prepared.line ≡ line) }
-    ensures handed_back { IfErr result (λ same. same ≡ line) }
-{
-    let Ok(workers) = Vec::with_capacity(alloc, line.slaves.len()) else {
-        return Err(line);
-    };
-    let Ok(ends) = Vec::with_capacity(alloc, line.slaves.len()) else {
-        return Err(line);
-    };
-    Ok(Prepared {
-        line,
-        workers,
-        ends,
-    })
+    line: LineParts<S, F, D, C>,
+    room: Room<S>,
+    ghost fits: { vec_len line.slaves ≤ room },
 }
 
 /// Serves all parts in the threads of a scope.
@@ -131,43 +176,35 @@ fn serve_in<
     prepared: Prepared<S, F, D, C>,
     gate: &'s G,
     meanwhile: &mut M,
-) -> Ends<S>
-    ensures flusher { result.flusher.start ≡ prepared.line.disk.site }
-    ensures workers { vec_len result.workers ≡ vec_len prepared.line.slaves }
-    ensures cycle { is_some result.cycle ≡ is_some prepared.line.cycle }
+) -> LineEnds<S>
+    ensures disk { IsEndOf prepared.line.disk result.disk }
+    ensures slaves { AreEndsOf prepared.line.slaves.items result.slaves.items }
+    ensures cycle { IsEndOfCycle prepared.line.cycle result.cycle }
 {
-    let Prepared {
-        line,
+    let Prepared { line, room } = prepared;
+    let Room {
         mut workers,
         mut ends,
-    } = prepared;
+        ..
+    } = room;
     let Line {
         disk,
         slaves,
         cycle,
     } = line;
     let flusher = start_flusher(scope, rt, disk, meanwhile);
-    let mut all_there = start_workers(scope, rt, gate, slaves, &mut workers, meanwhile)
-        && flusher.is_ok();
-    let turning = match cycle {
-        Some(part) => Some(start_cycle(scope, rt, part, meanwhile)),
-        None => None,
-    };
-    if let Some(Err(_)) = &turning {
-        all_there = false;
-    }
-    if all_there {
+    let turning = start_turning(scope, rt, cycle, meanwhile);
+    let all_work = start_workers(scope, rt, gate, slaves, &mut workers, meanwhile);
+    if all_work && flusher.is_ok() && !matches!(&turning, Some(Err(_))) {
         meanwhile.drive(rt);
     }
     meanwhile.finish(rt);
     join_workers(rt, workers, &mut ends);
-    let cycle = match turning {
-        Some(started) => Some(join(rt, started)),
-        None => None,
-    };
-    Ends {
-        flusher: join(rt, flusher),
-        workers: ends,
+    let disk = join(rt, flusher);
+    let cycle = join_turning(rt, turning);
+    Line {
+        disk,
+        slaves: ends,
         cycle,
     }
 }
@@ -176,10 +213,6 @@ fn serve_in<
 /// each part. The gate is for tests.
 ///
 /// Where a thread can't be made, the work is finished and that part is served on the calling thread; then nothing is driven.
-///
-/// # Errors
-///
-/// There is no memory for the ends. Nothing was started, and the line comes back.
 pub fn serve<
     'e,
     S: Site + Send + Drop + 'e,
@@ -191,28 +224,24 @@ pub fn serve<
     R: Wait + Threads + Sync,
 >(
     rt: &'e R,
-    alloc: Global,
-    line: Line<S, F, D, C>,
+    room: Room<S>,
+    line: LineParts<S, F, D, C>,
     gate: &'e G,
     meanwhile: &'e mut M,
-) -> Result<Ends<S>, Line<S, F, D, C>>
-    ensures flusher { IfOk result (λ ends. ends.flusher.start ≡ line.disk.site) }
-    ensures workers { IfOk result (λ ends. vec_len ends.workers ≡ vec_len line.slaves) }
-    ensures cycle { IfOk result (λ ends. is_some ends.cycle ≡ is_some line.cycle) }
-    ensures handed_back { IfErr result (λ same. same ≡ line) }
+) -> LineEnds<S>
+    requires { vec_len line.slaves ≤ room }
+    ensures disk { IsEndOf line.disk result.disk }
+    ensures slaves { AreEndsOf line.slaves.items result.slaves.items }
+    ensures cycle { IsEndOfCycle line.cycle result.cycle }
 {
-    let prepared = match prepare(alloc, line) {
-        Ok(prepared) => prepared,
-        Err(same) => return Err(same),
-    };
-    let ends = thread::scope(
+    let prepared = Prepared { line, room };
+    thread::scope(
         thread::scope_env(),
         rt,
-        move |scope| -> Ends<S>
-            ensures flusher { result.flusher.start ≡ prepared.line.disk.site }
-            ensures workers { vec_len result.workers ≡ vec_len prepared.line.slaves }
-            ensures cycle { is_some result.cycle ≡ is_some prepared.line.cycle }
+        move |scope| -> LineEnds<S>
+            ensures disk { IsEndOf prepared.line.disk result.disk }
+            ensures slaves { AreEndsOf prepared.line.slaves.items result.slaves.items }
+            ensures cycle { IsEndOfCycle prepared.line.cycle result.cycle }
         { serve_in(scope, rt, prepared, gate, meanwhile) },
-    );
-    Ok(ends)
+    )
 }

@@ -1,6 +1,8 @@
 //! Starting a thread for each part.
 
-ghost use Rattle.std.specs.Prelude.{◌≡◌, IfOk, IfErr};
+ghost use Rattle.std.specs.Prelude.{◌≡◌};
+ghost use Rattle.station_threads.specs.Parts.{IsEndOfSlave};
+ghost use Rattle.station_threads.specs.Starting.{IsStarted, IsWorkerOf};
 ghost use denote.Param.Send.{IsSync};
 
 use crate::parts::{CyclePart, DiskPart, SlavePart};
@@ -33,7 +35,9 @@ pub(crate) struct SinceOf<S> {
 }
 
 impl<S: Site> Promise<End<S, SlaveLog>> for SinceOf<S> {
-    ghost kept_by = { λ since end. (end.log.slave ≡ since.slave) × (end.start ≡ since.site.value) };
+    ghost use Rattle.station_threads.specs.Parts.{IsEndOfSlave};
+
+    ghost kept_by = { λ since end. IsEndOfSlave since.slave since.site.value end };
 }
 
 /// Starts a flusher; or finishes, and serves the disk here, where no thread can be made.
@@ -50,8 +54,7 @@ pub(crate) fn start_flusher<
     part: DiskPart<S, D>,
     meanwhile: &mut M,
 ) -> Result<PromisedHandle<End<S, DiskLog>, Since<S>>, End<S, DiskLog>>
-    ensures there { IfOk result (λ handle. handle.promise.site.value ≡ part.site) }
-    ensures here { IfErr result (λ end. end.start ≡ part.site) }
+    ensures { IsStarted part.site result }
 {
     let since = Since {
         site: Snapshot::of(&part.site),
@@ -85,8 +88,7 @@ pub(crate) fn start_worker<
     part: SlavePart<S, D>,
     meanwhile: &mut M,
 ) -> Result<PromisedHandle<End<S, SlaveLog>, SinceOf<S>>, End<S, SlaveLog>>
-    ensures there { IfOk result (λ handle. (handle.promise.slave ≡ part.slave) × (handle.promise.site.value ≡ part.site)) }
-    ensures here { IfErr result (λ end. (end.log.slave ≡ part.slave) × (end.start ≡ part.site)) }
+    ensures { IsWorkerOf part.slave part.site result }
 {
     let since = SinceOf {
         slave: part.slave,
@@ -94,8 +96,7 @@ pub(crate) fn start_worker<
     };
     let serves = move || -> End<S, SlaveLog>
         requires { IsSync R.row × IsSync G.row }
-        ensures slave { result.log.slave ≡ part.slave }
-        ensures start { result.start ≡ part.site }
+        ensures { IsEndOfSlave part.slave part.site result }
     { part.serve(rt, gate) };
     match scope.spawn_with(since, serves) {
         Ok(handle) => Ok(handle),
@@ -120,8 +121,7 @@ pub(crate) fn start_cycle<
     part: CyclePart<S, D>,
     meanwhile: &mut M,
 ) -> Result<PromisedHandle<End<S, CycleLog>, Since<S>>, End<S, CycleLog>>
-    ensures there { IfOk result (λ handle. handle.promise.site.value ≡ part.site) }
-    ensures here { IfErr result (λ end. end.start ≡ part.site) }
+    ensures { IsStarted part.site result }
 {
     let since = Since {
         site: Snapshot::of(&part.site),

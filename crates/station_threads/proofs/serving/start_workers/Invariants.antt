@@ -1,9 +1,11 @@
-use Rattle.std.proofs.Common.{◌≡◌, ◌≤◌, ◌+◌, vec_len, vec_capacity}
+use Rattle.std.proofs.Common.{◌≡◌, ◌≤◌, ◌+◌, ◌++◌, length, vec_len, vec_capacity}
+use Rattle.std.specs.Vec.Iter.{into_iter_items, into_iter_len}
+use Rattle.station_threads.specs.Starting.{AreWorkersOf}
 use Rattle.station_threads.proofs.serving.start_workers.Given as goal
-
-abbrev pub decreases-loop-part : goal.decreases-loop-part
-decreases-loop-part g l = vec_len l.left
 
 abbrev pub invariant-loop-part : goal.invariant-loop-part
 invariant-loop-part g l =
-    (vec_len l.workers + vec_len l.left ≡ vec_len l.initial.workers + vec_len l.initial.left) × (vec_len l.workers + vec_len l.left ≤ vec_capacity l.workers)
+    (l.yielded ++ into_iter_items l.part-iterator ≡ into_iter_items l.initial.part-iterator)
+    × (into_iter_len l.part-iterator ≡ length (into_iter_items l.part-iterator))
+    × (vec_len l.workers + into_iter_len l.part-iterator ≤ vec_capacity l.workers)
+    × AreWorkersOf l.yielded l.workers.items
