@@ -1,39 +1,29 @@
--- What a desk is closed with.
-use Rattle.std.specs.Prelude.{◌≡◌, ◌≢◌, ◌<◌, ◌&&◌, ◌==◌, ℕ, Bool, not, List, [], length, sum_by, count_by, is_some, Option, Some, None, slice_get, All}
-use Rattle.sii_edit.specs.declared.command.Command.{Command}
+-- What is handed in to close a desk.
+use Rattle.std.specs.Prelude.{◌≡◌, List, [], Option, Some, None}
 use Rattle.book_model.specs.Book.{Book}
-use Rattle.book_core.specs.Settled.{is_settled}
 use Rattle.station_jobs.specs.declared.cycle.CycleNote.{CycleNote}
 use Rattle.station_jobs.specs.Ends.{Stay}
-use Rattle.station_desk.specs.declared.call.Call.{Call}
-use Rattle.station_desk.specs.declared.ticket.Receipt.{Receipt}
-use Rattle.station_desk.specs.Calls.{is_refusal}
-use Rattle.station_desk.specs.Logs.{cycle_log}
-use Rattle.station_desk.specs.Serving.{Counts}
-
--- The shares count all tickets and refusals: as many as commands were accepted, and refused.
-pub record CountAll (book : Book) (calls : List Call) (shares : List Counts) : Type 0 where
-  pub tickets : sum_by (λ (s : Counts). s.tickets) shares ≡ length book.accepted
-  pub refusals : sum_by (λ (s : Counts). s.refusals) shares ≡ count_by is_refusal calls
-
--- The command of the receipt stands at its number among these, and is one of the first, so many.
-pub record StandsAt (commands : List Command) (durable : ℕ) (receipt : Receipt) : Type 0 where
-  pub below : receipt.number < durable
-  pub command : slice_get commands receipt.number ≡ Some receipt.command
-
--- no two receipts have one number
-abbrev pub AreApart : List Receipt → Type 0
-AreApart receipts = (i k : ℕ) (one other : Receipt) → slice_get receipts i ≡ Some one → slice_get receipts k ≡ Some other → k < i → other.number ≢ one.number
-
-pub record AreReceiptsOf (book : Book) (receipts : List Receipt) : Type 0 where
-  pub each : All (StandsAt book.accepted book.durable) receipts
-  pub apart : AreApart receipts
+use Rattle.desk_book.specs.declared.call.Call.{Call}
+use Rattle.desk_book.specs.Calls.{replayed}
+use Rattle.desk_book.specs.Logs.{disk_log, cycle_log}
+use Rattle.desk_book.specs.Numbered.{Numbered}
+use Rattle.desk_book.specs.Serving.{Counts}
+use Rattle.desk_book.specs.Closing.{CountAll, AreReceiptsOf, AreWorkersOf}
+use Rattle.station_desk.specs.declared.closing.Ends.{Ends}
 
 -- What the cycle did is what was handed out to it; without one nothing was.
 abbrev pub IsCycleOf : {S : Type 0} → List Call → Option (Stay S (List CycleNote)) → Type 0
 IsCycleOf calls None = cycle_log calls ≡ []
 IsCycleOf calls (Some end) = end.log ≡ cycle_log calls
 
--- no fault, and all that was found at the open or accepted since is settled
-abbrev pub is_served : Book → Bool
-is_served book = not (is_some book.fault) && (book.durable == length book.accepted) && is_settled book
+-- The ends are one of the disk, one of each slave in the order of the line, and at most one of the cycle, and each did what was handed out to it.
+pub record AreEndsOf {S : Type 0} (opened : Book) (calls : List Call) (ends : Ends S) : Type 0 where
+  pub flusher : ends.flusher.log ≡ disk_log calls
+  pub workers : AreWorkersOf opened calls ends.workers.items
+  pub cycle : IsCycleOf calls ends.cycle
+
+-- What is handed in is what the book handed out.
+pub record IsHandedIn {S : Type 0} (opened : Book) (calls : List Call) (shares : List Counts) (receipts : List Numbered) (ends : Ends S) : Type 0 where
+  pub counted : CountAll (replayed opened calls) calls shares
+  pub received : AreReceiptsOf (replayed opened calls) receipts
+  pub ended : AreEndsOf opened calls ends

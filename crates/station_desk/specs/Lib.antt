@@ -1,10 +1,2 @@
-pub mod Nothing
-pub mod Noted
-pub mod Tokens
-pub mod Calls
-pub mod Logs
-pub mod Serving
-pub mod Submitting
-pub mod Asking
 pub mod Sides
 pub mod Closing

@@ -1,19 +1,12 @@
 //! A desk is closed.
 
-ghost use Rattle.std.specs.Prelude.{◌≡◌, true, false, ℕ, length, IfOk, IfErr, Some, slice_get};
-ghost use Rattle.sii_edit.specs.Fold.{contents};
-ghost use Rattle.book_model.specs.Book.{base_of};
-ghost use Rattle.station_jobs.specs.declared.log.SlaveLog.{SlaveLog};
-ghost use Rattle.station_jobs.specs.Ends.{Stay};
-ghost use Rattle.station_desk.specs.Calls.{replayed};
-ghost use Rattle.station_desk.specs.Logs.{disk_log, rom_log, cycle_log};
-ghost use Rattle.station_desk.specs.Closing.{CountAll, AreReceiptsOf, IsCycleOf, is_served};
+ghost use Rattle.std.specs.Prelude.{◌≡◌, ◌↔◌, IsTrue, true, false, length, IfOk, IfErr};
+ghost use Rattle.desk_book.specs.Calls.{replayed};
+ghost use Rattle.desk_book.specs.Closing.{CountAll, is_served};
+ghost use Rattle.station_desk.specs.Closing.{IsCycleOf, AreEndsOf, IsHandedIn};
 
 use crate::desk::Desk;
-use crate::naming::{Refusals, Tickets};
-use crate::served::Served;
-use crate::share::Share;
-use crate::ticket::Receipt;
+use desk_book::{Receipt, Refusals, Served, Share, Tickets};
 use site_core::Site;
 use station_jobs::{CycleLog, DiskLog, End, SlaveLog};
 use thiserror::Error;
@@ -60,7 +53,7 @@ fn turns_match<T: Tickets, R: Refusals, S: Site>(
     book: &Served<T, R>,
     cycle: &Option<End<S, CycleLog>>,
 ) -> bool
-    ensures { result ≡ true → IsCycleOf book.now.calls cycle.now }
+    ensures { IsTrue result ↔ IsCycleOf book.now.calls cycle.now }
 {
     match cycle {
         Some(end) => book.cycle_matches(end.log().as_slice()),
@@ -70,18 +63,11 @@ fn turns_match<T: Tickets, R: Refusals, S: Site>(
 
 /// Whether these are all the ends of those who did the jobs that the book handed out.
 fn ends_match<T: Tickets, R: Refusals, S: Site>(book: &Served<T, R>, ends: &Ends<S>) -> bool
-    ensures flusher { result ≡ true → ends.now.flusher.log ≡ disk_log book.now.calls }
-    ensures count { result ≡ true → length ends.now.workers.items ≡ length (contents (base_of T.opened) (replayed T.opened book.now.calls).accepted) }
-    ensures workers { result ≡ true → (i : ℕ) (end : Stay S SlaveLog) → slice_get ends.now.workers.items i ≡ Some end → (end.log.slave ≡ i) × (end.log.jobs ≡ rom_log i book.now.calls) }
-    ensures cycle { result ≡ true → IsCycleOf book.now.calls ends.now.cycle }
+    ensures { IsTrue result ↔ AreEndsOf T.opened book.now.calls ends.now }
 {
-    if !turns_match(book, &ends.cycle) {
-        return false;
-    }
-    if !book.flusher_matches(ends.flusher.log().as_slice()) {
-        return false;
-    }
-    book.workers_match(ends.workers.as_slice())
+    turns_match(book, &ends.cycle)
+        && book.flusher_matches(ends.flusher.log().as_slice())
+        && book.workers_match(ends.workers.as_slice())
 }
 
 /// Whether all that is handed in is what the book handed out.
@@ -91,20 +77,18 @@ fn all_match<T: Tickets, R: Refusals, S: Site>(
     receipts: &[Receipt],
     ends: &Ends<S>,
 ) -> bool
-    ensures shares { result ≡ true → CountAll (replayed T.opened book.now.calls) book.now.calls shares.now }
-    ensures receipts { result ≡ true → AreReceiptsOf (replayed T.opened book.now.calls) receipts.now }
-    ensures flusher { result ≡ true → ends.now.flusher.log ≡ disk_log book.now.calls }
-    ensures count { result ≡ true → length ends.now.workers.items ≡ length (contents (base_of T.opened) (replayed T.opened book.now.calls).accepted) }
-    ensures workers { result ≡ true → (i : ℕ) (end : Stay S SlaveLog) → slice_get ends.now.workers.items i ≡ Some end → (end.log.slave ≡ i) × (end.log.jobs ≡ rom_log i book.now.calls) }
-    ensures cycle { result ≡ true → IsCycleOf book.now.calls ends.now.cycle }
+    ensures { IsTrue result ↔ IsHandedIn T.opened book.now.calls shares.now receipts.now ends.now }
 {
-    if !book.shares_match(shares) {
-        return false;
-    }
-    if !book.receipts_match(receipts) {
-        return false;
-    }
-    ends_match(book, ends)
+    book.shares_match(shares) && book.receipts_match(receipts) && ends_match(book, ends)
+}
+
+/// All shares of the desk count all tickets and refusals. Nothing changes.
+fn audit_all<T: Tickets, R: Refusals>(book: &mut Served<T, R>, shares: &mut Vec<Share<T, R>>)
+    ensures counted { length shares.old.items ≡ book.old.pool.given → CountAll (replayed T.opened book.old.calls) book.old.calls shares.old.items }
+    ensures same { book.new ≡ book.old }
+    ensures shares { shares.new.items ≡ shares.old.items }
+{
+    book.audit(shares.as_mut_slice());
 }
 
 /// Closes a desk: all that was accepted and found is settled, and what was handed in is what the book handed out. Who did its jobs
@@ -112,26 +96,25 @@ fn all_match<T: Tickets, R: Refusals, S: Site>(
 ///
 /// # Errors
 ///
-/// `Mismatch`, then `Unserved`. All is handed back.
+/// `Mismatch` where what was handed in isn't what the book handed out, then `Unserved`. All is handed back. All shares that the desk
+/// gave count all tickets and refusals, so with these it isn't they that don't match.
 pub fn close<T: Tickets, R: Refusals, S: Site>(
     desk: Desk<T, R>,
-    shares: Vec<Share<T, R>>,
+    mut shares: Vec<Share<T, R>>,
     receipts: Vec<Receipt>,
     ends: Ends<S>,
 ) -> Result<Closed<T, R, S>, NotClosed<T, R, S>>
-    ensures shares { IfOk result (λ closed. CountAll (replayed T.opened closed.book.calls) closed.book.calls shares.items) }
-    ensures receipts { IfOk result (λ closed. AreReceiptsOf (replayed T.opened closed.book.calls) receipts.items) }
-    ensures flusher { IfOk result (λ closed. ends.flusher.log ≡ disk_log closed.book.calls) }
-    ensures workers { IfOk result (λ closed. length ends.workers.items ≡ length (contents (base_of T.opened) (replayed T.opened closed.book.calls).accepted)) }
-    ensures each { IfOk result (λ closed. (i : ℕ) (end : Stay S SlaveLog) → slice_get ends.workers.items i ≡ Some end → (end.log.slave ≡ i) × (end.log.jobs ≡ rom_log i closed.book.calls)) }
-    ensures cycle { IfOk result (λ closed. IsCycleOf closed.book.calls ends.cycle) }
+    ensures handed_in { IfOk result (λ closed. IsHandedIn T.opened closed.book.calls shares.items receipts.items ends) }
     ensures served { IfOk result (λ closed. is_served (replayed T.opened closed.book.calls) ≡ true) }
     ensures ends { IfOk result (λ closed. closed.ends ≡ ends) }
-    ensures handed_back { IfErr result (λ left. (left.shares ≡ shares) × (left.receipts ≡ receipts) × (left.ends ≡ ends)) }
+    ensures handed_back { IfErr result (λ left. (left.shares.items ≡ shares.items) × (left.receipts ≡ receipts) × (left.ends ≡ ends)) }
+    ensures all_shares { IfErr result (λ left. length shares.items ≡ left.book.pool.given → CountAll (replayed T.opened left.book.calls) left.book.calls shares.items) }
+    ensures mismatch { IfErr result (λ left. left.fault ≡ CloseFault.Mismatch → ¬ (IsHandedIn T.opened left.book.calls shares.items receipts.items ends)) }
     ensures unserved { IfErr result (λ left. left.fault ≡ CloseFault.Unserved → is_served (replayed T.opened left.book.calls) ≡ false) }
 {
     let Desk { served, .. } = desk;
-    let book = served.into_inner();
+    let mut book = served.into_inner();
+    audit_all(&mut book, &mut shares);
     if !all_match(&book, shares.as_slice(), receipts.as_slice(), &ends) {
         let fault = CloseFault::Mismatch;
         return Err(NotClosed {

@@ -1,23 +1,24 @@
 //! The desk: a book under one lock, for those who submit and for those who do its jobs.
 
-ghost use Rattle.std.specs.Prelude.{◌≡◌, ◌+◌, [], IfOk, IfErr};
-ghost use Rattle.station_desk.specs.Submitting.{CountsRefusal};
+ghost use Rattle.std.specs.Prelude.{◌≡◌, ◌+◌, [], false, IfOk, IfErr};
+ghost use Rattle.desk_book.specs.Closing.{IsReceiptOf};
+ghost use Rattle.desk_book.specs.Submitting.{CountsRefusal};
 
-use crate::naming::{Parts, Refusals, Tickets};
-use crate::served::Served;
-use crate::share::Share;
 use crate::sides::{CycleSide, DiskSide, RomSide};
-use crate::ticket::{Receipt, Refused, ShareFault, Ticket, Unacknowledged};
 use book_core::Core;
 use book_model::Status;
+use desk_book::{
+    Parts, Receipt, Refusals, Refused, Served, Share, ShareFault, Ticket, Tickets, Unacknowledged,
+};
 use sii_edit::Command;
 use std::alloc::{AllocError, Global};
+use std::marker::Model;
 use std::sync::{Condvar, Mutex, Wait};
 
 /// Where the area of a journal begins, in its file.
 const AREA_START: usize = 8;
 
-/// A book under one lock. No device is waited for while it is held.
+/// A book under one lock. No device is waited for while it is held. Contracts see where the journal's area ends.
 #[derive(Drop)]
 pub struct Desk<T: Tickets, R: Refusals> {
     pub(crate) served: Mutex<Served<T, R>>,
@@ -25,6 +26,14 @@ pub struct Desk<T: Tickets, R: Refusals> {
     pub(crate) alloc: Global,
     /// Where the journal's area ends, in its file.
     pub(crate) limit: usize,
+}
+
+impl<T: Tickets, R: Refusals> Model for Desk<T, R> {
+    ghost use Rattle.station_desk.specs.Sides.{Limited};
+
+    ghost Value = { Limited };
+
+    ghost view = { λ desk. record { limit = desk.limit } };
 }
 
 impl<T: Tickets, R: Refusals> Desk<T, R> {
@@ -41,8 +50,8 @@ impl<T: Tickets, R: Refusals> Desk<T, R> {
     ) -> Result<Desk<T, R>, AllocError>
         requires core { core ≡ T.opened }
         requires none { core.accepted ≡ [] }
-        requires tickets { (tickets.blank.name ≡ T.name) × (tickets.count ≡ T.parts) × (tickets.count ≡ T.all) }
-        requires refusals { (refusals.blank.name ≡ R.name) × (refusals.count ≡ R.parts) × (refusals.count ≡ R.all) }
+        requires tickets { (tickets.name ≡ T.name) × (tickets.count ≡ T.parts) }
+        requires refusals { (refusals.name ≡ R.name) × (refusals.count ≡ R.parts) }
         ensures { IfOk result (λ desk. desk.limit ≡ 8 + core.capacity) }
     {
         let limit = AREA_START + core.capacity() as usize;
@@ -86,11 +95,11 @@ impl<T: Tickets, R: Refusals> Desk<T, R> {
         ensures handed_back { IfErr result (λ refused. refused.command ≡ command) }
         ensures refused { IfErr result (λ refused. CountsRefusal refused.refusal share.old share.new) }
     {
-        let answer = self.served.lock(rt).submit(share, &command);
+        let answer = self.served.lock(rt).submit(share, command);
         self.changed.notify_all();
         match answer {
-            Ok(number) => return Ok(Ticket { number, command }),
-            Err(refusal) => return Err(Refused { refusal, command }),
+            Ok(ticket) => return Ok(ticket),
+            Err(refused) => return Err(refused),
         }
     }
 
@@ -98,20 +107,20 @@ impl<T: Tickets, R: Refusals> Desk<T, R> {
     ///
     /// # Errors
     ///
-    /// The book has a fault first. The ticket is handed back.
+    /// The book has a fault first, or the ticket is of another desk. The ticket is handed back.
     pub fn wait<W: Wait>(&self, rt: &W, ticket: Ticket) -> Result<Receipt, Unacknowledged>
-        ensures receipt { IfOk result (λ receipt. (receipt.number ≡ ticket.number) × (receipt.command ≡ ticket.command)) }
+        ensures receipt { IfOk result (λ receipt. receipt ≡ ticket) }
+        ensures stood { IfOk result (λ receipt. IsReceiptOf T.opened receipt) }
         ensures handed_back { IfErr result (λ refused. refused.ticket ≡ ticket) }
     {
-        let number = ticket.number;
+        let number = ticket.number();
         let served = self.changed.wait_while(rt, self.served.lock(rt), |served| {
             served.is_pending(number)
         });
-        if !served.is_durable(number) {
-            return Err(Unacknowledged { ticket });
+        match served.receipt(ticket) {
+            Ok(receipt) => return Ok(receipt),
+            Err(refused) => return Err(refused),
         }
-        let Ticket { number, command } = ticket;
-        Ok(Receipt { number, command })
     }
 
     /// No more commands are accepted. What was accepted is still done.
@@ -137,7 +146,7 @@ impl<T: Tickets, R: Refusals> Desk<T, R> {
     /// What hands out the jobs of the disk.
     pub fn disk_side(&self) -> DiskSide<'_, T, R>
         ensures limit { result.limit ≡ self.now.limit }
-        ensures fresh { result.notes.entries ≡ [] }
+        ensures fresh { (result.log ≡ []) × (result.has_job ≡ false) }
     {
         DiskSide::new(self)
     }
@@ -145,14 +154,14 @@ impl<T: Tickets, R: Refusals> Desk<T, R> {
     /// What hands out the jobs of a slave.
     pub fn rom_side(&self, slave: u16) -> RomSide<'_, T, R>
         ensures slave { result.slave ≡ slave }
-        ensures fresh { result.notes.entries ≡ [] }
+        ensures fresh { (result.log ≡ []) × (result.has_job ≡ false) }
     {
         RomSide::new(self, slave)
     }
 
     /// What hands out the turns of the cycle, each with outputs of zeros.
     pub fn cycle_side(&self) -> CycleSide<'_, T, R>
-        ensures { result.turns.items ≡ [] }
+        ensures { result ≡ record { log = []; has_job = false } }
     {
         CycleSide::new(self)
     }

@@ -1,53 +1,76 @@
 //! The dispatches of a desk.
 
-ghost use Rattle.std.specs.Prelude.{◌≡◌, ◌≤◌, ◌++◌, ◌∷◌, [], Bool, true, Option, Some, replicate};
-ghost use Rattle.station_desk.specs.Sides.{BeginsBelow, begins_below};
+ghost use Rattle.std.specs.Prelude.{◌≡◌, ◌≤◌, [], false, replicate};
+ghost use Rattle.station_desk.specs.Sides.{begins_below};
 
 use crate::desk::Desk;
-use crate::heard::Heard;
-use crate::naming::{Refusals, Tickets};
-use crate::notes::Notes;
-use crate::turns::note_of;
 use arrayvec::ArrayVec;
 use book_model::{DiskNext, RomNext, RomOutcome};
+use desk_book::{Heard, Refusals, Tickets, note_of};
+use desk_notes::Notes;
 use item_list::ItemList;
 use sii_image::Plan;
 use site_core::DeviceFault;
 use station_jobs::{
     CycleJob, CycleLog, CycleNote, CycleOutcome, DiskLog, Dispatch, IMAGE_BYTES, RomLog, Turn,
 };
+use std::marker::Model;
 use std::sync::Wait;
 
 /// Hands out the jobs of the disk.
 #[derive(Drop)]
 pub struct DiskSide<'a, T: Tickets, R: Refusals> {
     desk: &'a Desk<T, R>,
-    pub(crate) notes: Notes<DiskNext, Result<(), DeviceFault>>,
+    notes: Notes<DiskNext, Result<(), DeviceFault>>,
     has_job: bool,
-    pub(crate) limit: usize,
+    limit: usize,
+}
+
+impl<'a, T: Tickets, R: Refusals> Model for DiskSide<'a, T, R> {
+    ghost use Rattle.station_desk.specs.Sides.{DiskHands};
+
+    ghost Value = { DiskHands };
+
+    ghost view = { λ side. record { limit = side.limit; log = side.notes.entries; has_job = side.has_job } };
 }
 
 /// Hands out the jobs of a slave.
 #[derive(Drop)]
 pub struct RomSide<'a, T: Tickets, R: Refusals> {
     desk: &'a Desk<T, R>,
-    pub(crate) slave: u16,
-    pub(crate) notes: Notes<RomNext, RomOutcome>,
+    slave: u16,
+    notes: Notes<RomNext, RomOutcome>,
     has_job: bool,
+}
+
+impl<'a, T: Tickets, R: Refusals> Model for RomSide<'a, T, R> {
+    ghost use Rattle.station_desk.specs.Sides.{RomHands};
+
+    ghost Value = { RomHands };
+
+    ghost view = { λ side. record { slave = side.slave; log = side.notes.entries; has_job = side.has_job } };
 }
 
 /// Hands out the turns of the cycle.
 #[derive(Drop)]
 pub struct CycleSide<'a, T: Tickets, R: Refusals> {
     desk: &'a Desk<T, R>,
-    pub(crate) turns: Vec<CycleNote>,
+    turns: Vec<CycleNote>,
     has_job: bool,
+}
+
+impl<'a, T: Tickets, R: Refusals> Model for CycleSide<'a, T, R> {
+    ghost use Rattle.station_desk.specs.Sides.{CycleHands};
+
+    ghost Value = { CycleHands };
+
+    ghost view = { λ side. record { log = side.turns.items; has_job = side.has_job } };
 }
 
 impl<'a, T: Tickets, R: Refusals> DiskSide<'a, T, R> {
     pub(crate) fn new(desk: &'a Desk<T, R>) -> Self
         ensures limit { result.limit ≡ desk.now.limit }
-        ensures fresh { result.notes.entries ≡ [] }
+        ensures fresh { (result.log ≡ []) × (result.has_job ≡ false) }
     {
         DiskSide {
             desk,
@@ -61,7 +84,7 @@ impl<'a, T: Tickets, R: Refusals> DiskSide<'a, T, R> {
 impl<'a, T: Tickets, R: Refusals> RomSide<'a, T, R> {
     pub(crate) fn new(desk: &'a Desk<T, R>, slave: u16) -> Self
         ensures slave { result.slave ≡ slave }
-        ensures fresh { result.notes.entries ≡ [] }
+        ensures fresh { (result.log ≡ []) × (result.has_job ≡ false) }
     {
         RomSide {
             desk,
@@ -74,7 +97,7 @@ impl<'a, T: Tickets, R: Refusals> RomSide<'a, T, R> {
 
 impl<'a, T: Tickets, R: Refusals> CycleSide<'a, T, R> {
     pub(crate) fn new(desk: &'a Desk<T, R>) -> Self
-        ensures { result.turns.items ≡ [] }
+        ensures { result ≡ record { log = []; has_job = false } }
     {
         CycleSide {
             desk,
@@ -100,7 +123,7 @@ impl<'a, T: Tickets, R: Refusals> Dispatch<DiskLog> for DiskSide<'a, T, R> {
     ghost use Rattle.std.specs.Prelude.{◌≡◌, true};
     ghost use Rattle.station_desk.specs.Sides.{BeginsBelow};
 
-    ghost log = { λ side. side.notes.entries };
+    ghost log = { λ side. side.log };
 
     ghost has_job = { λ side. side.has_job };
 
@@ -111,7 +134,8 @@ impl<'a, T: Tickets, R: Refusals> Dispatch<DiskLog> for DiskSide<'a, T, R> {
         let Ok(()) = self.notes.reserve() else {
             return Turn::Again;
         };
-        let mut served = self.desk.served.lock(rt);
+        let desk = self.desk;
+        let mut served = desk.served.lock(rt);
         match served.disk_next() {
             Heard::Work((job, copy)) => {
                 if !begins_below(&job, self.limit) {
@@ -122,7 +146,7 @@ impl<'a, T: Tickets, R: Refusals> Dispatch<DiskLog> for DiskSide<'a, T, R> {
                 Turn::Work(job)
             }
             Heard::Nothing => {
-                self.desk.changed.wait(rt, served);
+                desk.changed.wait(rt, served);
                 Turn::Again
             }
             Heard::NoMemory => Turn::Again,
@@ -131,8 +155,9 @@ impl<'a, T: Tickets, R: Refusals> Dispatch<DiskLog> for DiskSide<'a, T, R> {
     }
 
     fn done<W: Wait>(&mut self, rt: &W, outcome: Result<(), DeviceFault>) {
-        self.desk.served.lock(rt).disk_done(outcome);
-        self.desk.changed.notify_all();
+        let desk = self.desk;
+        desk.served.lock(rt).disk_done(outcome);
+        desk.changed.notify_all();
         self.notes.tell(outcome);
     }
 
@@ -143,9 +168,9 @@ impl<'a, T: Tickets, R: Refusals> Dispatch<DiskLog> for DiskSide<'a, T, R> {
 
 impl<'a, T: Tickets, R: Refusals> Dispatch<RomLog> for RomSide<'a, T, R> {
     ghost use Rattle.std.specs.Prelude.{◌≡◌, true};
-    ghost use Rattle.station_desk.specs.Asking.{is_rom_job};
+    ghost use Rattle.desk_book.specs.Asking.{is_rom_job};
 
-    ghost log = { λ side. side.notes.entries };
+    ghost log = { λ side. side.log };
 
     ghost has_job = { λ side. side.has_job };
 
@@ -155,7 +180,8 @@ impl<'a, T: Tickets, R: Refusals> Dispatch<RomLog> for RomSide<'a, T, R> {
         let Ok(()) = self.notes.reserve() else {
             return Turn::Again;
         };
-        let mut served = self.desk.served.lock(rt);
+        let desk = self.desk;
+        let mut served = desk.served.lock(rt);
         match served.slave_next(self.slave) {
             Heard::Work(job) => {
                 self.notes.hand_out(job);
@@ -163,7 +189,7 @@ impl<'a, T: Tickets, R: Refusals> Dispatch<RomLog> for RomSide<'a, T, R> {
                 Turn::Work(job)
             }
             Heard::Nothing => {
-                self.desk.changed.wait(rt, served);
+                desk.changed.wait(rt, served);
                 Turn::Again
             }
             Heard::NoMemory => Turn::Again,
@@ -172,8 +198,9 @@ impl<'a, T: Tickets, R: Refusals> Dispatch<RomLog> for RomSide<'a, T, R> {
     }
 
     fn done<W: Wait>(&mut self, rt: &W, outcome: RomOutcome) {
-        self.desk.served.lock(rt).slave_done(self.slave, outcome);
-        self.desk.changed.notify_all();
+        let desk = self.desk;
+        desk.served.lock(rt).slave_done(self.slave, outcome);
+        desk.changed.notify_all();
         self.notes.tell(outcome);
     }
 
@@ -201,7 +228,7 @@ fn blank_turn(plan: Plan) -> CycleJob
 }
 
 impl<'a, T: Tickets, R: Refusals> Dispatch<CycleLog> for CycleSide<'a, T, R> {
-    ghost log = { λ side. side.turns.items };
+    ghost log = { λ side. side.log };
 
     ghost has_job = { λ side. side.has_job };
 
@@ -211,7 +238,8 @@ impl<'a, T: Tickets, R: Refusals> Dispatch<CycleLog> for CycleSide<'a, T, R> {
         let Ok(()) = self.turns.reserve(1) else {
             return Turn::Again;
         };
-        let mut served = self.desk.served.lock(rt);
+        let desk = self.desk;
+        let mut served = desk.served.lock(rt);
         match served.cycle_next() {
             Heard::Work(plan) => {
                 self.turns.push_reserved(note_of(&plan));
@@ -219,7 +247,7 @@ impl<'a, T: Tickets, R: Refusals> Dispatch<CycleLog> for CycleSide<'a, T, R> {
                 Turn::Work(blank_turn(plan))
             }
             Heard::Nothing => {
-                self.desk.changed.wait(rt, served);
+                desk.changed.wait(rt, served);
                 Turn::Again
             }
             Heard::NoMemory => Turn::Again,

@@ -1,5 +1,27 @@
-use Rattle.std.proofs.Common.{refl}
+use Rattle.std.proofs.Common.{◌≡◌, ◌∙◌, List, IsTrue, sym, subst}
+use Rattle.desk_book.specs.Numbered.{Numbered}
+use Rattle.desk_book.specs.Serving.{Counts}
+use Rattle.station_desk.specs.Closing.{IsHandedIn}
 use Rattle.station_desk.proofs.closing.close.Goals as goal
 
-pub returns-clause-each : goal.returns-clause-each
-returns-clause-each g c = c.if-not-all_match.ensures.workers refl
+pub returns-then-not-all_match-clause-mismatch : goal.returns-then-not-all_match-clause-mismatch
+returns-then-not-all_match-clause-mismatch g c =
+    let opened = g.T.Tickets.opened in
+    let calls = c.audit_all.new.book.calls in
+    let shares : c.args.shares.items ≡ c.as_slice.result.now = sym (c.as_slice.ensures.value ∙ c.audit_all.ensures.shares) in
+    let receipts : c.args.receipts.items ≡ c.as_slice-2.result.now = sym c.as_slice-2.ensures.value in
+    λ same all.
+    let given = subst (λ (l : List Counts). IsHandedIn opened calls l c.args.receipts.items c.args.ends) shares all in
+    let yes : IsTrue c.all_match.result = c.all_match.ensures.1 (subst (λ (l : List Numbered). IsHandedIn opened calls c.as_slice.result.now l c.args.ends) receipts given) in
+    let no = c.if-not-all_match.true in
+    absurd cc
+
+pub returns-clause-handed_in : goal.returns-clause-handed_in
+returns-clause-handed_in g c =
+    let opened = g.T.Tickets.opened in
+    let calls = c.audit_all.new.book.calls in
+    let shares : c.as_slice.result.now ≡ c.args.shares.items = c.as_slice.ensures.value ∙ c.audit_all.ensures.shares in
+    let receipts : c.as_slice-2.result.now ≡ c.args.receipts.items = c.as_slice-2.ensures.value in
+    let all = c.all_match.ensures.0 c.if-not-all_match.false in
+    subst (λ (l : List Counts). IsHandedIn opened calls l c.args.receipts.items c.args.ends) shares
+    (subst (λ (l : List Numbered). IsHandedIn opened calls c.as_slice.result.now l c.args.ends) receipts all)

@@ -1,0 +1,20 @@
+use Rattle.std.proofs.Common.{◌∙◌, refl, ap}
+use Rattle.book_model.specs.Book.{Book}
+use Rattle.desk_book.specs.declared.call.Call.TheVariants.{DiskTold}
+use Rattle.desk_book.proofs.KeptLaws.{keeps-disk_done}
+use Rattle.desk_book.proofs.CallLaws.{is-replayed-more, are-counted-same, are-logs-more}
+use Rattle.desk_book.proofs.served.Served.disk_done.Goals as goal
+
+pub invariant_of-self : goal.invariant_of-self
+invariant_of-self g c =
+    let s = c.self.inside in
+    let i = c.self.invariant in
+    let outcome = c.args.outcome in
+    let call = DiskTold outcome in
+    rw c.note.ensures (
+      is-replayed-more g.T.Tickets.opened s.core c.disk_done.new.self s.history call i.0 tt c.disk_done.ensures,
+      are-counted-same s.core c.disk_done.new.self s.history call s.tickets.total s.refusals.total i.1 (ap (λ (b : Book). b.accepted) c.disk_done.ensures ∙ (keeps-disk_done s.core outcome).accepted) refl,
+      i.2,
+      are-logs-more s.history call s.disk.entries c.tell.new.self.entries s.slaves.items s.slaves.items s.cycle.items s.cycle.items i.3 c.tell.ensures (λ n inside. (inside, refl)) refl,
+      i.4,
+    )

@@ -1,0 +1,62 @@
+-- What a desk is closed with.
+use Rattle.std.specs.Prelude.{◌≡◌, ◌≢◌, ◌<◌, ◌&&◌, ◌==◌, ℕ, Bool, not, List, length, sum_by, count_by, is_some, Some, slice_get, All}
+use Rattle.sii_edit.specs.declared.command.Command.{Command}
+use Rattle.sii_edit.specs.Fold.{contents}
+use Rattle.book_model.specs.Book.{Book, base_of}
+use Rattle.book_core.specs.Settled.{is_settled}
+use Rattle.station_jobs.specs.declared.log.SlaveLog.{SlaveLog}
+use Rattle.station_jobs.specs.Ends.{Stay}
+use Rattle.desk_book.specs.declared.call.Call.{Call}
+use Rattle.desk_book.specs.Calls.{replayed, AreAnswered, is_refusal}
+use Rattle.desk_book.specs.Logs.{rom_log}
+use Rattle.desk_book.specs.Numbered.{Numbered}
+use Rattle.desk_book.specs.Serving.{Counts}
+
+-- ---- shares
+
+-- The shares count all tickets and refusals: as many as commands were accepted, and refused.
+pub record CountAll (book : Book) (calls : List Call) (shares : List Counts) : Type 0 where
+  pub tickets : sum_by (λ (s : Counts). s.tickets) shares ≡ length book.accepted
+  pub refusals : sum_by (λ (s : Counts). s.refusals) shares ≡ count_by is_refusal calls
+
+-- ---- receipts
+
+-- The command stands at its number among these, and is one of the first, so many.
+pub record StandsAt (commands : List Command) (durable : ℕ) (numbered : Numbered) : Type 0 where
+  pub below : numbered.number < durable
+  pub command : slice_get commands numbered.number ≡ Some numbered.command
+
+-- At some time since the book was opened the command stood at its number among the accepted ones, and was on the disk for good.
+pub record IsReceiptOf (opened : Book) (receipt : Numbered) : Type 0 where
+  pub calls : List Call
+  pub answered : AreAnswered opened calls
+  pub stands : StandsAt (replayed opened calls).accepted (replayed opened calls).durable receipt
+
+-- one of the first receipts, so many, has this number
+abbrev pub HasNumber : List Numbered → ℕ → ℕ → Type 0
+HasNumber receipts count number = (k : ℕ) × (one : Numbered) × (k < count) × (slice_get receipts k ≡ Some one) × (one.number ≡ number)
+
+-- no two receipts have one number
+abbrev pub AreApart : List Numbered → Type 0
+AreApart receipts = (i k : ℕ) (one other : Numbered) → slice_get receipts i ≡ Some one → slice_get receipts k ≡ Some other → k < i → other.number ≢ one.number
+
+pub record AreReceiptsOf (book : Book) (receipts : List Numbered) : Type 0 where
+  pub each : All (StandsAt book.accepted book.durable) receipts
+  pub apart : AreApart receipts
+
+-- ---- workers
+
+-- It is the work of this slave, with the jobs that were handed out for it.
+abbrev pub IsWorkOf : List Call → ℕ → SlaveLog → Type 0
+IsWorkOf calls i log = (log.slave ≡ i) × (log.jobs ≡ rom_log i calls)
+
+-- There is one for each slave, in the order of the line.
+pub record AreWorkersOf {S : Type 0} (opened : Book) (calls : List Call) (workers : List (Stay S SlaveLog)) : Type 0 where
+  pub count : length workers ≡ length (contents (base_of opened) (replayed opened calls).accepted)
+  pub each : (i : ℕ) (end : Stay S SlaveLog) → slice_get workers i ≡ Some end → IsWorkOf calls i end.log
+
+-- ---- the book
+
+-- no fault, and all that was found at the open or accepted since is settled
+abbrev pub is_served : Book → Bool
+is_served book = not (is_some book.fault) && (book.durable == length book.accepted) && is_settled book

@@ -1,0 +1,9 @@
+pub mod Nothing
+pub mod Tokens
+pub mod Numbered
+pub mod Calls
+pub mod Logs
+pub mod Serving
+pub mod Submitting
+pub mod Asking
+pub mod Closing

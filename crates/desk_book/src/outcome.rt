@@ -1,0 +1,115 @@
+//! What a book has come to, and whether what was handed in matches it.
+
+ghost use Rattle.std.specs.Prelude.{◌≡◌, ◌↔◌, ◌<◌, length, IsTrue};
+ghost use Rattle.sii_edit.specs.Fold.{contents};
+ghost use Rattle.book_model.specs.Book.{base_of};
+ghost use Rattle.desk_book.specs.Calls.{replayed, AreAnswered};
+ghost use Rattle.desk_book.specs.Logs.{disk_log, cycle_log};
+ghost use Rattle.desk_book.specs.Closing.{CountAll, AreReceiptsOf, IsWorkOf, AreWorkersOf, is_served};
+
+use crate::counting::{all_refusals, all_tickets, are_apart, stand_at_their_numbers};
+use crate::naming::{Refusals, Tickets};
+use crate::served::Served;
+use crate::share::Share;
+use crate::slaves::is_work_of;
+use crate::ticket::Receipt;
+use desk_notes::{DiskEntry, are_same_actions, are_same_turns};
+use sii_edit::Command;
+use sii_words::Plant;
+use site_core::Site;
+use station_jobs::{CycleNote, End, SlaveLog};
+
+impl<T: Tickets, R: Refusals> Served<T, R> {
+    /// The accepted commands, in order. The calls that made the book what it is were each answered as it answers them.
+    pub fn accepted(&self) -> &[Command]
+        ensures commands { result.now ≡ (replayed T.opened self.now.calls).accepted }
+        ensures answered { AreAnswered T.opened self.now.calls }
+    {
+        self.core.accepted()
+    }
+
+    /// The contents after all accepted commands.
+    pub fn contents(&self) -> &Plant
+        ensures { result.now ≡ contents (base_of T.opened) (replayed T.opened self.now.calls).accepted }
+    {
+        self.core.contents()
+    }
+
+    /// Whether the book has no fault, and all that was found at the open or accepted since is settled.
+    pub fn is_served(&self) -> bool
+        ensures { result ≡ is_served (replayed T.opened self.now.calls) }
+    {
+        let status = self.core.status();
+        self.core.fault().is_none() && status.durable == status.accepted && self.core.is_settled()
+    }
+
+    /// All shares of the desk count all tickets and refusals. Nothing changes.
+    pub fn audit(&mut self, shares: &mut [Share<T, R>])
+        ensures counted { length shares.old ≡ self.old.pool.given → CountAll (replayed T.opened self.old.calls) self.old.calls shares.old }
+        ensures same { self.new ≡ self.old }
+        ensures shares { shares.new ≡ shares.old }
+    {
+        self.pool
+            .audit(shares, &mut self.tickets, &mut self.refusals);
+    }
+
+    /// Whether the shares count all tickets and refusals.
+    pub fn shares_match(&self, shares: &[Share<T, R>]) -> bool
+        ensures { IsTrue result ↔ CountAll (replayed T.opened self.now.calls) self.now.calls shares.now }
+    {
+        let accepted = self.core.status().accepted;
+        let refused = self.refused;
+        let Some(tickets) = all_tickets(shares) else {
+            return false;
+        };
+        let Some(refusals) = all_refusals(shares) else {
+            return false;
+        };
+        tickets == accepted && refusals == refused
+    }
+
+    /// Whether each receipt is one of the book, and no two have one number.
+    pub fn receipts_match(&self, receipts: &[Receipt]) -> bool
+        ensures { IsTrue result ↔ AreReceiptsOf (replayed T.opened self.now.calls) receipts.now }
+    {
+        let durable = self.core.status().durable;
+        stand_at_their_numbers(receipts, self.core.accepted(), durable) && are_apart(receipts)
+    }
+
+    /// Whether these are the jobs of the disk that were handed out, with what was told of them.
+    pub fn flusher_matches(&self, log: &[DiskEntry]) -> bool
+        ensures { IsTrue result ↔ (log.now ≡ disk_log self.now.calls) }
+    {
+        are_same_actions(log, self.disk.as_slice())
+    }
+
+    /// Whether these are the turns that were handed out.
+    pub fn cycle_matches(&self, log: &[CycleNote]) -> bool
+        ensures { IsTrue result ↔ (log.now ≡ cycle_log self.now.calls) }
+    {
+        are_same_turns(log, &self.cycle)
+    }
+
+    /// Whether this is the work of a slave, with the jobs that were handed out for it.
+    fn worker_matches(&self, at: usize, log: &SlaveLog) -> bool
+        requires { at < length (contents (base_of T.opened) (replayed T.opened self.now.calls).accepted) }
+        ensures { IsTrue result ↔ IsWorkOf self.now.calls at log.now }
+    {
+        is_work_of(&self.slaves, at, log)
+    }
+
+    /// Whether there is one for each slave, in the order of the line.
+    pub fn workers_match<S: Site>(&self, workers: &[End<S, SlaveLog>]) -> bool
+        ensures { IsTrue result ↔ AreWorkersOf T.opened self.now.calls workers.now }
+    {
+        if workers.len() != self.contents().len() {
+            return false;
+        }
+        for i in 0..workers.len() {
+            if !self.worker_matches(i, workers[i].log()) {
+                return false;
+            }
+        }
+        true
+    }
+}

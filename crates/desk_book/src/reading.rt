@@ -1,0 +1,60 @@
+//! What is read of the book under its lock.
+
+ghost use Rattle.std.specs.Prelude.{◌≡◌, IsTrue, IfOk, IfErr};
+ghost use Rattle.desk_book.specs.Calls.{replayed, AreAnswered};
+ghost use Rattle.desk_book.specs.Closing.{StandsAt};
+
+use crate::counting::stands_at;
+use crate::naming::{Refusals, Tickets};
+use crate::served::Served;
+use crate::ticket::{Receipt, Ticket, Unacknowledged};
+use book_model::Status;
+
+impl<T: Tickets, R: Refusals> Served<T, R> {
+    /// How far the book is.
+    pub fn status(&self) -> Status {
+        self.core.status()
+    }
+
+    /// Whether the book answers `Closed` to whoever submits.
+    pub fn is_closed(&self) -> bool {
+        self.is_finished || self.core.fault().is_some()
+    }
+
+    /// Whether the command of this number isn't on the disk for good yet, and may still become so.
+    pub fn is_pending(&self, number: u64) -> bool {
+        number >= self.core.status().durable && self.core.fault().is_none()
+    }
+
+    /// Whether the command of the ticket is the accepted one of its number, and on the disk for good.
+    fn is_durable(&self, ticket: &Ticket) -> bool
+        ensures answered { AreAnswered T.opened self.now.calls }
+        ensures stands { IsTrue result → StandsAt (replayed T.opened self.now.calls).accepted (replayed T.opened self.now.calls).durable ticket.now }
+    {
+        let durable = self.core.status().durable;
+        stands_at(
+            ticket.number(),
+            ticket.command(),
+            self.core.accepted(),
+            durable,
+        )
+    }
+
+    /// The receipt of a ticket whose command is on the disk for good.
+    ///
+    /// # Errors
+    ///
+    /// It isn't, or the ticket is of another desk. The ticket is handed back.
+    pub fn receipt(&self, ticket: Ticket) -> Result<Receipt, Unacknowledged>
+        ensures receipt { IfOk result (λ receipt. receipt ≡ ticket) }
+        ensures stands { IfOk result (λ receipt. StandsAt (replayed T.opened self.now.calls).accepted (replayed T.opened self.now.calls).durable receipt) }
+        ensures answered { AreAnswered T.opened self.now.calls }
+        ensures handed_back { IfErr result (λ refused. refused.ticket ≡ ticket) }
+    {
+        if !self.is_durable(&ticket) {
+            return Err(Unacknowledged { ticket });
+        }
+        let Ticket { number, command } = ticket;
+        Ok(Receipt { number, command })
+    }
+}

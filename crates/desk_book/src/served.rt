@@ -1,0 +1,108 @@
+//! The book under the lock of a desk.
+
+ghost use Rattle.std.specs.Prelude.{◌≡◌, ◌⊎◌, ◌≤◌, ◌-◌, ◌+◌, [], length, IfOk, IfSome, IfNone, OnSome};
+ghost use Rattle.desk_book.specs.Serving.{AreRomLogs, with_call};
+
+use crate::call::Call;
+use crate::naming::{Parts, Refusals, Tickets};
+use crate::pool::Pool;
+use crate::share::Share;
+use book_core::Core;
+use book_model::{DiskNext, RomNext, RomOutcome};
+use desk_notes::Notes;
+use history::History;
+use site_core::DeviceFault;
+use station_jobs::CycleNote;
+use std::alloc::{AllocError, Global};
+use std::marker::Model;
+use std::sync::ledger::Book;
+
+/// A book with its history, the ledgers of its tickets and its refusals, and what was handed out to those who do its jobs.
+#[derive(Drop)]
+pub struct Served<T: Tickets, R: Refusals> {
+    pub(crate) alloc: Global,
+    pub(crate) core: Core,
+    pub(crate) history: History<Call>,
+    pub(crate) is_finished: bool,
+    pub(crate) tickets: Book<T>,
+    pub(crate) refusals: Book<R>,
+    pub(crate) refused: u64,
+    pub(crate) pool: Pool<T, R>,
+    pub(crate) disk: Notes<DiskNext, Result<(), DeviceFault>>,
+    pub(crate) slaves: Vec<Notes<RomNext, RomOutcome>>,
+    pub(crate) cycle: Vec<CycleNote>,
+}
+
+impl<T: Tickets, R: Refusals> Model for Served<T, R> {
+    ghost use Rattle.std.specs.Prelude.{◌≡◌};
+    ghost use Rattle.desk_book.specs.Serving.{Serving, IsReplayed, AreCounted, AreLogs, IsEach};
+
+    ghost Value = { Serving };
+
+    ghost view = { λ s. record { calls = s.history; tickets = s.tickets.total; refusals = s.refusals.total; pool = s.pool } };
+
+    ghost invariant = { λ s. IsReplayed T.opened s.core s.history × AreCounted s.core s.history s.tickets.total s.refusals.total × (s.refused ≡ s.refusals.total) × AreLogs s.history s.disk.entries s.slaves.items s.cycle.items × IsEach T.opened s.slaves.items };
+}
+
+/// Notes of so many slaves, to whom nothing was handed out yet.
+fn no_notes(alloc: Global, count: usize) -> Result<Vec<Notes<RomNext, RomOutcome>>, AllocError>
+    ensures none { IfOk result (λ notes. AreRomLogs [] notes.items) }
+    ensures count { IfOk result (λ notes. length notes.items ≡ count) }
+{
+    let mut notes = Vec::with_capacity(alloc, count)?;
+    for _made in 0..count {
+        notes.push(Notes::new(alloc))?;
+    }
+    Ok(notes)
+}
+
+impl<T: Tickets, R: Refusals> Served<T, R> {
+    /// A book of which nothing was asked yet.
+    pub fn of(
+        alloc: Global,
+        core: Core,
+        tickets: Parts,
+        refusals: Parts,
+    ) -> Result<Served<T, R>, AllocError>
+        requires core { core ≡ T.opened }
+        requires none { core.accepted ≡ [] }
+        requires tickets { (tickets.name ≡ T.name) × (tickets.count ≡ T.parts) }
+        requires refusals { (refusals.name ≡ R.name) × (refusals.count ≡ R.parts) }
+        ensures { IfOk result (λ served. served ≡ record { calls = []; tickets = 0; refusals = 0; pool = record { tickets = tickets.count; refusals = refusals.count; given = 0 } }) }
+    {
+        let slaves = no_notes(alloc, core.contents().len())?;
+        let (ticket_book, refusal_book, pool) = Pool::open(tickets, refusals);
+        Ok(Served {
+            alloc,
+            core,
+            history: History::new(),
+            is_finished: false,
+            tickets: ticket_book,
+            refusals: refusal_book,
+            refused: 0,
+            pool,
+            disk: Notes::new(alloc),
+            slaves,
+            cycle: Vec::new(alloc),
+        })
+    }
+
+    /// A share of one part of each ledger. `None` where one of them has one part left, or none.
+    pub fn share(&mut self) -> Option<Share<T, R>>
+        ensures share { IfSome result (λ share. share ≡ record { tickets = 0; refusals = 0 }) }
+        ensures given { OnSome result (self.new ≡ record self.old { pool = record { tickets = self.old.pool.tickets - 1; refusals = self.old.pool.refusals - 1; given = self.old.pool.given + 1 } }) }
+        ensures none { IfNone result ((self.old.pool.tickets ≤ 1) ⊎ (self.old.pool.refusals ≤ 1)) }
+        ensures same { IfNone result (self.new ≡ self.old) }
+    {
+        self.pool.share()
+    }
+
+    /// No more commands are accepted. What was accepted is still done.
+    pub fn finish(&mut self)
+        ensures { self.new ≡ with_call self.old Call.Finished }
+    {
+        self.core.finish();
+        self.history.note(&Call::Finished);
+        self.is_finished = true;
+    }
+}

@@ -1,0 +1,82 @@
+//! What a submitter holds.
+
+ghost use Rattle.std.specs.Prelude.{◌≡◌, ◌+◌, ◌<◌, ◌^◌};
+
+use crate::naming::{Refusals, Tickets};
+use std::marker::Model;
+use std::sync::ledger;
+use std::sync::ledger::Book;
+
+/// A share of a desk's two ledgers: how many tickets were given for it, and how many refusals were counted in it.
+#[derive(Drop)]
+pub struct Share<T: Tickets, R: Refusals> {
+    pub(crate) tickets: u64,
+    pub(crate) refusals: u64,
+    pub(crate) ticket_token: ledger::Share<T>,
+    pub(crate) refusal_token: ledger::Share<R>,
+}
+
+impl<T: Tickets, R: Refusals> Model for Share<T, R> {
+    ghost use Rattle.std.specs.Prelude.{◌≡◌};
+    ghost use Rattle.desk_book.specs.Serving.{Counts};
+    ghost use Rattle.desk_book.specs.Tokens.{IsToken};
+
+    ghost Value = { Counts };
+
+    ghost view = { λ s. record { tickets = s.tickets; refusals = s.refusals } };
+
+    ghost invariant = { λ s. IsToken s.tickets s.ticket_token.parts s.ticket_token.amount × IsToken s.refusals s.refusal_token.parts s.refusal_token.amount };
+}
+
+impl<T: Tickets, R: Refusals> Share<T, R> {
+    /// A share of one part of each ledger, which counts nothing yet.
+    pub(crate) fn new(ticket_token: ledger::Share<T>, refusal_token: ledger::Share<R>) -> Self
+        requires tickets { (ticket_token.parts ≡ 1) × (ticket_token.amount ≡ 0) }
+        requires refusals { (refusal_token.parts ≡ 1) × (refusal_token.amount ≡ 0) }
+        ensures { result ≡ record { tickets = 0; refusals = 0 } }
+    {
+        Share {
+            tickets: 0,
+            refusals: 0,
+            ticket_token,
+            refusal_token,
+        }
+    }
+
+    /// How many tickets were given for it.
+    pub fn tickets(&self) -> u64
+        ensures { result ≡ self.now.tickets }
+    {
+        self.tickets
+    }
+
+    /// How many refusals were counted in it.
+    pub fn refusals(&self) -> u64
+        ensures { result ≡ self.now.refusals }
+    {
+        self.refusals
+    }
+
+    /// One ticket more is given.
+    pub(crate) fn count_ticket(&mut self, book: &mut Book<T>)
+        requires { book.old.total + 1 < 2 ^ 64 }
+        ensures total { book.new.total ≡ book.old.total + 1 }
+        ensures counts { self.new ≡ record self.old { tickets = self.old.tickets + 1 } }
+    {
+        book.audit(&mut self.ticket_token);
+        book.add(&mut self.ticket_token, 1);
+        self.tickets += 1;
+    }
+
+    /// One refusal more is counted.
+    pub(crate) fn count_refusal(&mut self, book: &mut Book<R>)
+        requires { book.old.total + 1 < 2 ^ 64 }
+        ensures few { book.old.total + 1 < 2 ^ 64 }
+        ensures total { book.new.total ≡ book.old.total + 1 }
+        ensures counts { self.new ≡ record self.old { refusals = self.old.refusals + 1 } }
+    {
+        book.audit(&mut self.refusal_token);
+        book.add(&mut self.refusal_token, 1);
+        self.refusals += 1;
+    }
+}

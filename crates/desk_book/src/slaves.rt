@@ -1,0 +1,120 @@
+//! What is to be done with a slave is asked for, and told.
+
+ghost use Rattle.std.specs.Prelude.{◌≡◌, ◌↔◌, ◌<◌, length, slice_index_or, IsTrue, OnOk};
+ghost use Rattle.station_jobs.specs.Dispatch.{with_outcome};
+ghost use Rattle.desk_notes.specs.Noted.{is_waiting};
+ghost use Rattle.desk_book.specs.Logs.{with_job};
+ghost use Rattle.desk_book.specs.Serving.{IsNoted, entries_at, no_entries};
+ghost use Rattle.desk_book.specs.Asking.{AsksSlave, SlaveIsTold, is_rom_job};
+
+use crate::call::Call;
+use crate::handing::note;
+use crate::heard::Heard;
+use crate::naming::{Refusals, Tickets};
+use crate::served::Served;
+use book_model::{RomNext, RomOutcome};
+use desk_notes::{Notes, are_same_calls};
+use station_jobs::SlaveLog;
+use std::alloc::AllocError;
+
+/// What is noted of one slave.
+type SlaveNotes = Notes<RomNext, RomOutcome>;
+
+/// Whether it is to be done, and not nothing.
+fn is_job(next: RomNext) -> bool
+    ensures { result ≡ is_rom_job next }
+{
+    match next {
+        RomNext::Idle | RomNext::Stop => false,
+        _ => true,
+    }
+}
+
+/// Whether a job of the slave is out.
+fn is_waiting_at(slaves: &Vec<SlaveNotes>, at: usize) -> bool
+    requires { at < length slaves.now.items }
+    ensures { result ≡ is_waiting (entries_at slaves.now.items at) }
+{
+    let notes = &slaves[at];
+    notes.is_waiting()
+}
+
+/// Whether this is the work of the slave, with the jobs that are noted of it.
+pub(crate) fn is_work_of(slaves: &Vec<SlaveNotes>, at: usize, log: &SlaveLog) -> bool
+    requires { at < length slaves.now.items }
+    ensures { IsTrue result ↔ (log.now.slave ≡ at) × (log.now.jobs ≡ entries_at slaves.now.items at) }
+{
+    let notes = &slaves[at];
+    usize::from(log.slave) == at && are_same_calls(log.jobs.as_slice(), notes.as_slice())
+}
+
+/// Room for one more job of the slave.
+fn reserve_at(slaves: &mut Vec<SlaveNotes>, at: usize) -> Result<(), AllocError>
+    requires { at < length slaves.old.items }
+    ensures same { IsNoted slaves.old.items at (entries_at slaves.old.items at) slaves.new.items }
+    ensures room { OnOk result (0 < (slice_index_or slaves.new.items at no_entries).spare) }
+{
+    let notes = &mut slaves[at];
+    notes.reserve()
+}
+
+/// One more job of the slave is handed out.
+fn hand_out_at(slaves: &mut Vec<SlaveNotes>, at: usize, job: RomNext)
+    requires inside { at < length slaves.old.items }
+    requires room { 0 < (slice_index_or slaves.old.items at no_entries).spare }
+    ensures { IsNoted slaves.old.items at (with_job (entries_at slaves.old.items at) job) slaves.new.items }
+{
+    let notes = &mut slaves[at];
+    notes.hand_out(job);
+}
+
+/// This came of the slave's last job.
+fn tell_at(slaves: &mut Vec<SlaveNotes>, at: usize, outcome: RomOutcome)
+    requires { at < length slaves.old.items }
+    ensures { IsNoted slaves.old.items at (with_outcome (entries_at slaves.old.items at) outcome) slaves.new.items }
+{
+    let notes = &mut slaves[at];
+    notes.tell(outcome);
+}
+
+impl<T: Tickets, R: Refusals> Served<T, R> {
+    /// What is to be done next with the slave. The memory for its note is taken before the book is asked. While a job of it is out
+    /// there is nothing to be done, and the book isn't asked; nor is it asked of a slave that the line doesn't have.
+    pub fn slave_next(&mut self, slave: u16) -> Heard<RomNext>
+        ensures { AsksSlave slave result self.old self.new }
+    {
+        let at = usize::from(slave);
+        if at >= self.slaves.len() {
+            return Heard::Stop;
+        }
+        if is_waiting_at(&self.slaves, at) {
+            return Heard::Nothing;
+        }
+        let Ok(()) = reserve_at(&mut self.slaves, at) else {
+            return Heard::NoMemory;
+        };
+        let answer = self.core.rom_next(slave);
+        note(&mut self.history, Call::SlaveAsked { slave, answer });
+        if is_job(answer) {
+            hand_out_at(&mut self.slaves, at, answer);
+            return Heard::Work(answer);
+        }
+        match answer {
+            RomNext::Stop => Heard::Stop,
+            _ => Heard::Nothing,
+        }
+    }
+
+    /// This came of the slave's job that is out. Where none is, nothing is told.
+    pub fn slave_done(&mut self, slave: u16, outcome: RomOutcome)
+        ensures { SlaveIsTold slave outcome self.old self.new }
+    {
+        let at = usize::from(slave);
+        if at >= self.slaves.len() || !is_waiting_at(&self.slaves, at) {
+            return;
+        }
+        self.core.rom_done(slave, outcome);
+        note(&mut self.history, Call::SlaveTold { slave, outcome });
+        tell_at(&mut self.slaves, at, outcome);
+    }
+}

@@ -1,8 +1,0 @@
-pub mod KeptLaws
-pub mod CallLaws
-pub mod LogLaws
-pub mod TurnLaws
-pub mod BaseLaws
-pub mod EntryLaws
-pub mod NoteLaws
-pub mod AskLaws

@@ -1,7 +1,0 @@
-use Rattle.std.proofs.Common.{◌≡◌, take}
-use Rattle.std.specs.Prelude.{sum_by}
-use Rattle.station_desk.specs.Serving.{Counts}
-use Rattle.station_desk.proofs.counting.all_refusals.Given as goal
-
-abbrev pub invariant-loop-i : goal.invariant-loop-i
-invariant-loop-i g l = l.sum ≡ sum_by (λ (s : Counts). s.refusals) (take l.i l.shares)

@@ -1,9 +1,0 @@
-use Rattle.std.proofs.Common.{◌≡◌, ◌<◌, ℕ, Some}
-use Rattle.std.specs.Prelude.{slice_get}
-use Rattle.station_jobs.specs.declared.log.SlaveLog.{SlaveLog}
-use Rattle.station_jobs.specs.Ends.{Stay}
-use Rattle.station_desk.specs.Logs.{rom_log}
-use Rattle.station_desk.proofs.served.Served.workers_match.Given as goal
-
-abbrev pub invariant-loop-i : goal.invariant-loop-i
-invariant-loop-i g l = (k : ℕ) (end : Stay g.row.S.Denot SlaveLog) → k < l.i → slice_get l.workers k ≡ Some end → (end.log.slave ≡ k) × (end.log.jobs ≡ rom_log k l.self.calls)
