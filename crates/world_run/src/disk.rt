@@ -1,7 +1,7 @@
 ghost use Rattle.std.specs.Prelude.{◌≡◌, ◌<◌, ◌++◌, replicate, vec_len, vec_capacity, Some, OnOk, OnErr, IfOk};
 ghost use Rattle.jrn_format.specs.Header.{header_bytes};
 ghost use Rattle.site_core.specs.Disk.{synced, overlaid};
-ghost use Rattle.disk_laws.specs.Events.{begun_on, ended_on, gate_byte};
+ghost use Rattle.disk_laws.specs.Events.{begun_on, ended_on};
 ghost use Rattle.world_run.specs.Torn.{disk_of, synced_of, range_of, FailsAs, StopsAs};
 
 use crate::leaving::{LeftByte, Stretch, leave};
@@ -29,13 +29,6 @@ fn lay_over(bytes: &mut Vec<u8>, at: usize, over: &[u8]) -> Result<(), AllocErro
     bytes.extend_from_slice(behind)?;
     bytes[front..front + inside].copy_from_slice(kept);
     Ok(())
-}
-
-/// The byte of a gate.
-fn gate_byte(closed: bool) -> u8
-    ensures { result ≡ gate_byte closed }
-{
-    if closed { CLOSED } else { OPEN }
 }
 
 /// The bytes that an action writes, where it writes any.
@@ -118,7 +111,8 @@ impl WorldDisk {
     {
         match action {
             DiskNext::Write { at, bytes } => lay_over(&mut self.bytes, *at, bytes.as_slice()),
-            DiskNext::Gate { at, closed } => lay_over(&mut self.bytes, *at, &[gate_byte(*closed)]),
+            DiskNext::Gate { at, closed: true } => lay_over(&mut self.bytes, *at, &[CLOSED]),
+            DiskNext::Gate { at, closed: false } => lay_over(&mut self.bytes, *at, &[OPEN]),
             DiskNext::Sync => {
                 self.sync();
                 Ok(())

@@ -19,7 +19,7 @@ const WRITE: u16 = 0x0201;
 const NOT_WELL: u8 = 0x20;
 
 /// How a word in flight ends.
-#[derive(Clone, Copy, Debug, PartialEq, Eq)]
+#[derive(Clone, Copy)]
 pub enum WordEnd {
     /// It holds its value.
     Well,

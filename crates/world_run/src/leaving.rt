@@ -6,14 +6,14 @@ ghost use Rattle.world_run.specs.Left.{HoldsLeft};
 use std::marker::Model;
 
 /// What one byte of the disk is to hold where it may hold anything.
-#[derive(Clone, Copy, Debug, PartialEq, Eq)]
+#[derive(Clone, Copy)]
 pub struct LeftByte {
     pub at: usize,
     pub byte: u8,
 }
 
 /// What the word in flight of a slave is to hold where it may hold anything.
-#[derive(Clone, Copy, Debug, PartialEq, Eq)]
+#[derive(Clone, Copy)]
 pub struct LeftWord {
     pub slave: u16,
     pub word: u16,

@@ -31,17 +31,6 @@ pub(crate) enum Asked {
     Settle { taken: bool },
 }
 
-impl Asked {
-    fn is_nothing(self) -> bool
-        ensures { IsTrue result ↔ self ≡ Asked.Nothing }
-    {
-        match self {
-            Asked::Nothing => true,
-            Asked::Issue | Asked::Settle { .. } => false,
-        }
-    }
-}
-
 /// A station that is up: its core, and what the core has handed out that hasn't come back.
 #[derive(Drop)]
 pub(crate) struct Station {
@@ -98,7 +87,7 @@ fn are_idle(asked: &[Asked]) -> bool
     ensures { IsTrue result ↔ AllByRecursion (λ (a : Asked). a ≡ Asked.Nothing) asked.now }
 {
     for a in asked {
-        if !a.is_nothing() {
+        if let Asked::Issue | Asked::Settle { .. } = a {
             return false;
         }
     }

@@ -1,0 +1,68 @@
+//! The words of two slaves of 64 words.
+
+use book_core::Core;
+use sii_words::Words;
+use std::alloc::Global;
+use std::test::Fail;
+use world_run::World;
+
+pub(crate) type Contents = [[u16; 64]; 2];
+
+/// The words of a slave from this one on get these values.
+pub(crate) fn put(contents: &mut Contents, slave: usize, first: usize, values: &[u16]) {
+    let Some(words) = contents.get_mut(slave) else {
+        return;
+    };
+    for (word, value) in words.iter_mut().skip(first).zip(values) {
+        *word = *value;
+    }
+}
+
+/// Zeros, but for the check bytes.
+pub(crate) fn zeros() -> Contents {
+    let mut contents = [[0; 64]; 2];
+    put(&mut contents, 0, 7, &[0x30]);
+    put(&mut contents, 1, 7, &[0x30]);
+    contents
+}
+
+/// What these slaves have.
+fn contents_of(slaves: &[Words]) -> Contents {
+    let mut contents = [[0; 64]; 2];
+    for (slave, words) in slaves.iter().enumerate() {
+        put(&mut contents, slave, 0, words.as_slice());
+    }
+    contents
+}
+
+/// What a book has.
+pub(crate) fn contents_in(book: &Core) -> Contents {
+    let mut contents = [[0; 64]; 2];
+    let plant = book.contents();
+    for slave in 0..plant.len() {
+        put(&mut contents, slave, 0, plant.slave(slave).as_slice());
+    }
+    contents
+}
+
+/// What the slaves of a world hold. A word in flight has its old value there.
+pub(crate) fn held(world: &World) -> Result<Contents, Fail> {
+    let slaves = world.words()?;
+    Ok(contents_of(&slaves))
+}
+
+/// A slave of zeros, but for its check byte.
+fn zero_slave(alloc: Global) -> Result<Words, Fail> {
+    let mut bytes = [0u8; 128];
+    bytes[14] = 0x30;
+    Ok(Words::from_bytes(alloc, &bytes)?)
+}
+
+/// So many of them.
+pub(crate) fn zero_slaves(alloc: Global, count: usize) -> Result<Vec<Words>, Fail> {
+    let mut slaves = Vec::new(alloc);
+    for _slave in 0..count {
+        slaves.push(zero_slave(alloc)?)?;
+    }
+    Ok(slaves)
+}

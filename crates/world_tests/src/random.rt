@@ -1,0 +1,251 @@
+//! Events by chance, and what callers know behind each.
+
+use crate::acts::{happens, stops, world_on};
+use crate::contents::{Contents, contents_in, put, zeros};
+use crate::dice::Dice;
+use crate::kept::{Session, is_kept};
+use book_model::RomOutcome;
+use sii_edit::{Command, Edit};
+use site_core::{DeviceFault, Issued, Settled};
+use std::alloc::Global;
+use std::process::Abort;
+use std::test::Fail;
+use world_run::{DiskEnd, Event, WordEnd, World, step};
+
+/// Headers for two slaves, of version 1 and of version 2.
+const HEADERS: [[u8; 8]; 2] = [
+    [0xA5, 1, 2, 0, 0, 0x10, 0, 0],
+    [0xA5, 2, 2, 0, 0, 0x10, 0, 0],
+];
+
+/// Aliases, each with the check byte of a slave that is zero otherwise.
+const ALIASES: [(u16, u16); 3] = [(0, 0x30), (1, 0x19), (0xFFFF, 0xA6)];
+
+/// Whether a station is up that no fault has closed.
+fn is_up(world: &World) -> bool {
+    match world.core() {
+        Some(core) => return core.fault().is_none(),
+        None => return false,
+    }
+}
+
+/// How many commands the station has accepted.
+fn accepted(world: &World) -> usize {
+    match world.core() {
+        Some(core) => return core.accepted().len(),
+        None => return 0,
+    }
+}
+
+/// What its book has.
+fn book(world: &World) -> Option<Contents> {
+    match world.core() {
+        Some(core) => return Some(contents_in(core)),
+        None => return None,
+    }
+}
+
+/// What is durable by now is acknowledged.
+fn acknowledge(world: &World, session: &mut Session) {
+    if let Some(core) = world.core() {
+        session.acknowledged = core.status().durable;
+    }
+}
+
+/// A session begins with contents of the one before.
+fn goes_on(world: &World, session: &mut Session) -> Result<bool, Fail> {
+    let Some(base) = book(world) else {
+        return Ok(false);
+    };
+    let is_known = session.has(&base);
+    session.begin(base)?;
+    Ok(is_known)
+}
+
+fn opens(world: &mut World, session: &mut Session) -> Result<bool, Fail> {
+    if is_up(world) {
+        return happens(world, Event::Open);
+    }
+    acknowledge(world, session);
+    step(world, Event::Open)?;
+    if is_up(world) {
+        return goes_on(world, session);
+    }
+    Ok(true)
+}
+
+/// A command is asked for, behind which the contents would be these.
+fn asks(
+    world: &mut World,
+    session: &mut Session,
+    command: Command,
+    after: Contents,
+) -> Result<bool, Fail> {
+    let before = accepted(world);
+    step(world, Event::Submit(command))?;
+    if accepted(world) == before {
+        return Ok(true);
+    }
+    session.contents.push(after)?;
+    Ok(book(world) == Some(after))
+}
+
+fn asks_alias(world: &mut World, session: &mut Session, dice: &mut Dice) -> Result<bool, Fail> {
+    let slave = dice.below(2);
+    let (value, check) = ALIASES[usize::from(dice.below(3))];
+    let mut after = session.last();
+    put(&mut after, usize::from(slave), 4, &[value]);
+    put(&mut after, usize::from(slave), 7, &[check]);
+    asks(
+        world,
+        session,
+        Command::One(Edit::Alias { slave, value }),
+        after,
+    )
+}
+
+fn asks_swap(world: &mut World, session: &mut Session) -> Result<bool, Fail> {
+    let [first, second] = session.last();
+    asks(
+        world,
+        session,
+        Command::Swap { a: 0, b: 1 },
+        [second, first],
+    )
+}
+
+fn of_caller(world: &mut World, session: &mut Session, dice: &mut Dice) -> Result<bool, Fail> {
+    match dice.below(64) {
+        0 => return happens(world, Event::Finish),
+        1 => return happens(world, Event::Plan),
+        2..=15 => return happens(world, Event::Migrate),
+        16..=31 => return asks_swap(world, session),
+        _ => return asks_alias(world, session, dice),
+    }
+}
+
+/// This comes back of a slave.
+fn back(slave: u16, outcome: RomOutcome) -> Event {
+    Event::RomDone { slave, outcome }
+}
+
+fn disk_fails(alloc: Global, world: &mut World, dice: &mut Dice) -> Result<bool, Fail> {
+    let bytes = [dice.left_byte()].to_vec(alloc)?;
+    happens(
+        world,
+        Event::DiskDone(DiskEnd::Failed {
+            fault: DeviceFault::Disk,
+            bytes,
+        }),
+    )
+}
+
+/// An action of the disk begins and comes back.
+fn acts(world: &mut World) -> Result<bool, Fail> {
+    step(world, Event::DiskBegin)?;
+    happens(world, Event::DiskDone(DiskEnd::Done))
+}
+
+fn of_disk(alloc: Global, world: &mut World, dice: &mut Dice) -> Result<bool, Fail> {
+    match dice.below(128) {
+        0 => return disk_fails(alloc, world, dice),
+        1..=31 => return happens(world, Event::DiskBegin),
+        32..=63 => return happens(world, Event::DiskDone(DiskEnd::Done)),
+        _ => return acts(world),
+    }
+}
+
+/// A word of a slave is issued and written.
+fn writes(world: &mut World, slave: u16) -> Result<bool, Fail> {
+    let takes = true;
+    let end = WordEnd::Well;
+    step(world, Event::RomIssue { slave, takes })?;
+    step(world, back(slave, RomOutcome::Issued(Issued::Taken)))?;
+    step(world, Event::RomResolve { slave, end })?;
+    step(world, Event::RomIssue { slave, takes })?;
+    happens(world, back(slave, RomOutcome::Settled(Settled::Written)))
+}
+
+fn of_slave(world: &mut World, dice: &mut Dice) -> Result<bool, Fail> {
+    let slave = dice.below(2);
+    match dice.below(8) {
+        0 => {
+            let takes = !dice.one_in(8);
+            return happens(world, Event::RomIssue { slave, takes });
+        }
+        1 => {
+            let end = dice.word_end();
+            return happens(world, Event::RomResolve { slave, end });
+        }
+        2..=4 => return happens(world, back(slave, dice.outcome())),
+        _ => return writes(world, slave),
+    }
+}
+
+/// A stop, and whether what it leaves is kept.
+fn stops_kept(
+    alloc: Global,
+    world: &mut World,
+    session: &mut Session,
+    dice: &mut Dice,
+) -> Result<bool, Fail> {
+    acknowledge(world, session);
+    let bytes = dice.left_bytes();
+    let words = [dice.left_word()];
+    stops(alloc, world, &bytes, &words)?;
+    is_kept(alloc, world, session)
+}
+
+/// Something happens, and whether what is seen of it is right.
+fn goes_well(
+    alloc: Global,
+    world: &mut World,
+    session: &mut Session,
+    dice: &mut Dice,
+) -> Result<bool, Fail> {
+    match dice.below(64) {
+        0 => return stops_kept(alloc, world, session, dice),
+        1..=4 => return opens(world, session),
+        5..=8 => return of_caller(world, session, dice),
+        9..=28 => return of_disk(alloc, world, dice),
+        _ => return of_slave(world, dice),
+    }
+}
+
+/// Whether all is well in a list of events, and behind a stop at its end.
+fn list_goes_well(
+    alloc: Global,
+    world: &mut World,
+    session: &mut Session,
+    dice: &mut Dice,
+) -> Result<bool, Fail> {
+    for _choice in 0..128u8 {
+        if !goes_well(alloc, world, session, dice)? {
+            return Ok(false);
+        }
+    }
+    stops_kept(alloc, world, session, dice)
+}
+
+/// Whether all is well in a list of events on a disk that begins so.
+fn begins_well(
+    rt: &impl Abort,
+    alloc: Global,
+    front: &[u8],
+    dice: &mut Dice,
+) -> Result<bool, Fail> {
+    let mut world = world_on(rt, alloc, 2, front)?;
+    let mut session = Session::of(alloc, zeros())?;
+    list_goes_well(alloc, &mut world, &mut session, dice)
+}
+
+/// So many lists, on disks of both versions: how many of them go well before one that doesn't.
+pub(crate) fn count_well(rt: &impl Abort, alloc: Global, lists: usize) -> Result<usize, Fail> {
+    let mut dice = Dice::of(1);
+    for count in 0..lists {
+        if !begins_well(rt, alloc, &HEADERS[count % 2], &mut dice)? {
+            return Ok(count);
+        }
+    }
+    Ok(lists)
+}
