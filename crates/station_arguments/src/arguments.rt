@@ -9,17 +9,45 @@ use std::alloc::{AllocError, Global};
 #[derive(Clone, Copy)]
 pub enum Task<'a> {
     /// Sets the alias of the image on standard input.
-    Alias { value: u16, hex: bool },
+    Alias {
+        value: u16,
+        hex: bool,
+    },
     /// Prints what the image on standard input says.
-    Show { hex: bool },
+    Show {
+        hex: bool,
+    },
     /// Formats the journal of a line, the name of a file.
-    Init { line: &'a str },
+    Init {
+        line: &'a str,
+    },
     /// Runs a script on a line; both are names of files.
-    Run { line: &'a str, script: &'a str },
+    Run {
+        line: &'a str,
+        script: &'a str,
+        cut: Option<Cut>,
+    },
+    /// Recovers a line, the name of a file.
+    Recover {
+        line: &'a str,
+    },
     /// Prints the process image of a line, the name of a file.
-    Layout { line: &'a str },
+    Layout {
+        line: &'a str,
+    },
     /// Prints what a code means, or what all of them do.
-    Explain { code: Option<Code> },
+    Explain {
+        code: Option<Code>,
+    },
+}
+
+/// A power cut that a run is to meet.
+#[derive(Clone, Copy)]
+pub struct Cut {
+    /// How many writes to the disk and to the slaves pass before it.
+    pub writes: u32,
+    /// What a word that is torn holds after it, and in its low byte what each unsynced byte holds.
+    pub left: u16,
 }
 
 /// What `--version` prints behind the program's name.
@@ -74,20 +102,41 @@ Example:
 
 /// What `run` prints, and how it ends.
 const RUN_ANSWERS: &str = "Answers:
-  command I accepted N           command I of the script is the Nth that is done
+  command I accepted N           command I of the script has number N, from 0
   command I refused CODE NAME    it isn't done, and changes nothing
   ... at P                       of a group, edit P is the reason
   accepted A durable D settled S
-                                 how many commands were accepted, are in the
-                                 journal, and are in the slaves
+                                 how many commands were accepted, how many of
+                                 them no power cut can undo any more, and how
+                                 many are in the slaves
 Faults go to standard error as: fault CODE NAME. The subcommand explain says what
 a code means.
 
+With --fuse the power is cut: K writes to the journal and to the slaves pass, and
+the next one is torn. Unsynced bytes of the journal are left as the low byte of W,
+and a word that a slave was writing as W. What is left is saved, the run ends with
+fault 42 Stopped and status 4, and recover mends the line.
+
 Exit status: 0 done, 1 a command was refused, 2 wrong usage, 3 a file or its
-form, 5 no memory.
+form, 4 a device or a power cut, 5 no memory. The highest that applies wins.
 
 Example:
   sii_station run line.toml script.toml";
+
+/// What `recover` prints, and how it ends.
+const RECOVER_ANSWERS: &str = "Answers:
+  recovered batches B commands C words W
+                   the journal held B batches that weren't done, with C commands,
+                   and W words of them were written to the slaves
+Each command of the journal is then done as a whole, or undone as a whole. A line
+can be recovered again at any time; of a line that is in order it says 0, 0, 0.
+Faults go to standard error as: fault CODE NAME. The subcommand explain says what
+a code means.
+
+Exit status: 0 done, 2 wrong usage, 3 a file or its form, 4 a device, 5 no memory.
+
+Example:
+  sii_station recover line.toml";
 
 /// What `layout` prints, and how it ends.
 const LAYOUT_ANSWERS: &str = "Answers:
@@ -122,7 +171,10 @@ pub fn read_arguments<'a>(alloc: Global, words: &'a [String]) -> Result<Task<'a>
         return Ok(init_task(init));
     }
     if let Some(run) = matches.subcommand_matches("run") {
-        return Ok(run_task(run));
+        return run_task(&mut command, run);
+    }
+    if let Some(recover) = matches.subcommand_matches("recover") {
+        return Ok(recover_task(recover));
     }
     if let Some(layout) = matches.subcommand_matches("layout") {
         return Ok(layout_task(layout));
@@ -144,6 +196,7 @@ fn station<'a>(alloc: Global) -> Result<Command<'a>, AllocError> {
         .subcommand(alias_command(alloc)?)?
         .subcommand(init_command(alloc)?)?
         .subcommand(run_command(alloc)?)?
+        .subcommand(recover_command(alloc)?)?
         .subcommand(layout_command(alloc)?)?
         .subcommand(explain_command(alloc)?)
 }
@@ -202,12 +255,41 @@ fn run_command<'a>(alloc: Global) -> Result<Command<'a>, AllocError> {
     Command::new(alloc, "run")
         .about("Runs a script of commands on a line of slaves")
         .long_about(
-            "Reads a line file, the EEPROM images that it names and a script file, submits the script's commands in order, prints the answer to each, and saves the images.",
+            "Reads a line file, the EEPROM images and the journal that it names and a script file, submits the script's commands in order and prints the answer to each, brings them to the slaves by way of the journal, and saves images and journal.",
         )
         .after_help("Example:\n  sii_station run line.toml script.toml")
         .after_long_help(RUN_ANSWERS)
         .arg(line_argument(alloc))?
-        .arg(script)
+        .arg(script)?
+        .arg(fuse_argument(alloc))?
+        .arg(left_argument(alloc))
+}
+
+fn fuse_argument<'a>(alloc: Global) -> Arg<'a> {
+    Arg::new(alloc, "fuse")
+        .long("fuse")
+        .value_name("K")
+        .help("Cuts the power once K writes have passed, 0 to 4294967295")
+        .value_parser(value_parser!(u32))
+}
+
+fn left_argument<'a>(alloc: Global) -> Arg<'a> {
+    Arg::new(alloc, "left")
+        .long("left")
+        .value_name("W")
+        .help("What a torn write leaves, 0 to 65535; 0 where nothing is said")
+        .value_parser(value_parser!(u16))
+}
+
+fn recover_command<'a>(alloc: Global) -> Result<Command<'a>, AllocError> {
+    Command::new(alloc, "recover")
+        .about("Ends what a run has left in the journal")
+        .long_about(
+            "Reads a line file, the EEPROM images and the journal that it names, brings to the slaves what the journal holds, and saves images and journal. A journal of version 1 becomes one of version 2.",
+        )
+        .after_help("Example:\n  sii_station recover line.toml")
+        .after_long_help(RECOVER_ANSWERS)
+        .arg(line_argument(alloc))
 }
 
 fn layout_command<'a>(alloc: Global) -> Result<Command<'a>, AllocError> {
@@ -246,11 +328,32 @@ fn init_task<'a>(matches: &ArgMatches<'a>) -> Task<'a> {
     }
 }
 
-/// Both names are required, so they are there.
-fn run_task<'a>(matches: &ArgMatches<'a>) -> Task<'a> {
-    Task::Run {
+/// Both names are required, so they are there. What a torn write leaves is read also where the power isn't cut.
+fn run_task<'a>(command: &mut Command<'a>, matches: &ArgMatches<'a>) -> Result<Task<'a>, Error> {
+    let fuse = matches.get_str("fuse");
+    let left = matches.get_str("left");
+    if !fuse.is_none_or(is_digits) || !left.is_none_or(is_digits) {
+        return Err(command.error(
+            ErrorKind::ValueValidation,
+            "K is a number in digits, 0 to 4294967295, and W one of 0 to 65535",
+        )?);
+    }
+    let left = matches.get_one::<u16>("left").unwrap_or(0);
+    let cut = match matches.get_one::<u32>("fuse") {
+        Some(writes) => Some(Cut { writes, left }),
+        None => None,
+    };
+    Ok(Task::Run {
         line: matches.get_str("LINE").unwrap_or(""),
         script: matches.get_str("SCRIPT").unwrap_or(""),
+        cut,
+    })
+}
+
+/// The name is required, so it is there.
+fn recover_task<'a>(matches: &ArgMatches<'a>) -> Task<'a> {
+    Task::Recover {
+        line: matches.get_str("LINE").unwrap_or(""),
     }
 }
 
@@ -261,11 +364,11 @@ fn layout_task<'a>(matches: &ArgMatches<'a>) -> Task<'a> {
     }
 }
 
-/// A value is digits alone: a sign isn't part of it.
+/// The value is required, and is digits alone.
 fn alias_task<'a>(command: &mut Command<'a>, matches: &ArgMatches<'a>) -> Result<Task<'a>, Error> {
     let text = matches.get_str("VALUE").unwrap_or("");
     match matches.get_one::<u16>("VALUE") {
-        Some(value) if text.bytes().all(|byte| byte.is_ascii_digit()) => Ok(Task::Alias {
+        Some(value) if is_digits(text) => Ok(Task::Alias {
             value,
             hex: matches.get_flag("hex"),
         }),
@@ -274,6 +377,11 @@ fn alias_task<'a>(command: &mut Command<'a>, matches: &ArgMatches<'a>) -> Result
             "VALUE is a number in digits, 0 to 65535",
         )?),
     }
+}
+
+/// Whether a text is digits alone: a sign isn't part of a number.
+fn is_digits(text: &str) -> bool {
+    text.bytes().all(|byte| byte.is_ascii_digit())
 }
 
 /// A code is given by its number or its name.

@@ -3,4 +3,4 @@
 
 mod arguments;
 
-pub use arguments::{Task, read_arguments};
+pub use arguments::{Cut, Task, read_arguments};

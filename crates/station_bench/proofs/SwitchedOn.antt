@@ -9,7 +9,7 @@ use Rattle.site_core.specs.State.{Seen, word_counts}
 use Rattle.site_line.specs.Owned.{OwnsAll}
 use Rattle.site_mem.specs.Line.{half_of, halves_of, owned}
 use Rattle.site_mem.specs.Site.{IsWhole, SiteValue, value_of}
-use Rattle.site_mem.specs.Unsynced.{of_bytes}
+use Rattle.disk_mem.specs.Unsynced.{of_bytes}
 use Rattle.station_bench.specs.Site.{powered_up_from, IsSiteOf}
 
 -- one more slave behind the others

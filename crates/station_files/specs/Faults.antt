@@ -1,5 +1,5 @@
 -- The faults that a failing part of the program's work ends in.
-use Rattle.std.specs.Prelude.{◌≡◌, ◌⊎◌}
+use Rattle.std.specs.Prelude.{◌≡◌, ◌⊎◌, ⊤}
 use Rattle.sii_image.specs.declared.fault.ImageFault.{ImageFault}
 use Rattle.sii_image.specs.declared.fault.ImageFault.TheVariants as images
 use Rattle.sii_words.specs.declared.fault.WordsFault.{WordsFault}
@@ -8,6 +8,8 @@ use Rattle.station_text.specs.declared.hexadecimal.HexFault.{HexFault}
 use Rattle.station_text.specs.declared.hexadecimal.HexFault.TheVariants as digits
 use Rattle.station_text.specs.declared.line_file.LineFault.{LineFault}
 use Rattle.station_text.specs.declared.line_file.LineFault.TheVariants as lines
+use Rattle.station_files.specs.declared.faults.Status.{Status}
+use Rattle.station_files.specs.declared.faults.Status.TheVariants.{Done, Refused}
 use Rattle.station_files.specs.declared.faults.Fault.{Fault}
 use Rattle.station_files.specs.declared.faults.Fault.TheVariants.{OddLength, BadSize, ImageOverLimit, Memory, File, BadHex, BadLine}
 
@@ -31,3 +33,9 @@ of_hex digits.Memory = Memory
 abbrev pub of_line : LineFault → Fault
 of_line lines.BadLine = BadLine
 of_line lines.Memory = Memory
+
+-- no fault ended the work: all is done, or commands alone were refused
+abbrev pub IsFaultless : Status → Type 0
+IsFaultless Done = ⊤
+IsFaultless Refused = ⊤
+IsFaultless status = ⊥

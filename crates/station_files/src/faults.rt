@@ -1,6 +1,6 @@
 //! Why the program ends early or doesn't carry a command out, as it is printed, and the status it ends with.
 ghost use Rattle.std.specs.Prelude.{◌≡◌, ◌≢◌};
-ghost use Rattle.station_files.specs.Faults.{IsOfStream, of_hex, of_line, of_process_image, of_words};
+ghost use Rattle.station_files.specs.Faults.{IsFaultless, IsOfStream, of_hex, of_line, of_process_image, of_words};
 
 use sii_edit::{Cause, Refusal};
 use sii_image::ImageFault;
@@ -65,7 +65,8 @@ pub enum Status {
 
 /// The one that wins where both apply.
 pub fn worse(one: Status, other: Status) -> Status
-    ensures { result ≡ Status.Done → (one ≡ Status.Done) × (other ≡ Status.Done) }
+    ensures done { result ≡ Status.Done → (one ≡ Status.Done) × (other ≡ Status.Done) }
+    ensures faultless { IsFaultless result → IsFaultless one × IsFaultless other }
 {
     match (one, other) {
         (Status::Done, _) => other,
@@ -102,7 +103,8 @@ impl Fault {
 
     /// The status that the program ends with.
     pub fn status(self) -> Status
-        ensures { result ≢ Status.Done }
+        ensures done { result ≢ Status.Done }
+        ensures fault { ¬ IsFaultless result }
     {
         match self {
             Fault::Memory => Status::Memory,

@@ -19,7 +19,7 @@ pub use alias::set_alias;
 pub use faults::{Failure, Fault, Refused, Status, worse};
 pub use layout::show_layout;
 pub use line::{load_line, load_slaves};
-pub use reporting::report;
+pub use reporting::{report, report_fault, status_of};
 pub use saving::{save_slaves, write_files};
 pub use script::load_script;
 pub use show::show_image;

@@ -3,10 +3,12 @@
 use crate::explain::explain;
 use clap::Error;
 use clap::error::ErrorKind;
-use station_arguments::{Task, read_arguments};
+use station_arguments::{Cut, Task, read_arguments};
 use station_bench::init_line;
-use station_files::{Failure, Fault, Status, Store, report, set_alias, show_image, show_layout};
-use station_session::run_script;
+use station_files::{
+    Fault, Status, Store, report, report_fault, set_alias, show_image, show_layout, status_of,
+};
+use station_session::{Fuse, recover_line, run_script};
 use std::alloc::Global;
 use std::io;
 use std::io::{Read, Write};
@@ -28,30 +30,32 @@ pub fn serve<R: Read, S: Store, W: Write, E: Write>(
         },
         Ok(Task::Show { hex }) => match show_image(alloc, hex, input, output) {
             Ok(status) => status,
-            Err(fault) => report(Failure::Fault(fault), faults),
+            Err(fault) => report_fault(fault, faults),
         },
-        Ok(Task::Layout { line }) => match show_layout(alloc, line, store, output) {
-            Ok(()) => Status::Done,
-            Err(fault) => report(Failure::Fault(fault), faults),
-        },
-        Ok(Task::Explain { code }) => match explain(alloc, code, output) {
-            Ok(()) => Status::Done,
-            Err(fault) => report(Failure::Fault(fault), faults),
-        },
-        Ok(Task::Init { line }) => match init_line(alloc, line, store, output) {
-            Ok(()) => Status::Done,
-            Err(fault) => report(Failure::Fault(fault), faults),
-        },
-        Ok(Task::Run { line, script }) => run_script(alloc, line, script, store, output, faults),
+        Ok(Task::Layout { line }) => status_of(show_layout(alloc, line, store, output), faults),
+        Ok(Task::Explain { code }) => status_of(explain(alloc, code, output), faults),
+        Ok(Task::Init { line }) => status_of(init_line(alloc, line, store, output), faults),
+        Ok(Task::Run { line, script, cut }) => {
+            run_script(alloc, line, script, cut.map(fuse_of), store, output, faults)
+        }
+        Ok(Task::Recover { line }) => recover_line(alloc, line, store, output, faults),
         Err(error) => show_usage(&error, output, faults),
     };
     status as u8
 }
 
+/// The stop that a power cut is.
+fn fuse_of(cut: Cut) -> Fuse {
+    Fuse {
+        writes: cut.writes,
+        left: cut.left,
+    }
+}
+
 /// Prints the help that was asked for, or what is wrong with the arguments.
 fn show_usage<W: Write, E: Write>(error: &Error, output: &mut W, faults: &mut E) -> Status {
     if error.kind() == ErrorKind::OutOfMemory {
-        return report(Failure::Fault(Fault::Memory), faults);
+        return report_fault(Fault::Memory, faults);
     }
     if error.use_stderr() {
         let _ = write!(faults, "{error}");
@@ -59,14 +63,14 @@ fn show_usage<W: Write, E: Write>(error: &Error, output: &mut W, faults: &mut E)
     }
     match write!(output, "{error}").and_then(|()| output.flush()) {
         Ok(()) => Status::Done,
-        Err(_) => report(Failure::Fault(Fault::File), faults),
+        Err(_) => report_fault(Fault::File, faults),
     }
 }
 
 /// Ends a run whose words couldn't be had, for want of memory or since one is no UTF-8, and answers its exit status.
 pub fn refuse_words<E: Write>(error: &io::Error, faults: &mut E) -> u8 {
     if error.kind() == io::ErrorKind::OutOfMemory {
-        return report(Failure::Fault(Fault::Memory), faults) as u8;
+        return report_fault(Fault::Memory, faults) as u8;
     }
     let _ = writeln!(faults, "error: an argument is not UTF-8");
     Status::Usage as u8

@@ -1,1 +1,1 @@
-pub mod Submitted
+pub mod Ending

@@ -1,7 +1,10 @@
 //! What the program does with a line and its journal.
 #![tactic(auto)]
 
-mod answers;
+mod faults;
+mod recovery;
 mod run;
+mod session;
 
-pub use run::run_script;
+pub use recovery::recover_line;
+pub use run::{Fuse, run_script};

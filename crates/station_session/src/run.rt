@@ -1,152 +1,147 @@
 //! The subcommand `run`.
-ghost use Rattle.std.specs.Prelude.{◌≡◌, ◌≢◌, ◌≤◌, [], ◌∷◌, ◌++◌, length, map, vec_len, IfOk, OnOk};
-ghost use Rattle.sii_words.specs.Words.{bytes_of};
-ghost use Rattle.sii_edit.specs.Fold.{contents};
-ghost use Rattle.book_model.specs.Book.{base_of};
-ghost use Rattle.station_files.specs.Files.{ChangesAmong, HoldsAll};
-ghost use Rattle.station_files.specs.LineFiles.{names_of};
-ghost use Rattle.station_session.specs.Run.{IsGiven, Runs};
+ghost use Rattle.std.specs.Prelude.{◌≡◌, length, IfErr, IfOk, IsTrue, OnOk, MatchResult};
+ghost use Rattle.site_line.specs.Owned.{OwnsAll};
+ghost use Rattle.station_files.specs.ScriptFiles.{SpellsCommands};
+ghost use Rattle.station_alone.specs.Opening.{BeginsSession};
+ghost use Rattle.station_session.specs.Session.{EndsRun, EndsStation, Loads, Runs, StartsFrom};
 
-use crate::answers::refused_as;
-use book_core::Core;
-use book_model::CoreFault;
-use jrn_format::{BatchList, Form, Journal};
+use crate::session::{Session, give_up, load_session};
 use sii_edit::Command;
-use sii_words::Words;
-use station_files::{
-    Failure, Fault, Status, Store, load_line, load_script, load_slaves, report, save_slaves, worse,
-};
+use site_mem::{MemSite, Pattern};
+use station_alone::{Alone, OpenFault};
+use station_bench::save_site;
+use station_files::{Fault, Status, Store, load_script, report_fault, status_of, worse};
+use station_recovery::recover;
+use station_rounds::serve_commands;
 use station_text::LineFile;
 use std::alloc::Global;
 use std::io::Write;
 
-/// How many bytes a journal's area has at most.
-const MOST_CAPACITY: u32 = 4_194_304;
+/// A stop that is to come.
+#[derive(Clone, Copy)]
+pub struct Fuse {
+    /// How many device writes pass before it, once the station is open.
+    pub writes: u32,
+    /// What a word that is torn holds after it, and in its low byte what each unsynced byte holds.
+    pub left: u16,
+}
 
 /// What a run begins with.
 #[derive(Drop)]
-struct Session {
-    line: LineFile,
-    core: Core,
+struct Given {
+    session: Session,
     commands: Vec<Command>,
 }
 
-/// Reads a line with its slaves and a script, submits the script's commands in order, and saves the slaves' contents.
-/// Nothing is written where something couldn't be read.
+/// Reads a line with its slaves, its journal and a script, submits the script's commands in order, serves them, and saves what the
+/// line holds. Nothing is written where something couldn't be read, or the journal is refused.
 pub fn run_script<S: Store, W: Write, E: Write>(
     alloc: Global,
-    line: &str,
+    name: &str,
     script: &str,
+    fuse: Option<Fuse>,
     store: &mut S,
     output: &mut W,
     faults: &mut E,
 ) -> Status
-    ensures { Runs (S.files store.old) (S.files store.new) line.now script.now result }
+    ensures { Runs (S.files store.old) (S.files store.new) name.now script.now result }
 {
-    match load(alloc, line, script, store) {
-        Ok(session) => serve_session(alloc, session, store, output, faults),
-        Err(fault) => report(Failure::Fault(fault), faults),
+    match load(alloc, name, script, store) {
+        Ok(given) => run_given(alloc, given, fuse, store, output, faults),
+        Err(fault) => report_fault(fault, faults),
     }
 }
 
-/// Reads the files in order: line, slaves, script, its images.
-fn load<S: Store>(alloc: Global, line: &str, script: &str, store: &mut S) -> Result<Session, Fault>
-    ensures given { IfOk result (λ session. IsGiven (S.files store.old) line.now script.now session.line (base_of session.core) session.commands.items) }
-    ensures count { IfOk result (λ session. length session.line.images.items ≡ length (base_of session.core)) }
-    ensures fresh { IfOk result (λ session. session.core.accepted ≡ []) }
+/// Opens the station, serves the commands, and saves what the line holds.
+fn run_given<S: Store, W: Write, E: Write>(
+    alloc: Global,
+    given: Given,
+    fuse: Option<Fuse>,
+    store: &mut S,
+    output: &mut W,
+    faults: &mut E,
+) -> Status
+    requires disk { IsTrue given.session.site.line.has_disk }
+    requires owned { OwnsAll given.session.site.line }
+    requires slaves { length given.session.site.line.sizes ≡ length given.session.line.images.items }
+    ensures { EndsRun (S.files store.old) (S.files store.new) given.session.line given.session.site.seen given.commands.items result }
+{
+    let Given { session, commands } = given;
+    let Session { line, site, is_old } = session;
+    match open_station(alloc, site, is_old, fuse) {
+        Ok(alone) => run_station(alloc, &line, alone, &commands, store, output, faults),
+        Err((left, fault)) => give_up(alloc, &line, left, fault, store, faults),
+    }
+}
+
+/// Reads the files in order: line, slaves, journal, script, its images.
+fn load<S: Store>(alloc: Global, name: &str, script: &str, store: &mut S) -> Result<Given, Fault>
+    ensures loaded { IfOk result (λ given. Loads (S.files store.old) name.now given.session.line given.session.site) }
+    ensures spelt { IfOk result (λ given. SpellsCommands (S.files store.old) script.now given.commands.items) }
     ensures same { S.files store.new ≡ S.files store.old }
 {
-    let line = load_line(alloc, line, store)?;
-    let slaves = load_slaves(alloc, &line, store)?;
+    let session = load_session(alloc, name, store)?;
     let commands = load_script(alloc, script, store)?;
-    let core = match open_core(alloc, slaves) {
-        Ok(core) => core,
-        Err(CoreFault::Memory) => return Err(Fault::Memory),
-    };
-    Ok(Session {
-        line,
-        core,
-        commands,
-    })
+    Ok(Given { session, commands })
 }
 
-/// A book over these contents, on a journal in which nothing is live.
-fn open_core(alloc: Global, slaves: Vec<Words>) -> Result<Core, CoreFault>
-    requires some { 1 ≤ vec_len slaves }
-    requires most { vec_len slaves ≤ 64 }
-    ensures base { IfOk result (λ core. base_of core ≡ slaves.items) }
-    ensures fresh { IfOk result (λ core. core.accepted ≡ []) }
-{
-    let journal = Journal {
-        form: Form::Two,
-        batches: BatchList::from_vec(Vec::new(alloc)),
-    };
-    Core::open(alloc, slaves, MOST_CAPACITY, journal)
-}
-
-/// Submits the commands in order, prints the answers, and saves the slaves' contents.
-fn serve_session<S: Store, W: Write, E: Write>(
+/// Opens the station. An old journal is recovered first, and then the fuse is set.
+fn open_station(
     alloc: Global,
-    mut session: Session,
+    site: MemSite,
+    is_old: bool,
+    fuse: Option<Fuse>,
+) -> Result<Alone<MemSite>, (MemSite, OpenFault)>
+    requires disk { IsTrue site.line.has_disk }
+    requires owned { OwnsAll site.line }
+    ensures line { MatchResult result (λ alone. alone.line ≡ site.line) (λ back. back.0.line ≡ site.line) }
+    ensures starts { IfOk result (λ alone. StartsFrom site.seen alone) }
+{
+    if is_old {
+        let (alone, _recovered) = recover(alloc, site)?;
+        let (_core, left) = alone.into_parts();
+        return open_fused(alloc, left, fuse);
+    }
+    open_fused(alloc, site, fuse)
+}
+
+/// Opens the station on a journal of version 2, with the fuse set.
+fn open_fused(
+    alloc: Global,
+    mut site: MemSite,
+    fuse: Option<Fuse>,
+) -> Result<Alone<MemSite>, (MemSite, OpenFault)>
+    requires disk { IsTrue site.line.has_disk }
+    requires owned { OwnsAll site.line }
+    ensures line { MatchResult result (λ alone. alone.line ≡ site.line) (λ back. back.0.line ≡ site.line) }
+    ensures begins { IfOk result (λ alone. BeginsSession site.seen alone) }
+{
+    if let Some(fuse) = fuse {
+        // The sync with which the station opens is a device write too.
+        site.fuse(u64::from(fuse.writes) + 1, Pattern::Fill(fuse.left));
+    }
+    Alone::open(alloc, site)
+}
+
+/// Serves the commands on an open station, and saves what its line holds.
+fn run_station<S: Store, W: Write, E: Write>(
+    alloc: Global,
+    line: &LineFile,
+    mut alone: Alone<MemSite>,
+    commands: &[Command],
     store: &mut S,
     output: &mut W,
     faults: &mut E,
 ) -> Status
-    requires count { length session.line.images.items ≡ length (base_of session.core) }
-    requires fresh { session.core.accepted ≡ [] }
-    ensures others { ChangesAmong (S.files store.old) (S.files store.new) (names_of session.line) }
-    ensures saved { result ≡ Status.Done → HoldsAll (S.files store.new) (names_of session.line) (map bytes_of (contents (base_of session.core) session.commands.items)) }
+    requires disk { IsTrue alone.line.has_disk }
+    requires slaves { length alone.line.sizes ≡ length line.now.images.items }
+    ensures { EndsStation (S.files store.old) (S.files store.new) line.now alone commands.now result }
 {
     let mut status = Status::Done;
-    let printed = submit_all(&mut session.core, &session.commands, output, &mut status);
-    let saved = save_slaves(alloc, &session.line.images, session.core.contents(), store);
-    match printed.and(saved) {
-        Ok(()) => status,
-        Err(fault) => worse(status, report(Failure::Fault(fault), faults)),
-    }
-}
-
-/// Submits the commands in order, prints the answer to each, and last the totals. A refusal raises the status.
-fn submit_all<W: Write>(
-    core: &mut Core,
-    commands: &[Command],
-    output: &mut W,
-    status: &mut Status,
-) -> Result<(), Fault>
-    ensures base { base_of core.new ≡ base_of core.old }
-    ensures accepted { OnOk result (status.new ≡ Status.Done → core.new.accepted ≡ core.old.accepted ++ commands.now) }
-{
-    for (place, command) in commands.iter().enumerate() {
-        submit_one(core, place, command, output, status)?;
-    }
-    let totals = core.status();
-    let (accepted, durable, settled) = (totals.accepted, totals.durable, totals.settled);
-    writeln!(
-        output,
-        "accepted {accepted} durable {durable} settled {settled}"
-    )?;
-    output.flush()?;
-    Ok(())
-}
-
-/// Submits the command at this place of the script, and prints the answer.
-fn submit_one<W: Write>(
-    core: &mut Core,
-    place: usize,
-    command: &Command,
-    output: &mut W,
-    status: &mut Status,
-) -> Result<(), Fault>
-    ensures base { base_of core.new ≡ base_of core.old }
-    ensures accepted { status.new ≡ Status.Done → (status.old ≡ Status.Done) × (core.new.accepted ≡ core.old.accepted ++ command.now ∷ []) }
-{
-    match core.submit(command) {
-        Ok(number) => writeln!(output, "command {place} accepted {number}")?,
-        Err(refusal) => {
-            let refused = refused_as(refusal);
-            *status = worse(*status, refused.status());
-            writeln!(output, "command {place} {refused}")?;
-        }
-    }
-    Ok(())
+    let slaves = line.images.len() as u16;
+    let served = serve_commands(&mut alone, slaves, commands, output, &mut status);
+    let (_core, site) = alone.into_parts();
+    let saved = save_site(alloc, line, site, store);
+    let ended = worse(status_of(served, faults), status_of(saved, faults));
+    worse(status, ended)
 }

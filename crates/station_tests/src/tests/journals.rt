@@ -1,5 +1,9 @@
-use super::case::{Bytes, Files, Step, goes};
+use super::case::{
+    ALONE, Bytes, Case, Files, Step, differs as case_differs, goes, run_words, shelf_with,
+};
+use super::scripts::THREE;
 use std::alloc::{AllocError, Global};
+use std::io;
 use std::test::Fail;
 
 const LINE: Bytes = Bytes::Text("journal = 'j.bin'\narea = 4096\n[[slave]]\nimage = 's0.bin'");
@@ -56,6 +60,98 @@ fn differs(alloc: Global, story: &Story) -> Result<&'static str, AllocError> {
 fn journals_are_formatted(rt: HostRuntime) -> Result<(), Fail> {
     for story in &UNFORMATTED {
         assert_eq!(rt; differs(rt.alloc(), story)?, "");
+    }
+    Ok(())
+}
+
+const TWO: Bytes = Bytes::Text(
+    "journal = 'j.bin'\n[[slave]]\nimage = 's0.bin'\n[[slave]]\nimage = 's1.bin'\n",
+);
+
+/// A journal of two slaves.
+const HEADER_OF_TWO: (usize, &[u8]) = (0, &[0xA5, 2, 2, 0, 0, 0x10, 0, 0]);
+
+/// A batch that would not find room for its closing gate.
+const TOO_LONG: Bytes = Bytes::Zeros(4104, &[HEADER_OF_TWO, (8, &[0xA5, 0, 0xFA, 7, 0, 0])]);
+
+const LATER_VERSION: Bytes = Bytes::Zeros(4104, &[(0, &[0xA5, 9, 2, 0, 0, 0x10, 0, 0])]);
+
+const UNRECOVERED: Case = Case {
+    words: "station recover line.toml",
+    status: 3,
+    ..ALONE
+};
+
+/// Journals that are none, or none of this line. Nothing is written.
+const REFUSED: [Case; 4] = [
+    Case {
+        files: &[
+            ("line.toml", TWO),
+            ("s0.bin", ZERO),
+            ("s1.bin", ZERO),
+            ("j.bin", TOO_LONG),
+        ],
+        faults: "fault 52 BadJournal 8\n",
+        ..UNRECOVERED
+    },
+    Case {
+        files: &[
+            ("line.toml", TWO),
+            ("s0.bin", ZERO),
+            ("s1.bin", ZERO),
+            ("j.bin", LATER_VERSION),
+        ],
+        faults: "fault 51 BadVersion 9\n",
+        ..UNRECOVERED
+    },
+    Case {
+        files: &[
+            ("line.toml", THREE),
+            ("s0.bin", ZERO),
+            ("s1.bin", ZERO),
+            ("s2.bin", ZERO),
+            ("j.bin", TOO_LONG),
+        ],
+        faults: "fault 53 WrongLine\n",
+        ..UNRECOVERED
+    },
+    Case {
+        files: &[("line.toml", TWO), ("s0.bin", ZERO), ("s1.bin", ZERO)],
+        faults: "fault 90 File\n",
+        ..UNRECOVERED
+    },
+];
+
+#[test]
+fn journals_that_are_refused(rt: HostRuntime) -> Result<(), Fail> {
+    for case in &REFUSED {
+        assert_eq!(rt; case_differs(rt.alloc(), case)?, "", "{}", case.faults);
+    }
+    Ok(())
+}
+
+/// Whether a journal that is cut to so many bytes is refused so, with nothing written.
+fn is_refused(alloc: Global, len: usize, words: &str, faults: &str) -> Result<bool, AllocError> {
+    let header = [0xA5, 2, 1, 0, 0, 0x10, 0, 0];
+    let mut shelf = shelf_with(alloc, NEW)?;
+    shelf.put("j.bin", &header[..len.min(8)])?;
+    shelf.put("script.toml", b"command = []")?;
+    let run = run_words(alloc, words, &mut io::empty(), &mut shelf)?;
+    Ok(run.status == 3 && shelf.writes == 0 && run.faults.as_slice() == faults.as_bytes())
+}
+
+const ON_A_JOURNAL: [&str; 2] = [
+    "station recover line.toml",
+    "station run line.toml script.toml",
+];
+
+#[test]
+fn journals_that_are_cut(rt: HostRuntime) -> Result<(), Fail> {
+    for words in ON_A_JOURNAL {
+        for len in 0..8usize {
+            assert!(rt; is_refused(rt.alloc(), len, words, "fault 50 NotAJournal\n")?);
+        }
+        assert!(rt; is_refused(rt.alloc(), 8, words, "fault 52 BadJournal 8\n")?);
     }
     Ok(())
 }

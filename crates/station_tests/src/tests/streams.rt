@@ -1,4 +1,5 @@
 use super::case::{Bytes, Files, run_words, served, shelf_with};
+use super::scripts::JOURNAL_OF_ONE;
 use crate::shelf::Shelf;
 use std::alloc::{AllocError, Global};
 use std::io;
@@ -100,6 +101,7 @@ const FILES: Files = &[
         Bytes::Text("journal = 'j.bin'\n[[slave]]\nimage = 's0.bin'"),
     ),
     ("s0.bin", Bytes::Image(128, &[])),
+    ("j.bin", JOURNAL_OF_ONE),
     (
         "new.toml",
         Bytes::Text("journal = 'k.bin'\n[[slave]]\nimage = 's0.bin'"),
@@ -130,6 +132,7 @@ fn writers_that_fail(rt: HostRuntime) -> Result<(), Fail> {
         "station layout line.toml",
         "station init new.toml",
         "station run line.toml script.toml",
+        "station recover line.toml",
         "station explain",
         "station --help",
     ];

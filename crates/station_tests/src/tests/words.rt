@@ -5,13 +5,23 @@ use std::io;
 use std::test::Fail;
 
 /// Words that are no use of the program.
-const WRONG: [&str; 19] = [
+const WRONG: [&str; 29] = [
     "station",
     "station show 1",
     "station show --hex --hex",
     "station run",
     "station run line.toml",
     "station run line.toml script.toml more",
+    "station run line.toml script.toml --fuse",
+    "station run line.toml script.toml --fuse 4294967296",
+    "station run line.toml script.toml --fuse +1",
+    "station run line.toml script.toml --fuse 1 --fuse 1",
+    "station run line.toml script.toml --fuse 1 --left 65536",
+    "station run line.toml script.toml --left -1",
+    "station run line.toml script.toml --left x",
+    "station recover",
+    "station recover line.toml more",
+    "station recover line.toml --fuse 1",
     "station init",
     "station layout",
     "station layout line.toml more",
@@ -28,7 +38,7 @@ const WRONG: [&str; 19] = [
 ];
 
 /// Words that ask for help, and what it shows.
-const HELP: [(&str, &str); 10] = [
+const HELP: [(&str, &str); 14] = [
     ("station --help", "Example:\n"),
     ("station help", "Example:\n"),
     ("station show --help", "Example:\n"),
@@ -36,6 +46,10 @@ const HELP: [(&str, &str); 10] = [
     ("station run --help", "swap = [0, 1]\n"),
     ("station run --help", "area = 65536\n"),
     ("station run --help", "refused CODE NAME"),
+    ("station run --help", "--fuse <K>"),
+    ("station run --help", "--left <W>"),
+    ("station recover --help", "recovered batches B"),
+    ("station recover --help", "area = 65536\n"),
     ("station init --help", "formatted AREA"),
     ("station layout --help", "area = 65536\n"),
     ("station explain --help", "Example:\n"),

@@ -5,7 +5,7 @@ use station_codes::Code;
 use station_files::Refused;
 
 /// A refused command, as it is printed.
-pub fn refused_as(refusal: SubmitRefusal) -> Refused {
+pub(crate) fn refused_as(refusal: SubmitRefusal) -> Refused {
     let code = match refusal {
         SubmitRefusal::Command(refusal) => return Refused::from(refusal),
         SubmitRefusal::TooLarge => Code::TooLarge,

@@ -1,0 +1,132 @@
+-- What the files hold in the end.
+use Rattle.std.proofs.Common.{◌≡◌, ℕ, List, length, map, refl, sym, ◌∙◌, ap, subst, inl, inr, Result, Ok, Err}
+use Rattle.std.specs.Prelude.{IfErr, IfOk, IsTrue, MatchResult, OnErr, OnOk, string_bytes}
+use Rattle.std.proofs.lemmas.List.{length-map}
+use Rattle.sii_edit.specs.declared.command.Command.{Command}
+use Rattle.site_core.specs.Line.{Line}
+use Rattle.site_core.specs.State.{State, Seen}
+use Rattle.site_line.specs.Owned.{OwnsAll}
+use Rattle.site_mem.specs.Site.{SiteValue}
+use Rattle.station_alone.specs.Station.{Station}
+use Rattle.station_alone.specs.Opening.{BeginsSession}
+use Rattle.station_recovery.specs.Recovery.{IsRecovered, BeginsRecovered}
+use Rattle.station_text.specs.declared.line_file.LineFile.{LineFile}
+use Rattle.station_files.specs.Faults.{IsFaultless}
+use Rattle.station_files.specs.Files.{Known, HasBytes, ChangesAmong}
+use Rattle.station_files.specs.LineFiles.{SpellsLine, SpellsSlaves}
+use Rattle.station_files.specs.ScriptFiles.{SpellsCommands}
+use Rattle.station_files.specs.declared.faults.Fault.{Fault}
+use Rattle.station_files.specs.declared.faults.Status.{Status}
+use Rattle.station_files.specs.declared.faults.Status.TheVariants.{Done}
+use Rattle.station_bench.specs.Site.{IsSiteOf, files_of, HoldsSite}
+use Rattle.station_rounds.specs.Rounds.{ServesSo}
+use Rattle.station_session.specs.Session.{EndsRecovery, EndsRun, EndsStation, Loads, Recovers, Runs, SavesServed, StartsFrom, directly, recovered}
+
+-- ---- what was read
+
+pub loads : (files first second : Known) (name : List ℕ) (line : LineFile) (plant : List (List ℕ)) (bytes : List ℕ) (site : SiteValue) → SpellsLine files name line → first ≡ files → SpellsSlaves first line plant → second ≡ first
+    → HasBytes second (string_bytes line.journal) bytes → IsSiteOf plant bytes site → length plant ≡ length line.images.items → Loads files name line site
+loads files first second name line plant bytes site described same slaves still journal made count = record {
+  plant = plant;
+  bytes = bytes;
+  given = record {
+    described = described;
+    slaves = subst (λ (f : Known). SpellsSlaves f line plant) same slaves;
+    journal = subst (λ (f : Known). HasBytes f (string_bytes line.journal) bytes) (still ∙ same) journal;
+  };
+  made = made;
+  count = ap length made.sizes ∙ length-map plant length ∙ count;
+}
+
+-- ---- the same line
+
+pub has-disk : (old new : Line) → new ≡ old → IsTrue old.has_disk → IsTrue new.has_disk
+has-disk old new same disk = subst (λ (l : Line). IsTrue l.has_disk) (sym same) disk
+
+pub owns : (old new : Line) → new ≡ old → OwnsAll old → OwnsAll new
+owns old new same owned = subst OwnsAll (sym same) owned
+
+pub as-many : (old new : Line) (count : ℕ) → new ≡ old → length old.sizes ≡ count → length new.sizes ≡ count
+as-many old new count same is = ap (λ (l : Line). length l.sizes) same ∙ is
+
+-- whatever came of it
+pub came-line : {T E : Type 0} (result : Result T E) (one : T → Line) (other : E → Line) (line : Line) → IfOk result (λ value. one value ≡ line) → IfErr result (λ error. other error ≡ line) → MatchResult result (λ value. one value ≡ line) (λ error. other error ≡ line)
+came-line (Ok value) one other line ok err = ok
+came-line (Err error) one other line ok err = err
+
+-- ---- a station that was opened
+
+done-faultless : (status : Status) → status ≡ Done → IsFaultless status
+done-faultless status done = subst IsFaultless (sym done) tt
+
+saves-by : (new : Known) (line : LineFile) (commands : List Command) (opened left : Station) (served saved : Result (Unit {0}) Fault) (state : State) (status one other final : Status) → ServesSo commands served Done status opened left
+    → state ≡ left.seen.state → OnOk saved (HoldsSite new line state) → OnErr served (¬ IsFaultless one) → OnErr saved (¬ IsFaultless other) → IsFaultless one → IsFaultless other → (final ≡ Done → status ≡ Done)
+    → SavesServed new line opened commands final
+saves-by new line commands opened left (Ok done) (Ok kept) state status one other final so is held no_fault no_other good well done_too = record {
+  s = left;
+  accepted = so.submits.accepted;
+  goes = so.submits.goes;
+  among = so.submits.among;
+  all = λ done. (so.submits.all (done_too done)).1;
+  served = so.served;
+  held = subst (λ (s : State). HoldsSite new line s) is held;
+}
+saves-by new line commands opened left (Ok done) (Err fault) state status one other final so is held no_fault no_other good well done_too = absurd (no_other well)
+saves-by new line commands opened left (Err fault) saved state status one other final so is held no_fault no_other good well done_too = absurd (no_fault good)
+
+pub ends-station : (old new : Known) (line : LineFile) (commands : List Command) (opened left : Station) (served saved : Result (Unit {0}) Fault) (state : State) (status one other ended final : Status) → ServesSo commands served Done status opened left
+    → state ≡ left.seen.state → OnOk saved (HoldsSite new line state) → ChangesAmong old new (files_of line) → OnErr served (¬ IsFaultless one) → OnErr saved (¬ IsFaultless other)
+    → (IsFaultless ended → IsFaultless one × IsFaultless other) → (final ≡ Done → (status ≡ Done) × (ended ≡ Done)) → (IsFaultless final → IsFaultless status × IsFaultless ended) → EndsStation old new line opened commands final
+ends-station old new line commands opened left served saved state status one other ended final so is held others no_fault no_other each done_too faultless_too = record {
+  others = others;
+  saved = λ good.
+      let both = each (faultless_too good).1 in
+      saves-by new line commands opened left served saved state status one other final so is held no_fault no_other both.0 both.1 (λ done. (done_too done).0);
+}
+
+pub ends-opened : (old new : Known) (line : LineFile) (before : Seen) (opened : Station) (commands : List Command) (status : Status) → StartsFrom before opened → EndsStation old new line opened commands status → EndsRun old new line before commands status
+ends-opened old new line before opened commands status starts ends =
+    record { others = ends.others; saved = λ good. record { opened = opened; starts = starts; serves = ends.saved good } }
+
+-- it was opened on what a recovery left
+pub starts-behind : (before left : Seen) (r s : Station) → BeginsRecovered before r → left ≡ r.seen → BeginsSession left s → StartsFrom before s
+starts-behind before left r s begins is opens = recovered r begins (subst (λ (seen : Seen). BeginsSession seen s) is opens)
+
+-- ---- one that was given up
+
+pub ends-unopened : (old new : Known) (line : LineFile) (before : Seen) (commands : List Command) (status : Status) → ChangesAmong old new (files_of line) → ¬ IsFaultless status → EndsRun old new line before commands status
+ends-unopened old new line before commands status others bad = record { others = others; saved = λ good. absurd (bad good) }
+
+pub ends-unrecovered : (old new : Known) (line : LineFile) (before : Seen) (status : Status) → ChangesAmong old new (files_of line) → ¬ IsFaultless status → EndsRecovery old new line before status
+ends-unrecovered old new line before status others bad = record { others = others; saved = λ done. absurd (bad (done-faultless status done)) }
+
+-- ---- one that was recovered
+
+saved-still : (new : Known) (line : LineFile) (saved : Result (Unit {0}) Fault) (state : State) (one : Status) → OnOk saved (HoldsSite new line state) → OnErr saved (¬ IsFaultless one) → IsFaultless one → HoldsSite new line state
+saved-still new line (Ok kept) state one held bad good = held
+saved-still new line (Err fault) state one held bad good = absurd (bad good)
+
+pub ends-recovered : (old new : Known) (line : LineFile) (before : Seen) (s : Station) (saved : Result (Unit {0}) Fault) (state : State) (one other final : Status) → IsRecovered s → BeginsRecovered before s → state ≡ s.seen.state
+    → OnOk saved (HoldsSite new line state) → ChangesAmong old new (files_of line) → OnErr saved (¬ IsFaultless one) → (final ≡ Done → (one ≡ Done) × (other ≡ Done)) → EndsRecovery old new line before final
+ends-recovered old new line before s saved state one other final is_recovered begins is held others bad done_too = record {
+  others = others;
+  saved = λ done. record {
+    s = s;
+    recovered = is_recovered;
+    begins = begins;
+    held = subst (λ (x : State). HoldsSite new line x) is (saved-still new line saved state one held bad (done-faultless one (done_too done).0));
+  };
+}
+
+-- ---- the whole
+
+pub runs : (old loaded new : Known) (name script : List ℕ) (line : LineFile) (site : SiteValue) (commands : List Command) (status : Status) → Loads old name line site → SpellsCommands old script commands → loaded ≡ old
+    → EndsRun loaded new line site.seen commands status → Runs old new name script status
+runs old loaded new name script line site commands status given spelt same ends =
+    let P : Known → Type 0 = λ files. EndsRun files new line site.seen commands status in
+    inr (record { line = line; site = site; loaded = given; commands = commands; spelt = spelt; ends = subst P same ends })
+
+pub recovers : (old loaded new : Known) (name : List ℕ) (line : LineFile) (site : SiteValue) (status : Status) → Loads old name line site → loaded ≡ old → EndsRecovery loaded new line site.seen status → Recovers old new name status
+recovers old loaded new name line site status given same ends =
+    let P : Known → Type 0 = λ files. EndsRecovery files new line site.seen status in
+    inr (record { line = line; site = site; loaded = given; ends = subst P same ends })

@@ -1,0 +1,114 @@
+-- A line with its journal: what is read of it from files, how a station on it begins, and what its files hold in the end.
+use Rattle.std.specs.Prelude.{◌≡◌, ◌⊎◌, List, length, string_bytes, ℕ, ⊤}
+use Rattle.sii_edit.specs.declared.command.Command.{Command}
+use Rattle.site_core.specs.State.{Seen}
+use Rattle.site_mem.specs.Site.{SiteValue}
+use Rattle.site_journal.specs.declared.fault.ReadFault.TheVariants as read
+use Rattle.station_alone.specs.declared.fault.OpenFault.{OpenFault}
+use Rattle.station_alone.specs.declared.fault.OpenFault.TheVariants as why
+use Rattle.station_alone.specs.Station.{Station}
+use Rattle.station_alone.specs.Opening.{BeginsSession}
+use Rattle.station_recovery.specs.Recovery.{IsRecovered, BeginsRecovered}
+use Rattle.station_text.specs.declared.line_file.LineFile.{LineFile}
+use Rattle.station_files.specs.Faults.{IsFaultless}
+use Rattle.station_files.specs.Files.{Known, HasBytes, ChangesAmong}
+use Rattle.station_files.specs.LineFiles.{SpellsLine, SpellsSlaves}
+use Rattle.station_files.specs.ScriptFiles.{SpellsCommands}
+use Rattle.station_files.specs.declared.faults.Status.{Status}
+use Rattle.station_files.specs.declared.faults.Status.TheVariants.{Done}
+use Rattle.station_bench.specs.Site.{IsSiteOf, files_of, HoldsSite}
+use Rattle.station_rounds.specs.Rounds.{AreAmong, Goes, IsServed}
+
+-- ---- what is read
+
+-- a line, the words of its slaves and the bytes of its journal, each as their files spell them
+pub record IsLine (files : Known) (name : List ℕ) (line : LineFile) (plant : List (List ℕ)) (bytes : List ℕ) : Type 0 where
+  pub described : SpellsLine files name line
+  pub slaves : SpellsSlaves files line plant
+  pub journal : HasBytes files (string_bytes line.journal) bytes
+
+-- the line in memory that is made of them
+pub record Loads (files : Known) (name : List ℕ) (line : LineFile) (site : SiteValue) : Type 0 where
+  pub plant : List (List ℕ)
+  pub bytes : List ℕ
+  pub given : IsLine files name line plant bytes
+  pub made : IsSiteOf plant bytes site
+  pub count : length site.line.sizes ≡ length line.images.items
+
+-- the journal was read, and refused
+abbrev pub IsRefusal : OpenFault → Type 0
+IsRefusal (why.Journal (read.Journal fault)) = ⊤
+IsRefusal fault = ⊥
+
+-- ---- how a station begins
+
+-- The station was opened on this site; or it was opened on what a recovery left of it.
+pub data StartsFrom (before : Seen) (s : Station) : Type 0 where
+  directly : BeginsSession before s → StartsFrom before s
+  recovered : (r : Station) → BeginsRecovered before r → BeginsSession r.seen s → StartsFrom before s
+
+-- ---- what the files hold in the end
+
+-- no file was written, and a fault ended the work
+abbrev pub Stops : Known → Known → Status → Type 0
+Stops old new status = (new ≡ old) × ¬ IsFaultless status
+
+-- The files hold what was left of a station that was recovered on this site.
+pub record SavesRecovered (files : Known) (line : LineFile) (before : Seen) : Type 0 where
+  pub s : Station
+  pub recovered : IsRecovered s
+  pub begins : BeginsRecovered before s
+  pub held : HoldsSite files line s.seen.state
+
+-- The line's files alone changed; and where the work is done, they hold what the recovered station left.
+pub record EndsRecovery (old new : Known) (line : LineFile) (before : Seen) (status : Status) : Type 0 where
+  pub others : ChangesAmong old new (files_of line)
+  pub saved : status ≡ Done → SavesRecovered new line before
+
+-- The line was read before.
+pub record RecoversFiles (old new : Known) (name : List ℕ) (status : Status) : Type 0 where
+  pub line : LineFile
+  pub site : SiteValue
+  pub loaded : Loads old name line site
+  pub ends : EndsRecovery old new line site.seen status
+
+abbrev pub Recovers : Known → Known → List ℕ → Status → Type 0
+Recovers old new name status = Stops old new status ⊎ RecoversFiles old new name status
+
+-- The files hold what was left of this station once some of the commands had been accepted and served, all of them where the work is done.
+pub record SavesServed (files : Known) (line : LineFile) (opened : Station) (commands : List Command) (status : Status) : Type 0 where
+  pub s : Station
+  pub accepted : List Command
+  pub goes : Goes accepted opened s
+  pub among : AreAmong accepted commands
+  pub all : status ≡ Done → accepted ≡ commands
+  pub served : IsServed s.book
+  pub held : HoldsSite files line s.seen.state
+
+-- The line's files alone changed; and where no fault ended the work, they hold what was left of the station.
+pub record EndsStation (old new : Known) (line : LineFile) (opened : Station) (commands : List Command) (status : Status) : Type 0 where
+  pub others : ChangesAmong old new (files_of line)
+  pub saved : IsFaultless status → SavesServed new line opened commands status
+
+-- The files hold what was left of a station that was opened on this site.
+pub record SavesRun (files : Known) (line : LineFile) (before : Seen) (commands : List Command) (status : Status) : Type 0 where
+  pub opened : Station
+  pub starts : StartsFrom before opened
+  pub serves : SavesServed files line opened commands status
+
+-- The same of a line on which a station was opened.
+pub record EndsRun (old new : Known) (line : LineFile) (before : Seen) (commands : List Command) (status : Status) : Type 0 where
+  pub others : ChangesAmong old new (files_of line)
+  pub saved : IsFaultless status → SavesRun new line before commands status
+
+-- The line and the script were read before.
+pub record RunsFiles (old new : Known) (name script : List ℕ) (status : Status) : Type 0 where
+  pub line : LineFile
+  pub site : SiteValue
+  pub loaded : Loads old name line site
+  pub commands : List Command
+  pub spelt : SpellsCommands old script commands
+  pub ends : EndsRun old new line site.seen commands status
+
+abbrev pub Runs : Known → Known → List ℕ → List ℕ → Status → Type 0
+Runs old new name script status = Stops old new status ⊎ RunsFiles old new name script status

@@ -1,0 +1,81 @@
+//! A line with its journal, from its files, and what is done where it can't be opened.
+ghost use Rattle.std.specs.Prelude.{◌≡◌, ◌↔◌, length, IfOk, IsTrue};
+ghost use Rattle.station_files.specs.Faults.{IsFaultless};
+ghost use Rattle.station_files.specs.Files.{ChangesAmong};
+ghost use Rattle.station_bench.specs.Site.{files_of};
+ghost use Rattle.station_session.specs.Session.{IsRefusal, Loads};
+
+use crate::faults::of_open;
+use jrn_format::version;
+use site_journal::ReadFault;
+use site_mem::MemSite;
+use station_alone::OpenFault;
+use station_bench::{save_site, site_of};
+use station_files::{
+    Fault, Status, Store, load_line, load_slaves, read_file, report_fault, status_of, worse,
+};
+use station_text::LineFile;
+use std::alloc::Global;
+use std::io::Write;
+
+/// A line in memory, and the files that it comes from.
+#[derive(Drop)]
+pub(crate) struct Session {
+    pub line: LineFile,
+    pub site: MemSite,
+    /// Whether the journal says that it isn't of version 2.
+    pub is_old: bool,
+}
+
+/// Reads the files in order: line, slaves, journal.
+pub(crate) fn load_session<S: Store>(
+    alloc: Global,
+    name: &str,
+    store: &mut S,
+) -> Result<Session, Fault>
+    ensures loaded { IfOk result (λ session. Loads (S.files store.old) name.now session.line session.site) }
+    ensures same { S.files store.new ≡ S.files store.old }
+{
+    let line = load_line(alloc, name, store)?;
+    let slaves = load_slaves(alloc, &line, store)?;
+    let journal = read_file(alloc, line.journal.as_str(), store)?;
+    let is_old = is_old(&journal);
+    let site = site_of(alloc, &slaves, journal)?;
+    Ok(Session { line, site, is_old })
+}
+
+/// Whether a journal's file says that it isn't of version 2.
+fn is_old(journal: &[u8]) -> bool {
+    journal.len() >= 2 && version(journal) != 2
+}
+
+/// Whether the journal was read and refused.
+fn is_refused(fault: &OpenFault) -> bool
+    ensures { IsTrue result ↔ IsRefusal fault.now }
+{
+    matches!(fault, OpenFault::Journal(ReadFault::Journal(_)))
+}
+
+/// A line that can't be opened or recovered. Where its journal was refused nothing is written; else what the line holds is saved.
+pub(crate) fn give_up<S: Store, E: Write>(
+    alloc: Global,
+    line: &LineFile,
+    site: MemSite,
+    fault: OpenFault,
+    store: &mut S,
+    faults: &mut E,
+) -> Status
+    requires disk { IsTrue site.line.has_disk }
+    requires slaves { length site.line.sizes ≡ length line.now.images.items }
+    ensures status { ¬ IsFaultless result }
+    ensures others { ChangesAmong (S.files store.old) (S.files store.new) (files_of line.now) }
+    ensures refused { IsRefusal fault → S.files store.new ≡ S.files store.old }
+{
+    let is_refused = is_refused(&fault);
+    let status = report_fault(of_open(fault), faults);
+    if is_refused {
+        return status;
+    }
+    let saved = save_site(alloc, line, site, store);
+    worse(status, status_of(saved, faults))
+}

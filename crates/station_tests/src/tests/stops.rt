@@ -1,0 +1,198 @@
+use super::case::{Bytes, Files, Step, goes, leaves, run_words, shelf_with};
+use super::scripts::{JOURNAL_OF_ONE, LINE, LONG_FILES, ONE, QUEUED, ZERO};
+use std::alloc::{AllocError, Global};
+use std::io;
+use std::test::Fail;
+
+/// What runs in a row begin with, the runs, and what they leave.
+struct Story {
+    files: Files,
+    steps: &'static [Step],
+    left: Files,
+}
+
+/// A slave that gets alias 1: three writes and syncs until its batch is live, a fourth until it is acknowledged, two words, and two
+/// until it is retired.
+const ALIAS: Files = &[
+    ("line.toml", LINE),
+    ("j.bin", JOURNAL_OF_ONE),
+    ("s0.bin", ZERO),
+    (
+        "script.toml",
+        Bytes::Text("[[command]]\nalias = { slave = 0, value = 1 }"),
+    ),
+];
+
+/// The power is cut as the gate is written.
+const AT_THE_GATE: Step = Step {
+    words: "",
+    status: 4,
+    output: "command 0 accepted 0\naccepted 1 durable 0 settled 0\n",
+    faults: "fault 42 Stopped\n",
+    writes: 2,
+};
+
+/// The power is cut as the gate is closed.
+const AT_THE_RETIRE: Step = Step {
+    output: "command 0 accepted 0\naccepted 1 durable 1 settled 1\n",
+    ..AT_THE_GATE
+};
+
+const RECOVER: Step = Step {
+    words: "station recover line.toml",
+    status: 0,
+    output: "recovered batches 0 commands 0 words 0\n",
+    faults: "",
+    writes: 2,
+};
+
+const CUT: [Story; 6] = [
+    Story {
+        files: ALIAS,
+        steps: &[
+            Step {
+                words: "station run line.toml script.toml --fuse 2 --left 165",
+                ..AT_THE_GATE
+            },
+            Step {
+                output: "recovered batches 1 commands 1 words 2\n",
+                ..RECOVER
+            },
+            RECOVER,
+        ],
+        left: &[("s0.bin", ONE)],
+    },
+    Story {
+        files: ALIAS,
+        steps: &[
+            Step {
+                words: "station run line.toml script.toml --fuse 2 --left 23130",
+                ..AT_THE_GATE
+            },
+            RECOVER,
+        ],
+        left: &[("s0.bin", ZERO)],
+    },
+    Story {
+        files: ALIAS,
+        steps: &[
+            Step {
+                words: "station run line.toml script.toml --fuse 6 --left 165",
+                ..AT_THE_RETIRE
+            },
+            Step {
+                output: "recovered batches 1 commands 1 words 0\n",
+                ..RECOVER
+            },
+        ],
+        left: &[("s0.bin", ONE)],
+    },
+    Story {
+        files: ALIAS,
+        steps: &[
+            Step {
+                words: "station run line.toml script.toml --fuse 6",
+                ..AT_THE_RETIRE
+            },
+            RECOVER,
+        ],
+        left: &[("s0.bin", ONE)],
+    },
+    // What is submitted behind the stop is refused.
+    Story {
+        files: LONG_FILES,
+        steps: &[
+            Step {
+                words: "station run line.toml script.toml --fuse 0",
+                output: "command 0 refused 60 TooLarge
+command 1 accepted 0
+command 2 refused 62 Closed
+command 3 refused 62 Closed
+accepted 1 durable 0 settled 0\n",
+                ..AT_THE_GATE
+            },
+            RECOVER,
+        ],
+        left: &[],
+    },
+    // A fuse that isn't reached.
+    Story {
+        files: ALIAS,
+        steps: &[
+            Step {
+                words: "station run line.toml script.toml --fuse 4294967295",
+                status: 0,
+                faults: "",
+                ..AT_THE_RETIRE
+            },
+            RECOVER,
+        ],
+        left: &[("s0.bin", ONE)],
+    },
+];
+
+fn differs(alloc: Global, story: &Story) -> Result<&'static str, AllocError> {
+    goes(alloc, story.files, story.steps, story.left)
+}
+
+#[test]
+fn power_cuts(rt: HostRuntime) -> Result<(), Fail> {
+    for story in &CUT {
+        assert_eq!(rt; differs(rt.alloc(), story)?, "");
+    }
+    Ok(())
+}
+
+/// How a run with a fuse ended.
+#[derive(Clone, Copy, PartialEq, Eq)]
+enum Came {
+    /// It wasn't stopped.
+    Done,
+    /// It was stopped, and a recovery left the line as it was, or as it is with all commands, as it has to be where they were acknowledged.
+    Kept,
+    Wrong,
+}
+
+const OLD: Files = &[("s0.bin", ZERO), ("s1.bin", ZERO), ("s2.bin", ZERO)];
+
+/// A run of three commands in one batch that is cut once so many writes have passed, and the recovery of the line.
+fn cut_at(alloc: Global, writes: u32, left: &str) -> Result<Came, AllocError> {
+    let words = format!(in alloc;
+        "station run line.toml script.toml --fuse {writes} --left {left}"
+    )?;
+    let mut shelf = shelf_with(alloc, QUEUED.files)?;
+    let run = run_words(alloc, words.as_str(), &mut io::empty(), &mut shelf)?;
+    let printed = str::from_utf8(&run.output).unwrap_or("");
+    if run.status == 0 {
+        return Ok(Came::Done);
+    }
+    let is_stopped = run.status == 4 && run.faults.as_slice() == "fault 42 Stopped\n".as_bytes();
+    let again = run_words(alloc, RECOVER.words, &mut io::empty(), &mut shelf)?;
+    let is_new = leaves(alloc, &shelf, QUEUED.left)?.is_empty();
+    let is_old = leaves(alloc, &shelf, OLD)?.is_empty() && printed.contains(" durable 0 ");
+    if is_stopped && again.status == 0 && (is_new || is_old) {
+        Ok(Came::Kept)
+    } else {
+        Ok(Came::Wrong)
+    }
+}
+
+/// How many writes have to pass until a run isn't stopped; None where something is wrong before.
+fn writes_of_a_run(alloc: Global, left: &str) -> Result<Option<u32>, AllocError> {
+    for writes in 0..100u32 {
+        match cut_at(alloc, writes, left)? {
+            Came::Done => return Ok(Some(writes)),
+            Came::Kept => {}
+            Came::Wrong => return Ok(None),
+        }
+    }
+    Ok(None)
+}
+
+#[test]
+fn a_cut_at_each_write(rt: HostRuntime) -> Result<(), Fail> {
+    for left in ["0", "165", "65535"] {
+        assert_eq!(rt; writes_of_a_run(rt.alloc(), left)?, Some(12), "{left}");
+    }
+    Ok(())
+}
