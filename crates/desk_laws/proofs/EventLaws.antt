@@ -3,12 +3,12 @@ use Rattle.std.proofs.Common.{◌≡◌, ◌∙◌, sym, ap, Option, Some, Resul
 use Rattle.sii_edit.specs.declared.command.Command.{Command}
 use Rattle.book_model.specs.declared.refusal.SubmitRefusal.{SubmitRefusal}
 use Rattle.book_model.specs.Book.{Book}
-use Rattle.book_model.specs.Submit.{submit, with_command}
+use Rattle.book_model.specs.Submit.{submit}
 use Rattle.world_law.specs.World.{Told, World}
 use Rattle.world_law.specs.Happenings.{HappensUp, submitted}
-use Rattle.station_desk.specs.declared.call.Call.{Call}
-use Rattle.station_desk.specs.declared.call.Call.TheVariants.{Submitted, DiskAsked, DiskTold, SlaveAsked, SlaveTold, PlanAsked, Finished}
-use Rattle.station_desk.specs.Calls.{after, IsAnswered}
+use Rattle.desk_book.specs.declared.call.Call.{Call}
+use Rattle.desk_book.specs.declared.call.Call.TheVariants.{Submitted, DiskAsked, DiskTold, SlaveAsked, SlaveTold, PlanAsked, Finished}
+use Rattle.desk_book.specs.Calls.{after, IsAnswered}
 use Rattle.desk_laws.specs.Events.{event_of}
 
 -- the book of a world

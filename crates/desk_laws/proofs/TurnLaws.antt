@@ -1,22 +1,21 @@
 -- The turns of a history are of contents that the accepted commands lead to.
-use Rattle.std.proofs.Common.{◌≡◌, ◌∙◌, ◌≤◌, ℕ, ◌+◌, List, [], ◌∷◌, ◌++◌, length, take, refl, sym, ap, subst, arith, append_assoc, Option, Some, None, Ok, Err}
-use Rattle.std.specs.Option.{option_map}
+use Rattle.std.proofs.Common.{◌≡◌, ◌∙◌, ℕ, ◌+◌, List, [], ◌∷◌, ◌++◌, length, take, refl, sym, ap, subst, arith, append_assoc, Option, Some, None, Ok, Err}
 use Rattle.std.specs.List.{AllByRecursion}
 use Rattle.std.specs.Prelude.{fold}
 use Rattle.std.proofs.lemmas.List.{take-append-le, length-append}
 use Rattle.sii_image.specs.ProcessImage.{ProcessImageParts, process_image}
 use Rattle.sii_edit.specs.declared.command.Command.{Command}
-use Rattle.sii_edit.specs.Fold.{contents, contents_after}
+use Rattle.sii_edit.specs.Fold.{contents}
 use Rattle.book_model.specs.Book.{Book, base_of}
 use Rattle.book_model.specs.Reading.{applied, planned}
 use Rattle.station_jobs.specs.declared.cycle.CycleNote.{CycleNote}
 use Rattle.world_law.proofs.StandsLaws.{applied-few}
-use Rattle.station_desk.specs.declared.call.Call.{Call}
-use Rattle.station_desk.specs.declared.call.Call.TheVariants.{Submitted, DiskAsked, DiskTold, SlaveAsked, SlaveTold, PlanAsked, Finished}
-use Rattle.station_desk.specs.Calls.{after, replayed, AreAnswered, turn_of}
-use Rattle.station_desk.specs.Logs.{turn_noted}
-use Rattle.station_desk.proofs.KeptLaws.{keeps-disk_next, keeps-disk_done, keeps-rom_next, keeps-rom_done}
-use Rattle.station_desk.proofs.BaseLaws.{base-replayed}
+use Rattle.desk_book.specs.declared.call.Call.{Call}
+use Rattle.desk_book.specs.declared.call.Call.TheVariants.{Submitted, DiskAsked, DiskTold, SlaveAsked, SlaveTold, PlanAsked, Finished}
+use Rattle.desk_book.specs.Calls.{after, replayed, AreAnswered, turn_of}
+use Rattle.desk_book.specs.Logs.{turn_noted}
+use Rattle.desk_book.proofs.KeptLaws.{keeps-disk_next, keeps-disk_done, keeps-rom_next, keeps-rom_done}
+use Rattle.desk_book.proofs.BaseLaws.{base-replayed}
 use Rattle.desk_laws.specs.Turns.{IsTurnOf}
 
 -- ---- commands are only ever added

@@ -1,7 +1,7 @@
 -- The calls of a book under its lock, as events of the law.
 use Rattle.world_law.specs.World.{Event, Submit, Plan, Finish, DiskBegin, DiskDone, RomIssue, RomDone}
-use Rattle.station_desk.specs.declared.call.Call.{Call}
-use Rattle.station_desk.specs.declared.call.Call.TheVariants.{Submitted, DiskAsked, DiskTold, SlaveAsked, SlaveTold, PlanAsked, Finished}
+use Rattle.desk_book.specs.declared.call.Call.{Call}
+use Rattle.desk_book.specs.declared.call.Call.TheVariants.{Submitted, DiskAsked, DiskTold, SlaveAsked, SlaveTold, PlanAsked, Finished}
 
 abbrev pub event_of : Call → Event
 event_of (Submitted command answer) = Submit command

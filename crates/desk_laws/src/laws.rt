@@ -1,13 +1,13 @@
 ghost use Rattle.std.specs.Prelude.{◌≡◌, List, Some};
 ghost use Rattle.std.specs.List.{AllByRecursion};
-ghost use Rattle.book_model.specs.Book.{Book, base_of};
+ghost use Rattle.book_model.specs.Book.{Book, Resting, base_of};
 ghost use Rattle.world_law.specs.World.{Told, World};
 ghost use Rattle.world_law.specs.Happenings.{HappensUp};
-ghost use Rattle.station_desk.specs.declared.call.Call.{Call};
-ghost use Rattle.station_desk.specs.Calls.{after, AreAnswered, IsAnswered, replayed};
-ghost use Rattle.station_desk.specs.Logs.{cycle_log};
+ghost use Rattle.desk_book.specs.declared.call.Call.{Call};
+ghost use Rattle.desk_book.specs.Calls.{after, AreAnswered, IsAnswered, replayed};
+ghost use Rattle.desk_book.specs.Logs.{cycle_log};
 ghost use Rattle.desk_laws.specs.Events.{event_of};
-ghost use Rattle.desk_laws.specs.Turns.{IsTurnOf};
+ghost use Rattle.desk_laws.specs.Turns.{IsTurnOf, NeverFall, AppendsNext};
 
 /// Each call of a book under its lock is an event of the law: where that happens in a world with this book, whatever its disk and its
 /// slaves do, the book is then what the history has behind the call.
@@ -20,4 +20,15 @@ pub fn calls_are_events()
 /// size of their process image.
 pub fn turns_have_their_images()
     ensures { (opened : Book) (calls : List Call) → AreAnswered opened calls → AllByRecursion (IsTurnOf (base_of opened) (replayed opened calls).accepted) (cycle_log calls) }
+{}
+
+/// The turns that were handed out to the cycle are of ever more commands, or as many. What a book that is resting appends later are
+/// its own commands.
+pub fn turns_never_fall()
+    ensures { (opened : Book) (calls : List Call) → AppendsNext opened → AreAnswered opened calls → NeverFall (cycle_log calls) }
+{}
+
+/// A book that is resting appends nothing else.
+pub fn resting_appends_next()
+    ensures { (book : Book) → book.doing ≡ Resting → AppendsNext book }
 {}

@@ -3,4 +3,4 @@
 
 mod laws;
 
-pub use laws::{calls_are_events, turns_have_their_images};
+pub use laws::{calls_are_events, resting_appends_next, turns_have_their_images, turns_never_fall};

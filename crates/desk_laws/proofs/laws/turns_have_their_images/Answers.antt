@@ -1,6 +1,6 @@
 use Rattle.std.proofs.Common.{[], refl}
 use Rattle.book_model.specs.Book.{base_of}
-use Rattle.station_desk.specs.Calls.{replayed}
+use Rattle.desk_book.specs.Calls.{replayed}
 use Rattle.desk_laws.proofs.TurnLaws.{turns-are}
 use Rattle.desk_laws.proofs.laws.turns_have_their_images.Goals as goal
 
