@@ -3,7 +3,6 @@
 use book_core::Core;
 use book_model::DiskNext;
 use site_core::DeviceFault;
-use std::test::Fail;
 
 /// A step of the disk.
 #[derive(Clone, Copy, PartialEq)]
@@ -46,33 +45,33 @@ fn step_of(next: &DiskNext) -> Step {
     }
 }
 
-fn is_next(core: &mut Core, wanted: Step) -> Result<bool, Fail> {
-    let next = core.disk_next()?;
-    Ok(step_of(&next) == wanted)
+fn is_next(core: &mut Core, wanted: Step) -> Option<bool> {
+    let next = core.disk_next().ok()?;
+    Some(step_of(&next) == wanted)
 }
 
 /// Whether these steps come, each of which is done.
-fn are_done(core: &mut Core, wanted: &[Step]) -> Result<bool, Fail> {
+fn are_done(core: &mut Core, wanted: &[Step]) -> Option<bool> {
     for step in wanted {
         if !is_next(core, *step)? {
-            return Ok(false);
+            return Some(false);
         }
         core.disk_done(Ok(()));
     }
-    Ok(true)
+    Some(true)
 }
 
-fn is_appended(core: &mut Core, gate: usize, count: usize, first: u8) -> Result<bool, Fail> {
+fn is_appended(core: &mut Core, gate: usize, count: usize, first: u8) -> Option<bool> {
     let write = Step::Write(gate.saturating_add(1), count, first);
     are_done(core, &[write, Step::Sync, Step::Open(gate), Step::Sync])
 }
 
-fn is_retired(core: &mut Core, gate: usize) -> Result<bool, Fail> {
+fn is_retired(core: &mut Core, gate: usize) -> Option<bool> {
     are_done(core, &[Step::Close(gate), Step::Sync])
 }
 
-/// Whether the disk's steps come so.
-pub(crate) fn disk_comes(core: &mut Core, disk: &Disk) -> Result<bool, Fail> {
+/// Whether the disk's steps come so. None: a growth was refused, before any of these steps.
+pub(crate) fn disk_comes(core: &mut Core, disk: &Disk) -> Option<bool> {
     match *disk {
         Disk::Append(gate, count, first) => is_appended(core, usize::from(gate), count, first),
         Disk::Retire(gate) => is_retired(core, usize::from(gate)),
@@ -80,7 +79,7 @@ pub(crate) fn disk_comes(core: &mut Core, disk: &Disk) -> Result<bool, Fail> {
         Disk::Waits(step) => is_next(core, step),
         Disk::Done(outcome) => {
             core.disk_done(outcome);
-            Ok(true)
+            Some(true)
         }
     }
 }

@@ -6,7 +6,6 @@ use crate::rom::{Rom, rom_comes};
 use book_core::Core;
 use book_model::{Fault, Status, SubmitRefusal};
 use std::alloc::Global;
-use std::test::Fail;
 
 /// What is done with a book, or seen of it, and what is to come of it.
 #[derive(Clone, Copy)]
@@ -35,19 +34,19 @@ fn is_status(core: &Core, wanted: Status) -> bool {
     core.status() == wanted
 }
 
-fn is_plan(core: &mut Core, prefix: u64, outputs: usize, inputs: usize) -> Result<bool, Fail> {
-    let plan = core.plan()?;
-    Ok(plan.prefix == prefix && plan.image.outputs() == outputs && plan.image.inputs() == inputs)
+fn is_plan(core: &mut Core, prefix: u64, outputs: usize, inputs: usize) -> Option<bool> {
+    let plan = core.plan().ok()?;
+    Some(plan.prefix == prefix && plan.image.outputs() == outputs && plan.image.inputs() == inputs)
 }
 
-fn call_comes(core: &mut Core, call: &Call) -> Result<bool, Fail> {
+fn call_comes(core: &mut Core, call: &Call) -> Option<bool> {
     match *call {
         Call::Finish => {
             core.finish();
-            Ok(true)
+            Some(true)
         }
-        Call::Migrate(wanted) => Ok(core.migrate() == wanted),
-        Call::Status(accepted, durable, settled, live_bytes) => Ok(is_status(
+        Call::Migrate(wanted) => Some(core.migrate() == wanted),
+        Call::Status(accepted, durable, settled, live_bytes) => Some(is_status(
             core,
             Status {
                 accepted,
@@ -57,37 +56,37 @@ fn call_comes(core: &mut Core, call: &Call) -> Result<bool, Fail> {
             },
         )),
         Call::Plan(prefix, outputs, inputs) => is_plan(core, prefix, outputs, inputs),
-        Call::Fault(wanted) => Ok(core.fault() == wanted),
+        Call::Fault(wanted) => Some(core.fault() == wanted),
     }
 }
 
 /// How often the command is accepted, each time with the next number.
-fn fill(alloc: Global, core: &mut Core, ask: &Ask) -> Result<u64, Fail> {
+fn fill(alloc: Global, core: &mut Core, ask: &Ask) -> Option<u64> {
     for number in 0..2000u64 {
         if submit(alloc, core, ask)? != Ok(number) {
-            return Ok(number);
+            return Some(number);
         }
     }
-    Ok(2000)
+    Some(2000)
 }
 
-/// Whether it comes as the event says.
-fn comes(alloc: Global, core: &mut Core, event: &Event) -> Result<bool, Fail> {
+/// Whether it comes as the event says. None: a growth was refused.
+pub(crate) fn comes(alloc: Global, core: &mut Core, event: &Event) -> Option<bool> {
     match event {
-        Event::Submit(ask, wanted) => Ok(submit(alloc, core, ask)? == *wanted),
-        Event::Fill(ask, wanted) => Ok(fill(alloc, core, ask)? == *wanted),
+        Event::Submit(ask, wanted) => Some(submit(alloc, core, ask)? == *wanted),
+        Event::Fill(ask, wanted) => Some(fill(alloc, core, ask)? == *wanted),
         Event::Disk(disk) => disk_comes(core, disk),
-        Event::Rom(slave, rom) => Ok(rom_comes(core, *slave, rom)),
+        Event::Rom(slave, rom) => Some(rom_comes(core, *slave, rom)),
         Event::Call(call) => call_comes(core, call),
     }
 }
 
 /// How many events come as they are told, before one that doesn't.
-pub(crate) fn told(alloc: Global, core: &mut Core, events: &[Event]) -> Result<usize, Fail> {
+pub(crate) fn told(alloc: Global, core: &mut Core, events: &[Event]) -> Option<usize> {
     for count in 0..events.len() {
         if !comes(alloc, core, &events[count])? {
-            return Ok(count);
+            return Some(count);
         }
     }
-    Ok(events.len())
+    Some(events.len())
 }

@@ -4,11 +4,11 @@ ghost use Rattle.std.specs.Prelude.{◌≡◌, IfOk};
 ghost use Rattle.book_model.specs.Entries.{sizes_of};
 
 use book_core::Core;
-use jrn_format::{capacity, scan};
+use book_model::CoreFault;
+use jrn_format::{JournalFault, capacity, scan};
 use sii_words::Words;
 use std::alloc::{AllocError, Global};
 use std::process::Abort;
-use std::test::Fail;
 
 /// A slave of so many bytes, all 0 but for the check byte 0x30 and for these from these places on.
 pub(crate) type Slave = (usize, &'static [(usize, &'static [u8])]);
@@ -29,22 +29,22 @@ fn patch(bytes: &mut [u8], from: usize, new: &[u8]) {
     }
 }
 
-fn slave(alloc: Global, slave: &Slave) -> Result<Words, Fail> {
+fn slave(alloc: Global, slave: &Slave) -> Option<Words> {
     let (count, patches) = slave;
-    let mut bytes = vec![in alloc; 0u8; *count]?;
+    let mut bytes = vec![in alloc; 0u8; *count].ok()?;
     patch(&mut bytes, 14, &[0x30]);
     for (from, new) in *patches {
         patch(&mut bytes, *from, new);
     }
-    Ok(Words::from_bytes(alloc, &bytes)?)
+    Words::from_bytes(alloc, &bytes).ok()
 }
 
-fn slaves(alloc: Global, line: &Line) -> Result<Vec<Words>, Fail> {
+fn slaves(alloc: Global, line: &Line) -> Option<Vec<Words>> {
     let mut slaves = Vec::new(alloc);
     for one in line.slaves {
-        slaves.push(slave(alloc, one)?)?;
+        slaves.push(slave(alloc, one)?).ok()?;
     }
-    Ok(slaves)
+    Some(slaves)
 }
 
 /// The journal's file. One byte stands behind the halves.
@@ -69,15 +69,23 @@ fn sizes(alloc: Global, slaves: &[Words]) -> Result<Vec<u16>, AllocError>
 }
 
 /// A book on a journal of these bytes.
-fn open(rt: &impl Abort, alloc: Global, slaves: Vec<Words>, file: &[u8]) -> Result<Core, Fail> {
+fn open(
+    rt: &impl Abort,
+    alloc: Global,
+    slaves: Vec<Words>,
+    file: &[u8],
+) -> Result<Core, JournalFault> {
     assert!(rt; slaves.len() >= 1 && slaves.len() <= 64 && file.len() >= 8);
     let sizes = sizes(alloc, &slaves)?;
     let journal = scan(alloc, file, &sizes)?;
-    Ok(Core::open(alloc, slaves, capacity(file), journal)?)
+    match Core::open(alloc, slaves, capacity(file), journal) {
+        Ok(core) => Ok(core),
+        Err(CoreFault::Memory) => Err(JournalFault::Memory),
+    }
 }
 
-/// The book of such a line.
-pub(crate) fn book(rt: &impl Abort, alloc: Global, line: &Line) -> Result<Core, Fail> {
-    let file = file(alloc, line)?;
-    open(rt, alloc, slaves(alloc, line)?, &file)
+/// The book of such a line. None: a growth was refused, or the line has no book.
+pub(crate) fn book(rt: &impl Abort, alloc: Global, line: &Line) -> Option<Core> {
+    let file = file(alloc, line).ok()?;
+    open(rt, alloc, slaves(alloc, line)?, &file).ok()
 }
