@@ -1,0 +1,52 @@
+-- The parts that a desk serves: what may be handed out to them, and their ends.
+use Rattle.std.proofs.Common.{◌≡◌, ◌≤◌, ◌+◌, ◌∙◌, ℕ, true, List, [], ◌∷◌, ◌++◌, length, arith}
+use Rattle.std.proofs.lemmas.Bool.{false≢true}
+use Rattle.std.proofs.lemmas.Bool.Decides.{nat_tests}
+use Rattle.site_core.specs.Disk.{Disk}
+use Rattle.book_model.specs.declared.next.DiskNext.{DiskNext}
+use Rattle.book_model.specs.declared.next.DiskNext.TheVariants as next
+use Rattle.book_model.specs.declared.next.RomNext.{RomNext}
+use Rattle.book_model.specs.declared.next.RomNext.TheVariants as rom
+use Rattle.station_jobs.specs.Flushing.{CanBegin}
+use Rattle.station_jobs.specs.Working.{IsCall}
+use Rattle.station_jobs.specs.declared.log.SlaveLog.{SlaveLog}
+use Rattle.station_jobs.specs.Ends.{Stay}
+use Rattle.station_threads.specs.Parts.{PartOf, IsEndOfSlave, AreEndsOf}
+use Rattle.station_desk.specs.Sides.{begins_below}
+use Rattle.desk_book.specs.Asking.{is_rom_job}
+use Rattle.line_server.specs.Sites.{ArePartsOf, AreEndsOfSites}
+use Rattle.line_server.proofs.PlaceLaws.{placed-through, placed-long, placed-more}
+
+module _ {S D : Type 0} where
+  ends-here : (slave : ℕ) (site : S) (part : PartOf S D) (end : Stay S SlaveLog) → (part.slave ≡ slave) × (part.site ≡ site) → IsEndOfSlave part.slave part.site end → IsEndOfSlave slave site end
+  ends-here slave site part end is ends = record { slave_is = ends.slave_is ∙ is.0; start = ends.start ∙ is.1 }
+
+  pub ends-of-sites : (sites : List S) (parts : List (PartOf S D)) (ends : List (Stay S SlaveLog)) → ArePartsOf sites parts → AreEndsOf parts ends → AreEndsOfSites sites ends
+  ends-of-sites sites parts ends are end = placed-through _ _ _ ends-here 0 sites parts ends are end
+
+-- a dispatch that hands out nothing behind this byte, of a disk that reaches so far
+pub can-begin : (limit : ℕ) (action : DiskNext) (disk : Disk) → limit ≤ length disk.bytes → begins_below limit action ≡ true → CanBegin action disk
+can-begin limit (next.Write at bytes) disk long below = grind (arith, nat_tests)
+can-begin limit (next.Gate at closed) disk long below = grind (arith, nat_tests)
+can-begin limit next.Sync disk long below = tt
+can-begin limit next.Idle disk long below = absurd (false≢true below)
+can-begin limit next.Stop disk long below = absurd (false≢true below)
+
+-- what is handed out for a slave can be done with it
+pub is-call : (job : RomNext) → is_rom_job job ≡ true → IsCall job
+is-call (rom.Issue word value) is = tt
+is-call (rom.Settle taken) is = tt
+is-call rom.Idle is = absurd (false≢true is)
+is-call rom.Stop is = absurd (false≢true is)
+
+-- ---- parts
+
+module _ {S D : Type 0} where
+  pub parts-long : (sites : List S) (parts : List (PartOf S D)) → ArePartsOf sites parts → length parts ≡ length sites
+  parts-long sites parts are = placed-long (λ slave (site : S) (part : PartOf S D). (part.slave ≡ slave) × (part.site ≡ site)) 0 sites parts are
+
+  pub parts-more : (sites : List S) (parts : List (PartOf S D)) (site : S) (part : PartOf S D) → ArePartsOf sites parts → part.slave ≡ length sites → part.site ≡ site
+      → ArePartsOf (sites ++ site ∷ []) (parts ++ part ∷ [])
+  parts-more sites parts site part are slave same =
+      let here : length sites ≡ 0 + length sites = omega arith in
+      placed-more (λ place (s : S) (p : PartOf S D). (p.slave ≡ place) × (p.site ≡ s)) 0 sites parts site part are (slave ∙ here, same)

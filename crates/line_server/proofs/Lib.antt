@@ -1,0 +1,3 @@
+mod PlaceLaws
+mod EndLaws
+mod Sent
