@@ -334,7 +334,7 @@ accepted 1 durable 1 settled 1\n",
 };
 
 /// A slave of 4,096 words without categories.
-const LARGEST: Bytes = Bytes::Image(8192, &[(128, &[255, 255])]);
+pub const LARGEST: Bytes = Bytes::Image(8192, &[(128, &[255, 255])]);
 
 /// A slave with images that differ from it in 1,012 words and in 1,011, the most that half of a journal of 4,096 bytes has room for.
 pub const LONG_FILES: Files = &[

@@ -1,5 +1,5 @@
 use super::case::{Bytes, Files, Step, goes, leaves, run_words, shelf_with};
-use super::scripts::{JOURNAL_OF_ONE, LINE, LONG_FILES, ONE, QUEUED, ZERO};
+use super::scripts::{JOURNAL_OF_ONE, LARGEST, LINE, LONG_FILES, ONE, QUEUED, ZERO};
 use std::alloc::{AllocError, Global};
 use std::io;
 use std::test::Fail;
@@ -46,7 +46,45 @@ const RECOVER: Step = Step {
     writes: 2,
 };
 
-const CUT: [Story; 6] = [
+/// A slave that gets an image with which a half of the journal is full, and an alias, whose batch goes into the other half.
+const HALVES: Files = &[
+    ("line.toml", LINE),
+    ("j.bin", JOURNAL_OF_ONE),
+    ("s0.bin", LARGEST),
+    (
+        "new.bin",
+        Bytes::Image(
+            8192,
+            &[
+                (8, &[1]),
+                (14, &[0x19]),
+                (128, &[255, 255]),
+                (130, &[0x11; 2000]),
+            ],
+        ),
+    ),
+    (
+        "script.toml",
+        Bytes::Text(
+            "command = [{ image = { slave = 0, file = 'new.bin' } }, { alias = { slave = 0, value = 2 } }]",
+        ),
+    ),
+];
+
+const IN_HALVES: Files = &[(
+    "s0.bin",
+    Bytes::Image(
+        8192,
+        &[
+            (8, &[2]),
+            (14, &[0x62]),
+            (128, &[255, 255]),
+            (130, &[0x11; 2000]),
+        ],
+    ),
+)];
+
+const CUT: [Story; 8] = [
     Story {
         files: ALIAS,
         steps: &[
@@ -97,6 +135,40 @@ const CUT: [Story; 6] = [
             RECOVER,
         ],
         left: &[("s0.bin", ONE)],
+    },
+    // Both halves are live: eight writes for the disk, and the first two words.
+    Story {
+        files: HALVES,
+        steps: &[
+            Step {
+                words: "station run line.toml script.toml --fuse 10",
+                output: "command 0 accepted 0\ncommand 1 accepted 1\naccepted 2 durable 2 settled 0\n",
+                ..AT_THE_GATE
+            },
+            Step {
+                output: "recovered batches 2 commands 2 words 1002\n",
+                ..RECOVER
+            },
+            RECOVER,
+        ],
+        left: IN_HALVES,
+    },
+    // The older half is retired: 1,002 words more, its gate and a sync.
+    Story {
+        files: HALVES,
+        steps: &[
+            Step {
+                words: "station run line.toml script.toml --fuse 1014 --left 165",
+                output: "command 0 accepted 0\ncommand 1 accepted 1\naccepted 2 durable 2 settled 2\n",
+                ..AT_THE_GATE
+            },
+            Step {
+                output: "recovered batches 1 commands 1 words 0\n",
+                ..RECOVER
+            },
+            RECOVER,
+        ],
+        left: IN_HALVES,
     },
     // What is submitted behind the stop is refused.
     Story {
