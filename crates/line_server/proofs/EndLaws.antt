@@ -12,16 +12,16 @@ use Rattle.station_jobs.specs.Working.{IsCall}
 use Rattle.station_jobs.specs.declared.log.SlaveLog.{SlaveLog}
 use Rattle.station_jobs.specs.Ends.{Stay}
 use Rattle.station_threads.specs.Parts.{PartOf, IsEndOfSlave, AreEndsOf}
-use Rattle.station_desk.specs.Sides.{begins_below}
+use Rattle.station_desk.specs.Sides.{begins_below, RomHands}
 use Rattle.desk_book.specs.Asking.{is_rom_job}
-use Rattle.line_server.specs.Sites.{ArePartsOf, AreEndsOfSites}
+use Rattle.line_server.specs.Sites.{IsPartOf, ArePartsOf, AreEndsOfSites}
 use Rattle.line_server.proofs.PlaceLaws.{placed-through, placed-long, placed-more}
 
-module _ {S D : Type 0} where
-  ends-here : (slave : ℕ) (site : S) (part : PartOf S D) (end : Stay S SlaveLog) → (part.slave ≡ slave) × (part.site ≡ site) → IsEndOfSlave part.slave part.site end → IsEndOfSlave slave site end
-  ends-here slave site part end is ends = record { slave_is = ends.slave_is ∙ is.0; start = ends.start ∙ is.1 }
+module _ {S : Type 0} where
+  ends-here : (slave : ℕ) (site : S) (part : PartOf S RomHands) (end : Stay S SlaveLog) → IsPartOf slave site part → IsEndOfSlave part.slave part.site end → IsEndOfSlave slave site end
+  ends-here slave site part end is ends = record { slave_is = ends.slave_is ∙ is.slave_is; start = ends.start ∙ is.site_is }
 
-  pub ends-of-sites : (sites : List S) (parts : List (PartOf S D)) (ends : List (Stay S SlaveLog)) → ArePartsOf sites parts → AreEndsOf parts ends → AreEndsOfSites sites ends
+  pub ends-of-sites : (sites : List S) (parts : List (PartOf S RomHands)) (ends : List (Stay S SlaveLog)) → ArePartsOf sites parts → AreEndsOf parts ends → AreEndsOfSites sites ends
   ends-of-sites sites parts ends are end = placed-through _ _ _ ends-here 0 sites parts ends are end
 
 -- a dispatch that hands out nothing behind this byte, of a disk that reaches so far
@@ -41,12 +41,12 @@ is-call rom.Stop is = absurd (false≢true is)
 
 -- ---- parts
 
-module _ {S D : Type 0} where
-  pub parts-long : (sites : List S) (parts : List (PartOf S D)) → ArePartsOf sites parts → length parts ≡ length sites
-  parts-long sites parts are = placed-long (λ slave (site : S) (part : PartOf S D). (part.slave ≡ slave) × (part.site ≡ site)) 0 sites parts are
+module _ {S : Type 0} where
+  pub parts-long : (sites : List S) (parts : List (PartOf S RomHands)) → ArePartsOf sites parts → length parts ≡ length sites
+  parts-long sites parts are = placed-long (λ slave (site : S) (part : PartOf S RomHands). IsPartOf slave site part) 0 sites parts are
 
-  pub parts-more : (sites : List S) (parts : List (PartOf S D)) (site : S) (part : PartOf S D) → ArePartsOf sites parts → part.slave ≡ length sites → part.site ≡ site
+  pub parts-more : (sites : List S) (parts : List (PartOf S RomHands)) (site : S) (part : PartOf S RomHands) → ArePartsOf sites parts → part.slave ≡ length sites → part.site ≡ site → part.dispatch.slave ≡ length sites
       → ArePartsOf (sites ++ site ∷ []) (parts ++ part ∷ [])
-  parts-more sites parts site part are slave same =
+  parts-more sites parts site part are slave same words =
       let here : length sites ≡ 0 + length sites = omega arith in
-      placed-more (λ place (s : S) (p : PartOf S D). (p.slave ≡ place) × (p.site ≡ s)) 0 sites parts site part are (slave ∙ here, same)
+      placed-more (λ place (s : S) (p : PartOf S RomHands). IsPartOf place s p) 0 sites parts site part are (record { slave_is = slave ∙ here; site_is = same; words = words ∙ here })

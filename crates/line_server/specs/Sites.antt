@@ -4,6 +4,7 @@ use Rattle.site_core.specs.Line.{Line, Owns}
 use Rattle.station_jobs.specs.declared.log.SlaveLog.{SlaveLog}
 use Rattle.station_jobs.specs.Ends.{Stay}
 use Rattle.station_threads.specs.Parts.{Part, PartOf, IsEndOfSlave}
+use Rattle.station_desk.specs.Sides.{RomHands}
 use Rattle.line_server.specs.Places.{AllPlaced}
 
 -- each site has the half of the slave at its place that serves the EEPROM
@@ -18,9 +19,15 @@ pub record OwnParts {S : Type 0} (line : S → Line) (disk : S) (slaves : List S
 
 -- ---- parts
 
--- a part for each slave, in order, with its site
-abbrev pub ArePartsOf : {S D : Type 0} → List S → List (PartOf S D) → Type 0
-ArePartsOf {S} {D} sites parts = AllPlaced (λ slave (site : S) (part : PartOf S D). (part.slave ≡ slave) × (part.site ≡ site)) 0 sites parts
+-- It is of this slave, with this site, and is handed out this slave's words.
+pub record IsPartOf {S : Type 0} (slave : ℕ) (site : S) (part : PartOf S RomHands) : Type 0 where
+  pub slave_is : part.slave ≡ slave
+  pub site_is : part.site ≡ site
+  pub words : part.dispatch.slave ≡ slave
+
+-- a part for each slave, in order
+abbrev pub ArePartsOf : {S : Type 0} → List S → List (PartOf S RomHands) → Type 0
+ArePartsOf {S} sites parts = AllPlaced (λ slave (site : S) (part : PartOf S RomHands). IsPartOf slave site part) 0 sites parts
 
 -- There is one of the process data where there is a site for it.
 abbrev pub IsPartOfTurns : {S D : Type 0} → Option S → Option (Part S D) → Type 0

@@ -18,7 +18,7 @@ pub(crate) type DeskParts<'a, S, T, R> = LineParts<
     CycleSide<'a, T, R>,
 >;
 
-/// A part for each slave, in order.
+/// A part for each slave, in order, which is handed out the words of that slave.
 fn slave_parts<'a, S: Site + Drop, T: Tickets + Send + Sync, R: Refusals + Send + Sync>(
     desk: &'a Desk<T, R>,
     sites: Vec<S>,

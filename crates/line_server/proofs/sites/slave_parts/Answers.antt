@@ -48,5 +48,5 @@ loop-site-preserved g c =
       append_assoc at.yielded (site ∷ []) _ ∙ rw (← steps) at.invariant.0,
       omega arith,
       omega arith,
-      rw c.push_reserved.ensures.items (rw c.new.ensures (parts-more at.yielded at.parts.items site _ at.invariant.3 here refl)),
+      rw c.push_reserved.ensures.items (rw c.new.ensures (parts-more at.yielded at.parts.items site _ at.invariant.3 here refl (c.rom_side.ensures.slave ∙ here))),
     )
