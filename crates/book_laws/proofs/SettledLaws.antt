@@ -30,7 +30,7 @@ le-of n m is = grind (arith, nat_tests)
 
 -- ---- what the test says
 
-slave-settled : (first : ℕ) (cells : List (List Cell)) (behind runs : List Run) (k : ℕ) → settled_from first cells behind runs ≡ true → k < length cells
+pub slave-settled : (first : ℕ) (cells : List (List Cell)) (behind runs : List Run) (k : ℕ) → settled_from first cells behind runs ≡ true → k < length cells
     → namings_settled (get_or cells k []) (namings behind (first + k)) (namings runs (first + k)) ≡ true
 slave-settled first [] behind runs k is within = absurd (omega arith)
 slave-settled first (c ∷ cells) behind runs zero is within =

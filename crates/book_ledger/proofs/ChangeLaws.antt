@@ -2,7 +2,8 @@
 use Rattle.std.proofs.Common.{◌≡◌, ◌∙◌, ℕ, ◌^◌, ◌<◌, ◌≤◌, List, [], ◌∷◌, length, refl, sym, ap, subst, arith, Result, Ok, Err}
 use Rattle.std.specs.Prelude.{All, IsOk, IfOk}
 use Rattle.std.proofs.lemmas.List.Elements.{All-weaker, All-nil, All-cons, All-head, All-tail}
-use Rattle.sii_words.specs.Plant.{words_of, with_new}
+use Rattle.sii_words.specs.Plant.{words_of}
+use Rattle.sii_image.specs.NewLayouts.{with_each}
 use Rattle.sii_runs.specs.declared.run.Run.{Run}
 use Rattle.sii_runs.specs.Run.{runs_between}
 use Rattle.sii_runs.specs.Redo.{redone, LiesInside}
@@ -64,7 +65,7 @@ pub judged-is : (plant : List (List ℕ)) (command : Command) (result : Result C
     → IfOk result (λ change. outcome plant command ≡ Ok (redone plant change.runs.items))
     → IfOk result (λ change. change.runs.items ≡ runs_between plant (redone plant change.runs.items))
     → IfOk result (λ change. All (LiesInside plant) change.runs.items)
-    → IfOk result (λ change. with_new plant change.layouts.items ≡ redone plant change.runs.items)
+    → IfOk result (λ change. with_each plant change.layouts ≡ redone plant change.runs.items)
     → IfOk result (IsChangeOf plant command)
 judged-is plant command (Ok change) few accepted runs inside layouts =
     record {

@@ -4,7 +4,8 @@ use Rattle.std.specs.Prelude.{All, IsOk}
 use Rattle.std.proofs.lemmas.List.{take-append-le, drop-append-le, take_all, drop_all}
 use Rattle.std.proofs.lemmas.List.Elements.{All-nil, All-push, All-drop, All-weaker}
 use Rattle.std.proofs.lemmas.List.Sums.{sum_by-le}
-use Rattle.sii_words.specs.Plant.{words_of, with_new}
+use Rattle.sii_words.specs.Plant.{words_of}
+use Rattle.sii_image.specs.NewLayouts.{with_each}
 use Rattle.sii_runs.specs.declared.run.Run.{Run}
 use Rattle.sii_runs.specs.Run.{runs_between}
 use Rattle.sii_runs.specs.Redo.{redone}
@@ -70,15 +71,15 @@ accepted-push base (first ∷ commands) command each is = (each.0, accepted-push
 
 contents-accepted : (ledger : Ledger) (now layout : List (List ℕ)) (command : Command) (change : Change)
     → ContentsStand ledger.base ledger.accepted now layout → IsChangeOf (contents_of ledger) command change
-    → ContentsStand ledger.base (ledger.accepted ++ command ∷ []) (redone now change.runs.items) (with_new layout change.layouts.items)
+    → ContentsStand ledger.base (ledger.accepted ++ command ∷ []) (redone now change.runs.items) (with_each layout change.layouts)
 contents-accepted ledger now layout command change stands is =
     let runs = change.runs.items in
-    let layouts = change.layouts.items in
+    let layouts = change.layouts in
     let plant = contents_of ledger in
     record {
       are_accepted = accepted-push ledger.base ledger.accepted command stands.are_accepted (change-ok plant command change is);
       is_contents = ap (λ (p : List (List ℕ)). redone p runs) stands.is_contents ∙ sym (contents-push ledger.base ledger.accepted command ∙ change-after plant command change is);
-      is_layout = ap (λ (p : List (List ℕ)). with_new p layouts) (stands.is_layout ∙ stands.is_contents) ∙ is.layouts ∙ sym (ap (λ (p : List (List ℕ)). redone p runs) stands.is_contents);
+      is_layout = ap (λ (p : List (List ℕ)). with_each p layouts) (stands.is_layout ∙ stands.is_contents) ∙ is.layouts ∙ sym (ap (λ (p : List (List ℕ)). redone p runs) stands.is_contents);
     }
 
 sized-push : (entries : List Entry) (bytes : ℕ) (x : Entry) → IsSized entries bytes → length entries < QUEUE → IsSized (entries ++ x ∷ []) (bytes + entry_size x.runs)
@@ -90,7 +91,7 @@ sized-push entries bytes x sized few =
 
 pub stands-accepted : (ledger : Ledger) (now layout : List (List ℕ)) (begun queue : List Entry) (begun_bytes queue_bytes : ℕ) (command : Command) (change : Change)
     → Stands ledger now layout begun begun_bytes queue queue_bytes → IsChangeOf (contents_of ledger) command change → AreCountedRuns change.runs.items → length (queued ledger) < QUEUE
-    → Stands (with_command ledger command) (redone now change.runs.items) (with_new layout change.layouts.items) begun begun_bytes (queue ++ entry_of ledger change ∷ []) (queue_bytes + entry_size change.runs.items)
+    → Stands (with_command ledger command) (redone now change.runs.items) (with_each layout change.layouts) begun begun_bytes (queue ++ entry_of ledger change ∷ []) (queue_bytes + entry_size change.runs.items)
 stands-accepted ledger now layout begun queue begun_bytes queue_bytes command change stands is runs room =
     let x = entry_of ledger change in
     record {

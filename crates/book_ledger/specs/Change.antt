@@ -1,6 +1,6 @@
 -- What an accepted command changes.
 use Rattle.std.specs.Prelude.{◌≡◌, ◌≤◌, ℕ, List, length, All, Ok}
-use Rattle.sii_words.specs.Plant.{with_new}
+use Rattle.sii_image.specs.NewLayouts.{with_each}
 use Rattle.sii_runs.specs.declared.run.Run.{Run}
 use Rattle.sii_runs.specs.Run.{runs_between}
 use Rattle.sii_runs.specs.Redo.{redone, LiesInside}
@@ -18,4 +18,4 @@ pub record IsChangeOf (plant : List (List ℕ)) (command : Command) (change : Ch
   pub runs : change.runs.items ≡ runs_between plant (redone plant change.runs.items)
   pub inside : All (LiesInside plant) change.runs.items
   pub short : All IsShort change.runs.items
-  pub layouts : with_new plant change.layouts.items ≡ redone plant change.runs.items
+  pub layouts : with_each plant change.layouts ≡ redone plant change.runs.items

@@ -7,7 +7,6 @@ use Rattle.sii_edit.specs.declared.command.Command.{Command}
 use Rattle.sii_edit.specs.declared.refusal.Refusal.{Refusal}
 use Rattle.sii_edit.specs.Command.{outcome}
 use Rattle.book_model.specs.declared.refusal.SubmitRefusal.{SubmitRefusal}
-use Rattle.book_model.specs.declared.refusal.SubmitRefusal.TheVariants as refusals
 use Rattle.book_model.specs.Memory.{OutOfMemory}
 use Rattle.book_model.specs.Book.{Book, contents_of, is_closed, is_version_2}
 use Rattle.book_model.specs.Submit.{is_too_large, is_full, sized, submit, IsSubmitted, answered, out_of_memory}

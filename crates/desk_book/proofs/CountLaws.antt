@@ -1,5 +1,5 @@
 -- Shares that count more than a number holds don't count all; and how many slaves there are.
-use Rattle.std.proofs.Common.{◌≡◌, ◌∙◌, ℕ, ◌≤◌, ◌^◌, false, List, length, ap, subst, sym, arith, IsTrue}
+use Rattle.std.proofs.Common.{◌≡◌, ◌∙◌, ℕ, ◌≤◌, ◌^◌, false, List, length, ap, subst, arith, IsTrue}
 use Rattle.std.specs.Prelude.{sum_by}
 use Rattle.sii_edit.specs.declared.command.Command.{Command}
 use Rattle.sii_edit.specs.Fold.{contents}

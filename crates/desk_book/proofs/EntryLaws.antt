@@ -1,12 +1,12 @@
 -- The notes of one slave among those of all.
-use Rattle.std.proofs.Common.{◌≡◌, ◌≢◌, ◌∙◌, ℕ, ◌<◌, List, length, ap}
+use Rattle.std.proofs.Common.{◌≡◌, ◌∙◌, ℕ, ◌<◌, List, length, ap}
 use Rattle.std.specs.Prelude.{slice_set}
 use Rattle.std.proofs.lemmas.List.{length-set, get_or-set_same, get_or-set_other}
 use Rattle.book_model.specs.declared.next.RomNext.{RomNext}
 use Rattle.book_model.specs.declared.next.RomOutcome.{RomOutcome}
 use Rattle.desk_notes.specs.Noted.{Noted}
 use Rattle.desk_book.specs.Logs.{RomEntry}
-use Rattle.desk_book.specs.Serving.{IsNoted, entries_at, no_entries}
+use Rattle.desk_book.specs.Serving.{IsNoted, no_entries}
 
 -- one slave's notes are changed
 pub noted-set : (slaves : List (Noted RomNext RomOutcome)) (at : ℕ) (notes : Noted RomNext RomOutcome) (log : List RomEntry) → at < length slaves → notes.entries ≡ log → IsNoted slaves at log (slice_set slaves at notes)

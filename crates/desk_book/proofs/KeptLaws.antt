@@ -1,8 +1,6 @@
 -- What the calls of a book keep.
 use Rattle.std.proofs.Common.{◌≡◌, ℕ, Bool, true, false, List, [], ◌∷◌, length, refl, Option, Some, None, Result, Ok, Err}
 use Rattle.std.specs.Prelude.{is_some, nat_lt}
-use Rattle.sii_edit.specs.declared.command.Command.{Command}
-use Rattle.jrn_format.specs.declared.journal.Entry.{Entry}
 use Rattle.site_core.specs.declared.fault.DeviceFault.{DeviceFault}
 use Rattle.site_core.specs.declared.fault.DeviceFault.TheVariants.{Disk, Lost, Stopped}
 use Rattle.site_core.specs.declared.answers.Settled.TheVariants.{Written, Again, Dead}

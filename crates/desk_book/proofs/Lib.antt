@@ -1,6 +1,7 @@
 pub mod KeptLaws
 pub mod CallLaws
 pub mod LogLaws
+pub mod OutLaws
 pub mod TurnLaws
 pub mod BaseLaws
 pub mod EntryLaws

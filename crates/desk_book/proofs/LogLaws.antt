@@ -1,5 +1,5 @@
 -- What a call hands out is noted.
-use Rattle.std.proofs.Common.{◌≡◌, ◌≢◌, ◌∙◌, ◌⊎◌, inl, inr, ℕ, ◌<◌, Bool, true, false, List, [], ◌∷◌, ◌++◌, length, refl, sym, ap, subst, Some, None}
+use Rattle.std.proofs.Common.{◌≡◌, ◌≢◌, ◌∙◌, ◌⊎◌, inl, inr, ℕ, ◌<◌, Bool, true, false, List, length, refl, sym, ap, subst}
 use Rattle.std.specs.Prelude.{◌==◌, if◌then◌else◌}
 use Rattle.std.proofs.lemmas.Bool.{eq-eqb}
 use Rattle.std.proofs.lemmas.Bool.Decides.{eqb_tells}
@@ -53,7 +53,7 @@ noted-each : (call : Call) (at : ℕ) (old new : List (Noted RomNext RomOutcome)
 noted-each call at old new log inside is follows others i within (inl same) = subst (λ (k : ℕ). entries_at new k ≡ rom_noted k (entries_at old k) call) (sym same) (is.here ∙ follows)
 noted-each call at old new log inside is follows others i within (inr other) = is.others i other ∙ sym (others i (entries_at old i) other)
 
-same-or-not : (i k : ℕ) → (i ≡ k) ⊎ (i ≢ k)
+pub same-or-not : (i k : ℕ) → (i ≡ k) ⊎ (i ≢ k)
 same-or-not i k = from (eqb_tells i k)
   where
     from : ((i == k) ≡ true) × (i ≡ k) ⊎ ((i == k) ≡ false) × (i ≢ k) → (i ≡ k) ⊎ (i ≢ k)

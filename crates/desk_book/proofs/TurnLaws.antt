@@ -1,12 +1,8 @@
 -- What a plan's answer is noted as.
-use Rattle.std.proofs.Common.{◌≡◌, ◌∙◌, refl, sym, ap, Option, Some, None, Ok, Err}
-use Rattle.std.specs.Option.{option_map}
+use Rattle.std.proofs.Common.{◌≡◌, refl, Some, None, Ok, Err}
 use Rattle.sii_image.specs.declared.plan.Plan.{Plan}
 use Rattle.sii_image.specs.declared.fault.ImageFault.TheVariants.{ImageOverLimit}
-use Rattle.sii_image.specs.ProcessImage.{ProcessImageParts}
-use Rattle.station_jobs.specs.declared.cycle.CycleNote.{CycleNote}
 use Rattle.book_model.specs.Book.{Book}
-use Rattle.book_model.specs.Reading.{applied}
 use Rattle.book_core.specs.Plan.{IsPlan}
 use Rattle.desk_book.specs.Calls.{turn_of}
 use Rattle.desk_book.specs.Asking.{note_of}

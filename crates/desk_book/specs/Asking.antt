@@ -1,5 +1,5 @@
 -- What becomes of the book under its lock as it is asked for a job, and told of one.
-use Rattle.std.specs.Prelude.{◌≡◌, ◌⊎◌, ◌+◌, ℕ, Bool, true, false, Option, Some, None, Result, length, if◌then◌else◌}
+use Rattle.std.specs.Prelude.{◌≡◌, ◌⊎◌, ◌+◌, ℕ, Bool, true, false, Some, None, Result, length, if◌then◌else◌}
 use Rattle.sii_image.specs.declared.plan.Plan.{Plan}
 use Rattle.site_core.specs.declared.fault.DeviceFault.{DeviceFault}
 use Rattle.book_model.specs.declared.next.DiskNext.{DiskNext}

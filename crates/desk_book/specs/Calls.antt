@@ -1,9 +1,9 @@
 -- The calls of a book under its lock, one after another.
-use Rattle.std.specs.Prelude.{◌≡◌, ◌+◌, Bool, true, false, List, [], ◌∷◌, Option, Result, Ok, Err}
+use Rattle.std.specs.Prelude.{◌≡◌, ◌+◌, Bool, true, false, List, [], ◌∷◌, Option, Ok, Err}
 use Rattle.std.specs.Option.{option_map}
 use Rattle.sii_image.specs.ProcessImage.{ProcessImageParts, process_image}
 use Rattle.station_jobs.specs.declared.cycle.CycleNote.{CycleNote}
-use Rattle.book_model.specs.Book.{Book}
+use Rattle.book_model.specs.Book.{Book, Errand, Free, Issuing, Unsettled, Settling, slave_at}
 use Rattle.book_model.specs.Submit.{submit, with_command}
 use Rattle.book_model.specs.DiskSteps.{disk_next, disk_done}
 use Rattle.book_model.specs.RomSteps.{rom_next, rom_done}
@@ -27,13 +27,22 @@ after book (SlaveTold slave outcome) = rom_done book slave outcome
 after book (PlanAsked answer) = book
 after book Finished = finish book
 
--- The call was answered as the book answers it.
+-- a job is out for the slave
+abbrev pub IsOut : Errand → Type 0
+IsOut Free = ⊥
+IsOut (Issuing word value) = Unit {0}
+IsOut (Unsettled word value taken) = ⊥
+IsOut (Settling word value taken) = Unit {0}
+
+-- The call was answered as the book answers it; and an outcome was told while a job was out.
 abbrev pub IsAnswered : Book → Call → Type 0
 IsAnswered book (Submitted command answer) = answer ≡ submit book command
 IsAnswered book (DiskAsked answer) = answer ≡ (disk_next book).0
+IsAnswered book (DiskTold outcome) = book.is_handed_out ≡ true
 IsAnswered book (SlaveAsked slave answer) = answer ≡ (rom_next book slave).0
+IsAnswered book (SlaveTold slave outcome) = IsOut (slave_at book slave).errand
 IsAnswered book (PlanAsked answer) = answer ≡ turn_of book
-IsAnswered book call = Unit {0}
+IsAnswered book Finished = Unit {0}
 
 -- ---- one after another
 

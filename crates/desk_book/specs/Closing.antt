@@ -2,10 +2,12 @@
 use Rattle.std.specs.Prelude.{◌≡◌, ◌≢◌, ◌<◌, ◌&&◌, ◌==◌, ℕ, Bool, not, List, length, sum_by, count_by, is_some, Some, slice_get, All}
 use Rattle.sii_edit.specs.declared.command.Command.{Command}
 use Rattle.sii_edit.specs.Fold.{contents}
+use Rattle.site_core.specs.State.{Seen}
 use Rattle.book_model.specs.Book.{Book, base_of}
 use Rattle.book_core.specs.Settled.{is_settled}
 use Rattle.station_jobs.specs.declared.log.SlaveLog.{SlaveLog}
 use Rattle.station_jobs.specs.Ends.{Stay}
+use Rattle.station_jobs.specs.Working.{IsWorked}
 use Rattle.desk_book.specs.declared.call.Call.{Call}
 use Rattle.desk_book.specs.Calls.{replayed, AreAnswered, is_refusal}
 use Rattle.desk_book.specs.Logs.{rom_log}
@@ -54,6 +56,10 @@ IsWorkOf calls i log = (log.slave ≡ i) × (log.jobs ≡ rom_log i calls)
 pub record AreWorkersOf {S : Type 0} (opened : Book) (calls : List Call) (workers : List (Stay S SlaveLog)) : Type 0 where
   pub count : length workers ≡ length (contents (base_of opened) (replayed opened calls).accepted)
   pub each : (i : ℕ) (end : Stay S SlaveLog) → slice_get workers i ≡ Some end → IsWorkOf calls i end.log
+
+-- The slave of each is where the jobs of its log led it.
+abbrev pub AllWorked : {S : Type 0} → (S → Seen) → List (Stay S SlaveLog) → Type 0
+AllWorked {S} seen workers = (i : ℕ) (end : Stay S SlaveLog) → slice_get workers i ≡ Some end → IsWorked end.log.slave end.log.jobs (seen end.start) (seen end.site)
 
 -- ---- the book
 

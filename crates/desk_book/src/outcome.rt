@@ -5,7 +5,7 @@ ghost use Rattle.sii_edit.specs.Fold.{contents};
 ghost use Rattle.book_model.specs.Book.{base_of};
 ghost use Rattle.desk_book.specs.Calls.{replayed, AreAnswered};
 ghost use Rattle.desk_book.specs.Logs.{disk_log, cycle_log};
-ghost use Rattle.desk_book.specs.Closing.{CountAll, AreReceiptsOf, IsWorkOf, AreWorkersOf, is_served};
+ghost use Rattle.desk_book.specs.Closing.{CountAll, AreReceiptsOf, IsWorkOf, AreWorkersOf, AllWorked, is_served};
 
 use crate::counting::{all_refusals, all_tickets, are_apart, stand_at_their_numbers};
 use crate::naming::{Refusals, Tickets};
@@ -35,9 +35,11 @@ impl<T: Tickets, R: Refusals> Served<T, R> {
         self.core.contents()
     }
 
-    /// Whether the book has no fault, and all that was found at the open or accepted since is settled.
+    /// Whether the book has no fault, and all that was found at the open or accepted since is settled. The calls that made the book
+    /// what it is were each answered as it answers them.
     pub fn is_served(&self) -> bool
-        ensures { result ≡ is_served (replayed T.opened self.now.calls) }
+        ensures served { result ≡ is_served (replayed T.opened self.now.calls) }
+        ensures answered { AreAnswered T.opened self.now.calls }
     {
         let status = self.core.status();
         self.core.fault().is_none() && status.durable == status.accepted && self.core.is_settled()
@@ -98,9 +100,10 @@ impl<T: Tickets, R: Refusals> Served<T, R> {
         is_work_of(&self.slaves, at, log)
     }
 
-    /// Whether there is one for each slave, in the order of the line.
+    /// Whether there is one for each slave, in the order of the line. Each slave is where the jobs of its log led it.
     pub fn workers_match<S: Site>(&self, workers: &[End<S, SlaveLog>]) -> bool
-        ensures { IsTrue result ↔ AreWorkersOf T.opened self.now.calls workers.now }
+        ensures matches { IsTrue result ↔ AreWorkersOf T.opened self.now.calls workers.now }
+        ensures worked { IsTrue result → AllWorked S.seen workers.now }
     {
         if workers.len() != self.contents().len() {
             return false;

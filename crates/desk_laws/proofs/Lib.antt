@@ -3,3 +3,8 @@ pub mod TurnLaws
 pub mod OwedLaws
 pub mod GoesLaws
 pub mod FallLaws
+pub mod HalfLaws
+pub mod WordLaws
+pub mod StandLaws
+pub mod ServeLaws
+pub mod SlaveLaws

@@ -3,4 +3,7 @@
 
 mod laws;
 
-pub use laws::{calls_are_events, resting_appends_next, turns_have_their_images, turns_never_fall};
+pub use laws::{
+    calls_are_events, resting_appends_next, served_slaves_read_as_the_contents,
+    turns_have_their_images, turns_never_fall,
+};

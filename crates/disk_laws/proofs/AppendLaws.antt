@@ -9,7 +9,7 @@ use Rattle.jrn_format.specs.Batch.{spelt_behind, CanStand}
 use Rattle.jrn_format.specs.Area.{spelt_batches, IsLive}
 use Rattle.jrn_laws.specs.Halves.{Halves, other, Place, InOlder, InNewer, half_of, batches_in, batch_in, with_batch, next_generation, left_of, retired, HalvesStand, HasNext, StandsBeside}
 use Rattle.jrn_laws.proofs.HalvesLaws.{other_twice, stand-more, next_live}
-use Rattle.jrn_laws.proofs.FileLaws.{swap_joined, as_halves, regate, payload_written, at_other}
+use Rattle.jrn_laws.proofs.FileLaws.{swap_joined, as_halves, regate, payload_written, at_other, closed_area, at_half, empty_again}
 use Rattle.site_core.specs.Disk.{Disk, WriteFailed, overlaid, write_begun, written, synced}
 use Rattle.disk_laws.specs.Frame.{Frame, head, room, IsFramed, gate_at, IsOne}
 use Rattle.disk_laws.specs.Phases.{AtRest, HasPayload, HasBatch, HasGate, HasClosing}
@@ -299,16 +299,6 @@ close-failed frame halves gate disk new c failed =
     (s.0, record { rest = c.rest; newer = c.newer; framed = framed; one = failed.unsynced ∙ c.one; whole = omega (arith, same, c.whole, failed.synced_length); stands = c.stands })
 
 -- 3. and synced: the newer half is the older one now, or nothing is live
-closed_area : (half gate : ℕ) (rest : List ℕ) → gate ≢ 0xA5 → IsLive WithGeneration half (gate ∷ rest) []
-closed_area half gate rest closed = record { rest = gate ∷ rest; starts = record { can_stand = tt; spelt = refl }; ends = (gate, rest, closed, refl) }
-
-at_half : (n : ℕ) → n ≤ 1 → (n ≡ 0) ⊎ (n ≡ 1)
-at_half zero le = inl refl
-at_half (suc n) le = inr (omega arith)
-
-empty_again : (m n : ℕ) (area : List ℕ) → IsLive WithGeneration m area [] → IsLive WithGeneration n area []
-empty_again m n area lives = record { rest = lives.rest; starts = record { can_stand = tt; spelt = lives.starts.spelt }; ends = lives.ends }
-
 small : (n : ℕ) → (n + 1) % 256 < 256
 small n = omega arith
 

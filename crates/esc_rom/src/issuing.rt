@@ -13,8 +13,9 @@ use site_core::{DeviceFault, Issued, Site};
 /// Control with write enable, and the command write.
 const WRITE: u16 = 0x0201;
 
-/// Control, the word's number as 32 bits, and its value.
-fn write_content(word: u16, value: u16) -> [u8; 8]
+/// What the datagram that writes a word carries from the control register on: write enable and the command, the word's number as 32
+/// bits, and its value (ETG.1000.4, slave information interface).
+pub fn write_content(word: u16, value: u16) -> [u8; 8]
     ensures { result ≡ to_le_bytes w16 0x0201 ++ to_le_bytes w32 word ++ to_le_bytes w16 value }
 {
     let [enable, command] = WRITE.to_le_bytes();

@@ -15,7 +15,7 @@ mod settling;
 mod write;
 
 pub use fault::RomFault;
-pub use issuing::issue;
+pub use issuing::{issue, write_content};
 pub use opening::open_slave;
 pub use reading::read_all;
 pub use registers::{ACCESS, ADDRESS, CONTENT, CONTROL, POLLS, TRIES};

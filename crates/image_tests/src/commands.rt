@@ -127,7 +127,7 @@ const JUDGED: [(&Names, Order, Option<(Cause, Option<u8>)>); 17] = [
 ];
 
 /// Commands, and the runs of one word that they lead to: slave, place and value.
-const LED_TO: [(&Names, Order, &[(u16, u16, u16)]); 3] = [
+const LED_TO: [(&Names, Order, &[(u16, u16, u16)]); 4] = [
     (
         &NAMED,
         Order::Swap(0, 1),
@@ -142,6 +142,11 @@ const LED_TO: [(&Names, Order, &[(u16, u16, u16)]); 3] = [
         &NAMED,
         Order::Group(&[Ask::Alias(2, 1), Ask::Alias(2, 0)]),
         &[],
+    ),
+    (
+        &NAMED,
+        Order::Group(&[Ask::Alias(2, 1), Ask::Alias(0, 0)]),
+        &[(0, 4, 0), (0, 7, 0x0030), (2, 4, 1), (2, 7, 0x0019)],
     ),
 ];
 

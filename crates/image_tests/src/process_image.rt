@@ -1,6 +1,8 @@
 //! Process images, of a line worked out by hand and at their limits.
 
-use sii_image::{ImageFault, Layout, Plan, ProcessImage, Segment, SlaveLayout, image_of};
+use sii_image::{
+    ImageFault, Layout, NewLayout, NewLayouts, Plan, ProcessImage, Segment, SlaveLayout, image_of,
+};
 use sii_words::{Plant, Words, WordsFault};
 use std::alloc::Global;
 use std::test::Fail;
@@ -184,9 +186,15 @@ fn changed_layout(alloc: Global) -> Result<(Layout, bool), WordsFault> {
     let mut layout = Layout::of(alloc, &plant)?;
     layout.change(0, &last)?;
     layout.change(2, &last)?;
-    let first = SlaveLayout::of(alloc, plant.slave(0))?;
-    let second = SlaveLayout::of(alloc, &last)?;
-    let new = Vec::from_array(alloc, [Some(first), Some(second)])?;
+    let first = NewLayout {
+        slave: 0,
+        layout: SlaveLayout::of(alloc, plant.slave(0))?,
+    };
+    let second = NewLayout {
+        slave: 1,
+        layout: SlaveLayout::of(alloc, &last)?,
+    };
+    let new = NewLayouts::of(Vec::from_array(alloc, [first, second])?);
     let is_within = layout.has_process_image_with(&new);
     layout.put_all(new);
     Ok((layout, is_within))
@@ -208,8 +216,11 @@ fn segments_after(alloc: Global, at: usize, value: u16) -> Result<usize, WordsFa
     }
     let plant = Plant::of(Vec::from_array(alloc, [old])?);
     let mut layout = Layout::of(alloc, &plant)?;
-    let changed = layout.slave(0).changed(alloc, plant.slave(0), &new)?;
-    layout.put_all(Vec::from_array(alloc, [Some(changed)])?);
+    let changed = NewLayout {
+        slave: 0,
+        layout: layout.slave(0).changed(alloc, plant.slave(0), &new)?,
+    };
+    layout.put_all(NewLayouts::of(Vec::from_array(alloc, [changed])?));
     Ok(layout.image().map_or(99, |image| image.segments().len()))
 }
 

@@ -149,14 +149,14 @@ payload_written half batches batch gate r can next =
 
 -- ---- the older half is retired
 
-closed_area : (half gate : ℕ) (rest : List ℕ) → gate ≢ 0xA5 → IsLive WithGeneration half (gate ∷ rest) []
+pub closed_area : (half gate : ℕ) (rest : List ℕ) → gate ≢ 0xA5 → IsLive WithGeneration half (gate ∷ rest) []
 closed_area half gate rest closed = record { rest = gate ∷ rest; starts = record { can_stand = tt; spelt = refl }; ends = (gate, rest, closed, refl) }
 
-at_half : (n : ℕ) → n ≤ 1 → (n ≡ 0) ⊎ (n ≡ 1)
+pub at_half : (n : ℕ) → n ≤ 1 → (n ≡ 0) ⊎ (n ≡ 1)
 at_half zero le = inl refl
 at_half (suc n) le = inr (omega arith)
 
-empty_again : (m n : ℕ) (area : List ℕ) → IsLive WithGeneration m area [] → IsLive WithGeneration n area []
+pub empty_again : (m n : ℕ) (area : List ℕ) → IsLive WithGeneration m area [] → IsLive WithGeneration n area []
 empty_again m n area lives = record { rest = lives.rest; starts = record { can_stand = tt; spelt = lives.starts.spelt }; ends = lives.ends }
 
 pub at_other : (n : ℕ) → other n ≤ 1

@@ -1,46 +1,44 @@
 mod cycle;
-mod frames;
 mod process_data;
-mod process_half;
-mod rom_half;
 mod site_faults;
 
 use ecat_frame::{Command, Frame, FrameFault, fp};
-use esc_model::RomHalf;
+use esc_model::{ProcessHalf, RomHalf};
 use esc_rom::{RomFault, issue, open_slave, read_all, settle};
 use sii_words::Words;
 use site_core::{DeviceFault, Issued, Settled, Site};
 use site_mem::{MemSite, Parts, Pattern};
 use std::alloc::Global;
-use std::process::Abort;
-use std::test::Fail;
 
 // 64 words: zeros, but for the check byte.
-fn zero_words(alloc: Global) -> Result<Words, Fail> {
+fn zero_words(alloc: Global) -> Option<Words> {
     let mut bytes = [0u8; 128];
     bytes[14] = 0x30;
-    Ok(Words::from_bytes(alloc, &bytes)?)
+    Words::from_bytes(alloc, &bytes).ok()
 }
 
-// The site of these parts.
-fn site_of(rt: &impl Abort, alloc: Global, parts: Parts) -> MemSite {
-    assert!(rt; parts.is_whole());
-    MemSite::of_parts(alloc, parts)
+// The site of these parts, where they are whole.
+fn site_of(alloc: Global, parts: Parts) -> Option<MemSite> {
+    if !parts.is_whole() {
+        return None;
+    }
+    Some(MemSite::of_parts(alloc, parts))
 }
 
-// A line of one slave of 64 words. It stays busy for so many datagrams.
-fn line(rt: &impl Abort, alloc: Global, station: u16, delay: u32) -> Result<MemSite, Fail> {
-    line_of(rt, alloc, &[station], delay)
+// A line of one slave of 64 words at station 0x1001. It stays busy for so many datagrams.
+fn line(alloc: Global, delay: u32) -> Option<MemSite> {
+    line_of(alloc, &[0x1001], delay)
 }
 
 // A line of a slave of 64 words for each of these stations.
-fn line_of(rt: &impl Abort, alloc: Global, stations: &[u16], delay: u32) -> Result<MemSite, Fail> {
+fn line_of(alloc: Global, stations: &[u16], delay: u32) -> Option<MemSite> {
     let mut halves = Vec::new(alloc);
     let mut sizes = Vec::new(alloc);
     for station in stations {
         let words = zero_words(alloc)?;
-        halves.push(Some(RomHalf::power_up(words, *station, delay)))?;
-        sizes.push(64)?;
+        let half = RomHalf::power_up(words, *station, delay);
+        halves.push(Some(half)).ok()?;
+        sizes.push(64).ok()?;
     }
     let parts = Parts {
         sizes,
@@ -48,19 +46,53 @@ fn line_of(rt: &impl Abort, alloc: Global, stations: &[u16], delay: u32) -> Resu
         halves,
         process: None,
     };
-    Ok(site_of(rt, alloc, parts))
+    site_of(alloc, parts)
+}
+
+// The process halves of slaves with these words, at these stations.
+fn process_halves(alloc: Global, words: &Words, stations: &[u16]) -> Option<Vec<ProcessHalf>> {
+    let mut process = Vec::new(alloc);
+    for station in stations {
+        let half = ProcessHalf::power_up(alloc, words, *station).ok()?;
+        process.push(half).ok()?;
+    }
+    Some(process)
+}
+
+// A place for each of so many halves, none of which is there.
+fn no_halves(alloc: Global, count: usize) -> Option<Vec<Option<RomHalf>>> {
+    let mut halves = Vec::new(alloc);
+    for _slave in 0..count {
+        halves.push(None).ok()?;
+    }
+    Some(halves)
+}
+
+// A line of slaves of so many words, of which the site owns these process halves alone.
+fn process_line(alloc: Global, size: u16, process: Vec<ProcessHalf>) -> Option<MemSite> {
+    let count = process.len();
+    let mut sizes = Vec::new(alloc);
+    sizes.resize(count, size).ok()?;
+    let parts = Parts {
+        sizes,
+        disk: None,
+        halves: no_halves(alloc, count)?,
+        process: Some(process),
+    };
+    site_of(alloc, parts)
 }
 
 // An issue of word 4 and its settling.
 type Round = (Issued, Settled);
 
-// How many words fail, how many calls pass before one is lost, and what each round answers. The word is written then.
-const WRITTEN: [(u32, Option<u64>, &[Round]); 4] = [
-    (0, None, &[(Issued::Taken, Settled::Written)]),
+// How many words fail, how many calls pass before one is lost (10,000: none is), and what each round answers. The word is written
+// then.
+const WRITTEN: [(u32, u64, &[Round]); 4] = [
+    (0, 10_000, &[(Issued::Taken, Settled::Written)]),
     // A word that fails is issued again.
     (
         1,
-        None,
+        10_000,
         &[
             (Issued::Taken, Settled::Again),
             (Issued::Taken, Settled::Written),
@@ -69,23 +101,28 @@ const WRITTEN: [(u32, Option<u64>, &[Round]); 4] = [
     // So is a lost one.
     (
         0,
-        Some(0),
+        0,
         &[
             (Issued::Lost, Settled::Again),
             (Issued::Taken, Settled::Written),
         ],
     ),
     // A lost poll is a poll.
-    (0, Some(1), &[(Issued::Taken, Settled::Written)]),
+    (0, 1, &[(Issued::Taken, Settled::Written)]),
 ];
 
-// Whether each issue of 1 in word 4, and what settles it, answers so.
-fn go_so(site: &mut MemSite, rounds: &[Round]) -> bool {
-    for (issued, settled) in rounds {
-        let answers = site.owns(0)
-            && issue(site, 0, 4, 1) == Ok(*issued)
-            && settle(site, 0, *issued == Issued::Taken) == Ok(*settled);
-        if !answers {
+// Whether an issue of 1 in word 4, and what settles it, answer so.
+fn goes_so(site: &mut impl Site, round: Round) -> bool {
+    let (issued, settled) = round;
+    site.owns(0)
+        && issue(site, 0, 4, 1) == Ok(issued)
+        && settle(site, 0, issued == Issued::Taken) == Ok(settled)
+}
+
+// Whether each round answers so.
+fn go_so(site: &mut impl Site, rounds: &[Round]) -> bool {
+    for round in rounds {
+        if !goes_so(site, *round) {
             return false;
         }
     }
@@ -93,121 +130,173 @@ fn go_so(site: &mut MemSite, rounds: &[Round]) -> bool {
 }
 
 // The alias that the slave has, as a station reads it.
-fn alias_of(rt: &impl Abort, alloc: Global, site: &mut MemSite) -> Result<u16, Fail> {
-    assert!(rt; site.owns(0) && open_slave(site, 0).is_ok());
-    Ok(read_all(alloc, site, 0)?.alias())
+fn alias_of(alloc: Global, site: &mut impl Site) -> Option<u16> {
+    if !site.owns(0) || open_slave(site, 0).is_err() {
+        return None;
+    }
+    let words = read_all(alloc, site, 0).ok()?;
+    Some(words.alias())
+}
+
+// Whether the word is written in these rounds.
+fn is_written(alloc: Global, failing: u32, passing: u64, rounds: &[Round]) -> bool {
+    let Some(mut site) = line(alloc, 1) else {
+        return false;
+    };
+    site.fail_writes(0, failing);
+    site.fail_once(passing);
+    go_so(&mut site, rounds) && alias_of(alloc, &mut site) == Some(1)
 }
 
 #[test]
-fn words_are_written(rt: HostRuntime) -> Result<(), Fail> {
+fn words_are_written(rt: HostRuntime) {
     for (failing, passing, rounds) in &WRITTEN {
-        let mut site = line(&rt, rt.alloc(), 0x1001, 1)?;
-        site.fail_writes(0, *failing);
-        if let Some(calls) = passing {
-            site.fail_once(*calls);
-        }
-        assert!(rt; go_so(&mut site, rounds));
-        assert!(rt; alias_of(&rt, rt.alloc(), &mut site)? == 1);
+        assert!(rt; is_written(rt.alloc(), *failing, *passing, rounds));
     }
-    Ok(())
+}
+
+// Whether a slave that stays busy so long is settled so.
+fn is_settled(alloc: Global, delay: u32, settled: Settled) -> bool {
+    let Some(mut site) = line(alloc, delay) else {
+        return false;
+    };
+    goes_so(&mut site, (Issued::Taken, settled))
 }
 
 #[test]
-fn polls_have_an_end(rt: HostRuntime) -> Result<(), Fail> {
+fn polls_have_an_end(rt: HostRuntime) {
     for (delay, settled) in [(9_999, Settled::Written), (10_000, Settled::Dead)] {
-        let mut site = line(&rt, rt.alloc(), 0x1001, delay)?;
-        assert!(rt; go_so(&mut site, &[(Issued::Taken, settled)]));
+        assert!(rt; is_settled(rt.alloc(), delay, settled));
     }
-    Ok(())
+}
+
+// Whether slave 0 isn't there.
+fn is_dead(site: &mut impl Site) -> bool {
+    site.owns(0)
+        && open_slave(site, 0) == Err(RomFault::SlaveDead { slave: 0 })
+        && issue(site, 0, 4, 1) == Ok(Issued::NotTaken)
+}
+
+// Whether a slave at this station isn't found.
+fn is_missed(alloc: Global, station: u16) -> bool {
+    let Some(mut site) = line_of(alloc, &[station], 1) else {
+        return false;
+    };
+    is_dead(&mut site)
 }
 
 #[test]
-fn a_slave_at_another_station_is_dead(rt: HostRuntime) -> Result<(), Fail> {
-    let mut site = line(&rt, rt.alloc(), 0x1002, 1)?;
-    assert!(rt; site.owns(0));
-    assert_eq!(rt;
-        open_slave(&mut site, 0),
-        Err(RomFault::SlaveDead { slave: 0 })
-    );
-    assert_eq!(rt; issue(&mut site, 0, 4, 1), Ok(Issued::NotTaken));
-    Ok(())
+fn a_slave_at_another_station_is_dead(rt: HostRuntime) {
+    assert!(rt; is_missed(rt.alloc(), 0x1002));
 }
 
-// The alias of each slave, and whether its word is still in flight.
-fn assert_left(rt: &impl Abort, site: MemSite, left: &[(u16, bool)]) {
-    let halves = site.into_parts().halves;
-    assert_eq!(rt; halves.len(), left.len());
-    for (half, (alias, is_in_flight)) in halves.iter().zip(left) {
-        assert!(rt;
-            half.as_ref().is_some_and(|half| half.words().alias() == *alias
-                && half.in_flight().is_some() == *is_in_flight)
-        );
+// The alias of a slave, and whether its word is still in flight.
+fn left(parts: &Parts, slave: usize) -> Option<(u16, bool)> {
+    match parts.halves.get(slave) {
+        Some(Some(half)) => Some((half.words().alias(), half.in_flight().is_some())),
+        Some(None) | None => None,
     }
+}
+
+// Whether the site stops in the word of the second slave, as that of the first is in flight.
+fn stops_in_the_second(site: &mut impl Site) -> bool {
+    site.owns(0)
+        && site.owns(1)
+        && issue(site, 0, 4, 1) == Ok(Issued::Taken)
+        && issue(site, 1, 4, 1) == Err(DeviceFault::Stopped)
+}
+
+// Whether the site has stopped for both slaves.
+fn has_stopped(site: &mut impl Site) -> bool {
+    site.owns(0)
+        && site.owns(1)
+        && settle(site, 0, true) == Err(DeviceFault::Stopped)
+        && open_slave(site, 1) == Err(RomFault::Stopped)
+}
+
+// What a stop leaves of both slaves, where the second word that is written is torn.
+fn left_by_a_stop(alloc: Global, pattern: Pattern) -> Option<[(u16, bool); 2]> {
+    let mut site = line_of(alloc, &[0x1001, 0x1002], 9)?;
+    site.fuse(1, pattern);
+    if !stops_in_the_second(&mut site) || !has_stopped(&mut site) {
+        return None;
+    }
+    let parts = site.into_parts();
+    Some([left(&parts, 0)?, left(&parts, 1)?])
 }
 
 // The word of the second slave is torn, and that of the first stays in flight.
 #[test]
-fn a_stop_tears_a_word(rt: HostRuntime) -> Result<(), Fail> {
+fn a_stop_tears_a_word(rt: HostRuntime) {
     for (pattern, alias) in [
         (Pattern::Old, 0),
         (Pattern::New, 1),
         (Pattern::Fill(0xdead), 0xdead),
     ] {
-        let mut site = line_of(&rt, rt.alloc(), &[0x1001, 0x1002], 9)?;
-        assert!(rt; site.owns(0) && site.owns(1));
-        site.fuse(1, pattern);
-        assert_eq!(rt; issue(&mut site, 0, 4, 1), Ok(Issued::Taken));
-        assert_eq!(rt; issue(&mut site, 1, 4, 1), Err(DeviceFault::Stopped));
-        assert_eq!(rt; settle(&mut site, 0, true), Err(DeviceFault::Stopped));
-        assert_eq!(rt; open_slave(&mut site, 1), Err(RomFault::Stopped));
-        assert_left(&rt, site, &[(0, true), (alias, false)]);
+        assert!(rt; left_by_a_stop(rt.alloc(), pattern) == Some([(0, true), (alias, false)]));
     }
-    Ok(())
 }
 
-// A frame is sent to slave 0 as these bytes, and comes back as those.
-fn assert_exchange(
-    rt: &impl Abort,
-    site: &mut MemSite,
-    frame: &mut Frame,
+// Whether a frame of these bytes goes to slave 0, and comes back as those.
+fn is_exchanged(site: &mut impl Site, frame: &mut Frame, sent: &[u8], back: &[u8]) -> bool {
+    site.owns(0)
+        && frame.as_bytes() == sent
+        && site.exchange(0, frame).is_ok()
+        && frame.as_bytes() == back
+}
+
+// Whether a frame of one datagram has these bytes, and comes back from a slave as those.
+fn goes_and_comes(
+    alloc: Global,
+    command: Command,
+    address: u32,
+    content: &[u8],
     sent: &[u8],
     back: &[u8],
-) {
-    assert!(rt; site.owns(0));
-    assert!(rt; frame.as_bytes() == sent);
-    assert!(rt; site.exchange(0, frame).is_ok());
-    assert!(rt; frame.as_bytes() == back);
+) -> bool {
+    let Some(mut site) = line(alloc, 1) else {
+        return false;
+    };
+    let mut frame = Frame::new();
+    frame.push(command, 0, address, content).is_ok()
+        && is_exchanged(&mut site, &mut frame, sent, back)
 }
 
-// The bytes that issue word 4 = 1 to slave 0, and those that come back.
+// The bytes that issue word 4 = 1 to slave 0.
+const ISSUE: [u8; 22] = [
+    0x14, 0x10, 0x05, 0x00, 0x01, 0x10, 0x02, 0x05, 0x08, 0x00, 0x00, 0x00, 0x01, 0x02, 0x04, 0x00,
+    0x00, 0x00, 0x01, 0x00, 0x00, 0x00,
+];
+
+// Those that come back.
+const ISSUED: [u8; 22] = [
+    0x14, 0x10, 0x05, 0x00, 0x01, 0x10, 0x02, 0x05, 0x08, 0x00, 0x00, 0x00, 0x01, 0x02, 0x04, 0x00,
+    0x00, 0x00, 0x01, 0x00, 0x01, 0x00,
+];
+
 #[test]
-fn an_issue_has_these_bytes(rt: HostRuntime) -> Result<(), Fail> {
-    let mut site = line(&rt, rt.alloc(), 0x1001, 1)?;
-    let mut frame = Frame::new();
-    let content = [0x01, 0x02, 0x04, 0x00, 0x00, 0x00, 0x01, 0x00];
-    frame.push(Command::Fpwr, 0, fp(0x1001, 0x0502), &content)?;
-    let mut bytes = [
-        0x14, 0x10, 0x05, 0x00, 0x01, 0x10, 0x02, 0x05, 0x08, 0x00, 0x00, 0x00, 0x01, 0x02, 0x04,
-        0x00, 0x00, 0x00, 0x01, 0x00, 0x00, 0x00,
-    ];
-    let sent = bytes;
-    bytes[20] = 1;
-    assert_exchange(&rt, &mut site, &mut frame, &sent, &bytes);
-    Ok(())
+fn an_issue_has_these_bytes(rt: HostRuntime) {
+    let address = fp(0x1001, 0x0502);
+    let content = &ISSUE[12..20];
+    assert!(rt; goes_and_comes(rt.alloc(), Command::Fpwr, address, content, &ISSUE, &ISSUED));
+}
+
+// Whether there is no room for this content.
+fn is_too_long(content: &[u8]) -> bool {
+    Frame::new().push(Command::Lrw, 0, 0, content) == Err(FrameFault::FrameFull)
 }
 
 // The longest datagram fills a frame of 1,500 bytes, which goes through a slave as it is.
 #[test]
-fn the_longest_frame_is_exchanged(rt: HostRuntime) -> Result<(), Fail> {
-    let mut site = line(&rt, rt.alloc(), 0x1001, 1)?;
+fn the_longest_frame_is_exchanged(rt: HostRuntime) {
     let content = [7u8; 1487];
-    let mut frame = Frame::new();
-    assert!(rt; frame.push(Command::Lrw, 0, 0, &content) == Err(FrameFault::FrameFull));
-    frame.push(Command::Lrw, 0, 0, &content[..1486])?;
     let mut bytes = [7u8; 1500];
     bytes[..12].copy_from_slice(&[0xda, 0x15, 0x0c, 0, 0, 0, 0, 0, 0xce, 0x05, 0, 0]);
     bytes[1498] = 0;
     bytes[1499] = 0;
-    assert_exchange(&rt, &mut site, &mut frame, &bytes, &bytes);
-    Ok(())
+    let longest = &content[..1486];
+    assert!(rt;
+        is_too_long(&content)
+            && goes_and_comes(rt.alloc(), Command::Lrw, 0, longest, &bytes, &bytes)
+    );
 }

@@ -3,12 +3,10 @@ use Rattle.std.proofs.Common.{◌≡◌, ◌≢◌, ℕ, suc, ◌+◌, ◌<◌, 
 use Rattle.std.specs.Prelude.{◌==◌, ◌&&◌, ◌↔◌, filter, is_some, nat_le, nat_lt, not}
 use Rattle.std.specs.List.{AllByRecursion}
 use Rattle.std.proofs.lemmas.Bool.Decides.{nat_tests}
-use Rattle.std.proofs.lemmas.List.{take_all}
 use Rattle.sii_runs.specs.declared.run.Run.{Run}
 use Rattle.sii_runs.specs.Redo.{redone}
 use Rattle.sii_runs.proofs.RedoLaws.{redone-nil}
-use Rattle.sii_edit.specs.declared.command.Command.{Command}
-use Rattle.sii_edit.specs.Fold.{contents, contents_after}
+use Rattle.sii_edit.proofs.FoldLaws.{none-taken}
 use Rattle.jrn_format.specs.declared.journal.Batch.{Batch}
 use Rattle.jrn_format.specs.declared.journal.Spelling.{Spelling}
 use Rattle.jrn_format.specs.Area.{spelt_batches}
@@ -163,9 +161,6 @@ pub without-byte : (book : Book) → (live_bytes book ≡ 0) ↔ (live book.halv
 without-byte book = (no-byte (spelling_of book.form) (live book.halves), λ none. ap (λ (l : List Batch). length (spelt_batches (spelling_of book.form) l)) none)
 
 -- ---- the end
-
-none-taken : (base : List (List ℕ)) (commands : List Command) (k : ℕ) → commands ≡ [] → contents_after base commands k ≡ base
-none-taken base commands k none = ap (λ (l : List Command). contents_after base l k) none ∙ ap (λ (l : List Command). contents base l) (take_all k [] (omega arith))
 
 pub end-plan : (book : Book) → book.accepted ≡ [] → planned book ≡ base_of book
 end-plan book none = none-taken (base_of book) book.accepted (applied book) none

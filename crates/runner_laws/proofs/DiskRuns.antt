@@ -61,7 +61,7 @@ same-action book MarkSync = refl
 same-action book Version = refl
 same-action book VersionSync = refl
 
-idle-or-stop : (finished : Bool) → IsAction (if finished then next.Stop else next.Idle) → ⊥
+pub idle-or-stop : (finished : Bool) → IsAction (if finished then next.Stop else next.Idle) → ⊥
 idle-or-stop true is = is
 idle-or-stop false is = is
 

@@ -1,9 +1,10 @@
 -- The contents after commands.
-use Rattle.std.proofs.Common.{◌≡◌, ℕ, List, [], ◌∷◌, ◌++◌, refl, Result, Ok, Err}
+use Rattle.std.proofs.Common.{◌≡◌, ℕ, List, [], ◌∷◌, ◌++◌, refl, ap, ◌∙◌, Result, Ok, Err}
+use Rattle.std.proofs.Math.Seq.{take-nil}
 use Rattle.sii_edit.specs.declared.command.Command.{Command}
 use Rattle.sii_edit.specs.declared.refusal.Refusal.{Refusal}
 use Rattle.sii_edit.specs.Command.{outcome}
-use Rattle.sii_edit.specs.Fold.{contents, after}
+use Rattle.sii_edit.specs.Fold.{contents, contents_after, after}
 use Rattle.sii_runs.specs.Redo.{SameShape}
 use Rattle.sii_edit.proofs.CommandLaws.{SameShape-trans, SameShape-outcome}
 
@@ -13,6 +14,10 @@ contents-append base (command ∷ first) second = contents-append (after base co
 
 pub contents-push : (base : List (List ℕ)) (commands : List Command) (command : Command) → contents base (commands ++ command ∷ []) ≡ after (contents base commands) command
 contents-push base commands command = contents-append base commands (command ∷ [])
+
+-- no command, and so no matter how many of them
+pub none-taken : (base : List (List ℕ)) (commands : List Command) (k : ℕ) → commands ≡ [] → contents_after base commands k ≡ base
+none-taken base commands k none = ap (λ (l : List Command). contents_after base l k) none ∙ ap (λ (l : List Command). contents base l) (take-nil {A = Command} k)
 
 after_shape : (plant : List (List ℕ)) (command : Command) (judged : Result (List (List ℕ)) Refusal) → outcome plant command ≡ judged → SameShape plant (after plant command)
 after_shape plant command (Ok new) is = rw is (SameShape-outcome plant new command is)

@@ -1,29 +1,19 @@
--- The layouts of the slaves with new words, slave by slave.
-use Rattle.std.proofs.Common.{◌≡◌, ◌<◌, ℕ, zero, suc, List, [], ◌∷◌, ◌++◌, length, take, get_or, refl, sym, ap₂, ◌∙◌, arith, Option, None, unwrap_or}
-use Rattle.sii_words.specs.Plant.{with_new, words_of}
-use Rattle.sii_image.proofs.WithNew.{with_nothing}
-use Rattle.sii_edit.specs.declared.draft.NewWords.{NewWords}
-use Rattle.sii_edit.specs.Draft.{drafted, renewed_as}
+-- The layouts of the slaves that get new words.
+use Rattle.std.proofs.Common.{◌≡◌, ℕ, List, [], ◌∷◌, map, set, refl, ap}
+use Rattle.sii_words.specs.Plant.{words_of}
+use Rattle.sii_image.specs.declared.new_layouts.NewLayout.{NewLayout}
+use Rattle.sii_image.specs.NewLayouts.{slaves_of, with_each}
+use Rattle.sii_edit.specs.declared.draft.Renewal.{Renewal}
+use Rattle.sii_edit.specs.Draft.{drafted, renewed, renewed_slaves}
 
--- the changes of no slave
-drafted-nothing : (plant : List (List ℕ)) → drafted plant [] ≡ plant
-drafted-nothing [] = refl
-drafted-nothing (words ∷ plant) = refl
+abbrev pub layout_in : List (List ℕ) → Renewal → NewLayout
+layout_in plant renewal = record { slave = renewal.slave; layout = renewed (words_of plant renewal.slave) renewal.new }
 
-pub with_new-first : (plant : List (List ℕ)) → with_new plant [] ≡ drafted plant []
-with_new-first plant = with_nothing plant ∙ sym (drafted-nothing plant)
+pub with_each-layouts : (plant : List (List ℕ)) (draft : List Renewal) → with_each plant (map (layout_in plant) draft) ≡ drafted plant draft
+with_each-layouts plant [] = refl
+with_each-layouts plant (first ∷ others) =
+    ap (λ (p : List (List ℕ)). set p first.slave (renewed (words_of plant first.slave) first.new)) (with_each-layouts plant others)
 
--- the changes of one slave more
-pub with_new-last : (plant : List (List ℕ)) (new : List (Option (List ℕ))) (draft : List (Option NewWords)) (slave : ℕ) (given : Option (List ℕ)) → length new ≡ slave → slave < length draft
-    → with_new plant new ≡ drafted plant (take slave draft) → unwrap_or given (words_of plant slave) ≡ renewed_as (words_of plant slave) (get_or draft slave None)
-    → with_new plant (new ++ given ∷ []) ≡ drafted plant (take (suc slave) draft)
-with_new-last plant new [] slave given size within same one = absurd (omega arith)
-with_new-last [] new (d ∷ draft) slave given size within same one = refl
-with_new-last (words ∷ plant) [] (d ∷ draft) zero given size within same one = ap₂ (λ (w : List ℕ) (p : List (List ℕ)). w ∷ p) one (with_new-first plant)
-with_new-last (words ∷ plant) [] (d ∷ draft) (suc slave) given size within same one = absurd (omega arith)
-with_new-last (words ∷ plant) (n ∷ new) (d ∷ draft) zero given size within same one = absurd (omega arith)
-with_new-last (words ∷ plant) (n ∷ new) (d ∷ draft) (suc slave) given size within same one =
-    let whole : unwrap_or n words ∷ with_new plant new ≡ renewed_as words d ∷ drafted plant (take slave draft) = same in
-    let first : unwrap_or n words ≡ renewed_as words d = cc in
-    let rest : with_new plant new ≡ drafted plant (take slave draft) = cc in
-    ap₂ (λ (w : List ℕ) (p : List (List ℕ)). w ∷ p) first (with_new-last plant new draft slave given (omega arith) (omega arith) rest one)
+pub slaves_of-layouts : (plant : List (List ℕ)) (draft : List Renewal) → slaves_of (map (layout_in plant) draft) ≡ renewed_slaves draft
+slaves_of-layouts plant [] = refl
+slaves_of-layouts plant (first ∷ others) = ap (λ (slaves : List ℕ). first.slave ∷ slaves) (slaves_of-layouts plant others)

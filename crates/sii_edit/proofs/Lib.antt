@@ -6,6 +6,8 @@ mod CategoryLaws
 mod ExchangeLaws
 pub mod CommandLaws
 mod DraftLaws
+mod DraftRuns
+mod PlaceLaws
 pub mod ProcessImageLaws
 mod LayoutLaws
 pub mod FoldLaws

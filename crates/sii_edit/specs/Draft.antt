@@ -1,8 +1,10 @@
--- A draft: for each slave of a plant its new words, where it has any.
-use Rattle.std.specs.Prelude.{◌≡◌, ℕ, List, [], ◌∷◌, length, Option, Some, None, Result, Ok, Err, slice_set}
+-- A draft: the slaves of a plant that get new words, in rising order.
+use Rattle.std.specs.Prelude.{◌≡◌, ◌<◌, ◌==◌, ℕ, nat_lt, List, [], ◌∷◌, length, map, Option, Some, None, Result, Ok, Err, slice_set, if◌then◌else◌}
+use Rattle.sii_words.specs.Plant.{words_of}
 use Rattle.sii_edit.specs.declared.slave_words.Name.{Name}
 use Rattle.sii_edit.specs.declared.draft.NewWords.{NewWords}
 use Rattle.sii_edit.specs.declared.draft.NewWords.TheVariants.{Renamed, Rewritten}
+use Rattle.sii_edit.specs.declared.draft.Renewal.{Renewal}
 use Rattle.sii_edit.specs.declared.refusal.Cause.{Cause}
 use Rattle.sii_edit.specs.declared.refusal.Refusal.{Refusal}
 use Rattle.sii_edit.specs.Refusal.{IsCauseOf, IsRefusalOf}
@@ -25,31 +27,43 @@ abbrev pub renewed_as : List ℕ → Option NewWords → List ℕ
 renewed_as words None = words
 renewed_as words (Some new) = renewed words new
 
--- new words on top of those that there are
-abbrev pub over : Option NewWords → NewWords → NewWords
+-- new words on top of others
+abbrev pub over : NewWords → NewWords → NewWords
 over old (Rewritten words) = Rewritten words
-over None (Renamed name) = Renamed name
-over (Some (Renamed first)) (Renamed name) = Renamed name
-over (Some (Rewritten words)) (Renamed name) = Rewritten (named words name)
+over (Renamed first) (Renamed name) = Renamed name
+over (Rewritten words) (Renamed name) = Rewritten (named words name)
 
 -- the plant as the draft has it
-abbrev pub drafted : List (List ℕ) → List (Option NewWords) → List (List ℕ)
-drafted [] changed = []
-drafted (words ∷ plant) [] = words ∷ plant
-drafted (words ∷ plant) (new ∷ changed) = renewed_as words new ∷ drafted plant changed
+abbrev pub drafted : List (List ℕ) → List Renewal → List (List ℕ)
+drafted plant [] = plant
+drafted plant (first ∷ others) = slice_set (drafted plant others) first.slave (renewed (words_of plant first.slave) first.new)
+
+-- the slaves that get new words
+abbrev pub renewed_slaves : List Renewal → List ℕ
+renewed_slaves draft = map (λ r. r.slave) draft
+
+-- the new words of a slave, where it gets any
+abbrev pub new_for : List Renewal → ℕ → Option NewWords
+new_for [] slave = None
+new_for (first ∷ others) slave = if first.slave == slave then Some first.new else new_for others slave
+
+-- the draft once a slave gets new words, on top of those that it has got
+abbrev pub with_renewal : List Renewal → ℕ → NewWords → List Renewal
+with_renewal [] slave new = record { slave = slave; new = new } ∷ []
+with_renewal (first ∷ others) slave new =
+    if nat_lt first.slave slave then first ∷ with_renewal others slave new
+    else if first.slave == slave then record { slave = first.slave; new = over first.new new } ∷ others
+    else record { slave = slave; new = new } ∷ first ∷ others
 
 -- new words are as many as the old ones
-abbrev pub FitsWords : List ℕ → Option NewWords → Type 0
-FitsWords words None = Unit {0}
-FitsWords words (Some (Renamed name)) = Unit {0}
-FitsWords words (Some (Rewritten new)) = length new ≡ length words
+abbrev pub FitsWords : List ℕ → NewWords → Type 0
+FitsWords words (Renamed name) = Unit {0}
+FitsWords words (Rewritten new) = length new ≡ length words
 
 -- the draft is one of this plant
-abbrev pub IsDraftOf : List (List ℕ) → List (Option NewWords) → Type 0
-IsDraftOf [] [] = Unit {0}
-IsDraftOf [] (new ∷ changed) = ⊥
-IsDraftOf (words ∷ plant) [] = ⊥
-IsDraftOf (words ∷ plant) (new ∷ changed) = FitsWords words new × IsDraftOf plant changed
+abbrev pub IsDraftOf : List (List ℕ) → List Renewal → Type 0
+IsDraftOf plant [] = Unit {0}
+IsDraftOf plant (first ∷ others) = (first.slave < length plant) × FitsWords (words_of plant first.slave) first.new × IsDraftOf plant others
 
 -- What is judged of the words of a slave is what its new words make of them.
 abbrev pub Renews : Result (List ℕ) Cause → List ℕ → Result NewWords Cause → Type 0
@@ -57,11 +71,11 @@ Renews judged words (Ok new) = judged ≡ Ok (renewed words new)
 Renews judged words (Err cause) = IsCauseOf judged cause
 
 -- The draft goes on to the judged plant, or it stays as it is.
-abbrev pub IsStep : List (List ℕ) → Result (List (List ℕ)) Cause → List (Option NewWords) → List (Option NewWords) → Result (Unit {0}) Cause → Type 0
+abbrev pub IsStep : List (List ℕ) → Result (List (List ℕ)) Cause → List Renewal → List Renewal → Result (Unit {0}) Cause → Type 0
 IsStep plant judged old new (Ok done) = IsDraftOf plant new × (judged ≡ Ok (drafted plant new))
 IsStep plant judged old new (Err cause) = IsCauseOf judged cause × (new ≡ old)
 
 -- What is judged is drafted. What a refusal leaves of the draft isn't used.
-abbrev pub IsCarriedOut : List (List ℕ) → Result (List (List ℕ)) Refusal → List (Option NewWords) → Result (Unit {0}) Refusal → Type 0
+abbrev pub IsCarriedOut : List (List ℕ) → Result (List (List ℕ)) Refusal → List Renewal → Result (Unit {0}) Refusal → Type 0
 IsCarriedOut plant judged new (Ok done) = IsDraftOf plant new × (judged ≡ Ok (drafted plant new))
 IsCarriedOut plant judged new (Err refusal) = IsRefusalOf judged refusal

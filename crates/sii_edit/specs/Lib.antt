@@ -7,3 +7,4 @@ pub mod Codes
 pub mod Command
 pub mod Fold
 pub mod Draft
+pub mod steps

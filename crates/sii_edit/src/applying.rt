@@ -4,14 +4,14 @@ ghost use Rattle.sii_edit.specs.Draft.{drafted, IsCarriedOut, IsDraftOf};
 ghost use Rattle.sii_runs.specs.Redo.{redone, LiesInside};
 ghost use Rattle.sii_edit.specs.Refusal.{IsRefusalOf};
 ghost use Rattle.sii_runs.specs.Run.{runs_between};
-ghost use Rattle.sii_words.specs.Plant.{with_new};
+ghost use Rattle.sii_image.specs.NewLayouts.{with_each};
 
 use crate::command::Command;
 use crate::draft::Draft;
 use crate::group::{edit_all, edit_guarded};
 use crate::layouts::judged_layouts;
 use crate::refusal::Refusal;
-use sii_image::{Layout, SlaveLayout};
+use sii_image::{Layout, NewLayouts};
 use sii_runs::{Run, redo};
 use sii_words::Plant;
 use std::alloc::Global;
@@ -22,14 +22,14 @@ pub struct Change {
     /// The longest stretches of words that change, in rising order of slave and word. Redo of them over the plant gives the
     /// new contents.
     pub runs: Vec<Run>,
-    /// For each slave that has new words what it adds to the process image. The plant's layout takes them in, which takes no
-    /// memory, and is then that of the new contents.
-    pub layouts: Vec<Option<SlaveLayout>>,
+    /// What each slave that has new words adds to the process image. The plant's layout takes them in, which takes no memory, and
+    /// is then that of the new contents.
+    pub layouts: NewLayouts,
 }
 
 /// What a command changes in a plant with this layout. It costs what the command may change: of a slave that gets another
 /// alias the words are neither read nor copied, and no categories are read; of a slave that gets a category or an image, its
-/// own words are; of other slaves nothing is.
+/// own words are; other slaves of the line aren't looked at.
 ///
 /// # Errors
 ///
@@ -45,10 +45,10 @@ pub fn changes(
     ensures accepted { IfOk result (λ change. outcome plant.now command.now ≡ Ok (redone plant.now change.runs.items)) }
     ensures runs { IfOk result (λ change. change.runs.items ≡ runs_between plant.now (redone plant.now change.runs.items)) }
     ensures inside { IfOk result (λ change. All (LiesInside plant.now) change.runs.items) }
-    ensures layouts { IfOk result (λ change. with_new plant.now change.layouts.items ≡ redone plant.now change.runs.items) }
+    ensures layouts { IfOk result (λ change. with_each plant.now change.layouts ≡ redone plant.now change.runs.items) }
     ensures refused { IfErr result (λ refusal. IsRefusalOf (outcome plant.now command.now) refusal) }
 {
-    let mut draft = Draft::of(alloc, plant)?;
+    let mut draft = Draft::new(alloc);
     carry_out(&mut draft, alloc, plant, command)?;
     let layouts = judged_layouts(alloc, &draft, plant, layout)?;
     let runs = draft.runs(alloc, plant)?;

@@ -1,12 +1,15 @@
-ghost use Rattle.std.specs.Prelude.{◌≡◌, ◌<◌, ◌≤◌, ◌++◌, length, slice_set, slice_index_or, Some, None, IfOk, OnOk};
+ghost use Rattle.std.specs.Prelude.{◌≡◌, ◌<◌, ◌≤◌, ◌+◌, [], ◌++◌, length, vec_len, vec_capacity, IfOk, OnOk, OnErr};
+ghost use Rattle.std.specs.Option.{option_copied};
 ghost use Rattle.sii_words.specs.Plant.{words_of};
-ghost use Rattle.sii_edit.specs.Draft.{drafted, named, over, renewed, renewed_as, FitsWords, IsDraftOf, IsStep};
+ghost use Rattle.sii_image.specs.NewLayouts.{AreRising};
+ghost use Rattle.sii_edit.specs.Draft.{drafted, named, new_for, over, renewed, renewed_slaves, with_renewal, FitsWords, IsDraftOf, IsStep};
+ghost use Rattle.sii_edit.specs.steps.Draft.{drafted_runs, place_of};
 ghost use Rattle.sii_runs.specs.Run.{runs_between, stretches};
 ghost use Rattle.sii_edit.specs.Command.{edited, swapped};
 
 use crate::command::{Edit, Expect};
 use crate::refusal::Cause;
-use crate::slave_words::{Name, SlaveWords, rewritten};
+use crate::slave_words::{Name, SlaveWords, rename};
 use sii_runs::{Run, push_stretches, push_word};
 use sii_words::{Plant, Words};
 use std::alloc::{AllocError, Global};
@@ -21,31 +24,92 @@ pub(crate) enum NewWords {
     Rewritten(Words),
 }
 
-/// Changes of a plant that isn't written yet: the new words of each slave that has any. Contracts see the list of these.
+/// A slave that gets new words.
+#[derive(Drop)]
+pub(crate) struct Renewal {
+    pub slave: u16,
+    pub new: NewWords,
+}
+
+/// Changes of a plant that isn't written yet: the slaves that get new words, in rising order. Contracts see the list of these.
 #[derive(Drop)]
 pub(crate) struct Draft {
-    changed: Vec<Option<NewWords>>,
+    renewals: Vec<Renewal>,
 }
 
 impl Model for Draft {
-    ghost use Rattle.std.specs.Prelude.{List, Option};
-    ghost use Rattle.sii_edit.specs.declared.draft.NewWords.{NewWords};
+    ghost use Rattle.std.specs.Prelude.{List};
+    ghost use Rattle.sii_image.specs.NewLayouts.{AreRising};
+    ghost use Rattle.sii_edit.specs.declared.draft.Renewal.{Renewal};
+    ghost use Rattle.sii_edit.specs.Draft.{renewed_slaves};
 
-    ghost Value = { List (Option NewWords) };
+    ghost Value = { List Renewal };
 
-    ghost view = { λ draft. draft.changed.items };
+    ghost view = { λ draft. draft.renewals.items };
+
+    ghost invariant = { λ draft. AreRising (renewed_slaves draft.renewals.items) };
 }
 
-/// New words on top of those that a slave has got.
-fn over(old: Option<NewWords>, new: NewWords) -> NewWords
-    ensures { result ≡ over old new }
+/// Puts another alias on top of new words.
+fn rename_over(old: &mut NewWords, name: Name)
+    ensures { old.new ≡ over old.old (NewWords.Renamed name) }
 {
-    match (old, new) {
-        (Some(NewWords::Rewritten(words)), NewWords::Renamed(name)) => {
-            NewWords::Rewritten(rewritten(words, name))
-        }
-        (_, new) => new,
+    match old {
+        NewWords::Renamed(first) => *first = name,
+        NewWords::Rewritten(words) => rename(words, name),
     }
+}
+
+/// Puts new words on top of others.
+fn put_over(old: &mut NewWords, new: NewWords)
+    ensures { old.new ≡ over old.old new }
+{
+    match new {
+        NewWords::Renamed(name) => rename_over(old, name),
+        NewWords::Rewritten(words) => *old = NewWords::Rewritten(words),
+    }
+}
+
+/// The new words of a slave, where it gets any.
+fn new_for(renewals: &[Renewal], slave: u16) -> Option<&NewWords>
+    ensures { option_copied result ≡ new_for renewals.now slave }
+{
+    for renewal in renewals {
+        if renewal.slave == slave {
+            return Some(&renewal.new);
+        }
+    }
+    None
+}
+
+/// How many renewals are of slaves before this one.
+fn place_of(renewals: &[Renewal], slave: u16) -> usize
+    ensures place { result ≡ place_of renewals.now slave }
+    ensures most { result ≤ length renewals.now }
+{
+    for (place, renewal) in renewals.iter().enumerate() {
+        if renewal.slave >= slave {
+            return place;
+        }
+    }
+    renewals.len()
+}
+
+/// Gives a slave new words, on top of those that it has got.
+fn put(renewals: &mut Vec<Renewal>, slave: u16, new: NewWords) -> Result<(), AllocError>
+    ensures put { OnOk result (renewals.new.items ≡ with_renewal renewals.old.items slave new) }
+    ensures kept { OnErr result (renewals.new.items ≡ renewals.old.items) }
+    ensures full { OnErr result (vec_capacity renewals.old ≤ vec_len renewals.old) }
+    ensures len { vec_len renewals.new ≤ vec_len renewals.old + 1 }
+    ensures room { vec_capacity renewals.old ≤ vec_capacity renewals.new }
+{
+    let place = place_of(renewals, slave);
+    if place < renewals.len() && renewals[place].slave == slave {
+        put_over(&mut renewals[place].new, new);
+        return Ok(());
+    }
+    renewals.insert(place, Renewal { slave, new })?;
+    Ok(())
 }
 
 /// The words of a slave with its new ones.
@@ -73,57 +137,62 @@ fn push_name(
     push_word(alloc, runs, slave, 7, words[7], name.seven)
 }
 
-/// Adds the runs of a slave that may have new words.
+/// Adds the runs of a slave that gets new words.
 fn push_runs(
     alloc: Global,
     runs: &mut Vec<Run>,
     slave: u16,
     old: &Words,
-    new: &Option<NewWords>,
+    new: &NewWords,
 ) -> Result<(), AllocError>
     requires { FitsWords old.now new.now }
-    ensures { OnOk result (runs.new.items ≡ runs.old.items ++ stretches slave 0 old.now (renewed_as old.now new.now)) }
+    ensures { OnOk result (runs.new.items ≡ runs.old.items ++ stretches slave 0 old.now (renewed old.now new.now)) }
 {
     match new {
-        Some(NewWords::Renamed(name)) => push_name(alloc, runs, slave, old, *name),
-        Some(NewWords::Rewritten(words)) => {
+        NewWords::Renamed(name) => push_name(alloc, runs, slave, old, *name),
+        NewWords::Rewritten(words) => {
             push_stretches(alloc, runs, slave, old.as_slice(), words.as_slice())
         }
-        None => Ok(()),
     }
+}
+
+/// Adds the runs of all slaves that get new words.
+fn push_all_runs(
+    alloc: Global,
+    runs: &mut Vec<Run>,
+    plant: &Plant,
+    renewals: &[Renewal],
+) -> Result<(), AllocError>
+    requires { IsDraftOf plant.now renewals.now }
+    ensures { OnOk result (runs.new.items ≡ runs.old.items ++ drafted_runs plant.now renewals.now) }
+{
+    for renewal in renewals {
+        let old = plant.slave(usize::from(renewal.slave));
+        push_runs(alloc, runs, renewal.slave, old, &renewal.new)?;
+    }
+    Ok(())
 }
 
 impl Draft {
     /// The plant as it is.
-    pub fn of(alloc: Global, plant: &Plant) -> Result<Draft, AllocError>
-        ensures { IfOk result (λ draft. IsDraftOf plant.now draft × (drafted plant.now draft ≡ plant.now)) }
+    pub fn new(alloc: Global) -> Draft
+        ensures { result ≡ [] }
     {
-        let mut changed = Vec::with_capacity(alloc, plant.len())?;
-        for _slave in 0..plant.len() {
-            changed.push(None)?;
+        Draft {
+            renewals: Vec::new(alloc),
         }
-        Ok(Draft { changed })
     }
 
     /// The words of a slave as they will be.
-    fn words<'a>(&'a self, plant: &'a Plant, slave: usize) -> SlaveWords<'a>
-        requires draft { IsDraftOf plant.now self.now }
-        requires slave { slave < length plant.now }
+    fn words<'a>(&'a self, plant: &'a Plant, slave: u16) -> SlaveWords<'a>
+        requires { slave < length plant.now }
         ensures { result ≡ words_of (drafted plant.now self.now) slave }
     {
-        match &self.changed[slave] {
-            Some(new) => renewed(plant.slave(slave), new),
-            None => SlaveWords::of(plant.slave(slave), None),
+        let words = plant.slave(usize::from(slave));
+        match new_for(&self.renewals, slave) {
+            Some(new) => renewed(words, new),
+            None => SlaveWords::of(words, None),
         }
-    }
-
-    /// Gives a slave new words, on top of those that it has got.
-    fn put(&mut self, slave: usize, new: NewWords)
-        requires { slave < length self.old }
-        ensures { self.new ≡ slice_set self.old slave (Some (over (slice_index_or self.old slave None) new)) }
-    {
-        let old = self.changed[slave].take();
-        self.changed[slave] = Some(over(old, new));
     }
 
     /// One edit, of a slave that is the expected one. A draft stays as it is where the edit is refused.
@@ -137,12 +206,12 @@ impl Draft {
         requires { IsDraftOf plant.now self.old }
         ensures { IsStep plant.now (edited (drafted plant.now self.old) expect edit.now) self.old self.new result }
     {
-        let slave = usize::from(edit.slave());
-        if slave >= plant.len() {
+        let slave = edit.slave();
+        if usize::from(slave) >= plant.len() {
             return Err(Cause::NoSlave);
         }
         let new = edit.new_words(alloc, expect, &self.words(plant, slave))?;
-        self.put(slave, new);
+        put(&mut self.renewals, slave, new)?;
         Ok(())
     }
 
@@ -151,8 +220,7 @@ impl Draft {
         requires { IsDraftOf plant.now self.old }
         ensures { IsStep plant.now (swapped (drafted plant.now self.old) a b) self.old self.new result }
     {
-        let (a, b) = (usize::from(a), usize::from(b));
-        if a >= plant.len() || b >= plant.len() {
+        if usize::from(a) >= plant.len() || usize::from(b) >= plant.len() {
             return Err(Cause::NoSlave);
         }
         if a == b {
@@ -164,16 +232,18 @@ impl Draft {
         }
         let new_a = of_a.with_alias(of_b.alias());
         let new_b = of_b.with_alias(of_a.alias());
-        self.put(a, NewWords::Renamed(new_a));
-        self.put(b, NewWords::Renamed(new_b));
+        self.renewals.reserve(2)?;
+        put(&mut self.renewals, a, NewWords::Renamed(new_a))?;
+        put(&mut self.renewals, b, NewWords::Renamed(new_b))?;
         Ok(())
     }
 
-    /// What the words of each slave will be, where they change.
-    pub fn new_words(&self) -> &[Option<NewWords>]
-        ensures { result.now ≡ self.now }
+    /// The slaves that get new words, in rising order.
+    pub fn renewals(&self) -> &[Renewal]
+        ensures renewals { result.now ≡ self.now }
+        ensures rising { AreRising (renewed_slaves self.now) }
     {
-        &self.changed
+        &self.renewals
     }
 
     /// The runs that lead from the plant to what it will be.
@@ -182,15 +252,7 @@ impl Draft {
         ensures { IfOk result (λ runs. runs.items ≡ runs_between plant.now (drafted plant.now self.now)) }
     {
         let mut runs = Vec::new(alloc);
-        for slave in 0..plant.len() {
-            push_runs(
-                alloc,
-                &mut runs,
-                slave as u16,
-                plant.slave(slave),
-                &self.changed[slave],
-            )?;
-        }
+        push_all_runs(alloc, &mut runs, plant, &self.renewals)?;
         Ok(runs)
     }
 }

@@ -38,13 +38,14 @@ impl<'a> Model for SlaveWords<'a> {
     ghost invariant = { λ slave. 7 < length slave.words.now };
 }
 
-/// The words with another alias.
-pub(crate) fn rewritten(mut words: Words, name: Name) -> Words
-    ensures { result ≡ named words name }
+/// Gives the words another alias.
+pub(crate) fn rename(words: &mut Words, name: Name)
+    ensures { words.new ≡ named words.old name }
 {
+    // Every device has 64 words at least.
+    let _size = words.len();
     words.set(4, name.alias);
     words.set(7, name.seven);
-    words
 }
 
 impl<'a> SlaveWords<'a> {
@@ -102,10 +103,10 @@ impl<'a> SlaveWords<'a> {
     pub fn to_words(&self) -> Result<Words, AllocError>
         ensures { IfOk result (λ words. words ≡ self.now) }
     {
-        let words = self.words.try_copy()?;
-        Ok(match self.name {
-            Some(name) => rewritten(words, name),
-            None => words,
-        })
+        let mut words = self.words.try_copy()?;
+        if let Some(name) = self.name {
+            rename(&mut words, name);
+        }
+        Ok(words)
     }
 }

@@ -1,12 +1,14 @@
 -- The limits of a process image, judged slave by slave.
 use Rattle.std.specs.Prelude.{filter, not, nat_le, ◌&&◌}
 use Rattle.std.specs.List.{list_all}
-use Rattle.std.proofs.Common.{◌≡◌, ℕ, ◌+◌, ◌<◌, ◌≤◌, List, [], ◌∷◌, length, map, sum_by, Bool, cond, true, false, refl, sym, ap, ◌∙◌, arith}
-use Rattle.std.proofs.lemmas.Bool.{le-leb, lt-leb}
+use Rattle.std.proofs.Common.{◌≡◌, ◌⊎◌, inl, inr, ℕ, ◌+◌, ◌*◌, ◌<◌, ◌≤◌, List, [], ◌∷◌, length, map, sum_by, Bool, cond, true, false, refl, sym, ap, ◌∙◌, arith}
+use Rattle.std.proofs.lemmas.Bool.{le-leb, lt-leb, lt-ltb, le-ltb, cases_lt, false≢true}
+use Rattle.std.proofs.lemmas.Bool.Decides.{nat_tests}
 use Rattle.std.proofs.lemmas.List.Sums.{sum_by-cons}
 use Rattle.sii_image.specs.declared.rows.Row.{Row}
 use Rattle.sii_image.specs.ProcessData.{rows_of}
 use Rattle.sii_image.specs.ProcessImage.{all_rows, has_few_rows, is_towards, is_within_limits, rows_towards, size_of, slave_rows, total}
+use Rattle.sii_image.specs.steps.Weight.{weight_of, weight_of_rows, weight_of_all}
 use Rattle.sii_image.proofs.Placing.{rows_behind, total-append}
 
 -- the bytes of all rows, slave by slave
@@ -54,38 +56,70 @@ both_of_all number (words ∷ plant) =
 all_spent : (plant : List (List ℕ)) → total (all_rows plant) ≡ spent plant
 all_spent plant = total-append (rows_towards true plant) (rows_towards false plant) ∙ both_of_all 0 plant
 
--- All slaves but the rest have few rows, and this many bytes are left behind theirs.
-pub record Fitting (left : ℕ) (plant rest : List (List ℕ)) : Type 0 where
-  pub few : list_all has_few_rows rest ≡ list_all has_few_rows plant
-  pub room : left + spent plant ≡ 1486 + spent rest
+-- ---- weights
 
-pub fits_more : (left after : ℕ) (plant : List (List ℕ)) (words : List ℕ) (rest : List (List ℕ)) → Fitting left plant (words ∷ rest) → length (rows_of words) ≤ 8
-    → after + sum_by size_of (rows_of words) ≡ left → Fitting after plant rest
-fits_more left after plant words rest s few is = record {
-  few = sym (ap (λ (b : Bool). b && list_all has_few_rows rest) (le-leb (length (rows_of words)) 8 few)) ∙ s.few;
-  room = omega (arith, s.room, sum_by-cons (λ (w : List ℕ). sum_by size_of (rows_of w)) words rest);
-}
+-- what the tests decide
+abbrev Weighs : ℕ → ℕ → ℕ → Type 0
+Weighs rows bytes weight = ((1486 < weight) × ((8 < rows) ⊎ (1486 < bytes))) ⊎ ((weight ≡ bytes) × (rows ≤ 8) × (bytes ≤ 1486))
 
--- all slaves fit
-pub fits_all : (left : ℕ) (plant : List (List ℕ)) → Fitting left plant [] → true ≡ is_within_limits plant
-fits_all left plant s =
-    let room : total (all_rows plant) ≤ 1486 = omega (arith, s.room, all_spent plant) in
-    sym (ap (λ (b : Bool). b && nat_le (total (all_rows plant)) 1486) (sym s.few) ∙ le-leb (total (all_rows plant)) 1486 room)
+weighs : (rows : List Row) → Weighs (length rows) (sum_by size_of rows) (weight_of_rows rows)
+weighs rows = elim (cases_lt 8 (length rows)) [
+  | inl many ↦ rw (lt-ltb 8 (length rows) many) (inl (omega arith, inl many))
+  | inr few ↦ elim (cases_lt 1486 (sum_by size_of rows)) [
+    | inl large ↦ rw (le-ltb 8 (length rows) few, lt-ltb 1486 (sum_by size_of rows) large) (inl (omega arith, inr large))
+    | inr small ↦ rw (le-ltb 8 (length rows) few, le-ltb 1486 (sum_by size_of rows) small) (inr (refl, few, small))
+  ]
+]
 
--- a slave has too many rows
-pub has_many : (left : ℕ) (plant : List (List ℕ)) (words : List ℕ) (rest : List (List ℕ)) → Fitting left plant (words ∷ rest) → 8 < length (rows_of words)
-    → false ≡ is_within_limits plant
-has_many left plant words rest s many =
-    let here : list_all has_few_rows plant ≡ false = sym s.few ∙ ap (λ (b : Bool). b && list_all has_few_rows rest) (lt-leb (length (rows_of words)) 8 many) in
-    sym (ap (λ (b : Bool). b && nat_le (total (all_rows plant)) 1486) here)
+pub weight_most : (words : List ℕ) → weight_of words ≤ 1487
+weight_most words = grind (arith, nat_tests)
 
-and-false : (b : Bool) → (b && false) ≡ false
-and-false true = refl
-and-false false = refl
+-- a line's weight
+pub weights_most : (plant : List (List ℕ)) → weight_of_all plant ≤ 1487 * length plant
+weights_most [] = omega arith
+weights_most (words ∷ plant) = omega (arith, sum_by-cons weight_of words plant, weight_most words, weights_most plant)
 
--- its rows have no room
-pub has_no_room : (left : ℕ) (plant : List (List ℕ)) (words : List ℕ) (rest : List (List ℕ)) → Fitting left plant (words ∷ rest) → left < sum_by size_of (rows_of words)
-    → false ≡ is_within_limits plant
-has_no_room left plant words rest s over =
-    let beyond : 1486 < total (all_rows plant) = omega (arith, s.room, all_spent plant, sum_by-cons (λ (w : List ℕ). sum_by size_of (rows_of w)) words rest) in
-    sym (ap (λ (b : Bool). list_all has_few_rows plant && b) (lt-leb (total (all_rows plant)) 1486 beyond) ∙ and-false (list_all has_few_rows plant))
+-- a light line has few rows in each slave, and weighs what these have
+light : (plant : List (List ℕ)) → weight_of_all plant ≤ 1486 → (list_all has_few_rows plant ≡ true) × (spent plant ≡ weight_of_all plant)
+light [] h = (refl, refl)
+light (words ∷ plant) h =
+    let all = sum_by-cons weight_of words plant in
+    let rest = light plant (omega (arith, h, all)) in
+    elim (weighs (rows_of words)) [
+      | inl heavy ↦ let over : 1486 < weight_of words = heavy.0 in absurd (omega (arith, h, all, over))
+      | inr fits ↦ (
+        ap (λ (b : Bool). b && list_all has_few_rows plant) (le-leb (length (rows_of words)) 8 fits.1) ∙ rest.0,
+        omega (arith, all, rest.1, fits.0, sum_by-cons (λ (w : List ℕ). sum_by size_of (rows_of w)) words plant),
+      )
+    ]
+
+-- a line of few rows weighs what these have
+few_weigh : (plant : List (List ℕ)) → list_all has_few_rows plant ≡ true → spent plant ≤ 1486 → weight_of_all plant ≡ spent plant
+few_weigh [] few h = refl
+few_weigh (words ∷ plant) few h =
+    let all = sum_by-cons weight_of words plant in
+    let bytes = sum_by-cons (λ (w : List ℕ). sum_by size_of (rows_of w)) words plant in
+    elim (weighs (rows_of words)) [
+      | inl heavy ↦ elim heavy.1 [
+        | inl many ↦ let none : has_few_rows words ≡ false = lt-leb (length (rows_of words)) 8 many in absurd (false≢true (sym (ap (λ (b : Bool). b && list_all has_few_rows plant) none) ∙ few))
+        | inr large ↦ absurd (omega (arith, h, bytes, large))
+      ]
+      | inr fits ↦ omega (arith, all, bytes, fits.0, few_weigh plant (sym (ap (λ (b : Bool). b && list_all has_few_rows plant) (le-leb (length (rows_of words)) 8 fits.1)) ∙ few) (omega (arith, h, bytes)))
+    ]
+
+heavy_line : (plant : List (List ℕ)) (few : Bool) → list_all has_few_rows plant ≡ few → 1486 < weight_of_all plant → (few && nat_le (total (all_rows plant)) 1486) ≡ false
+heavy_line plant false is over = refl
+heavy_line plant true is over = elim (cases_lt 1486 (total (all_rows plant))) [
+  | inl large ↦ lt-leb (total (all_rows plant)) 1486 large
+  | inr small ↦ absurd (omega (arith, over, small, all_spent plant, few_weigh plant is (omega (arith, small, all_spent plant))))
+]
+
+-- a line is within the limits where it is light
+pub limits_weighed : (plant : List (List ℕ)) → nat_le (weight_of_all plant) 1486 ≡ is_within_limits plant
+limits_weighed plant = elim (cases_lt 1486 (weight_of_all plant)) [
+  | inl over ↦ lt-leb (weight_of_all plant) 1486 over ∙ sym (heavy_line plant (list_all has_few_rows plant) refl over)
+  | inr under ↦
+      let facts = light plant under in
+      le-leb (weight_of_all plant) 1486 under
+      ∙ sym (ap (λ (b : Bool). b && nat_le (total (all_rows plant)) 1486) facts.0 ∙ le-leb (total (all_rows plant)) 1486 (omega (arith, under, facts.1, all_spent plant)))
+]

@@ -5,5 +5,5 @@ pub mod RowsMade
 pub mod Placing
 pub mod Segments
 pub mod SameRows
-pub mod WithNew
+pub mod WithEach
 pub mod Fitting

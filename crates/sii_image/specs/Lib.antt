@@ -3,3 +3,4 @@ pub mod ProcessImage
 pub mod Answer
 pub mod steps
 pub mod Named
+pub mod NewLayouts

@@ -3,3 +3,4 @@ pub mod Contents
 pub mod Described
 pub mod Reading
 pub mod Placement
+pub mod Weight

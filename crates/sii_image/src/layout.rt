@@ -2,13 +2,16 @@
 
 ghost use Rattle.std.specs.Prelude.{◌≡◌, ◌<◌, ◌≤◌, ◌↔◌, length, map, slice_set, sum_by, IsTrue, IsSome, IfOk, OnOk, OnErr};
 ghost use Rattle.std.specs.List.{list_all};
-ghost use Rattle.sii_words.specs.Plant.{with_new, words_of};
+ghost use Rattle.sii_words.specs.Plant.{words_of};
+ghost use Rattle.sii_image.specs.NewLayouts.{with_each};
 ghost use Rattle.sii_image.specs.ProcessData.{rows_of};
 ghost use Rattle.sii_image.specs.ProcessImage.{counter_of, has_few_rows, process_image};
 ghost use Rattle.sii_image.specs.Answer.{GivesProcessImage};
+ghost use Rattle.sii_image.specs.steps.Weight.{weight_of_all};
 
 use crate::fault::ImageFault;
-use crate::limits::are_within_limits;
+use crate::limits::{are_within_limits, weight_of_all, weight_with};
+use crate::new_layouts::{NewLayout, NewLayouts};
 use crate::placement::Placement;
 use crate::process_image::ProcessImage;
 use crate::rows::{MOST_ROWS, expected_counter};
@@ -56,19 +59,34 @@ fn process_image_of_slaves(
     ))
 }
 
-/// Puts each new layout in the place of the old one.
-fn put_each(slaves: &mut [SlaveLayout], new: Vec<Option<SlaveLayout>>)
-    ensures { slaves.new ≡ with_new slaves.old new.items }
+/// Puts a new layout in the place of the old one, and answers what all slaves weigh then. A slave that isn't there changes nothing.
+fn put(slaves: &mut [SlaveLayout], weight: u32, slave: usize, new: SlaveLayout) -> u32
+    requires few { length slaves.old ≤ 64 }
+    requires weight { weight ≡ weight_of_all slaves.old }
+    ensures slaves { slaves.new ≡ slice_set slaves.old slave new }
+    ensures weight { result ≡ weight_of_all slaves.new }
 {
+    if slave >= slaves.len() {
+        return weight;
+    }
+    let changed = weight_with(weight, &slaves[slave], &new);
+    slaves[slave] = new;
+    changed
+}
+
+/// Puts each new layout in the place of the old one, and answers what all slaves weigh then.
+fn put_each(slaves: &mut [SlaveLayout], weight: u32, new: Vec<NewLayout>) -> u32
+    requires few { length slaves.old ≤ 64 }
+    requires weight { weight ≡ weight_of_all slaves.old }
+    ensures slaves { slaves.new ≡ with_each slaves.old new.items }
+    ensures weight { result ≡ weight_of_all slaves.new }
+{
+    let mut changed = weight;
     let mut left = new;
     while let Some(last) = left.pop() {
-        let slave = left.len();
-        if let Some(layout) = last {
-            if slave < slaves.len() {
-                slaves[slave] = layout;
-            }
-        }
+        changed = put(slaves, changed, usize::from(last.slave), last.layout);
     }
+    changed
 }
 
 /// What the process image of a line is made from, kept up while the contents of its slaves change. Contracts see these
@@ -76,16 +94,18 @@ fn put_each(slaves: &mut [SlaveLayout], new: Vec<Option<SlaveLayout>>)
 #[derive(Drop)]
 pub struct Layout {
     slaves: Vec<SlaveLayout>,
+    weight: u32,
 }
 
 impl Model for Layout {
-    ghost use Rattle.std.specs.Prelude.{ℕ, List, length, ◌≤◌};
+    ghost use Rattle.std.specs.Prelude.{ℕ, List, length, ◌≡◌, ◌≤◌};
+    ghost use Rattle.sii_image.specs.steps.Weight.{weight_of_all};
 
     ghost Value = { List (List ℕ) };
 
     ghost view = { λ layout. layout.slaves.items };
 
-    ghost invariant = { λ layout. length layout.slaves.items ≤ 64 };
+    ghost invariant = { λ layout. (length layout.slaves.items ≤ 64) × (layout.weight ≡ weight_of_all layout.slaves.items) };
 }
 
 impl Layout {
@@ -97,7 +117,8 @@ impl Layout {
         for slave in 0..plant.len() {
             slaves.push(SlaveLayout::of(alloc, plant.slave(slave))?)?;
         }
-        Ok(Layout { slaves })
+        let weight = weight_of_all(&slaves);
+        Ok(Layout { slaves, weight })
     }
 
     /// The layout of one slave.
@@ -114,17 +135,15 @@ impl Layout {
         ensures err { OnErr result (self.new ≡ self.old) }
     {
         let new = SlaveLayout::of(*self.slaves.allocator(), words)?;
-        if usize::from(slave) < self.slaves.len() {
-            self.slaves[usize::from(slave)] = new;
-        }
+        self.weight = put(&mut self.slaves, self.weight, usize::from(slave), new);
         Ok(())
     }
 
-    /// Takes in the new contents of each slave that has any. It takes no memory.
-    pub fn put_all(&mut self, new: Vec<Option<SlaveLayout>>)
-        ensures { self.new ≡ with_new self.old new.items }
+    /// Takes in the new contents of each slave that has any. It takes no memory, and a slave that isn't there changes nothing.
+    pub fn put_all(&mut self, new: NewLayouts)
+        ensures { self.new ≡ with_each self.old new }
     {
-        put_each(&mut self.slaves, new);
+        self.weight = put_each(&mut self.slaves, self.weight, new.items);
     }
 
     /// The process image of the contents as they are now. `ImageOverLimit`: it would have more than 1,486 bytes, or a slave
@@ -135,11 +154,12 @@ impl Layout {
         process_image_of_slaves(*self.slaves.allocator(), &self.slaves)
     }
 
-    /// Whether there is a process image once each slave that has new contents has them. It takes no memory.
-    pub fn has_process_image_with(&self, new: &[Option<SlaveLayout>]) -> bool
-        ensures { IsTrue result ↔ IsSome (process_image (with_new self.now new.now)) }
+    /// Whether there is a process image once each slave that has new contents has them. It takes no memory, and looks at these
+    /// slaves alone.
+    pub fn has_process_image_with(&self, new: &NewLayouts) -> bool
+        ensures { IsTrue result ↔ IsSome (process_image (with_each self.now new.now)) }
     {
-        are_within_limits(&self.slaves, new)
+        are_within_limits(&self.slaves, self.weight, &new.items)
     }
 }
 

@@ -4,6 +4,7 @@
 mod fault;
 mod layout;
 mod limits;
+mod new_layouts;
 mod placement;
 mod plan;
 mod process_data;
@@ -13,6 +14,7 @@ mod slave_layout;
 
 pub use fault::ImageFault;
 pub use layout::{Layout, image_of};
+pub use new_layouts::{NewLayout, NewLayouts};
 pub use plan::Plan;
 pub use process_image::{ProcessImage, Segment};
 pub use slave_layout::SlaveLayout;

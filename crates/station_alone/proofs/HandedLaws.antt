@@ -10,7 +10,7 @@ use Rattle.book_model.specs.Book.{Book, Doing, Resting, Payload, PayloadSync, Op
 use Rattle.book_model.specs.DiskSteps.{action_of, doing_next, disk_next}
 use Rattle.book_model.specs.RomSteps.{to_do, with_errand, with_issue, without_work, rom_next}
 use Rattle.up_laws.proofs.SlaveEventLaws.{IsNothing}
-use Rattle.runner_laws.proofs.DiskRuns.{IsAction}
+use Rattle.runner_laws.proofs.DiskRuns.{IsAction, idle-or-stop}
 
 -- ---- for the disk
 
@@ -35,10 +35,6 @@ steps-act book Mark = tt
 steps-act book MarkSync = tt
 steps-act book Version = tt
 steps-act book VersionSync = tt
-
-idle-or-stop : (finished : Bool) → IsAction (if finished then disk.Stop else disk.Idle) → ⊥
-idle-or-stop true is = is
-idle-or-stop false is = is
 
 module _ (book : Book) where
   hands-open : (given : Option DiskNext) → book.is_handed_out ≡ false → is_some book.fault ≡ false → action_of book (doing_next book book.doing) ≡ given → Hands book

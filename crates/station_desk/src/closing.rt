@@ -2,7 +2,8 @@
 
 ghost use Rattle.std.specs.Prelude.{◌≡◌, ◌↔◌, IsTrue, true, false, length, IfOk, IfErr};
 ghost use Rattle.desk_book.specs.Calls.{replayed};
-ghost use Rattle.desk_book.specs.Closing.{CountAll, is_served};
+ghost use Rattle.desk_book.specs.Closing.{AllWorked, CountAll, is_served};
+ghost use Rattle.desk_laws.specs.Slaves.{IsJustOpened, AllReadAsContents};
 ghost use Rattle.station_desk.specs.Closing.{IsCycleOf, AreEndsOf, IsHandedIn};
 
 use crate::desk::Desk;
@@ -61,23 +62,25 @@ fn turns_match<T: Tickets, R: Refusals, S: Site>(
     }
 }
 
-/// Whether these are all the ends of those who did the jobs that the book handed out.
+/// Whether these are all the ends of those who did the jobs that the book handed out. Each slave is where its worker's jobs led it.
 fn ends_match<T: Tickets, R: Refusals, S: Site>(book: &Served<T, R>, ends: &Ends<S>) -> bool
-    ensures { IsTrue result ↔ AreEndsOf T.opened book.now.calls ends.now }
+    ensures matches { IsTrue result ↔ AreEndsOf T.opened book.now.calls ends.now }
+    ensures worked { IsTrue result → AllWorked S.seen ends.now.workers.items }
 {
     turns_match(book, &ends.cycle)
         && book.flusher_matches(ends.flusher.log().as_slice())
         && book.workers_match(ends.workers.as_slice())
 }
 
-/// Whether all that is handed in is what the book handed out.
+/// Whether all that is handed in is what the book handed out. Each slave is where its worker's jobs led it.
 fn all_match<T: Tickets, R: Refusals, S: Site>(
     book: &Served<T, R>,
     shares: &[Share<T, R>],
     receipts: &[Receipt],
     ends: &Ends<S>,
 ) -> bool
-    ensures { IsTrue result ↔ IsHandedIn T.opened book.now.calls shares.now receipts.now ends.now }
+    ensures matches { IsTrue result ↔ IsHandedIn T.opened book.now.calls shares.now receipts.now ends.now }
+    ensures worked { IsTrue result → AllWorked S.seen ends.now.workers.items }
 {
     book.shares_match(shares) && book.receipts_match(receipts) && ends_match(book, ends)
 }
@@ -94,6 +97,9 @@ fn audit_all<T: Tickets, R: Refusals>(book: &mut Served<T, R>, shares: &mut Vec<
 /// Closes a desk: all that was accepted and found is settled, and what was handed in is what the book handed out. Who did its jobs
 /// has ended, so nobody else has the lock.
 ///
+/// Where the desk was made of a book that was just opened, each slave that was idle when its worker began, and read as the words that
+/// the book was opened with, reads as the contents after all accepted commands.
+///
 /// # Errors
 ///
 /// `Mismatch` where what was handed in isn't what the book handed out, then `Unserved`. All is handed back. All shares that the desk
@@ -106,6 +112,7 @@ pub fn close<T: Tickets, R: Refusals, S: Site>(
 ) -> Result<Closed<T, R, S>, NotClosed<T, R, S>>
     ensures handed_in { IfOk result (λ closed. IsHandedIn T.opened closed.book.calls shares.items receipts.items ends) }
     ensures served { IfOk result (λ closed. is_served (replayed T.opened closed.book.calls) ≡ true) }
+    ensures contents { IfOk result (λ closed. IsJustOpened T.opened → AllReadAsContents T.opened (replayed T.opened closed.book.calls) S.seen closed.ends.workers.items) }
     ensures ends { IfOk result (λ closed. closed.ends ≡ ends) }
     ensures handed_back { IfErr result (λ left. (left.shares.items ≡ shares.items) × (left.receipts ≡ receipts) × (left.ends ≡ ends)) }
     ensures all_shares { IfErr result (λ left. length shares.items ≡ left.book.pool.given → CountAll (replayed T.opened left.book.calls) left.book.calls shares.items) }

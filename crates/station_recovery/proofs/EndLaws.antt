@@ -7,8 +7,7 @@ use Rattle.std.proofs.Math.Seq.{take-nil}
 use Rattle.std.proofs.lemmas.List.{append-nil}
 use Rattle.sii_runs.specs.declared.run.Run.{Run}
 use Rattle.sii_edit.specs.declared.command.Command.{Command}
-use Rattle.sii_edit.specs.Fold.{contents, contents_after}
-use Rattle.sii_edit.proofs.FoldLaws.{contents-append}
+use Rattle.sii_edit.proofs.FoldLaws.{contents-append, none-taken}
 use Rattle.jrn_format.specs.declared.journal.Journal.{Journal}
 use Rattle.jrn_format.specs.Header.{field_at}
 use Rattle.jrn_format.specs.Journal.{IsJournal}
@@ -132,10 +131,6 @@ end-recovered s working finished =
     }
 
 -- ---- what is kept
-
--- no command, and so no matter how many of them
-none-taken : (base : List (List ℕ)) (commands : List Command) (k : ℕ) → commands ≡ [] → contents_after base commands k ≡ base
-none-taken base commands k none = ap (λ (l : List Command). contents_after base l k) none ∙ ap (λ (l : List Command). contents base l) (take-nil {A = Command} k)
 
 -- what is kept for a session that began with some of the commands is kept for the machine before it
 kept-before : (m : Machine) (k j : ℕ) (pair : Pair) → MayKeep m k → KeptFor (record (reopened m k) { accepted = [] ++ take j [] }) pair → KeptFor m pair

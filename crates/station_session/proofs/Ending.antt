@@ -1,5 +1,5 @@
 -- What the files hold in the end.
-use Rattle.std.proofs.Common.{◌≡◌, ℕ, List, length, map, refl, sym, ◌∙◌, ap, subst, inl, inr, Result, Ok, Err}
+use Rattle.std.proofs.Common.{◌≡◌, ℕ, Bool, true, List, length, map, refl, sym, ◌∙◌, ap, subst, inl, inr, Result, Ok, Err}
 use Rattle.std.specs.Prelude.{IfErr, IfOk, IsTrue, MatchResult, OnErr, OnOk, string_bytes}
 use Rattle.std.proofs.lemmas.List.{length-map}
 use Rattle.sii_edit.specs.declared.command.Command.{Command}
@@ -8,7 +8,6 @@ use Rattle.site_core.specs.State.{State, Seen}
 use Rattle.site_line.specs.Owned.{OwnsAll}
 use Rattle.site_mem.specs.Site.{SiteValue}
 use Rattle.station_alone.specs.Station.{Station}
-use Rattle.station_alone.specs.Opening.{BeginsSession}
 use Rattle.station_recovery.specs.Recovery.{IsRecovered, BeginsRecovered}
 use Rattle.station_text.specs.declared.line_file.LineFile.{LineFile}
 use Rattle.station_files.specs.Faults.{IsFaultless}
@@ -20,7 +19,7 @@ use Rattle.station_files.specs.declared.faults.Status.{Status}
 use Rattle.station_files.specs.declared.faults.Status.TheVariants.{Done}
 use Rattle.station_bench.specs.Site.{IsSiteOf, files_of, HoldsSite}
 use Rattle.station_rounds.specs.Rounds.{ServesSo}
-use Rattle.station_session.specs.Session.{EndsRecovery, EndsRun, EndsStation, Loads, Recovers, Runs, SavesServed, StartsFrom, directly, recovered}
+use Rattle.station_session.specs.Session.{is_old, EndsRecovery, EndsRun, EndsStation, IsOpened, Loads, Recovers, Runs, SavesServed, StartsFrom}
 
 -- ---- what was read
 
@@ -84,18 +83,30 @@ ends-station old new line commands opened left served saved state status one oth
       saves-by new line commands opened left served saved state status one other final so is held no_fault no_other both.0 both.1 (λ done. (done_too done).0);
 }
 
-pub ends-opened : (old new : Known) (line : LineFile) (before : Seen) (opened : Station) (commands : List Command) (status : Status) → StartsFrom before opened → EndsStation old new line opened commands status → EndsRun old new line before commands status
-ends-opened old new line before opened commands status starts ends =
-    record { others = ends.others; saved = λ good. record { opened = opened; starts = starts; serves = ends.saved good } }
+pub ends-opened : (old new : Known) (line : LineFile) (site : SiteValue) (was_old : Bool) (opened : Station) (commands : List Command) (status : Status) → was_old ≡ is_old site.seen.state.disk.bytes → StartsFrom was_old site opened
+    → EndsStation old new line opened commands status → EndsRun old new line site commands status
+ends-opened old new line site was_old opened commands status by_version starts ends = record {
+  others = ends.others;
+  saved = λ good. record { opened = opened; starts = subst (λ (b : Bool). StartsFrom b site opened) by_version starts; serves = ends.saved good };
+}
 
 -- it was opened on what a recovery left
-pub starts-behind : (before left : Seen) (r s : Station) → BeginsRecovered before r → left ≡ r.seen → BeginsSession left s → StartsFrom before s
-starts-behind before left r s begins is opens = recovered r begins (subst (λ (seen : Seen). BeginsSession seen s) is opens)
+pub starts-behind : (was_old : Bool) (site : SiteValue) (its : Line) (left : Seen) (r s : Station) → was_old ≡ true → IsRecovered r → BeginsRecovered site.seen r → its ≡ r.line → left ≡ r.seen → IsOpened its left s → StartsFrom was_old site s
+starts-behind was_old site its left r s old is_recovered begins same is opens = subst (λ (b : Bool). StartsFrom b site s) (sym old) (record {
+  r = r;
+  recovered = is_recovered;
+  begins = begins;
+  opened = subst (λ (seen : Seen). IsOpened r.line seen s) is (subst (λ (l : Line). IsOpened l left s) same opens);
+})
+
+-- of which version the journal is
+pub old-by : (slaves : List (List ℕ)) (bytes : List ℕ) (site : SiteValue) (was_old : Bool) → IsSiteOf slaves bytes site → was_old ≡ is_old bytes → was_old ≡ is_old site.seen.state.disk.bytes
+old-by slaves bytes site was_old made is = is ∙ ap (λ (seen : Seen). is_old seen.state.disk.bytes) (sym made.seen)
 
 -- ---- one that was given up
 
-pub ends-unopened : (old new : Known) (line : LineFile) (before : Seen) (commands : List Command) (status : Status) → ChangesAmong old new (files_of line) → ¬ IsFaultless status → EndsRun old new line before commands status
-ends-unopened old new line before commands status others bad = record { others = others; saved = λ good. absurd (bad good) }
+pub ends-unopened : (old new : Known) (line : LineFile) (site : SiteValue) (commands : List Command) (status : Status) → ChangesAmong old new (files_of line) → ¬ IsFaultless status → EndsRun old new line site commands status
+ends-unopened old new line site commands status others bad = record { others = others; saved = λ good. absurd (bad good) }
 
 pub ends-unrecovered : (old new : Known) (line : LineFile) (before : Seen) (status : Status) → ChangesAmong old new (files_of line) → ¬ IsFaultless status → EndsRecovery old new line before status
 ends-unrecovered old new line before status others bad = record { others = others; saved = λ done. absurd (bad (done-faultless status done)) }
@@ -121,9 +132,9 @@ ends-recovered old new line before s saved state one other final is_recovered be
 -- ---- the whole
 
 pub runs : (old loaded new : Known) (name script : List ℕ) (line : LineFile) (site : SiteValue) (commands : List Command) (status : Status) → Loads old name line site → SpellsCommands old script commands → loaded ≡ old
-    → EndsRun loaded new line site.seen commands status → Runs old new name script status
+    → EndsRun loaded new line site commands status → Runs old new name script status
 runs old loaded new name script line site commands status given spelt same ends =
-    let P : Known → Type 0 = λ files. EndsRun files new line site.seen commands status in
+    let P : Known → Type 0 = λ files. EndsRun files new line site commands status in
     inr (record { line = line; site = site; loaded = given; commands = commands; spelt = spelt; ends = subst P same ends })
 
 pub recovers : (old loaded new : Known) (name : List ℕ) (line : LineFile) (site : SiteValue) (status : Status) → Loads old name line site → loaded ≡ old → EndsRecovery loaded new line site.seen status → Recovers old new name status

@@ -1,13 +1,14 @@
 -- A line with its journal: what is read of it from files, how a station on it begins, and what its files hold in the end.
-use Rattle.std.specs.Prelude.{◌≡◌, ◌⊎◌, List, length, string_bytes, ℕ, ⊤}
+use Rattle.std.specs.Prelude.{◌≡◌, ◌⊎◌, ◌==◌, ◌&&◌, Bool, true, false, not, nat_le, List, length, slice_index, string_bytes, ℕ, ⊤}
 use Rattle.sii_edit.specs.declared.command.Command.{Command}
+use Rattle.site_core.specs.Line.{Line}
 use Rattle.site_core.specs.State.{Seen}
 use Rattle.site_mem.specs.Site.{SiteValue}
 use Rattle.site_journal.specs.declared.fault.ReadFault.TheVariants as read
 use Rattle.station_alone.specs.declared.fault.OpenFault.{OpenFault}
 use Rattle.station_alone.specs.declared.fault.OpenFault.TheVariants as why
 use Rattle.station_alone.specs.Station.{Station}
-use Rattle.station_alone.specs.Opening.{BeginsSession}
+use Rattle.station_alone.specs.Opening.{Opens, BeginsSession}
 use Rattle.station_recovery.specs.Recovery.{IsRecovered, BeginsRecovered}
 use Rattle.station_text.specs.declared.line_file.LineFile.{LineFile}
 use Rattle.station_files.specs.Faults.{IsFaultless}
@@ -42,10 +43,26 @@ IsRefusal fault = ⊥
 
 -- ---- how a station begins
 
--- The station was opened on this site; or it was opened on what a recovery left of it.
-pub data StartsFrom (before : Seen) (s : Station) : Type 0 where
-  directly : BeginsSession before s → StartsFrom before s
-  recovered : (r : Station) → BeginsRecovered before r → BeginsSession r.seen s → StartsFrom before s
+-- the journal's file says that it isn't of version 2: by its version byte, where it has one
+abbrev pub is_old : List ℕ → Bool
+is_old bytes = nat_le 2 (length bytes) && not (slice_index bytes 1 == 2)
+
+-- The station was opened on this site.
+pub record IsOpened (line : Line) (before : Seen) (s : Station) : Type 0 where
+  pub opens : Opens line before s
+  pub begins : BeginsSession before s
+
+-- The station was opened on what a recovery left of this site.
+pub record IsOpenedRecovered (before : Seen) (s : Station) : Type 0 where
+  pub r : Station
+  pub recovered : IsRecovered r
+  pub begins : BeginsRecovered before r
+  pub opened : IsOpened r.line r.seen s
+
+-- A line whose journal is old is recovered first.
+abbrev pub StartsFrom : (was_old : Bool) → SiteValue → Station → Type 0
+StartsFrom true site s = IsOpenedRecovered site.seen s
+StartsFrom false site s = IsOpened site.line site.seen s
 
 -- ---- what the files hold in the end
 
@@ -90,16 +107,16 @@ pub record EndsStation (old new : Known) (line : LineFile) (opened : Station) (c
   pub others : ChangesAmong old new (files_of line)
   pub saved : IsFaultless status → SavesServed new line opened commands status
 
--- The files hold what was left of a station that was opened on this site.
-pub record SavesRun (files : Known) (line : LineFile) (before : Seen) (commands : List Command) (status : Status) : Type 0 where
+-- The files hold what was left of a station that was opened on this site, recovered first where its journal was old.
+pub record SavesRun (files : Known) (line : LineFile) (site : SiteValue) (commands : List Command) (status : Status) : Type 0 where
   pub opened : Station
-  pub starts : StartsFrom before opened
+  pub starts : StartsFrom (is_old site.seen.state.disk.bytes) site opened
   pub serves : SavesServed files line opened commands status
 
 -- The same of a line on which a station was opened.
-pub record EndsRun (old new : Known) (line : LineFile) (before : Seen) (commands : List Command) (status : Status) : Type 0 where
+pub record EndsRun (old new : Known) (line : LineFile) (site : SiteValue) (commands : List Command) (status : Status) : Type 0 where
   pub others : ChangesAmong old new (files_of line)
-  pub saved : IsFaultless status → SavesRun new line before commands status
+  pub saved : IsFaultless status → SavesRun new line site commands status
 
 -- The line and the script were read before.
 pub record RunsFiles (old new : Known) (name script : List ℕ) (status : Status) : Type 0 where
@@ -108,7 +125,7 @@ pub record RunsFiles (old new : Known) (name script : List ℕ) (status : Status
   pub loaded : Loads old name line site
   pub commands : List Command
   pub spelt : SpellsCommands old script commands
-  pub ends : EndsRun old new line site.seen commands status
+  pub ends : EndsRun old new line site commands status
 
 abbrev pub Runs : Known → Known → List ℕ → List ℕ → Status → Type 0
 Runs old new name script status = Stops old new status ⊎ RunsFiles old new name script status

@@ -2,8 +2,7 @@
 ghost use Rattle.std.specs.Prelude.{◌≡◌, length, IfErr, IfOk, IsTrue, OnOk, MatchResult};
 ghost use Rattle.site_line.specs.Owned.{OwnsAll};
 ghost use Rattle.station_files.specs.ScriptFiles.{SpellsCommands};
-ghost use Rattle.station_alone.specs.Opening.{BeginsSession};
-ghost use Rattle.station_session.specs.Session.{EndsRun, EndsStation, Loads, Runs, StartsFrom};
+ghost use Rattle.station_session.specs.Session.{is_old, EndsRun, EndsStation, IsOpened, Loads, Runs, StartsFrom};
 
 use crate::session::{Session, give_up, load_session};
 use sii_edit::Command;
@@ -64,7 +63,8 @@ fn run_given<S: Store, W: Write, E: Write>(
     requires disk { IsTrue given.session.site.line.has_disk }
     requires owned { OwnsAll given.session.site.line }
     requires slaves { length given.session.site.line.sizes ≡ length given.session.line.images.items }
-    ensures { EndsRun (S.files store.old) (S.files store.new) given.session.line given.session.site.seen given.commands.items result }
+    requires old { given.session.is_old ≡ is_old given.session.site.seen.state.disk.bytes }
+    ensures { EndsRun (S.files store.old) (S.files store.new) given.session.line given.session.site given.commands.items result }
 {
     let Given { session, commands } = given;
     let Session { line, site, is_old } = session;
@@ -77,6 +77,7 @@ fn run_given<S: Store, W: Write, E: Write>(
 /// Reads the files in order: line, slaves, journal, script, its images.
 fn load<S: Store>(alloc: Global, name: &str, script: &str, store: &mut S) -> Result<Given, Fault>
     ensures loaded { IfOk result (λ given. Loads (S.files store.old) name.now given.session.line given.session.site) }
+    ensures old { IfOk result (λ given. given.session.is_old ≡ is_old given.session.site.seen.state.disk.bytes) }
     ensures spelt { IfOk result (λ given. SpellsCommands (S.files store.old) script.now given.commands.items) }
     ensures same { S.files store.new ≡ S.files store.old }
 {
@@ -95,7 +96,7 @@ fn open_station(
     requires disk { IsTrue site.line.has_disk }
     requires owned { OwnsAll site.line }
     ensures line { MatchResult result (λ alone. alone.line ≡ site.line) (λ back. back.0.line ≡ site.line) }
-    ensures starts { IfOk result (λ alone. StartsFrom site.seen alone) }
+    ensures starts { IfOk result (λ alone. StartsFrom is_old site alone) }
 {
     if is_old {
         let (alone, _recovered) = recover(alloc, site)?;
@@ -114,7 +115,7 @@ fn open_fused(
     requires disk { IsTrue site.line.has_disk }
     requires owned { OwnsAll site.line }
     ensures line { MatchResult result (λ alone. alone.line ≡ site.line) (λ back. back.0.line ≡ site.line) }
-    ensures begins { IfOk result (λ alone. BeginsSession site.seen alone) }
+    ensures opened { IfOk result (λ alone. IsOpened site.line site.seen alone) }
 {
     if let Some(fuse) = fuse {
         // The sync with which the station opens is a device write too.

@@ -3,7 +3,7 @@ ghost use Rattle.std.specs.Prelude.{◌≡◌, ◌↔◌, length, IfOk, IsTrue};
 ghost use Rattle.station_files.specs.Faults.{IsFaultless};
 ghost use Rattle.station_files.specs.Files.{ChangesAmong};
 ghost use Rattle.station_bench.specs.Site.{files_of};
-ghost use Rattle.station_session.specs.Session.{IsRefusal, Loads};
+ghost use Rattle.station_session.specs.Session.{is_old, IsRefusal, Loads};
 
 use crate::faults::of_open;
 use jrn_format::version;
@@ -34,6 +34,7 @@ pub(crate) fn load_session<S: Store>(
     store: &mut S,
 ) -> Result<Session, Fault>
     ensures loaded { IfOk result (λ session. Loads (S.files store.old) name.now session.line session.site) }
+    ensures old { IfOk result (λ session. session.is_old ≡ is_old session.site.seen.state.disk.bytes) }
     ensures same { S.files store.new ≡ S.files store.old }
 {
     let line = load_line(alloc, name, store)?;
@@ -45,7 +46,9 @@ pub(crate) fn load_session<S: Store>(
 }
 
 /// Whether a journal's file says that it isn't of version 2.
-fn is_old(journal: &[u8]) -> bool {
+fn is_old(journal: &[u8]) -> bool
+    ensures { result ≡ is_old journal.now }
+{
     journal.len() >= 2 && version(journal) != 2
 }
 

@@ -1,6 +1,5 @@
 pub mod HexDigits
 pub mod Keys
-pub mod ListedMembers
 pub mod Readings
 pub mod ScriptRefusals
 pub mod ScriptValues

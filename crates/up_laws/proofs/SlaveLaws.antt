@@ -55,7 +55,7 @@ this-cell : (cells : List Cell) (word : ℕ) (cell : Cell) → word < length cel
 this-cell cells word cell inside = get_or-set_same cells word cell nothing inside
 
 -- all words but one may hold what they hold in these words
-words-but : (cells : List Cell) (word : ℕ) (cell : Cell) (left old : List ℕ) → word < length cells
+pub words-but : (cells : List Cell) (word : ℕ) (cell : Cell) (left old : List ℕ) → word < length cells
     → ((at : ℕ) → at < length cells → MayBe (cell_of cells at).known (get_or old at 0))
     → MayBe cell.known (get_or left word 0) → ((at : ℕ) → at ≢ word → get_or left at 0 ≡ get_or old at 0)
     → (at : ℕ) → at < length (set cells word cell) → MayBe (cell_of (set cells word cell) at).known (get_or left at 0)
@@ -76,7 +76,7 @@ asked-asks slave half cells word value took inside owed taken =
     }
 
 -- what a stop leaves of a half that took a word differs from the words that it had there alone
-taken-left : (slave word value : ℕ) (half later : SlaveHalf) (takes : TakesWord slave word value half later) (left : List ℕ) → MayLeave later left → (at : ℕ) → at ≢ word → get_or left at 0 ≡ get_or takes.rested.words at 0
+pub taken-left : (slave word value : ℕ) (half later : SlaveHalf) (takes : TakesWord slave word value half later) (left : List ℕ) → MayLeave later left → (at : ℕ) → at ≢ word → get_or left at 0 ≡ get_or takes.rested.words at 0
 taken-left slave word value half later takes left may at other = elim takes.writes [
   | inl writing ↦
       let held : (x : ℕ) × (left ≡ set later.words word x) = subst (λ (a : Activity). MayHold a later.words left) writing.0 may in

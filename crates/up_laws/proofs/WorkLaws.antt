@@ -79,7 +79,7 @@ some-of : (owed : List ℕ) → is_any owed ≡ true → 0 < length owed
 some-of [] is = absurd cc
 some-of (v ∷ owed) is = omega arith
 
-owed-inside : (cells : List Cell) (at : ℕ) → is_any (cell_of cells at).owed ≡ true → at < length cells
+pub owed-inside : (cells : List Cell) (at : ℕ) → is_any (cell_of cells at).owed ≡ true → at < length cells
 owed-inside cells at some = elim (cases_lt at (length cells)) [
   | inl within ↦ within
   | inr past ↦ let none : cell_of cells at ≡ no_cell = get_or_past cells at no_cell past in let no : is_any (cell_of cells at).owed ≡ false = ap (λ (c : Cell). is_any c.owed) none in absurd cc

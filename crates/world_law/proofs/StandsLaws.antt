@@ -1,11 +1,9 @@
 -- What stands of the world at each moment, and what follows from it for callers.
 use Rattle.std.proofs.Common.{◌≡◌, ℕ, ◌*◌, ◌<◌, ◌≤◌, Bool, true, false, List, [], ◌∷◌, ◌++◌, length, take, refl, sym, ◌∙◌, ap, subst, arith, length-append, length-take, Some, None}
 use Rattle.std.specs.List.{AllByRecursion}
-use Rattle.std.proofs.lemmas.List.{take_all}
 use Rattle.sii_runs.specs.Redo.{redone}
 use Rattle.sii_runs.proofs.RedoLaws.{redone-nil}
-use Rattle.sii_edit.specs.declared.command.Command.{Command}
-use Rattle.sii_edit.specs.Fold.{contents, contents_after}
+use Rattle.sii_edit.proofs.FoldLaws.{none-taken}
 use Rattle.jrn_format.specs.declared.journal.Entry.{Entry}
 use Rattle.jrn_format.specs.declared.journal.Batch.{Batch}
 use Rattle.esc_model.specs.SlaveHalf.{SlaveHalf}
@@ -72,10 +70,6 @@ stands-opens world session stands can idle =
     (_, _, record { can = can; journal = kept.journal; found = record { is_journal = kept.live; synced = record { all = refl; whole = omega arith }; idle = idle }; says = refl; is = refl })
 
 -- ---- a recovery is complete
-
-none-taken : (base : List (List ℕ)) (commands : List Command) (k : ℕ) → commands ≡ [] → contents_after base commands k ≡ base
-none-taken base commands k none =
-    ap (λ (l : List Command). contents_after base l k) none ∙ ap (λ (l : List Command). contents base l) (take_all k [] (omega arith))
 
 up-recovered : (frame : Frame) (world : World) (book : Book) (m : Machine) → Up frame book world.state world.took m → IsRecovered world book → HoldsBase world book m
 up-recovered frame world book m up done =

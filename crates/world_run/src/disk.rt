@@ -6,6 +6,7 @@ ghost use Rattle.world_run.specs.Torn.{disk_of, synced_of, range_of, FailsAs, St
 
 use crate::leaving::{LeftByte, Stretch, leave};
 use book_model::DiskNext;
+use disk_mem::lay_over;
 use jrn_format::{CLOSED, OPEN, header};
 use std::alloc::{AllocError, Global};
 
@@ -16,19 +17,6 @@ pub(crate) struct WorldDisk {
     /// What was written since the last sync, the latest range first.
     unsynced: Vec<Stretch>,
     synced_length: usize,
-}
-
-/// Lays bytes over others from a place on, past the end too.
-fn lay_over(bytes: &mut Vec<u8>, at: usize, over: &[u8]) -> Result<(), AllocError>
-    ensures ok { OnOk result (bytes.new.items ≡ overlaid bytes.old.items at over.now) }
-    ensures err { OnErr result (bytes.new.items ≡ bytes.old.items) }
-{
-    let front = at.min(bytes.len());
-    let inside = over.len().min(bytes.len() - front);
-    let (kept, behind) = over.split_at(inside);
-    bytes.extend_from_slice(behind)?;
-    bytes[front..front + inside].copy_from_slice(kept);
-    Ok(())
 }
 
 /// The bytes that an action writes, where it writes any.

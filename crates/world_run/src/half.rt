@@ -8,12 +8,7 @@ ghost use Rattle.world_run.specs.Sides.{StandsAt, HandsTo};
 
 use ecat_frame::{Command, fp};
 use esc_model::{Rest, RomHalf, station_address};
-
-/// Control and status.
-const CONTROL: u16 = 0x0502;
-
-/// Control with write enable, and the command write.
-const WRITE: u16 = 0x0201;
+use esc_rom::{CONTROL, write_content};
 
 /// From here on the high byte of control and status shows an error, or that the slave is busy.
 const NOT_WELL: u8 = 0x20;
@@ -25,16 +20,6 @@ pub enum WordEnd {
     Well,
     /// Bit 13 is set, and the word holds this.
     Failed { left: u16 },
-}
-
-/// Control, the word's number as 32 bits, and its value.
-fn write_content(word: u16, value: u16) -> [u8; 8]
-    ensures { result ≡ to_le_bytes w16 0x0201 ++ to_le_bytes w32 word ++ to_le_bytes w16 value }
-{
-    let [enable, command] = WRITE.to_le_bytes();
-    let [a, b, c, d] = u32::from(word).to_le_bytes();
-    let [low, high] = value.to_le_bytes();
-    [enable, command, a, b, c, d, low, high]
 }
 
 /// An idle half takes the datagram that names this word and value.

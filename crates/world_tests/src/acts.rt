@@ -3,9 +3,8 @@
 use crate::contents::{contents_in, held, zero_slaves};
 use book_model::RomOutcome;
 use sii_edit::{Command, Edit};
+use sii_words::Words;
 use std::alloc::Global;
-use std::process::Abort;
-use std::test::Fail;
 use world_run::{DiskEnd, Event, Left, LeftByte, LeftWord, WordEnd, World, step};
 
 /// What happens to a world of one slave, or is seen of it.
@@ -40,24 +39,38 @@ pub(crate) enum Seen {
     Byte(usize, u8),
 }
 
-/// So many zero slaves, whose disk begins with these bytes and goes on with zeros.
-pub(crate) fn world_on(
-    rt: &impl Abort,
-    alloc: Global,
-    count: usize,
-    front: &[u8],
-) -> Result<World, Fail> {
-    let slaves = zero_slaves(alloc, count)?;
-    assert!(rt; slaves.len() >= 1 && slaves.len() <= 64);
-    let mut bytes = Vec::from_slice(alloc, front)?;
-    bytes.resize(4104, 0)?;
-    Ok(World::with_disk(alloc, slaves, bytes)?)
+/// A disk that begins with these bytes and goes on with zeros.
+fn disk_on(alloc: Global, front: &[u8]) -> Option<Vec<u8>> {
+    let mut bytes = Vec::from_slice(alloc, front).ok()?;
+    bytes.resize(4104, 0).ok()?;
+    Some(bytes)
 }
 
-/// The event happens, where it can.
-pub(crate) fn happens(world: &mut World, event: Event) -> Result<bool, Fail> {
-    step(world, event)?;
-    Ok(true)
+/// A world of 1 to 64 slaves.
+fn world_of(alloc: Global, slaves: Vec<Words>, bytes: Vec<u8>) -> Option<World> {
+    if slaves.len() < 1 || slaves.len() > 64 {
+        return None;
+    }
+    World::with_disk(alloc, slaves, bytes).ok()
+}
+
+/// So many zero slaves, whose disk begins with these bytes and goes on with zeros.
+pub(crate) fn world_on(alloc: Global, count: usize, front: &[u8]) -> Option<World> {
+    let slaves = zero_slaves(alloc, count)?;
+    let bytes = disk_on(alloc, front)?;
+    world_of(alloc, slaves, bytes)
+}
+
+/// The event happens, where it can. Whether there was memory for it.
+pub(crate) fn happens(world: &mut World, event: Event) -> bool {
+    step(world, event).is_ok()
+}
+
+/// A stop that leaves this.
+fn stop_of(alloc: Global, bytes: &[LeftByte], words: &[LeftWord]) -> Option<Event> {
+    let bytes = bytes.to_vec(alloc).ok()?;
+    let words = words.to_vec(alloc).ok()?;
+    Some(Event::Stop(Left { bytes, words }))
 }
 
 /// A stop leaves this.
@@ -66,10 +79,11 @@ pub(crate) fn stops(
     world: &mut World,
     bytes: &[LeftByte],
     words: &[LeftWord],
-) -> Result<bool, Fail> {
-    let bytes = bytes.to_vec(alloc)?;
-    let words = words.to_vec(alloc)?;
-    happens(world, Event::Stop(Left { bytes, words }))
+) -> bool {
+    match stop_of(alloc, bytes, words) {
+        Some(event) => return happens(world, event),
+        None => return false,
+    }
 }
 
 /// Whether the book has this alias for the slave, and so many live bytes.
@@ -81,78 +95,94 @@ fn book_is(world: &World, alias: u16, live: u64) -> bool {
 }
 
 /// Whether the slave's words 4 and 7 are these.
-fn slave_is(world: &World, alias: u16, check: u16) -> Result<bool, Fail> {
-    let [slave, _none] = held(world)?;
-    Ok(slave[4] == alias && slave[7] == check)
+fn slave_is(world: &World, alias: u16, check: u16) -> bool {
+    let Some(contents) = held(world) else {
+        return false;
+    };
+    contents[0][4] == alias && contents[0][7] == check
 }
 
 /// Whether this is seen.
-fn sees(world: &World, seen: &Seen) -> Result<bool, Fail> {
-    match *seen {
-        Seen::Down => return Ok(world.core().is_none()),
-        Seen::Book(alias, live) => return Ok(book_is(world, alias, live)),
+fn sees(world: &World, seen: Seen) -> bool {
+    match seen {
+        Seen::Down => return world.core().is_none(),
+        Seen::Book(alias, live) => return book_is(world, alias, live),
         Seen::Slave(alias, check) => return slave_is(world, alias, check),
-        Seen::Byte(at, byte) => return Ok(world.disk().get(at) == Some(&byte)),
+        Seen::Byte(at, byte) => return world.disk().get(at) == Some(&byte),
     }
 }
 
-/// A command is asked for that gives the slave an alias.
-fn asks_alias(world: &mut World, value: u16) -> Result<bool, Fail> {
-    let edit = Edit::Alias { slave: 0, value };
-    happens(world, Event::Submit(Command::One(edit)))
+/// What is done to a world, but for a stop.
+fn event_of(act: Act) -> Option<Event> {
+    let slave = 0;
+    match act {
+        Act::Open => return Some(Event::Open),
+        Act::Alias(value) => return Some(Event::Submit(Command::One(Edit::Alias { slave, value }))),
+        Act::Migrate => return Some(Event::Migrate),
+        Act::Begin => return Some(Event::DiskBegin),
+        Act::Done => return Some(Event::DiskDone(DiskEnd::Done)),
+        Act::Rom => return Some(Event::RomIssue { slave, takes: true }),
+        Act::Back(outcome) => return Some(Event::RomDone { slave, outcome }),
+        Act::Rest(end) => return Some(Event::RomResolve { slave, end }),
+        Act::Stop(..) | Act::Sees(..) => return None,
+    }
+}
+
+/// This is done.
+fn does(world: &mut World, act: Act) -> bool {
+    match event_of(act) {
+        Some(event) => return happens(world, event),
+        None => return false,
+    }
 }
 
 /// An event happens, or whether this is seen.
-fn comes(alloc: Global, world: &mut World, act: &Act) -> Result<bool, Fail> {
-    match *act {
-        Act::Open => return happens(world, Event::Open),
-        Act::Alias(value) => return asks_alias(world, value),
-        Act::Migrate => return happens(world, Event::Migrate),
-        Act::Begin => return happens(world, Event::DiskBegin),
-        Act::Done => return happens(world, Event::DiskDone(DiskEnd::Done)),
-        Act::Rom => return happens(
-            world,
-            Event::RomIssue {
-                slave: 0,
-                takes: true,
-            },
-        ),
-        Act::Back(outcome) => return happens(world, Event::RomDone { slave: 0, outcome }),
-        Act::Rest(end) => return happens(world, Event::RomResolve { slave: 0, end }),
+fn comes(alloc: Global, world: &mut World, act: Act) -> bool {
+    match act {
         Act::Stop(bytes, words) => return stops(alloc, world, bytes, words),
-        Act::Sees(seen) => return sees(world, &seen),
+        Act::Sees(seen) => return sees(world, seen),
+        _ => return does(world, act),
     }
 }
 
-/// How many acts come as they are told, before one that doesn't.
-fn told(alloc: Global, world: &mut World, acts: &[Act]) -> Result<usize, Fail> {
-    for count in 0..acts.len() {
-        if !comes(alloc, world, &acts[count])? {
-            return Ok(count);
+/// Whether all acts come as they are told.
+fn told(alloc: Global, world: &mut World, acts: &[Act]) -> bool {
+    for act in acts {
+        if !comes(alloc, world, *act) {
+            return false;
         }
     }
-    Ok(acts.len())
+    true
 }
 
-/// How many parts come as they are told.
-fn parts_told(alloc: Global, world: &mut World, parts: &[&[Act]]) -> Result<usize, Fail> {
-    for count in 0..parts.len() {
-        if told(alloc, world, parts[count])? < parts[count].len() {
-            return Ok(count);
+/// Whether all parts come as they are told.
+fn parts_told(alloc: Global, world: &mut World, parts: &[&[Act]]) -> bool {
+    for acts in parts {
+        if !told(alloc, world, acts) {
+            return false;
         }
     }
-    Ok(parts.len())
+    true
 }
 
 /// What a world's disk begins with, and what happens to it, part after part.
 pub(crate) type Case = (&'static [u8], &'static [&'static [Act]]);
 
-/// Each case comes as it is told.
-pub(crate) fn all_come(rt: &impl Abort, alloc: Global, cases: &[Case]) -> Result<(), Fail> {
-    for (front, parts) in cases {
-        let mut world = world_on(rt, alloc, 1, front)?;
-        let count = parts_told(alloc, &mut world, parts)?;
-        assert_eq!(rt; count, parts.len());
+/// Whether a case comes as it is told.
+fn is_told(alloc: Global, front: &[u8], parts: &[&[Act]]) -> bool {
+    match world_on(alloc, 1, front) {
+        Some(mut world) => return parts_told(alloc, &mut world, parts),
+        None => return false,
     }
-    Ok(())
+}
+
+/// How many cases come as they are told, before one that doesn't.
+pub(crate) fn count_told(alloc: Global, cases: &[Case]) -> usize {
+    for count in 0..cases.len() {
+        let (front, parts) = cases[count];
+        if !is_told(alloc, front, parts) {
+            return count;
+        }
+    }
+    cases.len()
 }

@@ -3,7 +3,6 @@
 use book_core::Core;
 use sii_words::Words;
 use std::alloc::Global;
-use std::test::Fail;
 use world_run::World;
 
 pub(crate) type Contents = [[u16; 64]; 2];
@@ -46,23 +45,24 @@ pub(crate) fn contents_in(book: &Core) -> Contents {
 }
 
 /// What the slaves of a world hold. A word in flight has its old value there.
-pub(crate) fn held(world: &World) -> Result<Contents, Fail> {
-    let slaves = world.words()?;
-    Ok(contents_of(&slaves))
+pub(crate) fn held(world: &World) -> Option<Contents> {
+    let slaves = world.words().ok()?;
+    Some(contents_of(&slaves))
 }
 
 /// A slave of zeros, but for its check byte.
-fn zero_slave(alloc: Global) -> Result<Words, Fail> {
+fn zero_slave(alloc: Global) -> Option<Words> {
     let mut bytes = [0u8; 128];
     bytes[14] = 0x30;
-    Ok(Words::from_bytes(alloc, &bytes)?)
+    Words::from_bytes(alloc, &bytes).ok()
 }
 
 /// So many of them.
-pub(crate) fn zero_slaves(alloc: Global, count: usize) -> Result<Vec<Words>, Fail> {
+pub(crate) fn zero_slaves(alloc: Global, count: usize) -> Option<Vec<Words>> {
     let mut slaves = Vec::new(alloc);
     for _slave in 0..count {
-        slaves.push(zero_slave(alloc)?)?;
+        let words = zero_slave(alloc)?;
+        slaves.push(words).ok()?;
     }
-    Ok(slaves)
+    Some(slaves)
 }

@@ -2,8 +2,7 @@
 
 use crate::contents::{Contents, held, put};
 use jrn_format::{Batch, Entry, Journal, scan};
-use std::alloc::{AllocError, Global};
-use std::test::Fail;
+use std::alloc::Global;
 use world_run::World;
 
 /// What callers know of a session: the contents that it began with and those after each accepted command, and how many commands
@@ -16,19 +15,19 @@ pub(crate) struct Session {
 
 impl Session {
     /// A session that began with these contents.
-    pub(crate) fn of(alloc: Global, base: Contents) -> Result<Session, AllocError> {
-        Ok(Session {
-            contents: [base].to_vec(alloc)?,
+    pub(crate) fn of(alloc: Global, base: Contents) -> Option<Session> {
+        let contents = [base].to_vec(alloc).ok()?;
+        Some(Session {
+            contents,
             acknowledged: 0,
         })
     }
 
-    /// The next one begins with these.
-    pub(crate) fn begin(&mut self, base: Contents) -> Result<(), Fail> {
+    /// The next one begins with these. Whether there was memory for them.
+    pub(crate) fn begin(&mut self, base: Contents) -> bool {
         self.contents.clear();
         self.acknowledged = 0;
-        self.contents.push(base)?;
-        Ok(())
+        self.contents.push(base).is_ok()
     }
 
     /// The contents after all accepted commands.
@@ -70,15 +69,19 @@ fn redo_journal(contents: &mut Contents, journal: &Journal) {
     }
 }
 
+/// What the slaves hold after a redo of what is live on the disk, if that has a journal.
+fn redone(alloc: Global, world: &World) -> Option<Contents> {
+    let mut contents = held(world)?;
+    let journal = scan(alloc, world.disk(), &[64, 64]).ok()?;
+    redo_journal(&mut contents, &journal);
+    Some(contents)
+}
+
 /// Whether what a stop has left is kept: the disk has a journal, and after a redo of what is live in it the slaves hold contents of
 /// the session.
-pub(crate) fn is_kept(alloc: Global, world: &World, session: &Session) -> Result<bool, Fail> {
-    let mut contents = held(world)?;
-    match scan(alloc, world.disk(), &[64, 64]) {
-        Ok(journal) => {
-            redo_journal(&mut contents, &journal);
-            return Ok(session.has(&contents));
-        }
-        Err(_fault) => return Ok(false),
+pub(crate) fn is_kept(alloc: Global, world: &World, session: &Session) -> bool {
+    match redone(alloc, world) {
+        Some(contents) => return session.has(&contents),
+        None => return false,
     }
 }

@@ -8,9 +8,7 @@ use book_model::RomOutcome;
 use sii_edit::{Command, Edit};
 use site_core::{DeviceFault, Issued, Settled};
 use std::alloc::Global;
-use std::process::Abort;
-use std::test::Fail;
-use world_run::{DiskEnd, Event, WordEnd, World, step};
+use world_run::{DiskEnd, Event, WordEnd, World};
 
 /// Headers for two slaves, of version 1 and of version 2.
 const HEADERS: [[u8; 8]; 2] = [
@@ -53,44 +51,38 @@ fn acknowledge(world: &World, session: &mut Session) {
 }
 
 /// A session begins with contents of the one before.
-fn goes_on(world: &World, session: &mut Session) -> Result<bool, Fail> {
+fn goes_on(world: &World, session: &mut Session) -> bool {
     let Some(base) = book(world) else {
-        return Ok(false);
+        return false;
     };
     let is_known = session.has(&base);
-    session.begin(base)?;
-    Ok(is_known)
+    session.begin(base) && is_known
 }
 
-fn opens(world: &mut World, session: &mut Session) -> Result<bool, Fail> {
+fn opens(world: &mut World, session: &mut Session) -> bool {
     if is_up(world) {
         return happens(world, Event::Open);
     }
     acknowledge(world, session);
-    step(world, Event::Open)?;
-    if is_up(world) {
-        return goes_on(world, session);
+    if !happens(world, Event::Open) {
+        return false;
     }
-    Ok(true)
+    !is_up(world) || goes_on(world, session)
 }
 
 /// A command is asked for, behind which the contents would be these.
-fn asks(
-    world: &mut World,
-    session: &mut Session,
-    command: Command,
-    after: Contents,
-) -> Result<bool, Fail> {
+fn asks(world: &mut World, session: &mut Session, command: Command, after: Contents) -> bool {
     let before = accepted(world);
-    step(world, Event::Submit(command))?;
-    if accepted(world) == before {
-        return Ok(true);
+    if !happens(world, Event::Submit(command)) {
+        return false;
     }
-    session.contents.push(after)?;
-    Ok(book(world) == Some(after))
+    if accepted(world) == before {
+        return true;
+    }
+    session.contents.push(after).is_ok() && book(world) == Some(after)
 }
 
-fn asks_alias(world: &mut World, session: &mut Session, dice: &mut Dice) -> Result<bool, Fail> {
+fn asks_alias(world: &mut World, session: &mut Session, dice: &mut Dice) -> bool {
     let slave = dice.below(2);
     let (value, check) = ALIASES[usize::from(dice.below(3))];
     let mut after = session.last();
@@ -104,7 +96,7 @@ fn asks_alias(world: &mut World, session: &mut Session, dice: &mut Dice) -> Resu
     )
 }
 
-fn asks_swap(world: &mut World, session: &mut Session) -> Result<bool, Fail> {
+fn asks_swap(world: &mut World, session: &mut Session) -> bool {
     let [first, second] = session.last();
     asks(
         world,
@@ -114,7 +106,7 @@ fn asks_swap(world: &mut World, session: &mut Session) -> Result<bool, Fail> {
     )
 }
 
-fn of_caller(world: &mut World, session: &mut Session, dice: &mut Dice) -> Result<bool, Fail> {
+fn of_caller(world: &mut World, session: &mut Session, dice: &mut Dice) -> bool {
     match dice.below(64) {
         0 => return happens(world, Event::Finish),
         1 => return happens(world, Event::Plan),
@@ -129,24 +121,20 @@ fn back(slave: u16, outcome: RomOutcome) -> Event {
     Event::RomDone { slave, outcome }
 }
 
-fn disk_fails(alloc: Global, world: &mut World, dice: &mut Dice) -> Result<bool, Fail> {
-    let bytes = [dice.left_byte()].to_vec(alloc)?;
-    happens(
-        world,
-        Event::DiskDone(DiskEnd::Failed {
-            fault: DeviceFault::Disk,
-            bytes,
-        }),
-    )
+fn disk_fails(alloc: Global, world: &mut World, dice: &mut Dice) -> bool {
+    let Ok(bytes) = [dice.left_byte()].to_vec(alloc) else {
+        return false;
+    };
+    let fault = DeviceFault::Disk;
+    happens(world, Event::DiskDone(DiskEnd::Failed { fault, bytes }))
 }
 
 /// An action of the disk begins and comes back.
-fn acts(world: &mut World) -> Result<bool, Fail> {
-    step(world, Event::DiskBegin)?;
-    happens(world, Event::DiskDone(DiskEnd::Done))
+fn acts(world: &mut World) -> bool {
+    happens(world, Event::DiskBegin) && happens(world, Event::DiskDone(DiskEnd::Done))
 }
 
-fn of_disk(alloc: Global, world: &mut World, dice: &mut Dice) -> Result<bool, Fail> {
+fn of_disk(alloc: Global, world: &mut World, dice: &mut Dice) -> bool {
     match dice.below(128) {
         0 => return disk_fails(alloc, world, dice),
         1..=31 => return happens(world, Event::DiskBegin),
@@ -155,18 +143,26 @@ fn of_disk(alloc: Global, world: &mut World, dice: &mut Dice) -> Result<bool, Fa
     }
 }
 
-/// A word of a slave is issued and written.
-fn writes(world: &mut World, slave: u16) -> Result<bool, Fail> {
+/// Something begins with a slave, which takes what it is issued, and this comes back.
+fn calls(world: &mut World, slave: u16, outcome: RomOutcome) -> bool {
     let takes = true;
-    let end = WordEnd::Well;
-    step(world, Event::RomIssue { slave, takes })?;
-    step(world, back(slave, RomOutcome::Issued(Issued::Taken)))?;
-    step(world, Event::RomResolve { slave, end })?;
-    step(world, Event::RomIssue { slave, takes })?;
-    happens(world, back(slave, RomOutcome::Settled(Settled::Written)))
+    happens(world, Event::RomIssue { slave, takes }) && happens(world, back(slave, outcome))
 }
 
-fn of_slave(world: &mut World, dice: &mut Dice) -> Result<bool, Fail> {
+/// The word in flight is written well.
+fn rests(world: &mut World, slave: u16) -> bool {
+    let end = WordEnd::Well;
+    happens(world, Event::RomResolve { slave, end })
+}
+
+/// A word of a slave is issued and written.
+fn writes(world: &mut World, slave: u16) -> bool {
+    calls(world, slave, RomOutcome::Issued(Issued::Taken))
+        && rests(world, slave)
+        && calls(world, slave, RomOutcome::Settled(Settled::Written))
+}
+
+fn of_slave(world: &mut World, dice: &mut Dice) -> bool {
     let slave = dice.below(2);
     match dice.below(8) {
         0 => {
@@ -183,26 +179,15 @@ fn of_slave(world: &mut World, dice: &mut Dice) -> Result<bool, Fail> {
 }
 
 /// A stop, and whether what it leaves is kept.
-fn stops_kept(
-    alloc: Global,
-    world: &mut World,
-    session: &mut Session,
-    dice: &mut Dice,
-) -> Result<bool, Fail> {
+fn stops_kept(alloc: Global, world: &mut World, session: &mut Session, dice: &mut Dice) -> bool {
     acknowledge(world, session);
     let bytes = dice.left_bytes();
     let words = [dice.left_word()];
-    stops(alloc, world, &bytes, &words)?;
-    is_kept(alloc, world, session)
+    stops(alloc, world, &bytes, &words) && is_kept(alloc, world, session)
 }
 
 /// Something happens, and whether what is seen of it is right.
-fn goes_well(
-    alloc: Global,
-    world: &mut World,
-    session: &mut Session,
-    dice: &mut Dice,
-) -> Result<bool, Fail> {
+fn goes_well(alloc: Global, world: &mut World, session: &mut Session, dice: &mut Dice) -> bool {
     match dice.below(64) {
         0 => return stops_kept(alloc, world, session, dice),
         1..=4 => return opens(world, session),
@@ -218,34 +203,38 @@ fn list_goes_well(
     world: &mut World,
     session: &mut Session,
     dice: &mut Dice,
-) -> Result<bool, Fail> {
+) -> bool {
     for _choice in 0..128u8 {
-        if !goes_well(alloc, world, session, dice)? {
-            return Ok(false);
+        if !goes_well(alloc, world, session, dice) {
+            return false;
         }
     }
     stops_kept(alloc, world, session, dice)
 }
 
 /// Whether all is well in a list of events on a disk that begins so.
-fn begins_well(
-    rt: &impl Abort,
-    alloc: Global,
-    front: &[u8],
-    dice: &mut Dice,
-) -> Result<bool, Fail> {
-    let mut world = world_on(rt, alloc, 2, front)?;
-    let mut session = Session::of(alloc, zeros())?;
-    list_goes_well(alloc, &mut world, &mut session, dice)
+fn world_goes_well(alloc: Global, front: &[u8], session: &mut Session, dice: &mut Dice) -> bool {
+    match world_on(alloc, 2, front) {
+        Some(mut world) => return list_goes_well(alloc, &mut world, session, dice),
+        None => return false,
+    }
+}
+
+/// And so it is for a session of its own.
+fn begins_well(alloc: Global, front: &[u8], dice: &mut Dice) -> bool {
+    match Session::of(alloc, zeros()) {
+        Some(mut session) => return world_goes_well(alloc, front, &mut session, dice),
+        None => return false,
+    }
 }
 
 /// So many lists, on disks of both versions: how many of them go well before one that doesn't.
-pub(crate) fn count_well(rt: &impl Abort, alloc: Global, lists: usize) -> Result<usize, Fail> {
+pub(crate) fn count_well(alloc: Global, lists: usize) -> usize {
     let mut dice = Dice::of(1);
     for count in 0..lists {
-        if !begins_well(rt, alloc, &HEADERS[count % 2], &mut dice)? {
-            return Ok(count);
+        if !begins_well(alloc, &HEADERS[count % 2], &mut dice) {
+            return count;
         }
     }
-    Ok(lists)
+    lists
 }

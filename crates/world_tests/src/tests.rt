@@ -2,11 +2,10 @@
 
 use crate::acts::Act::{Alias, Back, Begin, Done, Migrate, Open, Rest, Rom, Sees, Stop};
 use crate::acts::Seen::{Book, Byte, Down, Slave};
-use crate::acts::{Act, Case, all_come};
+use crate::acts::{Act, Case, count_told};
 use crate::random::count_well;
 use book_model::RomOutcome;
 use site_core::{Issued, Settled};
-use std::test::Fail;
 use world_run::{LeftByte, LeftWord, WordEnd};
 
 /// A header for one slave.
@@ -110,8 +109,8 @@ const TORN_GATES: [Case; 4] = [
 ];
 
 #[test]
-fn gates_are_torn(rt: HostRuntime) -> Result<(), Fail> {
-    all_come(&rt, rt.alloc(), &TORN_GATES)
+fn gates_are_torn(rt: HostRuntime) {
+    assert_eq!(rt; count_told(rt.alloc(), &TORN_GATES), TORN_GATES.len());
 }
 
 /// A batch is in place, and its gate is torn as it is closed, or before that is synced. Where it is found again nothing is left to do
@@ -165,8 +164,8 @@ const TORN_RETIRES: [Case; 3] = [
 ];
 
 #[test]
-fn retires_are_torn(rt: HostRuntime) -> Result<(), Fail> {
-    all_come(&rt, rt.alloc(), &TORN_RETIRES)
+fn retires_are_torn(rt: HostRuntime) {
+    assert_eq!(rt; count_told(rt.alloc(), &TORN_RETIRES), TORN_RETIRES.len());
 }
 
 const FIRST: [LeftWord; 1] = [LeftWord {
@@ -236,8 +235,8 @@ const TORN_WORDS: [Case; 2] = [
 ];
 
 #[test]
-fn words_are_torn(rt: HostRuntime) -> Result<(), Fail> {
-    all_come(&rt, rt.alloc(), &TORN_WORDS)
+fn words_are_torn(rt: HostRuntime) {
+    assert_eq!(rt; count_told(rt.alloc(), &TORN_WORDS), TORN_WORDS.len());
 }
 
 /// A header of version 1, and one with a batch that gives the slave alias 1.
@@ -399,13 +398,14 @@ const TORN_MIGRATIONS: [Case; 7] = [
 ];
 
 #[test]
-fn migrations_are_torn(rt: HostRuntime) -> Result<(), Fail> {
-    all_come(&rt, rt.alloc(), &TORN_MIGRATIONS)
+fn migrations_are_torn(rt: HostRuntime) {
+    assert_eq!(rt;
+        count_told(rt.alloc(), &TORN_MIGRATIONS),
+        TORN_MIGRATIONS.len()
+    );
 }
 
 #[test]
-fn random_lists_are_kept(rt: HostRuntime) -> Result<(), Fail> {
-    let count = count_well(&rt, rt.alloc(), 10_000)?;
-    assert_eq!(rt; count, 10_000);
-    Ok(())
+fn random_lists_are_kept(rt: HostRuntime) {
+    assert_eq!(rt; count_well(rt.alloc(), 10_000), 10_000);
 }

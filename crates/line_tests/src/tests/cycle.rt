@@ -1,13 +1,10 @@
 //! Process data of two slaves in memory, exchanged through their FMMUs.
 
-use super::{site_of, zero_words};
+use super::{process_halves, process_line, zero_words};
 use ecat_frame::{Command, Frame, fp};
-use esc_model::ProcessHalf;
 use site_core::Site;
-use site_mem::{MemSite, Parts};
+use site_mem::MemSite;
 use std::alloc::Global;
-use std::process::Abort;
-use std::test::Fail;
 
 // By station and place, what is written to two slaves before they exchange data: their FMMUs and sync managers, and the inputs
 // that stand in their memory.
@@ -48,82 +45,110 @@ const WRITTEN: [(u16, u16, &[u8]); 10] = [
     (0x1002, 0x1000, &[0x55, 0x06]),
 ];
 
+// Whether slave 0 and slave 1 are muted, and the frame that comes back.
+const EXCHANGED: [(bool, bool, [u8; 21]); 5] = [
+    (
+        false,
+        false,
+        [
+            0x13, 0x10, 0x0c, 0, 0, 0, 0, 0, 0x07, 0, 0, 0, 0xaa, 0x11, 0x22, 0x33, 0x44, 0x55,
+            0x06, 4, 0,
+        ],
+    ),
+    (
+        false,
+        true,
+        [
+            0x13, 0x10, 0x0c, 0, 0, 0, 0, 0, 0x07, 0, 0, 0, 0xaa, 0x11, 0x22, 0x33, 0x44, 0, 0, 3,
+            0,
+        ],
+    ),
+    (
+        true,
+        false,
+        [
+            0x13, 0x10, 0x0c, 0, 0, 0, 0, 0, 0x07, 0, 0, 0, 0xaa, 0, 0, 0, 0, 0x55, 0x06, 1, 0,
+        ],
+    ),
+    (
+        true,
+        true,
+        [
+            0x13, 0x10, 0x0c, 0, 0, 0, 0, 0, 0x07, 0, 0, 0, 0xaa, 0, 0, 0, 0, 0, 0, 0, 0,
+        ],
+    ),
+    (
+        false,
+        false,
+        [
+            0x13, 0x10, 0x0c, 0, 0, 0, 0, 0, 0x07, 0, 0, 0, 0xaa, 0x11, 0x22, 0x33, 0x44, 0x55,
+            0x06, 4, 0,
+        ],
+    ),
+];
+
 // Two slaves, of which the site owns the process halves alone.
-fn process_line(rt: &impl Abort, alloc: Global) -> Result<MemSite, Fail> {
-    let mut sizes = Vec::new(alloc);
-    let mut halves = Vec::new(alloc);
-    let mut process = Vec::new(alloc);
-    for station in [0x1001, 0x1002] {
-        sizes.push(64)?;
-        halves.push(None)?;
-        process.push(ProcessHalf::power_up(alloc, &zero_words(alloc)?, station)?)?;
-    }
-    let parts = Parts {
-        sizes,
-        disk: None,
-        halves,
-        process: Some(process),
-    };
-    Ok(site_of(rt, alloc, parts))
+fn line(alloc: Global) -> Option<MemSite> {
+    let words = zero_words(alloc)?;
+    let process = process_halves(alloc, &words, &[0x1001, 0x1002])?;
+    process_line(alloc, 64, process)
 }
 
-// One datagram for a station goes through the process halves, and its content and its counter come back so.
-fn assert_cycled(
-    rt: &impl Abort,
-    site: &mut MemSite,
+// Whether the frame of one datagram comes back from the process halves with these bytes at its end.
+fn is_cycled(
+    site: &mut impl Site,
     command: Command,
     address: u32,
     content: &[u8],
     back: &[u8],
-) -> Result<(), Fail> {
+) -> bool {
     let mut frame = Frame::new();
-    frame.push(command, 0, address, content)?;
-    assert!(rt; site.has_process());
-    assert!(rt; site.cycle(&mut frame).is_ok());
-    assert!(rt; frame.as_bytes().ends_with(back));
-    Ok(())
+    frame.push(command, 0, address, content).is_ok()
+        && site.has_process()
+        && site.cycle(&mut frame).is_ok()
+        && frame.as_bytes().ends_with(back)
 }
 
-// A byte of outputs and six of inputs go through them, and the inputs come back so, with this counter.
-fn assert_exchanged(
-    rt: &impl Abort,
-    site: &mut MemSite,
-    inputs: &[u8; 6],
-    counter: u8,
-) -> Result<(), Fail> {
-    let mut bytes = [
-        0x13, 0x10, 0x0c, 0, 0, 0, 0, 0, 0x07, 0, 0, 0, 0xaa, 0, 0, 0, 0, 0, 0, 0, 0,
-    ];
-    let mut frame = Frame::new();
-    frame.push(Command::Lrw, 0, 0, &[0xaa, 0, 0, 0, 0, 0, 0])?;
-    assert!(rt; frame.as_bytes() == bytes.as_slice());
-    assert!(rt; site.has_process());
-    assert!(rt; site.cycle(&mut frame).is_ok());
-    bytes[13..19].copy_from_slice(inputs);
-    bytes[19] = counter;
-    assert!(rt; frame.as_bytes() == bytes.as_slice());
-    Ok(())
+// Whether all that is written is taken.
+fn is_set_up(site: &mut impl Site) -> bool {
+    for (station, register, content) in &WRITTEN {
+        let address = fp(*station, *register);
+        if !is_cycled(site, Command::Fpwr, address, content, &[1, 0]) {
+            return false;
+        }
+    }
+    true
 }
 
-// Each row: whether slave 0 and slave 1 are muted, and what comes back.
-#[test]
-fn data_are_exchanged(rt: HostRuntime) -> Result<(), Fail> {
-    let mut site = process_line(&rt, rt.alloc())?;
-    for (station, register, content) in WRITTEN {
-        let address = fp(station, register);
-        assert_cycled(&rt, &mut site, Command::Fpwr, address, content, &[1, 0])?;
+// Whether a byte of outputs and six of inputs come back so, with these slaves muted.
+fn is_exchanged(site: &mut MemSite, first: bool, second: bool, back: &[u8]) -> bool {
+    site.mute(0, first);
+    site.mute(1, second);
+    is_cycled(site, Command::Lrw, 0, &[0xaa, 0, 0, 0, 0, 0, 0], back)
+}
+
+// Whether each exchange is as it is told.
+fn all_are_exchanged(site: &mut MemSite) -> bool {
+    for (first, second, back) in &EXCHANGED {
+        if !is_exchanged(site, *first, *second, back) {
+            return false;
+        }
     }
-    for (first, second, inputs, counter) in [
-        (false, false, [0x11, 0x22, 0x33, 0x44, 0x55, 0x06], 4),
-        (false, true, [0x11, 0x22, 0x33, 0x44, 0x00, 0x00], 3),
-        (true, false, [0x00, 0x00, 0x00, 0x00, 0x55, 0x06], 1),
-        (true, true, [0; 6], 0),
-        (false, false, [0x11, 0x22, 0x33, 0x44, 0x55, 0x06], 4),
-    ] {
-        site.mute(0, first);
-        site.mute(1, second);
-        assert_exchanged(&rt, &mut site, &inputs, counter)?;
-    }
+    true
+}
+
+// Whether two slaves exchange data, and the output stands in the memory of the first.
+fn exchange_data(alloc: Global) -> bool {
+    let Some(mut site) = line(alloc) else {
+        return false;
+    };
     let output = fp(0x1001, 0x1100);
-    assert_cycled(&rt, &mut site, Command::Fprd, output, &[0], &[0xaa, 1, 0])
+    is_set_up(&mut site)
+        && all_are_exchanged(&mut site)
+        && is_cycled(&mut site, Command::Fprd, output, &[0], &[0xaa, 1, 0])
+}
+
+#[test]
+fn data_are_exchanged(rt: HostRuntime) {
+    assert!(rt; exchange_data(rt.alloc()));
 }

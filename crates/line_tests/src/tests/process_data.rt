@@ -1,16 +1,14 @@
 //! A line of slaves in memory whose process data is configured and exchanged as their EEPROMs describe it.
 
-use super::site_of;
+use super::{process_halves, process_line};
 use cyclic::{CycleFault, configure, reconfigure, turn};
 use ecat_frame::{Command, Frame, fp};
 use esc_model::ProcessHalf;
 use sii_image::{Plan, image_of};
 use sii_words::{Plant, Words};
 use site_core::Site;
-use site_mem::{MemSite, Parts};
+use site_mem::MemSite;
 use std::alloc::Global;
-use std::process::Abort;
-use std::test::Fail;
 
 // A slave with a byte of outputs and four bytes of inputs: its SyncM, RXPDO and TXPDO categories.
 const BOTH: &[u8] = &[
@@ -60,45 +58,38 @@ const STANDING: [(usize, u16, &[u8]); 2] = [
     (1, 0x1000, &[0x55, 0x06]),
 ];
 
-// The frame of a turn with the output 0xaa.
-const SENT: [u8; 21] = [
-    0x13, 0x10, 0x0c, 0, 0, 0, 0, 0, 0x07, 0, 0, 0, 0xaa, 0, 0, 0, 0, 0, 0, 0, 0,
-];
+// The inputs that come back then.
+const INPUTS_BACK: [u8; 6] = [0x11, 0x22, 0x33, 0x44, 0x55, 0x06];
+
+// Where a turn fails, its inputs are as they were.
+const KEPT: [u8; 6] = [0xee; 6];
 
 // A slave of 320 words whose categories are these.
-fn words_of(alloc: Global, categories: &[u8]) -> Result<Words, Fail> {
+fn words_of(alloc: Global, categories: &[u8]) -> Option<Words> {
     let mut bytes = [0u8; 640];
     bytes[14] = 0x30;
-    for (at, byte) in categories.iter().take(512).enumerate() {
-        bytes[128 + at] = *byte;
-    }
-    Ok(Words::from_bytes(alloc, &bytes)?)
+    let count = categories.len().min(512);
+    bytes[128..128 + count].copy_from_slice(&categories[..count]);
+    Words::from_bytes(alloc, &bytes).ok()
 }
 
-// The plan of a line of slaves with these categories.
-fn plan_of(rt: &impl Abort, alloc: Global, categories: &[&[u8]]) -> Result<Plan, Fail> {
+// A line of slaves with these categories.
+fn plant_of(alloc: Global, categories: &[&[u8]]) -> Option<Plant> {
     let mut slaves = Vec::new(alloc);
     for of_slave in categories {
-        slaves.push(words_of(alloc, of_slave)?)?;
+        slaves.push(words_of(alloc, of_slave)?).ok()?;
     }
-    assert!(rt; slaves.len() >= 1 && slaves.len() <= 64);
-    Ok(Plan {
-        prefix: 0,
-        image: image_of(alloc, &Plant::of(slaves))?,
-    })
+    if slaves.is_empty() || slaves.len() > 64 {
+        return None;
+    }
+    Some(Plant::of(slaves))
 }
 
-// The process halves of so many slaves, with the inputs that stand there.
-fn halves_of(alloc: Global, count: u16) -> Result<Vec<ProcessHalf>, Fail> {
-    let words = words_of(alloc, NOTHING)?;
-    let mut halves = Vec::new(alloc);
-    for slave in 0..count.min(64) {
-        halves.push(ProcessHalf::power_up(alloc, &words, 0x1001 + slave)?)?;
-    }
-    for (slave, place, bytes) in &STANDING {
-        stand(&mut halves, *slave, *place, bytes);
-    }
-    Ok(halves)
+// The plan of that line.
+fn plan_of(alloc: Global, categories: &[&[u8]]) -> Option<Plan> {
+    let plant = plant_of(alloc, categories)?;
+    let image = image_of(alloc, &plant).ok()?;
+    Some(Plan { prefix: 0, image })
 }
 
 // Puts bytes into the memory of a slave.
@@ -110,106 +101,131 @@ fn stand(halves: &mut [ProcessHalf], slave: usize, place: u16, bytes: &[u8]) {
     }
 }
 
-// A line of so many slaves, of which the site owns the process halves alone.
-fn line_of(rt: &impl Abort, alloc: Global, count: u16) -> Result<MemSite, Fail> {
-    let mut sizes = Vec::new(alloc);
-    let mut halves = Vec::new(alloc);
-    for _slave in 0..count {
-        sizes.push(320)?;
-        halves.push(None)?;
+// The inputs stand in memory.
+fn stand_all(halves: &mut [ProcessHalf]) {
+    for (slave, place, bytes) in &STANDING {
+        stand(halves, *slave, *place, bytes);
     }
-    let parts = Parts {
-        sizes,
-        disk: None,
-        halves,
-        process: Some(halves_of(alloc, count)?),
-    };
-    let site = site_of(rt, alloc, parts);
-    assert!(rt; site.has_process());
-    Ok(site)
+}
+
+// A line of slaves at these stations, of which the site owns the process halves alone.
+fn line_of(alloc: Global, stations: &[u16]) -> Option<MemSite> {
+    let words = words_of(alloc, NOTHING)?;
+    let mut process = process_halves(alloc, &words, stations)?;
+    stand_all(&mut process);
+    process_line(alloc, 320, process)
 }
 
 // Whether a register of a slave reads as these bytes.
-fn holds(rt: &impl Abort, site: &mut MemSite, slave: u16, register: u16, bytes: &[u8]) -> bool {
+fn holds(site: &mut impl Site, slave: u16, register: u16, bytes: &[u8]) -> bool {
     let mut frame = Frame::new();
     let zeros = [0u8; 112];
     let count = bytes.len().min(112);
-    let pushed = frame.push(
-        Command::Fprd,
-        0,
-        fp(0x1001 + slave.min(64), register),
-        &zeros[..count],
-    );
-    assert!(rt;
-        pushed.is_ok() && site.has_process() && site.cycle(&mut frame).is_ok() && frame.count() == 1
-    );
-    frame.datagram(0).content == bytes
+    let address = fp(0x1001 + slave.min(64), register);
+    let is_read = frame
+        .push(Command::Fprd, 0, address, &zeros[..count])
+        .is_ok()
+        && site.has_process()
+        && site.cycle(&mut frame).is_ok();
+    is_read && frame.count() == 1 && frame.datagram(0).content == bytes
 }
 
-// One turn with these outputs, and whether it leaves these inputs.
-fn turned(
-    rt: &impl Abort,
-    site: &mut MemSite,
+// Whether the two slaves are configured as they are to be.
+fn is_configured(site: &mut impl Site) -> bool {
+    for (slave, register, bytes) in &CONFIGURED {
+        if !holds(site, *slave, *register, bytes) {
+            return false;
+        }
+    }
+    true
+}
+
+// Whether a turn with these outputs answers so, and leaves these inputs.
+fn turns(
+    site: &mut impl Site,
     plan: &Plan,
     outputs: &[u8],
+    answer: Result<u16, CycleFault>,
     left: &[u8],
-) -> (Result<u16, CycleFault>, bool) {
-    let mut inputs = [0xeeu8; 1486];
-    assert!(rt; site.has_process() && outputs.len() == plan.image.outputs());
-    assert!(rt; left.len() == plan.image.inputs() && left.len() <= 1486);
-    let answer = turn(site, plan, outputs, &mut inputs[..left.len()]);
-    (answer, &inputs[..left.len()] == left)
+) -> bool {
+    let mut bytes = [0xeeu8; 1486];
+    let inputs = plan.image.inputs();
+    let fits = site.has_process() && outputs.len() == plan.image.outputs() && inputs <= 1486;
+    fits && turn(site, plan, outputs, &mut bytes[..inputs]) == answer && &bytes[..inputs] == left
 }
 
-#[test]
-fn two_slaves_exchange_data(rt: HostRuntime) -> Result<(), Fail> {
-    let mut site = line_of(&rt, rt.alloc(), 2)?;
-    let plan = plan_of(&rt, rt.alloc(), &[BOTH, INPUTS])?;
-    assert!(rt; site.has_process() && configure(&mut site, &plan).is_ok());
-    for (slave, register, bytes) in &CONFIGURED {
-        assert!(rt; holds(&rt, &mut site, *slave, *register, bytes));
-    }
-    let inputs = [0x11, 0x22, 0x33, 0x44, 0x55, 0x06];
-    assert!(rt; turned(&rt, &mut site, &plan, &[0xaa], &inputs) == (Ok(4), true));
-    assert!(rt; holds(&rt, &mut site, 0, 0x1100, &[0xaa]));
+// Whether the two slaves are configured, and exchange the output 0xaa and their inputs.
+fn exchange(site: &mut impl Site, plan: &Plan) -> bool {
+    site.has_process()
+        && configure(site, plan).is_ok()
+        && is_configured(site)
+        && turns(site, plan, &[0xaa], Ok(4), &INPUTS_BACK)
+        && holds(site, 0, 0x1100, &[0xaa])
+}
+
+// Whether a turn fails that slave 1 takes no part in.
+fn miss_a_slave(site: &mut MemSite, plan: &Plan) -> bool {
     site.mute(1, true);
-    let fault = CycleFault::WrongCounter {
-        seen: 3,
-        expected: 4,
-    };
-    assert!(rt; turned(&rt, &mut site, &plan, &[0xaa], &[0xee; 6]) == (Err(fault), true));
+    let (seen, expected) = (3, 4);
+    let fault = CycleFault::WrongCounter { seen, expected };
+    turns(site, plan, &[0xaa], Err(fault), &KEPT)
+}
+
+// Whether a turn fails whose frame is lost.
+fn lose_a_frame(site: &mut MemSite, plan: &Plan) -> bool {
     site.fail_once(0);
-    assert!(rt;
-        turned(&rt, &mut site, &plan, &[0xaa], &[0xee; 6]) == (Err(CycleFault::Lost), true)
-    );
-    Ok(())
+    turns(site, plan, &[0xaa], Err(CycleFault::Lost), &KEPT)
+}
+
+// Whether two slaves exchange data, and fail to.
+fn exchange_and_fail(alloc: Global) -> bool {
+    let Some(plan) = plan_of(alloc, &[BOTH, INPUTS]) else {
+        return false;
+    };
+    let Some(mut site) = line_of(alloc, &[0x1001, 0x1002]) else {
+        return false;
+    };
+    exchange(&mut site, &plan) && miss_a_slave(&mut site, &plan) && lose_a_frame(&mut site, &plan)
 }
 
 #[test]
-fn a_turn_has_these_bytes(rt: HostRuntime) -> Result<(), Fail> {
-    let mut frame = Frame::new();
-    frame.push(Command::Lrw, 0, 0, &[0xaa, 0, 0, 0, 0, 0, 0])?;
-    assert!(rt; frame.as_bytes() == SENT.as_slice());
-    Ok(())
+fn two_slaves_exchange_data(rt: HostRuntime) {
+    assert!(rt; exchange_and_fail(rt.alloc()));
+}
+
+// Whether a line is configured for no process data, and has a turn of it.
+fn is_without_data(site: &mut impl Site, empty: &Plan) -> bool {
+    site.has_process() && configure(site, empty).is_ok() && turns(site, empty, &[], Ok(0), &[])
+}
+
+// Whether a line is reconfigured for process data, and back.
+fn comes_and_goes(site: &mut impl Site, empty: &Plan, plan: &Plan) -> bool {
+    site.has_process()
+        && reconfigure(site, empty, plan).is_ok()
+        && is_configured(site)
+        && site.has_process()
+        && reconfigure(site, plan, empty).is_ok()
+        && holds(site, 0, 0x0600, &[0; 112])
+        && holds(site, 1, 0x0600, &[0; 112])
 }
 
 // From no process data to that of both, and back.
+fn is_reconfigured(alloc: Global) -> bool {
+    let Some(empty) = plan_of(alloc, &[NOTHING, NOTHING]) else {
+        return false;
+    };
+    let Some(plan) = plan_of(alloc, &[BOTH, INPUTS]) else {
+        return false;
+    };
+    let Some(mut site) = line_of(alloc, &[0x1001, 0x1002]) else {
+        return false;
+    };
+    is_without_data(&mut site, &empty) && comes_and_goes(&mut site, &empty, &plan)
+}
+
 #[test]
-fn a_line_is_reconfigured(rt: HostRuntime) -> Result<(), Fail> {
-    let mut site = line_of(&rt, rt.alloc(), 2)?;
-    let empty = plan_of(&rt, rt.alloc(), &[NOTHING, NOTHING])?;
-    let plan = plan_of(&rt, rt.alloc(), &[BOTH, INPUTS])?;
-    assert!(rt; site.has_process() && configure(&mut site, &empty).is_ok());
-    assert!(rt; turned(&rt, &mut site, &empty, &[], &[]) == (Ok(0), true));
-    assert!(rt; site.has_process() && reconfigure(&mut site, &empty, &plan).is_ok());
-    for (slave, register, bytes) in &CONFIGURED {
-        assert!(rt; holds(&rt, &mut site, *slave, *register, bytes));
-    }
-    assert!(rt; site.has_process() && reconfigure(&mut site, &plan, &empty).is_ok());
-    assert!(rt;
-        holds(&rt, &mut site, 0, 0x0600, &[0; 112]) && holds(&rt, &mut site, 1, 0x0600, &[0; 112])
-    );
-    Ok(())
+fn a_line_is_reconfigured(rt: HostRuntime) {
+    assert!(rt; is_reconfigured(rt.alloc()));
 }
 
 // Categories of a slave with 1,486 bytes for one sync manager: 46 entries of 255 bits and one of 158.
@@ -227,32 +243,49 @@ fn longest(direction: u8, kind: u8) -> [u8; 402] {
     bytes
 }
 
+// Whether a slave exchanges so, and holds this byte at 0x15cd, the last of its area, then.
+fn exchange_all(
+    site: &mut impl Site,
+    plan: &Plan,
+    outputs: &[u8],
+    counter: u16,
+    inputs: &[u8],
+    last: u8,
+) -> bool {
+    site.has_process()
+        && configure(site, plan).is_ok()
+        && turns(site, plan, outputs, Ok(counter), inputs)
+        && holds(site, 0, 0x15cd, &[last])
+}
+
+// Whether one with these categories does.
+fn exchanges_all(
+    alloc: Global,
+    categories: &[u8],
+    outputs: &[u8],
+    counter: u16,
+    inputs: &[u8],
+    last: u8,
+) -> bool {
+    let Some(plan) = plan_of(alloc, &[categories]) else {
+        return false;
+    };
+    let Some(mut site) = line_of(alloc, &[0x1001]) else {
+        return false;
+    };
+    exchange_all(&mut site, &plan, outputs, counter, inputs, last)
+}
+
 #[test]
-fn the_longest_images_are_exchanged(rt: HostRuntime) -> Result<(), Fail> {
-    for (direction, kind, counter, outputs) in [(3, 51, 2, 1486), (4, 50, 1, 0)] {
-        let mut site = line_of(&rt, rt.alloc(), 1)?;
-        let plan = plan_of(&rt, rt.alloc(), &[&longest(direction, kind)])?;
-        assert!(rt; site.has_process() && configure(&mut site, &plan).is_ok());
-        assert!(rt; outputs <= 1486);
-        let mut inputs = [0u8; 1486];
-        inputs[0x180..0x184].copy_from_slice(&[0x11, 0x22, 0x33, 0x44]);
-        let answer = turned(
-            &rt,
-            &mut site,
-            &plan,
-            &[7; 1486][..outputs],
-            &inputs[outputs..],
-        );
-        assert!(rt; answer == (Ok(counter), true));
-        assert!(rt;
-            holds(
-                &rt,
-                &mut site,
-                0,
-                0x15cd,
-                &[if outputs > 0 { 7 } else { 0 }]
-            )
-        );
-    }
-    Ok(())
+fn the_longest_outputs_are_exchanged(rt: HostRuntime) {
+    let categories = longest(3, 51);
+    assert!(rt; exchanges_all(rt.alloc(), &categories, &[7; 1486], 2, &[], 7));
+}
+
+#[test]
+fn the_longest_inputs_are_exchanged(rt: HostRuntime) {
+    let mut inputs = [0u8; 1486];
+    inputs[0x180..0x184].copy_from_slice(&[0x11, 0x22, 0x33, 0x44]);
+    let categories = longest(4, 50);
+    assert!(rt; exchanges_all(rt.alloc(), &categories, &[], 1, &inputs, 0));
 }

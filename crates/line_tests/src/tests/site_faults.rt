@@ -6,8 +6,6 @@ use esc_model::RomHalf;
 use site_core::{DeviceFault, Site};
 use site_mem::{MemSite, Parts, Pattern};
 use std::alloc::Global;
-use std::process::Abort;
-use std::test::Fail;
 
 // How many device writes pass, of a write and a sync of 7 at place 0 and then of 8 and 8, before one is torn by a pattern, and the
 // disk then.
@@ -43,127 +41,162 @@ const SNAPSHOTS: [(Option<Pattern>, usize, &[u8], &[u8]); 8] = [
 const FAILED: [(u32, u32, u16); 2] = [(1, 1, 0), (1, 2, 1)];
 
 // A line of one slave of 64 words, and a disk of the bytes 1, 2, 3 and 4.
-fn site(rt: &impl Abort, alloc: Global) -> Result<MemSite, Fail> {
-    let mut disk = Vec::new(alloc);
-    disk.extend_from_slice(&[1, 2, 3, 4])?;
-    let mut sizes = Vec::new(alloc);
-    sizes.push(64)?;
+fn site(alloc: Global) -> Option<MemSite> {
+    let sizes = [64].to_vec(alloc).ok()?;
+    let disk = [1, 2, 3, 4].to_vec(alloc).ok()?;
     let mut halves = Vec::new(alloc);
-    halves.push(Some(RomHalf::power_up(zero_words(alloc)?, 0x1001, 0)))?;
+    let words = zero_words(alloc)?;
+    halves.push(Some(RomHalf::power_up(words, 0x1001, 0))).ok()?;
     let parts = Parts {
         sizes,
         disk: Some(disk),
         halves,
         process: None,
     };
-    Ok(site_of(rt, alloc, parts))
+    site_of(alloc, parts)
 }
 
-// A frame that asks for 1 in word 4.
-fn issue() -> Result<Frame, Fail> {
+// Why a datagram at the control register of the slave fails, if it does.
+fn fault_of(site: &mut impl Site, command: Command, content: &[u8]) -> Option<DeviceFault> {
     let mut frame = Frame::new();
-    let content = [0x01, 0x02, 4, 0, 0, 0, 1, 0];
-    frame.push(Command::Fpwr, 0, fp(0x1001, 0x0502), &content)?;
-    Ok(frame)
+    let pushed = frame.push(command, 0, fp(0x1001, 0x0502), content);
+    if pushed.is_err() || !site.owns(0) {
+        return Some(DeviceFault::Disk);
+    }
+    site.exchange(0, &mut frame).err()
 }
 
-// Whether the disk's bytes, and word 4 of the slave, are these.
-fn holds(parts: &Parts, bytes: &[u8], alias: u16) -> bool {
-    let Some(disk) = &parts.disk else {
-        return false;
-    };
-    let Some(Some(half)) = parts.halves.first() else {
-        return false;
-    };
-    disk.as_slice() == bytes && half.words().alias() == alias
+// Why a frame fails that asks for 1 in word 4, if it does.
+fn issue(site: &mut impl Site) -> Option<DeviceFault> {
+    fault_of(site, Command::Fpwr, &[0x01, 0x02, 4, 0, 0, 0, 1, 0])
 }
 
-// A write and a sync succeed, and the site stops in the next write or in the sync behind it. Whether the calls answer so.
-fn stops_in_the_second(site: &mut MemSite, in_sync: bool) -> bool {
+// Word 4 of the slave, and whether it is in flight.
+fn word(parts: &Parts) -> Option<(u16, bool)> {
+    match parts.halves.first() {
+        Some(Some(half)) => Some((half.words().alias(), half.in_flight().is_some())),
+        Some(None) | None => None,
+    }
+}
+
+// Whether the disk's bytes are these, and word 4 is so.
+fn holds(parts: &Parts, bytes: &[u8], alias: u16, is_in_flight: bool) -> bool {
+    match &parts.disk {
+        Some(disk) => disk.as_slice() == bytes && word(parts) == Some((alias, is_in_flight)),
+        None => false,
+    }
+}
+
+// A write and a sync succeed, and a second write does where the site stops in the sync behind it. Whether the calls answer so.
+fn stops_in_the_second(site: &mut impl Site, in_sync: bool) -> bool {
     site.has_disk()
         && site.disk_write(0, &[7]).is_ok()
         && site.disk_sync().is_ok()
         && site.disk_write(0, &[8, 8]).is_ok() == in_sync
+}
+
+// Whether the site has stopped, once it syncs.
+fn has_stopped(site: &mut impl Site) -> bool {
+    site.has_disk()
         && site.disk_sync() == Err(DeviceFault::Stopped)
         && site.disk_len() == Err(DeviceFault::Stopped)
 }
 
+// Whether such a stop leaves these bytes.
+fn tears(alloc: Global, passing: u64, pattern: Pattern, bytes: &[u8]) -> bool {
+    let Some(mut site) = site(alloc) else {
+        return false;
+    };
+    site.fuse(passing, pattern);
+    stops_in_the_second(&mut site, passing == 3)
+        && has_stopped(&mut site)
+        && holds(&site.into_parts(), bytes, 0, false)
+}
+
 #[test]
-fn a_stop_tears_unsynced_bytes(rt: HostRuntime) -> Result<(), Fail> {
+fn a_stop_tears_unsynced_bytes(rt: HostRuntime) {
     for (passing, pattern, bytes) in &TORN {
-        let mut site = site(&rt, rt.alloc())?;
-        site.fuse(*passing, *pattern);
-        assert!(rt; stops_in_the_second(&mut site, *passing == 3));
-        assert!(rt; holds(&site.into_parts(), bytes, 0));
+        assert!(rt; tears(rt.alloc(), *passing, *pattern, bytes));
     }
-    Ok(())
 }
 
 // A byte is written, and the site stops in a word. Whether the calls answer so.
-fn stops_in_a_word(site: &mut MemSite, frame: &mut Frame) -> bool {
-    site.has_disk()
-        && site.owns(0)
-        && site.disk_write(0, &[9]).is_ok()
-        && site.exchange(0, frame) == Err(DeviceFault::Stopped)
+fn stops_in_a_word(site: &mut impl Site) -> bool {
+    site.has_disk() && site.disk_write(0, &[9]).is_ok() && issue(site) == Some(DeviceFault::Stopped)
+}
+
+// Whether such a stop leaves these bytes and this value of the word.
+fn tears_both(alloc: Global, pattern: Pattern, bytes: &[u8], alias: u16) -> bool {
+    let Some(mut site) = site(alloc) else {
+        return false;
+    };
+    site.fuse(1, pattern);
+    stops_in_a_word(&mut site) && holds(&site.into_parts(), bytes, alias, false)
 }
 
 #[test]
-fn a_stop_in_a_word_tears_unsynced_bytes(rt: HostRuntime) -> Result<(), Fail> {
+fn a_stop_in_a_word_tears_unsynced_bytes(rt: HostRuntime) {
     for (pattern, bytes, alias) in &TORN_WITH_A_WORD {
-        let mut site = site(&rt, rt.alloc())?;
-        site.fuse(1, *pattern);
-        assert!(rt; stops_in_a_word(&mut site, &mut issue()?));
-        assert!(rt; holds(&site.into_parts(), bytes, *alias));
+        assert!(rt; tears_both(rt.alloc(), *pattern, bytes, *alias));
     }
-    Ok(())
 }
 
-// A length is read, a write fails, a frame is lost, and a sync succeeds. Whether the calls answer so.
-fn fails_in_turn(site: &mut MemSite, frame: &mut Frame) -> bool {
-    site.fail_once(1);
-    let fails = site.has_disk()
+// A length is read, and a write fails. Whether the calls answer so.
+fn fails_to_write(site: &mut impl Site) -> bool {
+    site.has_disk()
         && site.disk_len() == Ok(4)
-        && site.disk_write(0, &[9]) == Err(DeviceFault::Disk);
+        && site.disk_write(0, &[9]) == Err(DeviceFault::Disk)
+}
+
+// A frame is lost, and a sync succeeds. Whether the calls answer so.
+fn loses_a_frame(site: &mut impl Site) -> bool {
+    issue(site) == Some(DeviceFault::Lost) && site.has_disk() && site.disk_sync().is_ok()
+}
+
+// Whether calls that fail leave the disk and the slave as they were.
+fn fails_in_turn(alloc: Global) -> bool {
+    let Some(mut site) = site(alloc) else {
+        return false;
+    };
+    site.fail_once(1);
+    let fails = fails_to_write(&mut site);
     site.fail_once(0);
-    fails
-        && site.owns(0)
-        && site.exchange(0, frame) == Err(DeviceFault::Lost)
-        && site.has_disk()
-        && site.disk_sync().is_ok()
+    let loses = loses_a_frame(&mut site);
+    fails && loses && holds(&site.into_parts(), &[1, 2, 3, 4], 0, false)
 }
 
 #[test]
-fn calls_that_fail_change_nothing(rt: HostRuntime) -> Result<(), Fail> {
-    let mut site = site(&rt, rt.alloc())?;
-    assert!(rt; fails_in_turn(&mut site, &mut issue()?));
-    assert!(rt; holds(&site.into_parts(), &[1, 2, 3, 4], 0));
-    Ok(())
+fn calls_that_fail_change_nothing(rt: HostRuntime) {
+    assert!(rt; fails_in_turn(rt.alloc()));
 }
 
-// Issues word 4 so many times, with a poll behind each.
-fn issue_and_poll(rt: &impl Abort, site: &mut MemSite, times: u32) -> Result<(), Fail> {
+// Issues word 4 so many times, with a poll behind each. Whether all calls succeed.
+fn is_issued(site: &mut impl Site, times: u32) -> bool {
+    let mut is_well = true;
     for _issue in 0..times {
-        let mut poll = Frame::new();
-        poll.push(Command::Fprd, 0, fp(0x1001, 0x0502), &[0, 0])?;
-        assert!(rt; site.owns(0) && site.exchange(0, &mut issue()?).is_ok());
-        assert!(rt; site.owns(0) && site.exchange(0, &mut poll).is_ok());
+        is_well &= issue(site).is_none() && fault_of(site, Command::Fprd, &[0, 0]).is_none();
     }
-    Ok(())
+    is_well
+}
+
+// Whether so many words that fail, of so many that are issued, leave this value.
+fn keeps_its_value(alloc: Global, failing: u32, times: u32, alias: u16) -> bool {
+    let Some(mut site) = site(alloc) else {
+        return false;
+    };
+    site.fail_writes(0, failing);
+    is_issued(&mut site, times) && holds(&site.into_parts(), &[1, 2, 3, 4], alias, false)
 }
 
 #[test]
-fn a_word_that_fails_keeps_its_value(rt: HostRuntime) -> Result<(), Fail> {
-    for (errors, issues, alias) in &FAILED {
-        let mut site = site(&rt, rt.alloc())?;
-        site.fail_writes(0, *errors);
-        issue_and_poll(&rt, &mut site, *issues)?;
-        assert!(rt; holds(&site.into_parts(), &[1, 2, 3, 4], *alias));
+fn a_word_that_fails_keeps_its_value(rt: HostRuntime) {
+    for (failing, times, alias) in &FAILED {
+        assert!(rt; keeps_its_value(rt.alloc(), *failing, *times, *alias));
     }
-    Ok(())
 }
 
 // Whether bytes can be written from a place on.
-fn writes(site: &mut MemSite, at: usize, over: &[u8]) -> bool {
+fn writes(site: &mut impl Site, at: usize, over: &[u8]) -> bool {
     if !site.has_disk() {
         return false;
     }
@@ -173,31 +206,37 @@ fn writes(site: &mut MemSite, at: usize, over: &[u8]) -> bool {
     }
 }
 
-// Whether the slave has a word in flight.
-fn is_writing(parts: &Parts) -> bool {
-    match parts.halves.first() {
-        Some(Some(half)) => half.in_flight().is_some(),
-        Some(None) | None => false,
+// Whether a snapshot, with unsynced bytes and a word in flight, has these bytes.
+fn is_left(alloc: Global, site: &mut MemSite, at: usize, over: &[u8], bytes: &[u8]) -> bool {
+    if !writes(site, at, over) || issue(site).is_some() {
+        return false;
     }
+    match site.snapshot(alloc) {
+        Ok(parts) => holds(&parts, bytes, 0, true),
+        Err(_memory) => false,
+    }
+}
+
+// Whether a snapshot of a site with this fuse is so.
+fn leaves(alloc: Global, fuse: Option<Pattern>, at: usize, over: &[u8], bytes: &[u8]) -> bool {
+    let Some(mut site) = site(alloc) else {
+        return false;
+    };
+    if let Some(pattern) = fuse {
+        site.fuse(9, pattern);
+    }
+    is_left(alloc, &mut site, at, over, bytes)
 }
 
 #[test]
-fn a_snapshot_is_what_a_stop_leaves(rt: HostRuntime) -> Result<(), Fail> {
+fn a_snapshot_is_what_a_stop_leaves(rt: HostRuntime) {
     for (fuse, at, over, bytes) in &SNAPSHOTS {
-        let mut site = site(&rt, rt.alloc())?;
-        if let Some(pattern) = fuse {
-            site.fuse(9, *pattern);
-        }
-        assert!(rt; writes(&mut site, *at, over) && site.owns(0));
-        assert!(rt; site.exchange(0, &mut issue()?).is_ok());
-        let parts = site.snapshot(rt.alloc())?;
-        assert!(rt; is_writing(&parts) && holds(&parts, bytes, 0));
+        assert!(rt; leaves(rt.alloc(), *fuse, *at, over, bytes));
     }
-    Ok(())
 }
 
 // What the disk holds from place 2 on, 3 bytes of it.
-fn read(site: &mut MemSite) -> Option<[u8; 3]> {
+fn read(site: &mut impl Site) -> Option<[u8; 3]> {
     let mut bytes = [0u8; 3];
     if !site.has_disk() || site.disk_len() != Ok(5) {
         return None;
@@ -206,10 +245,18 @@ fn read(site: &mut MemSite) -> Option<[u8; 3]> {
     Some(bytes)
 }
 
+// Whether a site has a slave of 64 words, and what is written is read.
+fn reads_what_is_written(alloc: Global) -> bool {
+    let Some(mut site) = site(alloc) else {
+        return false;
+    };
+    site.slaves() == 1
+        && site.words_of(0) == 64
+        && writes(&mut site, 3, &[7, 9])
+        && read(&mut site) == Some([3, 7, 9])
+}
+
 #[test]
-fn what_was_written_is_read(rt: HostRuntime) -> Result<(), Fail> {
-    let mut site = site(&rt, rt.alloc())?;
-    assert!(rt; site.slaves() == 1 && site.words_of(0) == 64);
-    assert!(rt; writes(&mut site, 3, &[7, 9]) && read(&mut site) == Some([3, 7, 9]));
-    Ok(())
+fn what_was_written_is_read(rt: HostRuntime) {
+    assert!(rt; reads_what_is_written(rt.alloc()));
 }

@@ -1,36 +1,44 @@
-use Rattle.std.proofs.Common.{◌≡◌, ◌<◌, ◌≤◌, [], ◌∷◌, List, ℕ, Option, None, length, get_or, unwrap_or, refl, add-one, ap, ◌∙◌, arith, length-append}
-use Rattle.std.proofs.lemmas.List.{get_or_read, take_all}
-use Rattle.sii_words.specs.Plant.{words_of}
-use Rattle.sii_edit.specs.declared.draft.NewWords.{NewWords}
-use Rattle.sii_edit.specs.Draft.{drafted, renewed_as}
-use Rattle.sii_edit.proofs.DraftLaws.{length_draft}
-use Rattle.sii_edit.proofs.LayoutLaws.{with_new-first, with_new-last}
+use Rattle.std.proofs.Common.{◌≡◌, List, ℕ, map, take, ap, sym, ◌∙◌, subst, arith, length}
+use Rattle.std.proofs.lemmas.List.{take_all}
+use Rattle.sii_image.specs.declared.new_layouts.NewLayout.{NewLayout}
+use Rattle.sii_image.specs.NewLayouts.{with_each, slaves_of, AreRising}
+use Rattle.sii_edit.specs.declared.draft.Renewal.{Renewal}
+use Rattle.sii_edit.proofs.DraftLaws.{IsRenewal, renewal_at}
+use Rattle.sii_edit.proofs.LayoutLaws.{layout_in, slaves_of-layouts, with_each-layouts}
 use Rattle.sii_edit.proofs.layouts.new_layouts.Goals as goal
 
-pub bounds-changed-slave : goal.bounds-changed-slave
-bounds-changed-slave c = omega (arith, ap length c.new_words-changed.ensures, length_draft c.args.plant.now c.args.draft.now c.requires.draft)
+pub slave-requires : goal.slave-requires
+slave-requires c =
+    let plant : List (List ℕ) = c.args.plant.now in
+    let draft : List Renewal = c.args.draft.now in
+    let renewal = c.renewal-item.result in
+    let within = rw c.renewals-renewals.ensures.renewals at c.loop-renewal-test.true in
+    let is = rw c.renewals-renewals.ensures.renewals at c.renewal-item.is in
+    let fact : IsRenewal plant renewal = subst (IsRenewal plant) (sym is) (renewal_at plant draft c.loop-renewal.renewal-index renewal c.requires.draft within) in
+    omega (arith, fact.there, c.from-slave.ensures)
 
-pub loop-slave-init : goal.loop-slave-init
-loop-slave-init c = rw c.in_ok-layouts.ensures.items (record { size = refl; same = with_new-first c.args.plant.now })
+pub slave-requires-in-loop-renewal : goal.slave-requires-in-loop-renewal
+slave-requires-in-loop-renewal c =
+    let plant : List (List ℕ) = c.args.plant.now in
+    let draft : List Renewal = c.args.draft.now in
+    let renewal = c.renewal-item.result in
+    let within = rw c.renewals-renewals.ensures.renewals at c.loop-renewal-test.true in
+    let is = rw c.renewals-renewals.ensures.renewals at c.renewal-item.is in
+    let fact : IsRenewal plant renewal = subst (IsRenewal plant) (sym is) (renewal_at plant draft c.loop-renewal.renewal-index renewal c.requires.draft within) in
+    omega (arith, fact.there, c.from-slave.ensures, ap length c.requires.layout)
 
-pub loop-slave-preserved : goal.loop-slave-preserved
-loop-slave-preserved c =
-    let plant = c.args.plant.now in
-    let draft : List (Option NewWords) = c.args.draft.now in
-    let slave : ℕ = c.loop-slave.slave in
-    let layouts : List (Option (List ℕ)) = c.loop-slave.layouts.items in
-    let given : Option (List ℕ) = c.in_ok-new.new in
-    let within : slave < length draft = omega (arith, length_draft plant draft c.requires.draft) in
-    let read : c.index-changed-slave.result ≡ get_or draft slave c.index-changed-slave.result = rw c.new_words-changed.ensures at c.index-changed-slave.is in
-    let has : c.index-changed-slave.result ≡ get_or draft slave None = get_or_read draft slave c.index-changed-slave.result within read None in
-    let one : unwrap_or given (words_of plant slave) ≡ renewed_as (words_of plant slave) (get_or draft slave None) = rw (c.slave.ensures, has) at c.in_ok-new.ensures in
-    rw c.in_ok-push.ensures.items (record {
-      size = omega (arith, length-append layouts (given ∷ []), c.loop-slave.invariant.size);
-      same = rw add-one (with_new-last plant layouts draft slave given c.loop-slave.invariant.size within c.loop-slave.invariant.same one);
-    })
+pub of-requires : goal.of-requires
+of-requires c =
+    let plant : List (List ℕ) = c.args.plant.now in
+    let draft : List Renewal = c.args.draft.now in
+    let all : take c.loop-renewal.renewal-index draft ≡ draft = take_all c.loop-renewal.renewal-index draft (omega (arith, c.loop-renewal-test.false, ap length c.renewals-renewals.ensures.renewals)) in
+    let is : c.loop-renewal.layouts.items ≡ map (layout_in plant) draft = c.loop-renewal.invariant ∙ ap (map (layout_in plant)) all in
+    subst AreRising (sym (ap (λ (new : List NewLayout). slaves_of new) is ∙ slaves_of-layouts plant draft)) c.renewals-renewals.ensures.rising
 
 pub returns : goal.returns
 returns c =
-    let draft : List (Option NewWords) = c.args.draft.now in
-    let size : length draft ≤ c.loop-slave.slave = omega (arith, length_draft c.args.plant.now draft c.requires.draft) in
-    c.loop-slave.invariant.same ∙ ap (λ (d : List (Option NewWords)). drafted c.args.plant.now d) (take_all c.loop-slave.slave draft size)
+    let plant : List (List ℕ) = c.args.plant.now in
+    let draft : List Renewal = c.args.draft.now in
+    let all : take c.loop-renewal.renewal-index draft ≡ draft = take_all c.loop-renewal.renewal-index draft (omega (arith, c.loop-renewal-test.false, ap length c.renewals-renewals.ensures.renewals)) in
+    let is : c.of.result ≡ map (layout_in plant) draft = c.of.ensures ∙ c.loop-renewal.invariant ∙ ap (map (layout_in plant)) all in
+    ap (with_each plant) is ∙ with_each-layouts plant draft

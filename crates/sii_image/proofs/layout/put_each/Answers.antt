@@ -1,39 +1,21 @@
-use Rattle.std.proofs.Common.{◌≡◌, ◌++◌, List, ℕ, [], ◌∷◌, Option, sym, ap, ◌∙◌, arith}
-use Rattle.std.proofs.lemmas.List.{nil_from_length, set_past}
-use Rattle.sii_words.specs.Plant.{with_new}
-use Rattle.sii_image.proofs.WithNew.{drop_none, put_last, with_nothing}
+use Rattle.std.proofs.Common.{◌≡◌, List, ℕ, length, set, sym, ap, ◌∙◌, arith, length-set}
+use Rattle.sii_image.specs.declared.new_layouts.NewLayout.{NewLayout}
+use Rattle.sii_image.specs.NewLayouts.{with_each}
+use Rattle.sii_image.proofs.WithEach.{put_last}
 use Rattle.sii_image.proofs.layout.put_each.Goals as goal
-
-pub loop-last-preserved-then-slave-slaves : goal.loop-last-preserved-then-slave-slaves
-loop-last-preserved-then-slave-slaves c =
-    let slaves : List (List ℕ) = c.loop-last.slaves in
-    let front : List (Option (List ℕ)) = c.pop.new.self.items in
-    put_last slaves front c.len-slave.result c.in-Some-last.layout (omega (arith, c.len-slave.ensures))
-    ∙ ap (λ (last : Option (List ℕ)). with_new slaves (front ++ last ∷ [])) (sym c.in-Some-last.is)
-    ∙ ap (with_new slaves) (sym c.in-Some.ensures.items)
-    ∙ c.loop-last.invariant
-
-pub loop-last-preserved-else-slave-slaves : goal.loop-last-preserved-else-slave-slaves
-loop-last-preserved-else-slave-slaves c =
-    let slaves : List (List ℕ) = c.loop-last.slaves in
-    let front : List (Option (List ℕ)) = c.pop.new.self.items in
-    ap (λ (p : List (List ℕ)). with_new p front) (sym (set_past slaves c.len-slave.result c.in-Some-last.layout c.if-slave-slaves.false))
-    ∙ put_last slaves front c.len-slave.result c.in-Some-last.layout (omega (arith, c.len-slave.ensures))
-    ∙ ap (λ (last : Option (List ℕ)). with_new slaves (front ++ last ∷ [])) (sym c.in-Some-last.is)
-    ∙ ap (with_new slaves) (sym c.in-Some.ensures.items)
-    ∙ c.loop-last.invariant
 
 pub loop-last-preserved : goal.loop-last-preserved
 loop-last-preserved c =
     let slaves : List (List ℕ) = c.loop-last.slaves in
-    let front : List (Option (List ℕ)) = c.pop.new.self.items in
-    drop_none slaves front
-    ∙ ap (λ (last : Option (List ℕ)). with_new slaves (front ++ last ∷ [])) (sym c.in_default-last.is)
-    ∙ ap (with_new slaves) (sym c.in-Some.ensures.items)
-    ∙ c.loop-last.invariant
-
-pub returns : goal.returns
-returns c =
-    let slaves : List (List ℕ) = c.loop-last.slaves in
-    let none : c.loop-last.left.items ≡ [] = nil_from_length c.loop-last.left.items (omega (arith, c.loop-last.left.ok, c.in_default.ensures.cases)) in
-    sym (with_nothing slaves) ∙ ap (with_new slaves) (sym none) ∙ c.loop-last.invariant
+    let front : List NewLayout = c.pop.new.self.items in
+    let last = c.in-Some.last in
+    let is : c.put-changed.new.slaves ≡ set slaves last.slave last.layout = c.put-changed.ensures.slaves ∙ ap (λ (n : ℕ). set slaves n last.layout) c.from.ensures in
+    record {
+      few = omega (arith, ap length is, length-set slaves last.slave last.layout, c.loop-last.invariant.few);
+      weight = c.put-changed.ensures.weight;
+      left =
+          ap (λ (p : List (List ℕ)). with_each p front) is
+          ∙ sym (put_last slaves front last)
+          ∙ ap (with_each slaves) (sym c.in-Some.ensures.items)
+          ∙ c.loop-last.invariant.left;
+    }

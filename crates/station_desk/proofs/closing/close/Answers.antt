@@ -2,6 +2,7 @@ use Rattle.std.proofs.Common.{◌≡◌, ◌∙◌, List, IsTrue, sym, subst}
 use Rattle.desk_book.specs.Numbered.{Numbered}
 use Rattle.desk_book.specs.Serving.{Counts}
 use Rattle.station_desk.specs.Closing.{IsHandedIn}
+use Rattle.desk_laws.proofs.SlaveLaws.{all-read}
 use Rattle.station_desk.proofs.closing.close.Goals as goal
 
 pub returns-then-not-all_match-clause-mismatch : goal.returns-then-not-all_match-clause-mismatch
@@ -12,7 +13,7 @@ returns-then-not-all_match-clause-mismatch g c =
     let receipts : c.args.receipts.items ≡ c.as_slice-2.result.now = sym c.as_slice-2.ensures.value in
     λ same all.
     let given = subst (λ (l : List Counts). IsHandedIn opened calls l c.args.receipts.items c.args.ends) shares all in
-    let yes : IsTrue c.all_match.result = c.all_match.ensures.1 (subst (λ (l : List Numbered). IsHandedIn opened calls c.as_slice.result.now l c.args.ends) receipts given) in
+    let yes : IsTrue c.all_match.result = c.all_match.ensures.matches.1 (subst (λ (l : List Numbered). IsHandedIn opened calls c.as_slice.result.now l c.args.ends) receipts given) in
     let no = c.if-not-all_match.true in
     absurd cc
 
@@ -22,6 +23,13 @@ returns-clause-handed_in g c =
     let calls = c.audit_all.new.book.calls in
     let shares : c.as_slice.result.now ≡ c.args.shares.items = c.as_slice.ensures.value ∙ c.audit_all.ensures.shares in
     let receipts : c.as_slice-2.result.now ≡ c.args.receipts.items = c.as_slice-2.ensures.value in
-    let all = c.all_match.ensures.0 c.if-not-all_match.false in
+    let all = c.all_match.ensures.matches.0 c.if-not-all_match.false in
     subst (λ (l : List Counts). IsHandedIn opened calls l c.args.receipts.items c.args.ends) shares
     (subst (λ (l : List Numbered). IsHandedIn opened calls c.as_slice.result.now l c.args.ends) receipts all)
+
+pub returns-clause-contents : goal.returns-clause-contents
+returns-clause-contents g c = λ just.
+    let opened = g.T.Tickets.opened in
+    let calls = c.audit_all.new.book.calls in
+    let all = c.all_match.ensures.matches.0 c.if-not-all_match.false in
+    all-read opened calls g.S.Site.seen c.args.ends.workers.items just c.is_served.ensures.answered (sym c.is_served.ensures.served ∙ c.if-not-is_served.false) all.ended.workers (c.all_match.ensures.worked c.if-not-all_match.false)

@@ -1,4 +1,4 @@
-use Rattle.std.proofs.Common.{◌≡◌, ◌∙◌, length, sym, ap, arith}
+use Rattle.std.proofs.Common.{length, sym, ap, arith}
 use Rattle.book_model.specs.Book.{Book, contents_of}
 use Rattle.desk_book.proofs.CountLaws.{each-slave}
 use Rattle.desk_book.proofs.served.Served.of.Goals as goal

@@ -1,7 +1,5 @@
-use Rattle.std.proofs.Common.{◌∙◌, sym, ap, subst}
+use Rattle.std.proofs.Common.{ap}
 use Rattle.desk_book.specs.Serving.{Serving}
-use Rattle.desk_book.specs.Closing.{CountAll}
-use Rattle.desk_book.specs.Calls.{replayed}
 use Rattle.desk_book.proofs.CountLaws.{too-many-tickets, too-many-refusals}
 use Rattle.desk_book.proofs.served.Served.shares_match.Goals as goal
 

@@ -1,0 +1,52 @@
+//! Commands, as a table holds them.
+
+use sii_edit::{Command, Edit, EditList};
+use sii_words::ImageFile;
+use std::alloc::Global;
+
+/// A command.
+#[derive(Clone, Copy)]
+pub(crate) enum Ask {
+    /// Slave and alias.
+    Alias(u16, u16),
+    Swap(u16, u16),
+    /// Slave and alias of each edit of a group.
+    Group(&'static [(u16, u16)]),
+    /// An image of slave 0 with this alias and check byte and an end mark in word 64, behind which so many words have this in both
+    /// bytes.
+    Image((u8, u8), u16, u8),
+}
+
+fn group(alloc: Global, aliases: &[(u16, u16)]) -> Option<Command> {
+    let mut edits = Vec::new(alloc);
+    for (slave, value) in aliases {
+        let edit = Edit::Alias {
+            slave: *slave,
+            value: *value,
+        };
+        edits.push(edit).ok()?;
+    }
+    Some(Command::Group(EditList::from_vec(edits)))
+}
+
+fn image(alloc: Global, name: (u8, u8), count: u16, fill: u8) -> Option<Command> {
+    let mut front = [0u8; 130];
+    front[8] = name.0;
+    front[14] = name.1;
+    front[128] = 0xff;
+    front[129] = 0xff;
+    let mut bytes = Vec::from_slice(alloc, &front).ok()?;
+    bytes.resize(130 + 2 * usize::from(count), fill).ok()?;
+    let image = ImageFile::from_bytes(alloc, &bytes).ok()?;
+    Some(Command::One(Edit::Image { slave: 0, image }))
+}
+
+/// The command. None where there is no memory for it.
+pub(crate) fn command(alloc: Global, ask: &Ask) -> Option<Command> {
+    match *ask {
+        Ask::Alias(slave, value) => Some(Command::One(Edit::Alias { slave, value })),
+        Ask::Swap(a, b) => Some(Command::Swap { a, b }),
+        Ask::Group(aliases) => group(alloc, aliases),
+        Ask::Image(name, count, fill) => image(alloc, name, count, fill),
+    }
+}

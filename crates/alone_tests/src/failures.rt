@@ -1,0 +1,76 @@
+//! A failure of each device call of a run.
+
+use crate::runs::{End, SERVED, UNOPENED, Way, ended, kept_by, recovers};
+use crate::sites::{Trouble, aliases_of};
+use book_model::Fault;
+use site_core::{DeviceFault, Site};
+use site_mem::{MemSite, Parts};
+use std::alloc::Global;
+
+/// What the failure of a device call does.
+#[derive(Clone, Copy, PartialEq)]
+enum Failure {
+    /// The station isn't opened.
+    Unopened,
+    /// The disk failed, which closed the book; and a recovery finds the aliases as they may be.
+    Closed,
+    /// A frame was lost, and all commands are served all the same.
+    Served,
+    /// The run has fewer calls.
+    Over,
+    /// Anything else.
+    Wrong,
+}
+
+/// Whether the next device call of the disk fails.
+pub(crate) fn fails(site: &mut MemSite) -> bool {
+    site.has_disk() && site.disk_len() == Err(DeviceFault::Disk)
+}
+
+/// What the failure did to a run that has these parts and ended so.
+fn failure_of(alloc: Global, parts: Parts, end: &End, is_over: bool) -> Failure {
+    if is_over {
+        return Failure::Over;
+    }
+    if *end == UNOPENED {
+        return Failure::Unopened;
+    }
+    if *end == SERVED && aliases_of(&parts) == [9, 1, 7] {
+        return Failure::Served;
+    }
+    if end.fault == Some(Fault::Disk)
+        && recovers(alloc, parts, kept_by(Way::OneByOne, end.status[1]))
+    {
+        return Failure::Closed;
+    }
+    Failure::Wrong
+}
+
+/// What the failure does to a run behind so many calls.
+fn failing(alloc: Global, calls: u64) -> Option<Failure> {
+    let (site, end) = ended(alloc, Way::OneByOne, &Trouble::Call(calls))?;
+    let mut site = site;
+    let is_over = fails(&mut site);
+    Some(failure_of(alloc, site.into_parts(), &end, is_over))
+}
+
+/// How many calls there are that fail in each of the first three ways.
+fn failures(alloc: Global) -> Option<[u64; 3]> {
+    let mut counts = [0u64; 3];
+    for calls in 0..1000 {
+        match failing(alloc, calls)? {
+            Failure::Unopened => counts[0] = counts[0].saturating_add(1),
+            Failure::Closed => counts[1] = counts[1].saturating_add(1),
+            Failure::Served => counts[2] = counts[2].saturating_add(1),
+            Failure::Over => return Some(counts),
+            Failure::Wrong => return None,
+        }
+    }
+    None
+}
+
+// Opening has three calls for the disk, and 101 for each slave. The run has 18 for the disk, and ten words, each with its poll.
+#[test]
+fn a_failure_of_each_call(rt: HostRuntime) {
+    assert!(rt; failures(rt.alloc()) == Some([3, 18, 323]));
+}

@@ -1,0 +1,113 @@
+//! Lines in memory, as a table holds them.
+
+use esc_model::RomHalf;
+use sii_words::Words;
+use site_mem::Parts;
+use std::alloc::Global;
+
+/// A slave whose words are 0, but for its check byte and what is said.
+#[derive(Clone, Copy)]
+pub(crate) enum Slave {
+    /// 64 words.
+    Zero,
+    /// 64 words, and alias 1.
+    One,
+    /// 4,096 words, whose categories end at word 64.
+    Long,
+}
+
+/// The slaves, and what the disk holds: a header, what stands in front of each half of 2,048 bytes, and how many bytes there are,
+/// 4,104 at most.
+#[derive(Clone, Copy)]
+pub(crate) struct Line {
+    pub slaves: &'static [Slave],
+    pub header: [u8; 8],
+    pub first: &'static [u8],
+    pub second: &'static [u8],
+    pub count: usize,
+}
+
+/// One slave, two and three, with an empty journal.
+pub(crate) const ALONE: Line = Line {
+    slaves: &[Slave::Zero],
+    header: [0xa5, 0x02, 0x01, 0x00, 0x00, 0x10, 0x00, 0x00],
+    first: &[],
+    second: &[],
+    count: 4104,
+};
+
+pub(crate) const TWO: Line = Line {
+    slaves: &[Slave::One, Slave::Zero],
+    header: [0xa5, 0x02, 0x02, 0x00, 0x00, 0x10, 0x00, 0x00],
+    ..ALONE
+};
+
+pub(crate) const THREE: Line = Line {
+    slaves: &[Slave::Zero, Slave::Zero, Slave::Zero],
+    header: [0xa5, 0x02, 0x03, 0x00, 0x00, 0x10, 0x00, 0x00],
+    ..ALONE
+};
+
+fn put(bytes: &mut [u8], from: usize, new: &[u8]) {
+    for (byte, value) in bytes.iter_mut().skip(from).zip(new) {
+        *byte = *value;
+    }
+}
+
+fn words(alloc: Global, slave: Slave) -> Option<Words> {
+    let (count, alias, check) = match slave {
+        Slave::Zero => (64, 0, 0x30),
+        Slave::One => (64, 1, 0x19),
+        Slave::Long => (4096, 0, 0x30),
+    };
+    let mut bytes = vec![in alloc; 0u8; 2 * count].ok()?;
+    put(&mut bytes, 8, &[alias]);
+    put(&mut bytes, 14, &[check]);
+    put(&mut bytes, 128, &[0xff, 0xff]);
+    Words::from_bytes(alloc, &bytes).ok()
+}
+
+/// The halves that serve the EEPROMs, each just switched on at its station.
+fn halves(alloc: Global, slaves: &[Slave]) -> Option<Vec<Option<RomHalf>>> {
+    let mut halves = Vec::new(alloc);
+    for (slave, station) in slaves.iter().zip(0x1001u16..0x1041) {
+        let half = RomHalf::power_up(words(alloc, *slave)?, station, 0);
+        halves.push(Some(half)).ok()?;
+    }
+    Some(halves)
+}
+
+fn sizes(alloc: Global, slaves: &[Slave]) -> Option<Vec<u16>> {
+    let mut sizes = Vec::new(alloc);
+    for slave in slaves {
+        let size = if matches!(slave, Slave::Long) {
+            4096
+        } else {
+            64
+        };
+        sizes.push(size).ok()?;
+    }
+    Some(sizes)
+}
+
+fn disk(alloc: Global, line: &Line) -> Option<Vec<u8>> {
+    let mut bytes = vec![in alloc; 0u8; 4104].ok()?;
+    put(&mut bytes, 0, &line.header);
+    put(&mut bytes, 8, line.first);
+    put(&mut bytes, 2056, line.second);
+    bytes.truncate(line.count);
+    Some(bytes)
+}
+
+/// What the line is made of. None where there is no memory for it.
+pub(crate) fn parts_of(alloc: Global, line: &Line) -> Option<Parts> {
+    let sizes = sizes(alloc, line.slaves)?;
+    let disk = disk(alloc, line)?;
+    let halves = halves(alloc, line.slaves)?;
+    Some(Parts {
+        sizes,
+        disk: Some(disk),
+        halves,
+        process: None,
+    })
+}

@@ -1,0 +1,93 @@
+//! Sites in memory: what goes wrong on them, how they come under a station and off it, and what they hold.
+
+use esc_model::RomHalf;
+use site_core::Site;
+use site_line::owns_all;
+use site_mem::{MemSite, Parts, Pattern};
+use station_alone::{Alone, OpenFault};
+use station_recovery::recover;
+use std::alloc::Global;
+
+/// What is to go wrong, counted from now on.
+#[derive(Clone, Copy)]
+pub(crate) enum Trouble {
+    Nothing,
+    /// So many device writes pass, and the next is torn by the pattern. To open a station takes one.
+    Fuse(u64, Pattern),
+    /// So many device calls pass, and the next fails.
+    Call(u64),
+    /// So many words of slave 0 end in error.
+    Words(u32),
+}
+
+fn set(site: &mut MemSite, trouble: &Trouble) {
+    match *trouble {
+        Trouble::Nothing => {}
+        Trouble::Fuse(writes, pattern) => site.fuse(writes, pattern),
+        Trouble::Call(calls) => site.fail_once(calls),
+        Trouble::Words(words) => site.fail_writes(0, words),
+    }
+}
+
+/// The site of these parts, where they are whole, on which this is to go wrong.
+pub(crate) fn site_of(alloc: Global, parts: Parts, trouble: &Trouble) -> Option<MemSite> {
+    if !parts.is_whole() {
+        return None;
+    }
+    let mut site = MemSite::of_parts(alloc, parts);
+    set(&mut site, trouble);
+    Some(site)
+}
+
+/// The site, off its station.
+pub(crate) fn off(station: Alone<MemSite>) -> MemSite {
+    let (_core, site) = station.into_parts();
+    site
+}
+
+/// Opens a station on the site.
+pub(crate) fn open(alloc: Global, site: MemSite) -> Result<Alone<MemSite>, (MemSite, OpenFault)> {
+    if !site.has_disk() || !owns_all(&site) {
+        return Err((site, OpenFault::Memory));
+    }
+    Alone::open(alloc, site)
+}
+
+/// Recovers the site, and gives how many batches and commands were found, and how many words were issued.
+pub(crate) fn recovered(alloc: Global, site: MemSite) -> (MemSite, Result<[u64; 3], OpenFault>) {
+    if !site.has_disk() || !owns_all(&site) {
+        return (site, Err(OpenFault::Memory));
+    }
+    match recover(alloc, site) {
+        Ok((station, found)) => (
+            off(station),
+            Ok([found.batches, found.commands, found.words]),
+        ),
+        Err((site, fault)) => (site, Err(fault)),
+    }
+}
+
+fn alias_of(halves: &[Option<RomHalf>], slave: usize) -> u16 {
+    match halves.get(slave) {
+        Some(Some(half)) => half.words().alias(),
+        _ => 0,
+    }
+}
+
+/// The aliases of the first three slaves, 0 where there is none.
+pub(crate) fn aliases_of(parts: &Parts) -> [u16; 3] {
+    let halves = parts.halves.as_slice();
+    [
+        alias_of(halves, 0),
+        alias_of(halves, 1),
+        alias_of(halves, 2),
+    ]
+}
+
+/// Whether the disk holds these bytes from a place on.
+pub(crate) fn holds(parts: &Parts, at: usize, bytes: &[u8]) -> bool {
+    match &parts.disk {
+        Some(disk) => disk.get(at..at.saturating_add(bytes.len())) == Some(bytes),
+        None => false,
+    }
+}

@@ -1,0 +1,98 @@
+//! What is done with a station, and what is to come of it, as a table holds it.
+
+use crate::asks::{Ask, command};
+use book_model::Fault;
+use site_mem::MemSite;
+use station_alone::{Alone, Answer, Choice};
+use std::alloc::Global;
+
+/// What is done with a station, or seen of it, and what is to come of it.
+#[derive(Clone, Copy)]
+pub(crate) enum Event {
+    Submit(Ask, Answer),
+    /// So many actions of the disk, and the last answer.
+    Disk(u16, Answer),
+    /// Slave, so many steps, and the last answer.
+    Rom(u16, u16, Answer),
+    /// Rounds as long as something is done, and the last answer.
+    Serve(Answer),
+    /// How many commands are accepted, durable and settled, and how many bytes are live.
+    Status([u64; 4]),
+}
+
+/// How many commands are accepted, durable and settled, and how many bytes are live.
+pub(crate) fn status_of(station: &Alone<MemSite>) -> [u64; 4] {
+    let status = station.core().status();
+    [
+        status.accepted,
+        status.durable,
+        status.settled,
+        status.live_bytes,
+    ]
+}
+
+/// The fault that has closed the book.
+pub(crate) fn fault_of(station: &Alone<MemSite>) -> Option<Fault> {
+    station.core().fault()
+}
+
+/// Submits a command.
+pub(crate) fn submit(alloc: Global, station: &mut Alone<MemSite>, ask: &Ask) -> Answer {
+    match command(alloc, ask) {
+        Some(command) => station.submit(&command),
+        None => Answer::NoMemory,
+    }
+}
+
+/// The same step so many times. Gives the last answer.
+pub(crate) fn steps(station: &mut Alone<MemSite>, choice: &Choice, times: u16) -> Answer {
+    let mut answer = Answer::Idle;
+    for _step in 0..times {
+        answer = station.act(choice);
+    }
+    answer
+}
+
+/// What is done where an action of the disk, or one of one of three slaves, is, or the failure that one meets.
+fn round(station: &mut Alone<MemSite>) -> Answer {
+    let mut answer = station.act(&Choice::Disk);
+    for slave in 0..3u16 {
+        let (_next, second) = station.serve(slave);
+        if matches!(second, Answer::Did | Answer::Failed(_)) {
+            answer = second;
+        }
+    }
+    answer
+}
+
+/// Rounds, as long as something is done. Gives the last answer of the disk, or the failure that they meet.
+pub(crate) fn serve(station: &mut Alone<MemSite>) -> Answer {
+    for _round in 0..10_000u16 {
+        let answer = round(station);
+        if answer != Answer::Did {
+            return answer;
+        }
+    }
+    Answer::Did
+}
+
+/// Whether it comes as the event says.
+fn comes(alloc: Global, station: &mut Alone<MemSite>, event: &Event) -> bool {
+    match event {
+        Event::Submit(ask, wanted) => submit(alloc, station, ask) == *wanted,
+        Event::Disk(times, wanted) => steps(station, &Choice::Disk, *times) == *wanted,
+        Event::Rom(slave, times, wanted) => steps(station, &Choice::Rom(*slave), *times) == *wanted,
+        Event::Serve(wanted) => serve(station) == *wanted,
+        Event::Status(wanted) => status_of(station) == *wanted,
+    }
+}
+
+/// Whether all events come as they are told.
+pub(crate) fn all_come(alloc: Global, station: &mut Alone<MemSite>, events: &[Event]) -> bool {
+    for event in events {
+        if !comes(alloc, station, event) {
+            return false;
+        }
+    }
+    true
+}

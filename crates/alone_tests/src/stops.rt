@@ -1,0 +1,92 @@
+//! A stop at each device write of a run, and at each of the recovery behind it.
+
+use crate::runs::{SERVED, Way, ended, kept_by, recovers};
+use crate::sites::{Trouble, recovered, site_of};
+use crate::story::STOPPED;
+use book_model::Fault;
+use site_mem::{MemSite, Pattern};
+use std::alloc::Global;
+
+pub(crate) const PATTERNS: [Pattern; 4] = [
+    Pattern::Old,
+    Pattern::New,
+    Pattern::Fill(0x00a5),
+    Pattern::Fill(0x5a5a),
+];
+
+/// Whether a recovery of what a stop leaves of the site now is stopped by the pattern behind so many writes. None where it fails
+/// otherwise, or a second one doesn't complete it.
+fn is_cut_off(
+    alloc: Global,
+    site: &MemSite,
+    kept: &[[u16; 3]],
+    writes: u64,
+    pattern: Pattern,
+) -> Option<bool> {
+    let left = site.snapshot(alloc).ok()?;
+    let site = site_of(alloc, left, &Trouble::Fuse(writes, pattern))?;
+    let (site, first) = recovered(alloc, site);
+    if !recovers(alloc, site.into_parts(), kept) {
+        return None;
+    }
+    match first {
+        Ok(_) => Some(false),
+        Err(fault) if fault == STOPPED => Some(true),
+        Err(_) => None,
+    }
+}
+
+/// How many writes a recovery of what a stop leaves of the site now makes, where a second one mends it wherever the pattern stops it.
+pub(crate) fn writes_mended(
+    alloc: Global,
+    site: &MemSite,
+    kept: &[[u16; 3]],
+    pattern: Pattern,
+) -> Option<u64> {
+    for writes in 0..100 {
+        if !is_cut_off(alloc, site, kept, writes, pattern)? {
+            return Some(writes);
+        }
+    }
+    None
+}
+
+/// Whether a run is stopped by the pattern behind so many writes, the one of opening aside. None where it ends otherwise, or
+/// isn't mended wherever its recovery is stopped.
+fn is_stopped(alloc: Global, way: Way, writes: u64, pattern: Pattern) -> Option<bool> {
+    let trouble = Trouble::Fuse(writes.saturating_add(1), pattern);
+    let (site, end) = ended(alloc, way, &trouble)?;
+    let kept = kept_by(way, end.status[1]);
+    writes_mended(alloc, &site, kept, pattern)?;
+    if end.fault == Some(Fault::Stopped) {
+        return Some(true);
+    }
+    if end == SERVED { Some(false) } else { None }
+}
+
+/// How many writes a run makes, where a recovery mends it wherever the pattern stops either.
+fn writes_survived(alloc: Global, way: Way, pattern: Pattern) -> Option<u64> {
+    for writes in 0..100 {
+        if !is_stopped(alloc, way, writes, pattern)? {
+            return Some(writes);
+        }
+    }
+    None
+}
+
+#[test]
+fn a_stop_at_each_write_of_commands_one_by_one(rt: HostRuntime) {
+    for pattern in PATTERNS {
+        assert_eq!(rt;
+            writes_survived(rt.alloc(), Way::OneByOne, pattern),
+            Some(28)
+        );
+    }
+}
+
+#[test]
+fn a_stop_at_each_write_of_queued_commands(rt: HostRuntime) {
+    for pattern in PATTERNS {
+        assert_eq!(rt; writes_survived(rt.alloc(), Way::Queued, pattern), Some(12));
+    }
+}

@@ -1,0 +1,2 @@
+-- Definitions that follow the code's steps. No public contract cites them.
+pub mod Draft
