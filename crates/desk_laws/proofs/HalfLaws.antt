@@ -91,7 +91,7 @@ half-asked slave word value half cells inside fits = record {
 may-be-any : (known : Known) (word : ℕ) → IsUnsure known → MayBe known word
 may-be-any known word unsure = subst (λ (k : Known). MayBe k word) (sym unsure.1) tt
 
-words-issued : (taken : Bool) (slave word value : ℕ) (half later : SlaveHalf) (cells : List Cell) → TakesOrNot taken slave word value half later → HalfFits slave half (Issuing word value) cells
+pub words-issued : (taken : Bool) (slave word value : ℕ) (half later : SlaveHalf) (cells : List Cell) → TakesOrNot taken slave word value half later → HalfFits slave half (Issuing word value) cells
     → (left : List ℕ) → MayLeave later left → (at : ℕ) → at < length cells → MayBe (cell_of cells at).known (get_or left at 0)
 words-issued false slave word value half later cells rests fits left may at within = fits.words left (MayRest-leaves half later left rests may) at within
 words-issued true slave word value half later cells takes fits left may at within =
@@ -102,7 +102,7 @@ words-issued true slave word value half later cells takes fits left may at withi
       | inr other ↦ rw (taken-left slave word value half later takes left may at other) (fits.words takes.rested.words before at within)
     ]
 
-size-issued : (taken : Bool) (slave word value : ℕ) (half later : SlaveHalf) → TakesOrNot taken slave word value half later → length later.words ≡ length half.words
+pub size-issued : (taken : Bool) (slave word value : ℕ) (half later : SlaveHalf) → TakesOrNot taken slave word value half later → length later.words ≡ length half.words
 size-issued false slave word value half later rests = OnlyRests-length half later (MayRest-only half later rests)
 size-issued true slave word value half later takes = ap length takes.words ∙ OnlyRests-length half takes.rested (MayRest-only half takes.rested takes.rests)
 

@@ -22,6 +22,7 @@ use Rattle.book_model.specs.DiskSteps.{disk_next, disk_done}
 use Rattle.book_model.specs.RomSteps.{was_taken, is_last, with_errand, with_issue, rom_next, rom_done}
 use Rattle.book_laws.proofs.CellLaws.{asked-fits, written-fits}
 use Rattle.up_laws.specs.Steps.{MayComeBack}
+use Rattle.station_jobs.specs.declared.log.Assignment.{Assignment}
 use Rattle.station_jobs.specs.Dispatch.{with_outcome}
 use Rattle.station_jobs.specs.Working.{HalfReturns, SlaveReturns}
 use Rattle.desk_book.specs.declared.call.Call.{Call}
@@ -60,11 +61,11 @@ answer-behind entry log (next.Settle taken) = refl
 answer-behind entry log next.Idle = refl
 answer-behind entry log next.Stop = refl
 
-outcome-behind : (entry : RomEntry) (log : List RomEntry) (outcome : RomOutcome) → 0 < length log → with_outcome (entry ∷ log) outcome ≡ entry ∷ with_outcome log outcome
+pub outcome-behind : {J O : Type 0} (entry : Assignment J O) (log : List (Assignment J O)) (outcome : O) → 0 < length log → with_outcome (entry ∷ log) outcome ≡ entry ∷ with_outcome log outcome
 outcome-behind entry [] outcome some = absurd (omega arith)
 outcome-behind entry (x ∷ log) outcome some = refl
 
-outcome-length : (log : List RomEntry) (outcome : RomOutcome) → length (with_outcome log outcome) ≡ length log
+pub outcome-length : {J O : Type 0} (log : List (Assignment J O)) (outcome : O) → length (with_outcome log outcome) ≡ length log
 outcome-length [] outcome = refl
 outcome-length (x ∷ []) outcome = refl
 outcome-length (x ∷ y ∷ log) outcome = omega (arith, outcome-length (y ∷ log) outcome)
@@ -130,7 +131,7 @@ call-behind i book entry log (SlaveTold j outcome) is has = told-behind i book e
 call-behind i book entry log (PlanAsked answer) is has = record { noted = refl; has = has }
 call-behind i book entry log Finished is has = record { noted = refl; has = has }
 
-log-behind : (i : ℕ) (book : Book) (calls : List Call) (entry : RomEntry) (log : List RomEntry) → AreAnswered book calls → HasOut i book log → fold (rom_noted i) (entry ∷ log) calls ≡ entry ∷ fold (rom_noted i) log calls
+pub log-behind : (i : ℕ) (book : Book) (calls : List Call) (entry : RomEntry) (log : List RomEntry) → AreAnswered book calls → HasOut i book log → fold (rom_noted i) (entry ∷ log) calls ≡ entry ∷ fold (rom_noted i) log calls
 log-behind i book [] entry log all has = refl
 log-behind i book (call ∷ calls) entry log all has =
     let one = call-behind i book entry log call all.0 has in

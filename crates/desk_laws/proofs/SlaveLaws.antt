@@ -52,7 +52,7 @@ led-append i [] others old mid new same led = subst (λ (s : State). LedBy i oth
 led-append i (entry ∷ first) others old mid new led rest = (led.0, led.1, led-append i first others led.0 mid new led.2 rest)
 
 -- the last job, in which the site may have stopped
-last-steps : (i : ℕ) (entry : RomEntry) (mid new : Seen) (outcome : RomOutcome) → entry.outcome ≡ Some outcome → CallsSlave i entry.job outcome mid new → outcome ≢ outcomes.Stopped → SlaveReturns i entry.job outcome mid.state new.state
+pub last-steps : (i : ℕ) (entry : RomEntry) (mid new : Seen) (outcome : RomOutcome) → entry.outcome ≡ Some outcome → CallsSlave i entry.job outcome mid new → outcome ≢ outcomes.Stopped → SlaveReturns i entry.job outcome mid.state new.state
 last-steps i entry mid new outcome told does going =
     let turn : DoneInTurn (CallsSlave i) (entry ∷ []) mid new = (new, record { outcome = outcome; told = told; does = does; going = call-goes i entry.job outcome mid new does going }, refl) in
     let led : LedBy i (entry ∷ []) mid.state new.state = led-returned i (entry ∷ []) mid.state new.state (calls-came-back i (entry ∷ []) mid new turn) in
@@ -77,10 +77,10 @@ led-worked i log old new worked =
 
 -- ---- what it means that a book is served
 
-record Served (book : Book) : Type 0 where
-  none : NoFault book
-  durable : book.durable ≡ length book.accepted
-  settled : settled_prefix (all_cells book.slaves) (all_entries book) ≡ length (all_entries book)
+pub record Served (book : Book) : Type 0 where
+  pub none : NoFault book
+  pub durable : book.durable ≡ length book.accepted
+  pub settled : settled_prefix (all_cells book.slaves) (all_entries book) ≡ length (all_entries book)
 
 is-not : (failed : Bool) → not failed ≡ true → failed ≡ false
 is-not true is = absurd cc
@@ -89,7 +89,7 @@ is-not false is = refl
 same-of : (n m : ℕ) → (n == m) ≡ true → n ≡ m
 same-of n m is = grind (arith, nat_tests)
 
-served-is : (book : Book) → is_served book ≡ true → Served book
+pub served-is : (book : Book) → is_served book ≡ true → Served book
 served-is book is =
     let first = not (is_some book.fault) in
     let second = book.durable == length book.accepted in

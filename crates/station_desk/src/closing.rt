@@ -4,6 +4,9 @@ ghost use Rattle.std.specs.Prelude.{◌≡◌, ◌↔◌, IsTrue, true, false, l
 ghost use Rattle.desk_book.specs.Calls.{replayed};
 ghost use Rattle.desk_book.specs.Closing.{AllWorked, CountAll, is_served};
 ghost use Rattle.desk_laws.specs.Slaves.{IsJustOpened, AllReadAsContents};
+ghost use Rattle.joined_law.specs.Joined.{IsKeptAs};
+ghost use Rattle.joined_law.specs.Together.{AllEndSo, IsLeft};
+ghost use Rattle.station_jobs.specs.Flushing.{IsFlushed};
 ghost use Rattle.station_desk.specs.Closing.{IsCycleOf, AreEndsOf, IsHandedIn};
 
 use crate::desk::Desk;
@@ -62,17 +65,20 @@ fn turns_match<T: Tickets, R: Refusals, S: Site>(
     }
 }
 
-/// Whether these are all the ends of those who did the jobs that the book handed out. Each slave is where its worker's jobs led it.
+/// Whether these are all the ends of those who did the jobs that the book handed out. The disk is where the flusher's jobs led it, and
+/// each slave where its worker's did.
 fn ends_match<T: Tickets, R: Refusals, S: Site>(book: &Served<T, R>, ends: &Ends<S>) -> bool
     ensures matches { IsTrue result ↔ AreEndsOf T.opened book.now.calls ends.now }
     ensures worked { IsTrue result → AllWorked S.seen ends.now.workers.items }
+    ensures flushed { IsTrue result → IsFlushed ends.now.flusher.log (S.seen ends.now.flusher.start) (S.seen ends.now.flusher.site) }
 {
     turns_match(book, &ends.cycle)
         && book.flusher_matches(ends.flusher.log().as_slice())
         && book.workers_match(ends.workers.as_slice())
 }
 
-/// Whether all that is handed in is what the book handed out. Each slave is where its worker's jobs led it.
+/// Whether all that is handed in is what the book handed out. The disk is where the flusher's jobs led it, and each slave where its
+/// worker's did.
 fn all_match<T: Tickets, R: Refusals, S: Site>(
     book: &Served<T, R>,
     shares: &[Share<T, R>],
@@ -81,6 +87,7 @@ fn all_match<T: Tickets, R: Refusals, S: Site>(
 ) -> bool
     ensures matches { IsTrue result ↔ IsHandedIn T.opened book.now.calls shares.now receipts.now ends.now }
     ensures worked { IsTrue result → AllWorked S.seen ends.now.workers.items }
+    ensures flushed { IsTrue result → IsFlushed ends.now.flusher.log (S.seen ends.now.flusher.start) (S.seen ends.now.flusher.site) }
 {
     book.shares_match(shares) && book.receipts_match(receipts) && ends_match(book, ends)
 }
@@ -100,6 +107,11 @@ fn audit_all<T: Tickets, R: Refusals>(book: &mut Served<T, R>, shares: &mut Vec<
 /// Where the desk was made of a book that was just opened, each slave that was idle when its worker began, and read as the words that
 /// the book was opened with, reads as the contents after all accepted commands.
 ///
+/// Where it was opened on the disk of the flusher and the slaves of the workers, as they were when these began: of the disk and the
+/// slaves as they are now, a stop leaves only what is kept for the session of the desk's callers, with all accepted commands and each
+/// durable one acknowledged. At `Ok` these are all, and redo of what a stop leaves gives the contents after them. At `Unserved` too
+/// it is kept: after a fault, or a stop, or before all is settled.
+///
 /// # Errors
 ///
 /// `Mismatch` where what was handed in isn't what the book handed out, then `Unserved`. All is handed back. All shares that the desk
@@ -113,11 +125,13 @@ pub fn close<T: Tickets, R: Refusals, S: Site>(
     ensures handed_in { IfOk result (λ closed. IsHandedIn T.opened closed.book.calls shares.items receipts.items ends) }
     ensures served { IfOk result (λ closed. is_served (replayed T.opened closed.book.calls) ≡ true) }
     ensures contents { IfOk result (λ closed. IsJustOpened T.opened → AllReadAsContents T.opened (replayed T.opened closed.book.calls) S.seen closed.ends.workers.items) }
+    ensures left { IfOk result (λ closed. AllEndSo IsLeft T.opened closed.book.calls S.seen closed.ends.flusher closed.ends.workers.items) }
     ensures ends { IfOk result (λ closed. closed.ends ≡ ends) }
     ensures handed_back { IfErr result (λ left. (left.shares.items ≡ shares.items) × (left.receipts ≡ receipts) × (left.ends ≡ ends)) }
     ensures all_shares { IfErr result (λ left. length shares.items ≡ left.book.pool.given → CountAll (replayed T.opened left.book.calls) left.book.calls shares.items) }
     ensures mismatch { IfErr result (λ left. left.fault ≡ CloseFault.Mismatch → ¬ (IsHandedIn T.opened left.book.calls shares.items receipts.items ends)) }
     ensures unserved { IfErr result (λ left. left.fault ≡ CloseFault.Unserved → is_served (replayed T.opened left.book.calls) ≡ false) }
+    ensures kept { IfErr result (λ left. left.fault ≡ CloseFault.Unserved → AllEndSo IsKeptAs T.opened left.book.calls S.seen left.ends.flusher left.ends.workers.items) }
 {
     let Desk { served, .. } = desk;
     let mut book = served.into_inner();

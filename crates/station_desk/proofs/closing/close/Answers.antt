@@ -3,6 +3,7 @@ use Rattle.desk_book.specs.Numbered.{Numbered}
 use Rattle.desk_book.specs.Serving.{Counts}
 use Rattle.station_desk.specs.Closing.{IsHandedIn}
 use Rattle.desk_laws.proofs.SlaveLaws.{all-read}
+use Rattle.joined_law.proofs.TogetherLaws.{all-kept, all-left}
 use Rattle.station_desk.proofs.closing.close.Goals as goal
 
 pub returns-then-not-all_match-clause-mismatch : goal.returns-then-not-all_match-clause-mismatch
@@ -33,3 +34,18 @@ returns-clause-contents g c = λ just.
     let calls = c.audit_all.new.book.calls in
     let all = c.all_match.ensures.matches.0 c.if-not-all_match.false in
     all-read opened calls g.S.Site.seen c.args.ends.workers.items just c.is_served.ensures.answered (sym c.is_served.ensures.served ∙ c.if-not-is_served.false) all.ended.workers (c.all_match.ensures.worked c.if-not-all_match.false)
+
+pub returns-clause-left : goal.returns-clause-left
+returns-clause-left g c =
+    let opened = g.T.Tickets.opened in
+    let calls = c.audit_all.new.book.calls in
+    let all = c.all_match.ensures.matches.0 c.if-not-all_match.false in
+    all-left opened calls g.S.Site.seen c.args.ends.flusher c.args.ends.workers.items (c.all_match.ensures.flushed c.if-not-all_match.false) all.ended.flusher all.ended.workers (c.all_match.ensures.worked c.if-not-all_match.false)
+    c.is_served.ensures.answered (sym c.is_served.ensures.served ∙ c.if-not-is_served.false)
+
+pub returns-then-not-is_served-clause-kept : goal.returns-then-not-is_served-clause-kept
+returns-then-not-is_served-clause-kept g c = λ unserved.
+    let opened = g.T.Tickets.opened in
+    let calls = c.audit_all.new.book.calls in
+    let all = c.all_match.ensures.matches.0 c.if-not-all_match.false in
+    all-kept opened calls g.S.Site.seen c.args.ends.flusher c.args.ends.workers.items (c.all_match.ensures.flushed c.if-not-all_match.false) all.ended.flusher all.ended.workers (c.all_match.ensures.worked c.if-not-all_match.false) c.is_served.ensures.answered

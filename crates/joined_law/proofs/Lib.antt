@@ -1,0 +1,9 @@
+pub mod DiskWork
+pub mod HalfWork
+pub mod DiskLog
+pub mod DiskUp
+pub mod SlaveUp
+pub mod SlaveOn
+pub mod Joining
+pub mod Ending
+pub mod TogetherLaws
