@@ -1,3 +1,2 @@
 mod PlaceLaws
 mod EndLaws
-mod Sent
