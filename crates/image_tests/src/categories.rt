@@ -5,8 +5,7 @@ use sii_cats::{
     CatFault, Category, ChainFault, FmmuUnit, FmmuUse, chain, fmmus, pdos, splice, strings, syncms,
     write_fmmus, write_pdos, write_strings, write_syncms,
 };
-use std::alloc::{AllocError, Global};
-use std::test::Fail;
+use std::alloc::Global;
 
 /// Two strings of two bytes, and a byte that makes whole words.
 const NAMES: [u16; 4] = [0x0202, 0x4C45, 0x4902, 0x006E];
@@ -59,23 +58,27 @@ const AGAIN: [(Kind, &[u16], &[u16]); 5] = [
     (Kind::Units, &[0x0201, 0x03FF], &[0x0201, 0x03FF]),
 ];
 
-fn strings_again(alloc: Global, words: &[u16]) -> Result<Vec<u16>, CatFault> {
-    write_strings(alloc, &strings(alloc, words)?)
+fn strings_again(alloc: Global, words: &[u16]) -> Option<Vec<u16>> {
+    let names = strings(alloc, words).ok()?;
+    write_strings(alloc, &names).ok()
 }
 
-fn managers_again(alloc: Global, words: &[u16]) -> Result<Vec<u16>, CatFault> {
-    Ok(write_syncms(alloc, &syncms(alloc, words)?)?)
+fn managers_again(alloc: Global, words: &[u16]) -> Option<Vec<u16>> {
+    let managers = syncms(alloc, words).ok()?;
+    write_syncms(alloc, &managers).ok()
 }
 
-fn pdos_again(alloc: Global, words: &[u16]) -> Result<Vec<u16>, CatFault> {
-    write_pdos(alloc, TXPDOS, &pdos(alloc, TXPDOS, words)?)
+fn pdos_again(alloc: Global, words: &[u16]) -> Option<Vec<u16>> {
+    let inputs = pdos(alloc, TXPDOS, words).ok()?;
+    write_pdos(alloc, TXPDOS, &inputs).ok()
 }
 
-fn units_again(alloc: Global, words: &[u16]) -> Result<Vec<u16>, CatFault> {
-    Ok(write_fmmus(alloc, &fmmus(alloc, words)?)?)
+fn units_again(alloc: Global, words: &[u16]) -> Option<Vec<u16>> {
+    let units = fmmus(alloc, words).ok()?;
+    write_fmmus(alloc, &units).ok()
 }
 
-fn again(alloc: Global, kind: Kind, words: &[u16]) -> Result<Vec<u16>, CatFault> {
+fn again(alloc: Global, kind: Kind, words: &[u16]) -> Option<Vec<u16>> {
     match kind {
         Kind::Names => strings_again(alloc, words),
         Kind::Managers => managers_again(alloc, words),
@@ -84,12 +87,19 @@ fn again(alloc: Global, kind: Kind, words: &[u16]) -> Result<Vec<u16>, CatFault>
     }
 }
 
-#[test]
-fn contents_are_written_as_they_were_read(rt: HostRuntime) -> Result<(), Fail> {
-    for (kind, words, wanted) in &AGAIN {
-        assert!(rt; again(rt.alloc(), *kind, words)?.as_slice() == *wanted);
+/// Whether a vector is there, and has these words.
+fn is_vector(vector: &Option<Vec<u16>>, wanted: &[u16]) -> bool {
+    match vector {
+        Some(words) => words.as_slice() == wanted,
+        None => false,
     }
-    Ok(())
+}
+
+#[test]
+fn contents_are_written_as_they_were_read(rt: HostRuntime) {
+    for (kind, words, wanted) in &AGAIN {
+        assert!(rt; is_vector(&again(rt.alloc(), *kind, words), wanted));
+    }
 }
 
 #[test]
@@ -98,33 +108,51 @@ fn units_of_bytes(rt: HostRuntime) {
     assert!(rt; FmmuUnit { byte: 2 }.usage() == FmmuUse::Inputs);
 }
 
+/// Whether strings are refused.
+fn are_no_strings(alloc: Global, words: &[u16]) -> bool {
+    strings(alloc, words).err() == Some(CatFault::BadCategory { kind: STRINGS })
+}
+
+/// How many RXPDOs there are, or why they are refused.
+fn count_of_pdos(alloc: Global, words: &[u16]) -> Result<usize, CatFault> {
+    match pdos(alloc, RXPDOS, words) {
+        Ok(outputs) => Ok(outputs.len()),
+        Err(fault) => Err(fault),
+    }
+}
+
 #[test]
-fn contents_that_are_cut(rt: HostRuntime) -> Result<(), Fail> {
-    let names = strings(rt.alloc(), &NAMES[..2]).err();
-    assert!(rt; names == Some(CatFault::BadCategory { kind: STRINGS }));
-    let outputs = pdos(rt.alloc(), RXPDOS, &CUT_OUTPUTS).err();
-    assert!(rt; outputs == Some(CatFault::BadCategory { kind: RXPDOS }));
-    assert!(rt; pdos(rt.alloc(), RXPDOS, &CUT_OUTPUTS[..3])?.is_empty());
-    Ok(())
+fn contents_that_are_cut(rt: HostRuntime) {
+    let refused = CatFault::BadCategory { kind: RXPDOS };
+    assert!(rt; are_no_strings(rt.alloc(), &NAMES[..2]));
+    assert!(rt; count_of_pdos(rt.alloc(), &CUT_OUTPUTS) == Err(refused));
+    assert!(rt; count_of_pdos(rt.alloc(), &CUT_OUTPUTS[..3]) == Ok(0));
 }
 
 /// 128 words: zeros, these words from word 64 on, and then this one.
-fn with_chain(alloc: Global, words: &[u16], then: u16) -> Result<Vec<u16>, AllocError> {
-    let mut device = vec![in alloc; 0u16; 64]?;
-    device.extend_from_slice(words)?;
-    device.resize(128, then)?;
-    Ok(device)
+fn with_chain(words: &[u16], then: u16) -> [u16; 128] {
+    let mut device = [then; 128];
+    let count = words.len().min(64);
+    device[..64].copy_from_slice(&[0; 64]);
+    device[64..64 + count].copy_from_slice(&words[..count]);
+    device
 }
 
-/// How many categories such words have, and how many words their contents.
-fn sizes_of_chain(alloc: Global, words: &[u16], then: u16) -> Result<(usize, usize), ChainFault> {
-    let device = with_chain(alloc, words, then)?;
-    if device.len() < 64 {
-        return Ok((0, 0));
+/// How many categories there are, and how many words the longest content has.
+fn sizes_of(categories: &[Category]) -> (usize, usize) {
+    let mut longest = 0;
+    for category in categories {
+        longest = longest.max(category.count);
     }
-    let categories = chain(alloc, &device)?;
-    let longest = categories.iter().map(|category| category.count).max();
-    Ok((categories.len(), longest.unwrap_or(0)))
+    (categories.len(), longest)
+}
+
+/// The same of such a chain, or why it has none.
+fn sizes_of_chain(alloc: Global, words: &[u16], then: u16) -> Result<(usize, usize), ChainFault> {
+    match chain(alloc, &with_chain(words, then)) {
+        Ok(categories) => Ok(sizes_of(&categories)),
+        Err(fault) => Err(fault),
+    }
 }
 
 /// Chains, the word behind them, and how many categories they have and how many words the longest content.
@@ -136,11 +164,10 @@ const CHAINS: [(&[u16], u16, Result<(usize, usize), ChainFault>); 4] = [
 ];
 
 #[test]
-fn chains(rt: HostRuntime) -> Result<(), Fail> {
+fn chains(rt: HostRuntime) {
     for (words, then, wanted) in &CHAINS {
         assert!(rt; sizes_of_chain(rt.alloc(), words, *then) == *wanted);
     }
-    Ok(())
 }
 
 /// What the only category of `OLD` is exchanged for, or none where one is added, and the chain then.
@@ -151,43 +178,39 @@ const EDITED: [(Option<&[u16]>, &[u16]); 3] = [
     (Some(&[0; 62]), &FULL),
 ];
 
-/// Such words with their only category exchanged, or taken out.
-fn exchanged(alloc: Global, content: &[u16]) -> Result<Vec<u16>, CatFault> {
-    let device = with_chain(alloc, &OLD, 7)?;
-    if device.len() != 128 || chain(alloc, &device)?.len() != 1 {
+/// The device with its only category exchanged, or taken out.
+fn exchanged(alloc: Global, device: &[u16; 128], content: &[u16]) -> Result<Vec<u16>, CatFault> {
+    if chain(alloc, device)?.len() != 1 {
         return Err(CatFault::BadCategory { kind: END });
     }
-    splice(alloc, &device, Some(0), RXPDOS, content)
+    splice(alloc, device, Some(0), RXPDOS, content)
 }
 
-/// Such words with a category added.
-fn with_strings(alloc: Global) -> Result<Vec<u16>, CatFault> {
-    let device = with_chain(alloc, &OLD, 7)?;
-    if device.len() != 128 {
-        return Err(CatFault::BadCategory { kind: END });
-    }
-    splice(alloc, &device, None, STRINGS, &[1])
-}
-
+/// `OLD` with its only category exchanged, or taken out, or one added.
 fn edited(alloc: Global, content: Option<&[u16]>) -> Result<Vec<u16>, CatFault> {
+    let device = with_chain(&OLD, 7);
     match content {
-        Some(content) => exchanged(alloc, content),
-        None => with_strings(alloc),
+        Some(content) => exchanged(alloc, &device, content),
+        None => splice(alloc, &device, None, STRINGS, &[1]),
     }
 }
 
-/// Whether that gives this chain.
-fn gives(alloc: Global, content: Option<&[u16]>, wanted: &[u16]) -> Result<bool, CatFault> {
-    let whole = with_chain(alloc, wanted, 7)?;
-    Ok(edited(alloc, content)?.as_slice() == whole.as_slice())
+/// Whether it becomes this chain.
+fn becomes(alloc: Global, content: Option<&[u16]>, wanted: &[u16]) -> bool {
+    match edited(alloc, content) {
+        Ok(words) => words.as_slice() == with_chain(wanted, 7).as_slice(),
+        Err(_) => false,
+    }
 }
 
 #[test]
-fn edited_categories(rt: HostRuntime) -> Result<(), Fail> {
+fn edited_categories(rt: HostRuntime) {
     for (content, wanted) in &EDITED {
-        assert!(rt; gives(rt.alloc(), *content, wanted)?);
+        assert!(rt; becomes(rt.alloc(), *content, wanted));
     }
-    let over = exchanged(rt.alloc(), &[0; 63]).err();
-    assert!(rt; over == Some(CatFault::NoRoom));
-    Ok(())
+}
+
+#[test]
+fn a_content_that_is_too_long(rt: HostRuntime) {
+    assert!(rt; edited(rt.alloc(), Some(&[0; 63])).err() == Some(CatFault::NoRoom));
 }
