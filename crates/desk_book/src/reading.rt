@@ -8,12 +8,19 @@ use crate::counting::stands_at;
 use crate::naming::{Refusals, Tickets};
 use crate::served::Served;
 use crate::ticket::{Receipt, Ticket, Unacknowledged};
-use book_model::Status;
+use book_model::{Fault, Status};
 
 impl<T: Tickets, R: Refusals> Served<T, R> {
     /// How far the book is.
     pub fn status(&self) -> Status {
         self.core.status()
+    }
+
+    /// What has closed the book, if anything has.
+    pub fn fault(&self) -> Option<Fault>
+        ensures { result ≡ (replayed T.opened self.now.calls).fault }
+    {
+        self.core.fault()
     }
 
     /// Whether the book answers `Closed` to whoever submits.

@@ -1,11 +1,11 @@
-//! What the book answers, as it is printed.
+//! What the book answers, as it is printed and told.
 
-use book_model::SubmitRefusal;
+use book_model::{Fault as BookFault, SubmitRefusal};
 use station_codes::Code;
-use station_files::Refused;
+use station_files::{Fault, Refused};
 
 /// A refused command, as it is printed.
-pub(crate) fn refused_as(refusal: SubmitRefusal) -> Refused {
+pub fn refused_as(refusal: SubmitRefusal) -> Refused {
     let code = match refusal {
         SubmitRefusal::Command(refusal) => return Refused::from(refusal),
         SubmitRefusal::TooLarge => Code::TooLarge,
@@ -16,5 +16,14 @@ pub(crate) fn refused_as(refusal: SubmitRefusal) -> Refused {
     Refused {
         code,
         position: None,
+    }
+}
+
+/// What has closed a book, as it is told.
+pub fn fault_of_book(fault: BookFault) -> Fault {
+    match fault {
+        BookFault::Disk => Fault::Disk,
+        BookFault::Stopped => Fault::Stopped,
+        BookFault::SlaveDead { slave } => Fault::SlaveDead { slave },
     }
 }

@@ -2,10 +2,10 @@
 ghost use Rattle.std.specs.Prelude.{◌≡◌, ◌∷◌, [], IsTrue, OnOk, None};
 ghost use Rattle.station_rounds.specs.Rounds.{IsAccepted, ServesSo, SubmitsSo};
 
-use crate::answers::refused_as;
+use crate::answers::{fault_of_book, refused_as};
 use crate::rounds::{serve_all, serve_round};
 use book_core::Core;
-use book_model::{Fault as BookFault, SubmitRefusal};
+use book_model::SubmitRefusal;
 use sii_edit::Command;
 use site_core::Site;
 use station_alone::{Alone, Answer};
@@ -40,17 +40,8 @@ fn end_session<W: Write>(core: &Core, output: &mut W) -> Result<(), Fault>
     )?;
     output.flush()?;
     match core.fault() {
-        Some(fault) => Err(of_book(fault)),
+        Some(fault) => Err(fault_of_book(fault)),
         None => Ok(()),
-    }
-}
-
-/// The fault that has closed a book.
-fn of_book(fault: BookFault) -> Fault {
-    match fault {
-        BookFault::Disk => Fault::Disk,
-        BookFault::Stopped => Fault::Stopped,
-        BookFault::SlaveDead { slave } => Fault::SlaveDead { slave },
     }
 }
 

@@ -5,4 +5,5 @@ mod answers;
 mod commands;
 mod rounds;
 
+pub use answers::{fault_of_book, refused_as};
 pub use commands::serve_commands;
