@@ -29,7 +29,7 @@ use Rattle.book_ledger.specs.Ledger as ledgers
 use Rattle.book_ledger.specs.Shown.{Shown}
 use Rattle.book_core.specs.declared.step.Step.TheVariants as steps
 use Rattle.book_core.specs.Stands.{as_found, cell_counts, runs_each, IsAbout, ErrandStands, PartsStand}
-use Rattle.book_core.specs.Found.{TakenUp}
+use Rattle.book_core.specs.Found.{TakenUp, IsTaken}
 
 -- ---- the batches stand in their halves
 
@@ -103,12 +103,6 @@ errand-opened runs words fault i =
 each-found : (entries : List Entry) → runs_each (map as_found entries) ≡ runs_each entries
 each-found [] = refl
 each-found (e ∷ es) = ap (λ (l : List (List Run)). e.runs ∷ l) (each-found es)
-
--- The line holds what the batches ask for.
-pub record IsTaken (words : List (List ℕ)) (batches : List Batch) (work : Line) : Type 0 where
-  pub slaves : work.slaves ≡ owing_slaves (live_runs batches) 0 (map opened_slave words)
-  pub older : work.older ≡ map as_found (entries_of (halves_in batches).older)
-  pub newer : work.newer ≡ map as_found (entries_of (halves_in batches).newer)
 
 pub is-taken : (words : List (List ℕ)) (batches : List Batch) (line work : Line) → line.slaves ≡ map opened_slave words → line.older ≡ [] → line.newer ≡ [] → TakenUp batches line work → IsTaken words batches work
 is-taken words batches line work slaves older newer taken = record {

@@ -5,7 +5,7 @@ use Rattle.jrn_format.specs.declared.journal.Entry.{Entry}
 use Rattle.jrn_format.specs.declared.journal.Batch.{Batch}
 use Rattle.jrn_laws.specs.Live.{halves_in}
 use Rattle.book_model.specs.Entries.{runs_of, entries_of, live_runs}
-use Rattle.book_model.specs.Open.{owing_slaves}
+use Rattle.book_model.specs.Open.{opened_slave, owing_slaves}
 use Rattle.book_slaves.specs.Line.{Line}
 use Rattle.book_room.specs.declared.spot.Spot.{Spot}
 use Rattle.book_room.specs.declared.spot.Spot.TheVariants.{InOlder, InNewer}
@@ -36,3 +36,9 @@ pub record TakenUp (batches : List Batch) (old new : Line) : Type 0 where
   pub slaves : new.slaves ≡ owing_slaves (live_runs batches) 0 old.slaves
   pub older : new.older ≡ old.older ++ map as_found (entries_of (halves_in batches).older)
   pub newer : new.newer ≡ old.newer ++ map as_found (entries_of (halves_in batches).newer)
+
+-- The line, once its slaves were read and the batches have gone live, holds what the batches ask for.
+pub record IsTaken (words : List (List ℕ)) (batches : List Batch) (work : Line) : Type 0 where
+  pub slaves : work.slaves ≡ owing_slaves (live_runs batches) 0 (map opened_slave words)
+  pub older : work.older ≡ map as_found (entries_of (halves_in batches).older)
+  pub newer : work.newer ≡ map as_found (entries_of (halves_in batches).newer)

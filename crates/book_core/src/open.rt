@@ -1,4 +1,12 @@
 ghost use Rattle.std.specs.Prelude.{◌≡◌, ◌≤◌, vec_len, IfOk};
+ghost use Rattle.std.specs.List.{AllByRecursion};
+ghost use Rattle.sii_runs.specs.Redo.{redone};
+ghost use Rattle.jrn_format.specs.Batch.{IsWithin};
+ghost use Rattle.jrn_laws.specs.Halves.{live};
+ghost use Rattle.jrn_laws.specs.Live.{halves_in};
+ghost use Rattle.book_model.specs.Entries.{entries_of, live_runs, sizes_of};
+ghost use Rattle.book_ledger.specs.Ledger.{opened};
+ghost use Rattle.book_core.specs.Found.{IsTaken};
 
 use crate::book::Core;
 use crate::step::Step;
@@ -8,14 +16,54 @@ use book_model::CoreFault;
 use book_room::Area;
 use book_slaves::LineWork;
 use history::History;
-use jrn_format::Journal;
+use jrn_format::{Batch, Entry, Journal};
 use sii_words::{Plant, Words};
-use std::alloc::Global;
+use std::alloc::{AllocError, Global};
 use std::snapshot::Snapshot;
+
+/// What a line and its journal hold at the open.
+#[derive(Drop)]
+struct Restored {
+    /// The entries of the live batches.
+    found: History<Entry>,
+    /// The words with the batches redone.
+    contents: Plant,
+    /// What the words are owed.
+    work: LineWork,
+}
+
+/// What the live batches make of the words as they were read.
+fn restore(alloc: Global, words: Plant, batches: Vec<Batch>) -> Result<Restored, AllocError>
+    requires within { AllByRecursion (IsWithin (sizes_of words)) batches.items }
+    requires halves { live (halves_in batches.items) ≡ batches.items }
+    ensures found { IfOk result (λ all. all.found ≡ entries_of batches.items) }
+    ensures contents { IfOk result (λ all. all.contents ≡ redone words (live_runs batches.items)) }
+    ensures work { IfOk result (λ all. IsTaken words batches.items all.work) }
+{
+    let mut contents = words;
+    let mut work = LineWork::open(alloc, &contents)?;
+    let mut found = History::new();
+    note_batches(&mut found, &mut contents, batches.as_slice());
+    take_up(alloc, &mut work, batches)?;
+    Ok(Restored {
+        found,
+        contents,
+        work,
+    })
+}
+
+/// What is shown of these contents, and a ledger over them.
+fn shown_and_ledger(alloc: Global, contents: Plant) -> Result<(Shown, Ledger), AllocError>
+    ensures shown { IfOk result (λ both. both.0 ≡ record { contents = contents; count = 0 }) }
+    ensures ledger { IfOk result (λ both. both.1 ≡ opened contents) }
+{
+    let shown = Shown::open(alloc, contents.try_copy()?)?;
+    let ledger = Ledger::open(alloc, contents)?;
+    Ok((shown, ledger))
+}
 
 impl Core {
     ghost use Rattle.jrn_laws.specs.Live.{CanBeLive};
-    ghost use Rattle.book_model.specs.Entries.{sizes_of};
     ghost use Rattle.book_model.specs.Open.{open_book};
 
     /// A book over the words as they were read, 1 to 64 slaves, on a journal with an area of `capacity` bytes: one that `scan` gives
@@ -36,15 +84,15 @@ impl Core {
         ensures { IfOk result (λ core. core ≡ open_book slaves.items capacity journal) }
     {
         let Journal { form, batches } = journal;
-        let mut contents = Plant::of(slaves);
-        let words = Snapshot::of(&contents);
         let area = Area::open(form, capacity, batches.as_slice());
-        let mut work = LineWork::open(alloc, &contents)?;
-        let mut found = History::new();
-        note_batches(&mut found, &mut contents, batches.as_slice());
-        take_up(alloc, &mut work, batches.into_vec())?;
-        let shown = Shown::open(alloc, contents.try_copy()?)?;
-        let ledger = Ledger::open(alloc, contents)?;
+        let plant = Plant::of(slaves);
+        let words = Snapshot::of(&plant);
+        let Restored {
+            found,
+            contents,
+            work,
+        } = restore(alloc, plant, batches.into_vec())?;
+        let (shown, ledger) = shown_and_ledger(alloc, contents)?;
         Ok(Core {
             alloc,
             words,
