@@ -5,7 +5,8 @@ use sii_cats::{
     CatFault, Category, ChainFault, FmmuUnit, FmmuUse, chain, fmmus, pdos, splice, strings, syncms,
     write_fmmus, write_pdos, write_strings, write_syncms,
 };
-use std::alloc::Global;
+use std::alloc::{AllocError, Global};
+use std::test::Fail;
 
 /// Two strings of two bytes, and a byte that makes whole words.
 const NAMES: [u16; 4] = [0x0202, 0x4C45, 0x4902, 0x006E];
@@ -58,27 +59,23 @@ const AGAIN: [(Kind, &[u16], &[u16]); 5] = [
     (Kind::Units, &[0x0201, 0x03FF], &[0x0201, 0x03FF]),
 ];
 
-fn strings_again(alloc: Global, words: &[u16]) -> Option<Vec<u16>> {
-    let names = strings(alloc, words).ok()?;
-    write_strings(alloc, &names).ok()
+fn strings_again(alloc: Global, words: &[u16]) -> Result<Vec<u16>, CatFault> {
+    write_strings(alloc, &strings(alloc, words)?)
 }
 
-fn managers_again(alloc: Global, words: &[u16]) -> Option<Vec<u16>> {
-    let managers = syncms(alloc, words).ok()?;
-    write_syncms(alloc, &managers).ok()
+fn managers_again(alloc: Global, words: &[u16]) -> Result<Vec<u16>, CatFault> {
+    Ok(write_syncms(alloc, &syncms(alloc, words)?)?)
 }
 
-fn pdos_again(alloc: Global, words: &[u16]) -> Option<Vec<u16>> {
-    let inputs = pdos(alloc, TXPDOS, words).ok()?;
-    write_pdos(alloc, TXPDOS, &inputs).ok()
+fn pdos_again(alloc: Global, words: &[u16]) -> Result<Vec<u16>, CatFault> {
+    write_pdos(alloc, TXPDOS, &pdos(alloc, TXPDOS, words)?)
 }
 
-fn units_again(alloc: Global, words: &[u16]) -> Option<Vec<u16>> {
-    let units = fmmus(alloc, words).ok()?;
-    write_fmmus(alloc, &units).ok()
+fn units_again(alloc: Global, words: &[u16]) -> Result<Vec<u16>, CatFault> {
+    Ok(write_fmmus(alloc, &fmmus(alloc, words)?)?)
 }
 
-fn again(alloc: Global, kind: Kind, words: &[u16]) -> Option<Vec<u16>> {
+fn again(alloc: Global, kind: Kind, words: &[u16]) -> Result<Vec<u16>, CatFault> {
     match kind {
         Kind::Names => strings_again(alloc, words),
         Kind::Managers => managers_again(alloc, words),
@@ -87,19 +84,12 @@ fn again(alloc: Global, kind: Kind, words: &[u16]) -> Option<Vec<u16>> {
     }
 }
 
-/// Whether a vector is there, and has these words.
-fn is_vector(vector: &Option<Vec<u16>>, wanted: &[u16]) -> bool {
-    match vector {
-        Some(words) => words.as_slice() == wanted,
-        None => false,
-    }
-}
-
 #[test]
-fn contents_are_written_as_they_were_read(rt: HostRuntime) {
+fn contents_are_written_as_they_were_read(rt: HostRuntime) -> Result<(), Fail> {
     for (kind, words, wanted) in &AGAIN {
-        assert!(rt; is_vector(&again(rt.alloc(), *kind, words), wanted));
+        assert!(rt; again(rt.alloc(), *kind, words)?.as_slice() == *wanted);
     }
+    Ok(())
 }
 
 #[test]
@@ -108,51 +98,33 @@ fn units_of_bytes(rt: HostRuntime) {
     assert!(rt; FmmuUnit { byte: 2 }.usage() == FmmuUse::Inputs);
 }
 
-/// Whether strings are refused.
-fn are_no_strings(alloc: Global, words: &[u16]) -> bool {
-    strings(alloc, words).err() == Some(CatFault::BadCategory { kind: STRINGS })
-}
-
-/// How many RXPDOs there are, or why they are refused.
-fn count_of_pdos(alloc: Global, words: &[u16]) -> Result<usize, CatFault> {
-    match pdos(alloc, RXPDOS, words) {
-        Ok(outputs) => Ok(outputs.len()),
-        Err(fault) => Err(fault),
-    }
-}
-
 #[test]
-fn contents_that_are_cut(rt: HostRuntime) {
-    let refused = CatFault::BadCategory { kind: RXPDOS };
-    assert!(rt; are_no_strings(rt.alloc(), &NAMES[..2]));
-    assert!(rt; count_of_pdos(rt.alloc(), &CUT_OUTPUTS) == Err(refused));
-    assert!(rt; count_of_pdos(rt.alloc(), &CUT_OUTPUTS[..3]) == Ok(0));
+fn contents_that_are_cut(rt: HostRuntime) -> Result<(), Fail> {
+    let names = strings(rt.alloc(), &NAMES[..2]).err();
+    assert!(rt; names == Some(CatFault::BadCategory { kind: STRINGS }));
+    let outputs = pdos(rt.alloc(), RXPDOS, &CUT_OUTPUTS).err();
+    assert!(rt; outputs == Some(CatFault::BadCategory { kind: RXPDOS }));
+    assert!(rt; pdos(rt.alloc(), RXPDOS, &CUT_OUTPUTS[..3])?.is_empty());
+    Ok(())
 }
 
 /// 128 words: zeros, these words from word 64 on, and then this one.
-fn with_chain(words: &[u16], then: u16) -> [u16; 128] {
-    let mut device = [then; 128];
-    let count = words.len().min(64);
-    device[..64].copy_from_slice(&[0; 64]);
-    device[64..64 + count].copy_from_slice(&words[..count]);
-    device
+fn with_chain(alloc: Global, words: &[u16], then: u16) -> Result<Vec<u16>, AllocError> {
+    let mut device = vec![in alloc; 0u16; 64]?;
+    device.extend_from_slice(words)?;
+    device.resize(128, then)?;
+    Ok(device)
 }
 
-/// How many categories there are, and how many words the longest content has.
-fn sizes_of(categories: &[Category]) -> (usize, usize) {
-    let mut longest = 0;
-    for category in categories {
-        longest = longest.max(category.count);
-    }
-    (categories.len(), longest)
-}
-
-/// The same of such a chain, or why it has none.
+/// How many categories such words have, and how many words their contents.
 fn sizes_of_chain(alloc: Global, words: &[u16], then: u16) -> Result<(usize, usize), ChainFault> {
-    match chain(alloc, &with_chain(words, then)) {
-        Ok(categories) => Ok(sizes_of(&categories)),
-        Err(fault) => Err(fault),
+    let device = with_chain(alloc, words, then)?;
+    if device.len() < 64 {
+        return Ok((0, 0));
     }
+    let categories = chain(alloc, &device)?;
+    let longest = categories.iter().map(|category| category.count).max();
+    Ok((categories.len(), longest.unwrap_or(0)))
 }
 
 /// Chains, the word behind them, and how many categories they have and how many words the longest content.
@@ -164,10 +136,11 @@ const CHAINS: [(&[u16], u16, Result<(usize, usize), ChainFault>); 4] = [
 ];
 
 #[test]
-fn chains(rt: HostRuntime) {
+fn chains(rt: HostRuntime) -> Result<(), Fail> {
     for (words, then, wanted) in &CHAINS {
         assert!(rt; sizes_of_chain(rt.alloc(), words, *then) == *wanted);
     }
+    Ok(())
 }
 
 /// What the only category of `OLD` is exchanged for, or none where one is added, and the chain then.
@@ -178,39 +151,43 @@ const EDITED: [(Option<&[u16]>, &[u16]); 3] = [
     (Some(&[0; 62]), &FULL),
 ];
 
-/// The device with its only category exchanged, or taken out.
-fn exchanged(alloc: Global, device: &[u16; 128], content: &[u16]) -> Result<Vec<u16>, CatFault> {
-    if chain(alloc, device)?.len() != 1 {
+/// Such words with their only category exchanged, or taken out.
+fn exchanged(alloc: Global, content: &[u16]) -> Result<Vec<u16>, CatFault> {
+    let device = with_chain(alloc, &OLD, 7)?;
+    if device.len() != 128 || chain(alloc, &device)?.len() != 1 {
         return Err(CatFault::BadCategory { kind: END });
     }
-    splice(alloc, device, Some(0), RXPDOS, content)
+    splice(alloc, &device, Some(0), RXPDOS, content)
 }
 
-/// `OLD` with its only category exchanged, or taken out, or one added.
+/// Such words with a category added.
+fn with_strings(alloc: Global) -> Result<Vec<u16>, CatFault> {
+    let device = with_chain(alloc, &OLD, 7)?;
+    if device.len() != 128 {
+        return Err(CatFault::BadCategory { kind: END });
+    }
+    splice(alloc, &device, None, STRINGS, &[1])
+}
+
 fn edited(alloc: Global, content: Option<&[u16]>) -> Result<Vec<u16>, CatFault> {
-    let device = with_chain(&OLD, 7);
     match content {
-        Some(content) => exchanged(alloc, &device, content),
-        None => splice(alloc, &device, None, STRINGS, &[1]),
+        Some(content) => exchanged(alloc, content),
+        None => with_strings(alloc),
     }
 }
 
-/// Whether it becomes this chain.
-fn becomes(alloc: Global, content: Option<&[u16]>, wanted: &[u16]) -> bool {
-    match edited(alloc, content) {
-        Ok(words) => words.as_slice() == with_chain(wanted, 7).as_slice(),
-        Err(_) => false,
-    }
+/// Whether that gives this chain.
+fn gives(alloc: Global, content: Option<&[u16]>, wanted: &[u16]) -> Result<bool, CatFault> {
+    let whole = with_chain(alloc, wanted, 7)?;
+    Ok(edited(alloc, content)?.as_slice() == whole.as_slice())
 }
 
 #[test]
-fn edited_categories(rt: HostRuntime) {
+fn edited_categories(rt: HostRuntime) -> Result<(), Fail> {
     for (content, wanted) in &EDITED {
-        assert!(rt; becomes(rt.alloc(), *content, wanted));
+        assert!(rt; gives(rt.alloc(), *content, wanted)?);
     }
-}
-
-#[test]
-fn a_content_that_is_too_long(rt: HostRuntime) {
-    assert!(rt; edited(rt.alloc(), Some(&[0; 63])).err() == Some(CatFault::NoRoom));
+    let over = exchanged(rt.alloc(), &[0; 63]).err();
+    assert!(rt; over == Some(CatFault::NoRoom));
+    Ok(())
 }

@@ -1,15 +1,15 @@
 //! Commands on a line of three slaves: refusals in their order, runs, and the new contents. The check bytes are those of
 //! EEPROMs in use.
 
-use crate::bytes::put;
 use sii_edit::{
     Cause, Command, Edit, EditList, Expect, GuardedEdit, GuardedEditList, Refusal, WordList,
     alias_image, apply, changes,
 };
 use sii_image::Layout;
 use sii_runs::Run;
-use sii_words::{ImageFile, Plant, Words};
+use sii_words::{ImageFile, Plant, Words, WordsFault};
 use std::alloc::Global;
+use std::test::Fail;
 
 /// Words 4 and 7 of three slaves whose other words are zeros, with and without the right check byte.
 type Names = [(u16, u16); 3];
@@ -151,7 +151,7 @@ const LED_TO: [(&Names, Order, &[(u16, u16, u16)]); 4] = [
 ];
 
 /// Edits one on the other, and the alias, the vendor and words 64 to 67 of the first slave then.
-const STACKED: [(Order, Shown); 3] = [
+const STACKED: [(Order, (u16, u32, [u16; 4])); 3] = [
     (
         Order::Group(&[Ask::Category(0, 60, &[9]), Ask::Alias(0, 1)]),
         (1, 0, [60, 1, 9, 0xFFFF]),
@@ -173,239 +173,181 @@ const RENAMED: [(u16, u16, (bool, u16, u16)); 3] = [
     (0x0031, 0x0001, (false, 0x0000, 0x0031)),
 ];
 
-/// A slave of 128 words, whose categories end at word 64.
-fn slave(alloc: Global, four: u16, seven: u16) -> Option<Words> {
-    let mut bytes = [0u8; 256];
-    put(&mut bytes, 8, &four.to_le_bytes());
-    put(&mut bytes, 14, &seven.to_le_bytes());
-    put(&mut bytes, 128, &[0xFF, 0xFF]);
-    Words::from_bytes(alloc, &bytes).ok()
+fn slave(alloc: Global, name: (u16, u16)) -> Result<Words, WordsFault> {
+    let mut words = Words::from_bytes(alloc, &[0; 256])?;
+    words.set(4, name.0);
+    words.set(7, name.1);
+    words.set(64, 0xFFFF);
+    Ok(words)
 }
 
-fn slaves(alloc: Global, names: &Names) -> Option<Vec<Words>> {
+fn line(alloc: Global, names: &Names) -> Result<Plant, WordsFault> {
     let mut slaves = Vec::new(alloc);
-    for (four, seven) in names {
-        slaves.push(slave(alloc, *four, *seven)?).ok()?;
+    for name in names {
+        slaves.push(slave(alloc, *name)?)?;
     }
-    Some(slaves)
-}
-
-fn line(alloc: Global, names: &Names) -> Option<Plant> {
-    let slaves = slaves(alloc, names)?;
     if slaves.is_empty() || slaves.len() > 64 {
-        return None;
+        return Err(WordsFault::BadSize);
     }
-    Some(Plant::of(slaves))
+    Ok(Plant::of(slaves))
 }
 
-fn image(alloc: Global, words: [u16; 4]) -> Option<ImageFile> {
+fn image(alloc: Global, words: [u16; 4]) -> Result<ImageFile, Fail> {
+    let mut image = ImageFile::from_bytes(alloc, &[0; 132])?;
     let [four, seven, eight, kind] = words;
-    let mut bytes = [0u8; 132];
-    put(&mut bytes, 8, &four.to_le_bytes());
-    put(&mut bytes, 14, &seven.to_le_bytes());
-    put(&mut bytes, 16, &eight.to_le_bytes());
-    put(&mut bytes, 128, &kind.to_le_bytes());
-    ImageFile::from_bytes(alloc, &bytes).ok()
+    image.set(4, four);
+    image.set(7, seven);
+    image.set(8, eight);
+    image.set(64, kind);
+    Ok(image)
 }
 
-fn category(alloc: Global, slave: u16, kind: u16, content: &[u16]) -> Option<Edit> {
-    let words = WordList::from_vec(content.to_vec(alloc).ok()?);
-    Some(Edit::Category { slave, kind, words })
+fn edit(alloc: Global, ask: &Ask) -> Result<Edit, Fail> {
+    Ok(match *ask {
+        Ask::Alias(slave, value) => Edit::Alias { slave, value },
+        Ask::Category(slave, kind, content) => Edit::Category {
+            slave,
+            kind,
+            words: WordList::from_vec(content.to_vec(alloc)?),
+        },
+        Ask::Image(slave, words) => Edit::Image {
+            slave,
+            image: image(alloc, words)?,
+        },
+    })
 }
 
-fn edit(alloc: Global, ask: &Ask) -> Option<Edit> {
-    match *ask {
-        Ask::Alias(slave, value) => Some(Edit::Alias { slave, value }),
-        Ask::Category(slave, kind, content) => category(alloc, slave, kind, content),
-        Ask::Image(slave, words) => {
-            let image = image(alloc, words)?;
-            Some(Edit::Image { slave, image })
-        }
-    }
-}
-
-fn group(alloc: Global, asks: &[Ask]) -> Option<Command> {
+fn group(alloc: Global, asks: &[Ask]) -> Result<Command, Fail> {
     let mut edits = Vec::new(alloc);
     for ask in asks {
-        edits.push(edit(alloc, ask)?).ok()?;
+        edits.push(edit(alloc, ask)?)?;
     }
-    Some(Command::Group(EditList::from_vec(edits)))
+    Ok(Command::Group(EditList::from_vec(edits)))
 }
 
-fn guarded_edit(alloc: Global, vendor: u32, ask: &Ask) -> Option<GuardedEdit> {
-    let edit = edit(alloc, ask)?;
-    let expect = Some(Expect {
-        vendor,
-        product: 0,
-        revision: 0,
-    });
-    Some(GuardedEdit { expect, edit })
-}
-
-fn guarded(alloc: Global, asks: &[(u32, Ask)]) -> Option<Command> {
+fn guarded(alloc: Global, asks: &[(u32, Ask)]) -> Result<Command, Fail> {
     let mut edits = Vec::new(alloc);
     for (vendor, ask) in asks {
-        edits.push(guarded_edit(alloc, *vendor, ask)?).ok()?;
+        let expect = Some(Expect {
+            vendor: *vendor,
+            product: 0,
+            revision: 0,
+        });
+        let edit = edit(alloc, ask)?;
+        edits.push(GuardedEdit { expect, edit })?;
     }
-    Some(Command::Guarded(GuardedEditList::from_vec(edits)))
+    Ok(Command::Guarded(GuardedEditList::from_vec(edits)))
 }
 
-fn command(alloc: Global, order: &Order) -> Option<Command> {
+fn command(alloc: Global, order: &Order) -> Result<Command, Fail> {
     match *order {
-        Order::Swap(a, b) => Some(Command::Swap { a, b }),
+        Order::Swap(a, b) => Ok(Command::Swap { a, b }),
         Order::Group(asks) => group(alloc, asks),
         Order::Guarded(asks) => guarded(alloc, asks),
     }
 }
 
-/// Why a command is refused on a line, if it is: the cause, and which edit of a group has it.
-fn refusal(alloc: Global, plant: &Plant, command: &Command) -> Option<(Cause, Option<u8>)> {
-    let Ok(layout) = Layout::of(alloc, plant) else {
-        return Some((Cause::Memory, None));
-    };
-    match changes(alloc, plant, &layout, command) {
-        Ok(_change) => None,
-        Err(refusal) => Some((refusal.cause, refusal.position)),
-    }
+/// Why a command is refused on a line, if it is.
+fn refusal(alloc: Global, plant: &Plant, command: &Command) -> Result<Option<Refusal>, Fail> {
+    let layout = Layout::of(alloc, plant)?;
+    Ok(changes(alloc, plant, &layout, command).err())
 }
 
-/// The same of a copy of the command.
-fn refusal_of_copy(alloc: Global, plant: &Plant, command: &Command) -> Option<(Cause, Option<u8>)> {
-    match command.try_copy() {
-        Ok(copy) => refusal(alloc, plant, &copy),
-        Err(_memory) => Some((Cause::Memory, None)),
-    }
-}
-
-/// Whether a copy of a command is judged so.
-fn is_judged(
+/// Why a copy of a command is refused, if it is.
+fn judged(
     alloc: Global,
     names: &Names,
     order: &Order,
-    wanted: Option<(Cause, Option<u8>)>,
-) -> Option<bool> {
+) -> Result<Option<(Cause, Option<u8>)>, Fail> {
     let plant = line(alloc, names)?;
     let command = command(alloc, order)?;
-    Some(refusal_of_copy(alloc, &plant, &command) == wanted)
+    let refused = refusal(alloc, &plant, &command.try_copy()?)?;
+    Ok(refused.map(|refusal| (refusal.cause, refusal.position)))
 }
 
 #[test]
-fn commands_are_judged_in_order(rt: HostRuntime) {
+fn commands_are_judged_in_order(rt: HostRuntime) -> Result<(), Fail> {
     for (names, order, wanted) in &JUDGED {
-        assert!(rt; is_judged(rt.alloc(), names, order, *wanted) == Some(true));
+        assert_eq!(rt; judged(rt.alloc(), names, order)?, *wanted);
     }
+    Ok(())
 }
 
-/// Whether a run has one word: slave, place and value.
-fn is_word(run: &Run, wanted: (u16, u16, u16)) -> bool {
-    match run.words.as_slice() {
-        [word] => (run.slave, run.first, *word) == wanted,
-        _ => false,
-    }
-}
-
-/// Whether the runs have one word each.
+/// Whether the runs have one word each: slave, place and value.
 fn are_words(runs: &[Run], wanted: &[(u16, u16, u16)]) -> bool {
-    for (run, word) in runs.iter().zip(wanted) {
-        if !is_word(run, *word) {
-            return false;
-        }
-    }
     runs.len() == wanted.len()
+        && runs.iter().zip(wanted).all(|(run, (slave, first, word))| {
+            run.slave == *slave && run.first == *first && run.words.as_slice() == [*word].as_slice()
+        })
 }
 
 /// Whether a command leads to these runs.
-fn leads_to(alloc: Global, plant: &Plant, command: &Command, wanted: &[(u16, u16, u16)]) -> bool {
-    match apply(alloc, plant, command) {
-        Ok((_, runs)) => are_words(&runs, wanted),
-        Err(_) => false,
-    }
-}
-
-fn leads(alloc: Global, names: &Names, order: &Order, wanted: &[(u16, u16, u16)]) -> Option<bool> {
+fn leads_to(
+    alloc: Global,
+    names: &Names,
+    order: &Order,
+    wanted: &[(u16, u16, u16)],
+) -> Result<bool, Fail> {
     let plant = line(alloc, names)?;
-    let command = command(alloc, order)?;
-    Some(leads_to(alloc, &plant, &command, wanted))
+    let (_, runs) = apply(alloc, &plant, &command(alloc, order)?)?;
+    Ok(are_words(&runs, wanted))
 }
 
 #[test]
-fn aliases_are_runs_of_two_words(rt: HostRuntime) {
+fn aliases_are_runs_of_two_words(rt: HostRuntime) -> Result<(), Fail> {
     for (names, order, wanted) in &LED_TO {
-        assert!(rt; leads(rt.alloc(), names, order, wanted) == Some(true));
+        assert!(rt; leads_to(rt.alloc(), names, order, wanted)?);
     }
+    Ok(())
 }
 
 /// The alias, the vendor and words 64 to 67 of a slave.
-type Shown = (u16, u32, [u16; 4]);
-
-fn shown(words: &Words) -> Option<Shown> {
-    if words.len() < 68 {
-        return None;
-    }
-    let chain = [words.get(64), words.get(65), words.get(66), words.get(67)];
-    Some((words.alias(), words.identity().vendor, chain))
-}
-
-/// The same of the first slave of a line.
-fn first_slave(plant: &Plant) -> Option<Shown> {
-    let _count = plant.len();
-    shown(plant.slave(0))
-}
-
-/// The same after a command.
-fn first_slave_after(alloc: Global, plant: &Plant, command: &Command) -> Option<Shown> {
-    match apply(alloc, plant, command) {
-        Ok((new, _)) => first_slave(&new),
-        Err(_) => None,
+fn shown(words: &Words) -> (u16, u32, [u16; 4]) {
+    match &words.as_slice()[64..] {
+        [a, b, c, d, ..] => (words.alias(), words.identity().vendor, [*a, *b, *c, *d]),
+        _ => (0, 0, [0; 4]),
     }
 }
 
-fn stacked(alloc: Global, order: &Order) -> Option<Shown> {
+/// The same of the first slave after a command.
+fn first_slave(alloc: Global, order: &Order) -> Result<(u16, u32, [u16; 4]), Fail> {
     let plant = line(alloc, &ZEROS)?;
-    let command = command(alloc, order)?;
-    first_slave_after(alloc, &plant, &command)
+    let (new, _) = apply(alloc, &plant, &command(alloc, order)?)?;
+    let _count = new.len();
+    Ok(shown(new.slave(0)))
 }
 
 #[test]
-fn edits_stand_on_each_other(rt: HostRuntime) {
+fn edits_stand_on_each_other(rt: HostRuntime) -> Result<(), Fail> {
     for (order, wanted) in &STACKED {
-        assert!(rt; stacked(rt.alloc(), order) == Some(*wanted));
+        assert!(rt; first_slave(rt.alloc(), order)? == *wanted);
     }
+    Ok(())
 }
 
-/// Whether the image can have an alias, and words 4 and 7 once it was asked to.
-fn renamed(image: &mut ImageFile, alias: u16) -> (bool, u16, u16) {
-    let is_renamed = alias_image(image, alias).is_ok();
-    let words = image.as_slice();
-    (is_renamed, words[4], words[7])
-}
-
-/// The same of an image of zeros with this word 7.
-fn aliased(alloc: Global, seven: u16, alias: u16) -> Option<(bool, u16, u16)> {
+/// Whether an image of zeros with this word 7 can have an alias, and words 4 and 7 once it was asked to.
+fn aliased(alloc: Global, seven: u16, alias: u16) -> Result<(bool, u16, u16), Fail> {
     let mut image = image(alloc, [0, seven, 0, 0xFFFF])?;
-    Some(renamed(&mut image, alias))
+    let renamed = alias_image(&mut image, alias).is_ok();
+    let words = image.as_slice();
+    Ok((renamed, words[4], words[7]))
 }
 
 #[test]
-fn images_get_aliases(rt: HostRuntime) {
+fn images_get_aliases(rt: HostRuntime) -> Result<(), Fail> {
     for (seven, alias, wanted) in &RENAMED {
-        assert!(rt; aliased(rt.alloc(), *seven, *alias) == Some(*wanted));
+        assert!(rt; aliased(rt.alloc(), *seven, *alias)? == *wanted);
     }
-}
-
-/// Whether a refusal is printed so.
-fn is_printed(alloc: Global, refused: &Refusal, wanted: &str) -> bool {
-    match format!(in alloc; "{refused}") {
-        Ok(text) => text.as_str() == wanted,
-        Err(_memory) => false,
-    }
+    Ok(())
 }
 
 #[test]
-fn refusals_are_printed(rt: HostRuntime) {
+fn refusals_are_printed(rt: HostRuntime) -> Result<(), Fail> {
     let refused = Refusal {
         cause: Cause::BadCategory { kind: 51 },
         position: Some(2),
     };
-    assert!(rt; is_printed(rt.alloc(), &refused, "4 BadCategory at 2"));
+    let text = format!(in rt.alloc(); "{refused}")?;
+    assert_eq!(rt; text.as_str(), "4 BadCategory at 2");
+    Ok(())
 }

@@ -2,11 +2,11 @@
 
 ghost use Rattle.std.specs.Prelude.{◌≡◌, ◌≤◌, ◌↔◌, length, All, IsTrue};
 
-use crate::bytes::put;
 use item_list::ItemList;
 use jrn_format::*;
 use sii_runs::Run;
-use std::alloc::Global;
+use std::alloc::{AllocError, Global};
+use std::test::Fail;
 
 /// Two aliases change places.
 const SWAP: [u8; 51] = [
@@ -66,44 +66,43 @@ const TORN: [u8; 8] = [0xa5, 0x77, 0x01, 0x00, 0x00, 0x10, 0x00, 0x00];
 const MARK: [u8; 5] = [0x00, 0x4d, 0x49, 0x47, 0x32];
 
 /// A file of 4,104 bytes with this header, and these bytes in front of the halves of its area.
-fn file_of(alloc: Global, head: &[u8], first: &[u8], second: &[u8]) -> Option<Vec<u8>> {
-    let mut file = vec![in alloc; 0u8; 4104].ok()?;
-    put(&mut file, 0, head);
-    put(&mut file, 8, first);
-    put(&mut file, 8 + 2048, second);
-    Some(file)
+fn file_of(alloc: Global, head: &[u8], first: &[u8], second: &[u8]) -> Result<Vec<u8>, AllocError> {
+    let mut file = Vec::from_slice(alloc, head)?;
+    file.extend_from_slice(first)?;
+    file.resize(8 + 2048, 0)?;
+    file.extend_from_slice(second)?;
+    file.resize(8 + 4096, 0)?;
+    Ok(file)
 }
 
-/// What is live in a half: half, generation, how many runs its one command has.
-type Live = (u8, u8, u8);
-
-/// Whether this is one command of number 0 with so many runs.
-fn is_command(entries: &[Entry], runs: u8) -> bool {
-    match entries {
-        [entry] => entry.number == 0 && entry.runs.as_slice().len() == usize::from(runs),
-        _ => false,
-    }
-}
-
-fn is_like(batch: &Batch, wanted: Live) -> bool {
-    let (half, generation, runs) = wanted;
-    batch.half == half
-        && batch.generation == generation
-        && is_command(batch.entries.as_slice(), runs)
-}
-
-/// Whether these are such batches.
-fn are_like(batches: &[Batch], wanted: &[Live]) -> bool {
-    for (batch, live) in batches.iter().zip(wanted) {
-        if !is_like(batch, *live) {
-            return false;
-        }
-    }
+/// Whether these are batches of one command each: half, generation, how many runs.
+fn are_like(batches: &[Batch], wanted: &[(u8, u8, usize)]) -> bool {
     batches.len() == wanted.len()
+        && batches
+            .iter()
+            .zip(wanted)
+            .all(|(batch, row)| is_like(batch, row))
+}
+
+fn is_like(batch: &Batch, wanted: &(u8, u8, usize)) -> bool {
+    let (half, generation, runs) = *wanted;
+    let entries = batch.entries.as_slice();
+    batch.half == half && batch.generation == generation && have_runs(entries, runs)
+}
+
+fn have_runs(entries: &[Entry], runs: usize) -> bool {
+    entries.len() == 1
+        && entries.iter().all(|entry| entry.number == 0 && entry.runs.as_slice().len() == runs)
 }
 
 /// Whether a file is a journal of this form, in which such batches are live.
-fn is_live(alloc: Global, file: &[u8], sizes: &[u16], form: Form, wanted: &[Live]) -> bool {
+fn is_live(
+    alloc: Global,
+    file: &[u8],
+    sizes: &[u16],
+    form: Form,
+    wanted: &[(u8, u8, usize)],
+) -> bool {
     match scan(alloc, file, sizes) {
         Ok(journal) => journal.form == form && are_like(journal.batches.as_slice(), wanted),
         Err(_) => false,
@@ -117,13 +116,13 @@ fn refusal(
     first: &[u8],
     second: &[u8],
     sizes: &[u16],
-) -> Option<JournalFault> {
+) -> Result<Option<JournalFault>, AllocError> {
     let file = file_of(alloc, head, first, second)?;
-    scan(alloc, &file, sizes).err()
+    Ok(scan(alloc, &file, sizes).err())
 }
 
 /// What is live by the bytes in front of the halves, on a line of two slaves of 64 words.
-const LIVE: [(&[u8], &[u8], &[Live]); 7] = [
+const LIVE: [(&[u8], &[u8], &[(u8, u8, usize)]); 7] = [
     (&SWAP, &[], &[(0, 0, 4)]),
     (&[], &ALIAS, &[(1, 0, 2)]),
     (&[], &[], &[]),
@@ -134,29 +133,26 @@ const LIVE: [(&[u8], &[u8], &[Live]); 7] = [
     (&OF_4, &OF_3, &[(1, 3, 0), (0, 4, 0)]),
 ];
 
-/// Whether these batches are live behind such halves.
-fn are_live(alloc: Global, first: &[u8], second: &[u8], wanted: &[Live]) -> Option<bool> {
-    let file = file_of(alloc, &TWO, first, second)?;
-    Some(is_live(alloc, &file, &[64, 64], Form::Two, wanted))
-}
-
 #[test]
-fn live_batches_are_found(rt: HostRuntime) {
+fn live_batches_are_found(rt: HostRuntime) -> Result<(), Fail> {
+    let alloc = rt.alloc();
     for (first, second, wanted) in &LIVE {
-        assert!(rt; are_live(rt.alloc(), first, second, wanted) == Some(true));
+        let file = file_of(alloc, &TWO, first, second)?;
+        assert!(rt; is_live(alloc, &file, &[64, 64], Form::Two, wanted));
     }
-}
-
-/// Whether a journal of one slave has this form, and these batches are live.
-fn has_form(alloc: Global, head: &[u8], first: &[u8], form: Form, wanted: &[Live]) -> Option<bool> {
-    let file = file_of(alloc, head, first, &[])?;
-    Some(is_live(alloc, &file, &[64], form, wanted))
+    Ok(())
 }
 
 #[test]
-fn older_forms_are_found(rt: HostRuntime) {
-    assert!(rt; has_form(rt.alloc(), &ONE, &PLAIN, Form::One, &[(0, 0, 2)]) == Some(true));
-    assert!(rt; has_form(rt.alloc(), &TORN, &MARK, Form::Moving, &[]) == Some(true));
+fn older_forms_are_found(rt: HostRuntime) -> Result<(), Fail> {
+    let alloc = rt.alloc();
+    let one = file_of(alloc, &ONE, &PLAIN, &[])?;
+    let moving = file_of(alloc, &TORN, &MARK, &[])?;
+    assert!(rt;
+        is_live(alloc, &one, &[64], Form::One, &[(0, 0, 2)])
+            && is_live(alloc, &moving, &[64], Form::Moving, &[])
+    );
+    Ok(())
 }
 
 const AT_8: JournalFault = JournalFault::BadJournal { at: 8 };
@@ -254,17 +250,15 @@ const HEADERS: [([u8; 8], &[u8], JournalFault); 8] = [
 ];
 
 #[test]
-fn halves_are_refused(rt: HostRuntime) {
+fn journals_are_refused(rt: HostRuntime) -> Result<(), Fail> {
+    let alloc = rt.alloc();
     for (first, second, sizes, fault) in &REFUSED {
-        assert!(rt; refusal(rt.alloc(), &TWO, first, second, sizes) == Some(*fault));
+        assert_eq!(rt; refusal(alloc, &TWO, first, second, sizes)?, Some(*fault));
     }
-}
-
-#[test]
-fn headers_are_refused(rt: HostRuntime) {
     for (head, first, fault) in &HEADERS {
-        assert!(rt; refusal(rt.alloc(), head, first, &[], &[64]) == Some(*fault));
+        assert_eq!(rt; refusal(alloc, head, first, &[], &[64])?, Some(*fault));
     }
+    Ok(())
 }
 
 /// What a file of so many bytes is refused for, cut off from a whole one.
@@ -275,68 +269,42 @@ fn cut_fault(size: usize) -> JournalFault {
     JournalFault::BadJournal { at: size }
 }
 
-/// Why the first bytes of a file are refused, if they are.
-fn fault_of_cut(alloc: Global, file: &[u8], size: usize, sizes: &[u16]) -> Option<JournalFault> {
-    if size > file.len() {
-        return None;
-    }
-    scan(alloc, &file[..size], sizes).err()
-}
-
-/// How many sizes there are up to the first at which the file, cut off there, isn't refused as it is to be.
-fn cuts_refused(alloc: Global, file: &[u8]) -> usize {
-    for size in 0..4105usize {
-        if fault_of_cut(alloc, file, size, &[64, 64]) != Some(cut_fault(size)) {
-            return size;
-        }
-    }
-    4105
-}
-
-fn refused_cuts(alloc: Global) -> Option<usize> {
+#[test]
+fn files_cut_short(rt: HostRuntime) -> Result<(), Fail> {
+    let alloc = rt.alloc();
     let file = file_of(alloc, &TWO, &SWAP, &[])?;
-    Some(cuts_refused(alloc, &file))
-}
-
-#[test]
-fn files_cut_short(rt: HostRuntime) {
-    assert!(rt; refused_cuts(rt.alloc()) == Some(4104));
-}
-
-/// Why a file in migration of so many bytes is refused.
-fn fault_in_migration(alloc: Global, size: usize) -> Option<JournalFault> {
-    let moving = file_of(alloc, &TORN, &MARK, &[])?;
-    fault_of_cut(alloc, &moving, size, &[64])
-}
-
-// Too short for the mark of a migration, and just long enough.
-#[test]
-fn migrations_cut_short(rt: HostRuntime) {
-    let unknown = JournalFault::BadVersion { found: 0x77 };
-    let short = JournalFault::BadJournal { at: 13 };
-    assert!(rt; fault_in_migration(rt.alloc(), 12) == Some(unknown));
-    assert!(rt; fault_in_migration(rt.alloc(), 13) == Some(short));
-}
-
-/// A run of one word: slave, place and value.
-type Word = (u16, u16, u16);
-
-fn run_of(alloc: Global, named: Word) -> Option<Run> {
-    let (slave, first, word) = named;
-    let words = ItemList::from_vec(Vec::from_array(alloc, [word]).ok()?);
-    Some(Run {
-        slave,
-        first,
-        words,
-    })
-}
-
-fn runs_of(alloc: Global, named: &[Word]) -> Option<Vec<Run>> {
-    let mut runs = Vec::new(alloc);
-    for word in named {
-        runs.push(run_of(alloc, *word)?).ok()?;
+    for size in 0..4104usize {
+        assert!(rt; size <= file.len());
+        assert_eq!(rt;
+            scan(alloc, &file[..size], &[64, 64]).err(),
+            Some(cut_fault(size))
+        );
     }
-    Some(runs)
+    // Too short for the mark of a migration, and just long enough.
+    let moving = file_of(alloc, &TORN, &MARK, &[])?;
+    assert!(rt; 13 <= moving.len());
+    let unknown = Some(JournalFault::BadVersion { found: 0x77 });
+    let short = Some(JournalFault::BadJournal { at: 13 });
+    assert!(rt;
+        scan(alloc, &moving[..12], &[64]).err() == unknown
+            && scan(alloc, &moving[..13], &[64]).err() == short
+    );
+    Ok(())
+}
+
+/// Runs of one word each: slave, place and value.
+fn runs_of(alloc: Global, named: &[(u16, u16, u16)]) -> Result<Vec<Run>, AllocError> {
+    let mut runs = Vec::new(alloc);
+    for (slave, first, word) in named {
+        let words = [*word].to_vec(alloc)?;
+        let run = Run {
+            slave: *slave,
+            first: *first,
+            words: ItemList::from_vec(words),
+        };
+        runs.push(run)?;
+    }
+    Ok(runs)
 }
 
 fn have_one_word(runs: &[Run]) -> bool
@@ -346,7 +314,7 @@ fn have_one_word(runs: &[Run]) -> bool
 }
 
 /// The size of one command with these runs, and the bytes of a batch of it.
-fn encoded(alloc: Global, runs: Vec<Run>) -> Option<(u32, Vec<u8>)>
+fn encoded(alloc: Global, runs: Vec<Run>) -> Result<(u32, Vec<u8>), AllocError>
     requires few { length runs.items ≤ 8 }
     requires one_word { All (λ run. length run.words ≡ 1) runs.items }
 {
@@ -355,40 +323,36 @@ fn encoded(alloc: Global, runs: Vec<Run>) -> Option<(u32, Vec<u8>)>
         number: 0,
         runs: ItemList::from_vec(runs),
     }];
-    let bytes = encode_batch(alloc, 0, &entries).ok()?;
-    Some((size, bytes))
-}
-
-/// Whether a command of this size is spelt so, behind an open gate.
-fn is_spelt_as(bytes: &[u8], size: u32, spelt: &[u8]) -> bool {
-    bytes.len() >= 6
-        && spelt == &bytes[1..]
-        && payload_length(bytes).checked_sub(2) == Some(size)
-        && gate(bytes) == OPEN
-        && generation(bytes) == 0
+    Ok((size, encode_batch(alloc, 0, &entries)?))
 }
 
 /// Whether one command with these runs is spelt so, behind the gate.
-fn is_spelt(alloc: Global, named: &[Word], bytes: &[u8]) -> Option<bool> {
+fn is_spelt(alloc: Global, named: &[(u16, u16, u16)], bytes: &[u8]) -> Result<bool, AllocError> {
     let runs = runs_of(alloc, named)?;
-    if runs.len() > 8 || !have_one_word(&runs) {
-        return None;
+    if runs.len() > 8 || !have_one_word(&runs) || bytes.len() < 6 {
+        return Ok(false);
     }
     let (size, spelt) = encoded(alloc, runs)?;
-    Some(is_spelt_as(bytes, size, &spelt))
+    Ok(
+        spelt.as_slice() == &bytes[1..]
+            && payload_length(bytes).checked_sub(2) == Some(size)
+            && gate(bytes) == OPEN
+            && generation(bytes) == 0,
+    )
 }
 
-const SPELT: [(&[Word], &[u8]); 3] = [
+const SPELT: [(&[(u16, u16, u16)], &[u8]); 3] = [
     (&[(0, 4, 0), (0, 7, 0x30), (1, 4, 1), (1, 7, 0x19)], &SWAP),
     (&[(0, 4, 1), (0, 7, 0x19)], &ALIAS),
     (&[], &EMPTY),
 ];
 
 #[test]
-fn batches_are_spelt(rt: HostRuntime) {
+fn batches_are_spelt(rt: HostRuntime) -> Result<(), Fail> {
     for (named, bytes) in &SPELT {
-        assert!(rt; is_spelt(rt.alloc(), named, bytes) == Some(true));
+        assert!(rt; is_spelt(rt.alloc(), named, bytes)?);
     }
+    Ok(())
 }
 
 #[test]

@@ -1,13 +1,11 @@
 //! Process images, of a line worked out by hand and at their limits.
 
-ghost use Rattle.std.specs.Prelude.{◌≡◌};
-
-use crate::bytes::put;
 use sii_image::{
-    ImageFault, Layout, NewLayout, NewLayouts, ProcessImage, Segment, SlaveLayout, image_of,
+    ImageFault, Layout, NewLayout, NewLayouts, Plan, ProcessImage, Segment, SlaveLayout, image_of,
 };
-use sii_words::{Plant, Words};
+use sii_words::{Plant, Words, WordsFault};
 use std::alloc::Global;
+use std::test::Fail;
 
 const MANAGERS: [u8; 32] = [
     0x00, 0x10, 0x80, 0x00, 0x26, 0x00, 0x01, 0x01, 0x80, 0x10, 0x80, 0x00, 0x22, 0x00, 0x01, 0x02,
@@ -87,47 +85,26 @@ const LAST_ALONE: [Segment; 1] = [Segment {
     control: 0x20,
 }];
 
-/// Puts a category at a place, and gives the place behind it.
-fn put_category(bytes: &mut [u8], from: usize, kind: u16, content: &[u8]) -> usize {
-    let [kind_low, kind_high] = kind.to_le_bytes();
-    let [low, high] = ((content.len() / 2 % 65536) as u16).to_le_bytes();
-    put(bytes, from, &[kind_low, kind_high, low, high]);
-    let behind = from.saturating_add(4);
-    put(bytes, behind, content);
-    behind.saturating_add(content.len())
-}
-
-/// Puts categories at word 0x40, and the end mark behind them.
-fn put_categories(bytes: &mut [u8], categories: &[(u16, &[u8])]) {
-    let mut end = 128;
-    for (kind, content) in categories {
-        end = put_category(bytes, end, *kind, content);
-    }
-    put(bytes, end, &[0xFF, 0xFF]);
-}
-
 /// A device: zeros with their check byte, these categories from word 0x40 on, then the end mark, and zeros.
-fn device(alloc: Global, categories: &[(u16, &[u8])]) -> Option<Words> {
-    let mut bytes = [0u8; 1024];
-    bytes[14] = 0x30;
-    put_categories(&mut bytes, categories);
-    Words::from_bytes(alloc, &bytes).ok()
-}
-
-fn slaves(alloc: Global, first: &[(u16, &[u8])], last: &[(u16, &[u8])]) -> Option<Vec<Words>> {
-    let mut slaves = Vec::new(alloc);
-    slaves.push(device(alloc, first)?).ok()?;
-    slaves.push(device(alloc, last)?).ok()?;
-    Some(slaves)
-}
-
-/// A line of two slaves with these categories.
-fn line(alloc: Global, first: &[(u16, &[u8])], last: &[(u16, &[u8])]) -> Option<Plant> {
-    let slaves = slaves(alloc, first, last)?;
-    if slaves.is_empty() || slaves.len() > 64 {
-        return None;
+fn device(alloc: Global, bytes: usize, categories: &[(u16, &[u8])]) -> Result<Words, WordsFault> {
+    let mut image = Vec::with_capacity(alloc, bytes)?;
+    image.extend_from_slice(&[0; 14])?;
+    image.extend_from_slice(&[0x30, 0])?;
+    image.extend_from_slice(&[0; 112])?;
+    for (kind, content) in categories {
+        image.extend_from_slice(&kind.to_le_bytes())?;
+        image.extend_from_slice(&((content.len() / 2 % 65536) as u16).to_le_bytes())?;
+        image.extend_from_slice(*content)?;
     }
-    Some(Plant::of(slaves))
+    image.extend_from_slice(&[0xFF, 0xFF])?;
+    image.resize(bytes, 0)?;
+    Words::from_bytes(alloc, &image)
+}
+
+fn line(alloc: Global, first: &[(u16, &[u8])], last: &[(u16, &[u8])]) -> Result<Plant, WordsFault> {
+    let first = device(alloc, 1024, first)?;
+    let last = device(alloc, 1024, last)?;
+    Ok(Plant::of(Vec::from_array(alloc, [first, last])?))
 }
 
 fn is_image(image: &ProcessImage, segments: &[Segment], totals: (usize, usize, u16)) -> bool {
@@ -135,250 +112,121 @@ fn is_image(image: &ProcessImage, segments: &[Segment], totals: (usize, usize, u
         && (image.outputs(), image.inputs(), image.expected_counter()) == totals
 }
 
-/// Whether the process image of a line is so.
-fn has_image(
-    alloc: Global,
-    plant: &Plant,
-    segments: &[Segment],
-    totals: (usize, usize, u16),
-) -> bool {
-    match image_of(alloc, plant) {
-        Ok(image) => is_image(&image, segments, totals),
-        Err(_) => false,
-    }
-}
-
-/// Whether the process image of a line with these categories is so.
-fn line_has_image(
-    alloc: Global,
-    first: &[(u16, &[u8])],
-    segments: &[Segment],
-    totals: (usize, usize, u16),
-) -> Option<bool> {
-    let plant = line(alloc, first, &LAST_SLAVE)?;
-    Some(has_image(alloc, &plant, segments, totals))
+#[test]
+fn image_of_a_line(rt: HostRuntime) -> Result<(), Fail> {
+    let plant = line(rt.alloc(), &FIRST_SLAVE, &LAST_SLAVE)?;
+    let plan = Plan {
+        prefix: 0,
+        image: image_of(rt.alloc(), &plant)?,
+    };
+    assert!(rt; plan.prefix == 0 && is_image(&plan.image, &SEGMENTS, (1, 6, 4)));
+    Ok(())
 }
 
 #[test]
-fn image_of_a_line(rt: HostRuntime) {
-    assert!(rt; line_has_image(rt.alloc(), &FIRST_SLAVE, &SEGMENTS, (1, 6, 4)) == Some(true));
-}
-
-#[test]
-fn slaves_that_describe_nothing(rt: HostRuntime) {
+fn slaves_that_describe_nothing(rt: HostRuntime) -> Result<(), Fail> {
     for categories in &NOTHING {
-        assert!(rt; line_has_image(rt.alloc(), *categories, &LAST_ALONE, (0, 2, 1)) == Some(true));
+        let plant = line(rt.alloc(), *categories, &LAST_SLAVE)?;
+        assert!(rt; is_image(&image_of(rt.alloc(), &plant)?, &LAST_ALONE, (0, 2, 1)));
     }
+    Ok(())
 }
 
 /// A category with an RXPDO for manager 0: 46 entries of 255 bits and one of this many.
-fn large_rxpdo(last: u8) -> [u8; 384] {
-    let mut content = [0u8; 384];
-    put(&mut content, 0, &[0x00, 0x16, 47, 0, 0, 0, 0, 0]);
-    for entry in 0..47usize {
-        let bits = if entry < 46 { 255 } else { last };
-        put(
-            &mut content,
-            8 + 8 * entry,
-            &[0x00, 0x70, 1, 0, 5, bits, 0, 0],
-        );
+fn large_rxpdo(alloc: Global, last: u8) -> Result<Vec<u8>, WordsFault> {
+    let mut content = Vec::new(alloc);
+    content.extend_from_slice(&[0x00, 0x16, 47, 0, 0, 0, 0, 0])?;
+    for _ in 0..46u8 {
+        content.extend_from_slice(&[0x00, 0x70, 1, 0, 5, 255, 0, 0])?;
     }
-    content
+    content.extend_from_slice(&[0x00, 0x70, 1, 0, 5, last, 0, 0])?;
+    Ok(content)
 }
 
-/// How many bytes the outputs of a line have, and how many segments there are, or why there is no image.
-fn sizes_of(alloc: Global, plant: &Plant) -> Result<(usize, usize), ImageFault> {
-    match image_of(alloc, plant) {
-        Ok(image) => Ok((image.outputs(), image.segments().len())),
-        Err(fault) => Err(fault),
-    }
-}
-
-/// Whether the sizes of a line whose first slave has these managers and PDOs of this type are so.
-fn has_sizes(
-    alloc: Global,
-    managers: &[u8],
-    kind: u16,
-    pdos: &[u8],
-    wanted: Result<(usize, usize), ImageFault>,
-) -> Option<bool> {
-    let plant = line(alloc, &[(41, managers), (kind, pdos)], &[])?;
-    Some(sizes_of(alloc, &plant) == wanted)
-}
-
-/// One manager with outputs, whose size is left to the PDOs.
-const OUTPUTS: [u8; 8] = [0x00, 0x10, 0x00, 0x02, 0x24, 0x00, 0x01, 0x03];
-
-/// The bits of the last entry of a large PDO, and the sizes of the image.
-const LARGEST: [(u8, Result<(usize, usize), ImageFault>); 2] = [
-    (158, Ok((1486, 1))),
-    (159, Err(ImageFault::ImageOverLimit)),
-];
-
-#[test]
-fn largest_image(rt: HostRuntime) {
-    for (last, wanted) in &LARGEST {
-        let pdo = large_rxpdo(*last);
-        assert!(rt; has_sizes(rt.alloc(), &OUTPUTS, 51, &pdo, *wanted) == Some(true));
-    }
-}
-
-/// Nine managers of type 4.
-fn many_managers() -> [u8; 72] {
-    let mut managers = [0u8; 72];
-    for number in 0..9usize {
-        put(
-            &mut managers,
-            8 * number,
-            &[0x00, 0x10, 1, 0, 0x20, 0, 1, 4],
-        );
-    }
-    managers
-}
-
-/// A TXPDO of eight bits for each.
-fn many_txpdos() -> [u8; 144] {
-    let mut txpdos = [0u8; 144];
-    for number in 0..9u8 {
-        let at = 16 * usize::from(number);
-        put(
-            &mut txpdos,
-            at,
-            &[
-                0x00, 0x1A, 1, number, 0, 0, 0, 0, 0x00, 0x60, 1, 0, 5, 8, 0, 0,
-            ],
-        );
-    }
-    txpdos
-}
-
-/// Whether the image of so many of them has these sizes.
-fn has_many(
-    alloc: Global,
-    count: usize,
-    wanted: Result<(usize, usize), ImageFault>,
-) -> Option<bool> {
-    let count = count.min(9);
-    let managers = many_managers();
-    let txpdos = many_txpdos();
-    has_sizes(
-        alloc,
-        &managers[..8 * count],
-        50,
-        &txpdos[..16 * count],
-        wanted,
-    )
+/// The outputs of a line whose first slave has so many bits in its last entry.
+fn large_outputs(alloc: Global, last: u8) -> Result<Result<usize, ImageFault>, WordsFault> {
+    let manager = [0x00, 0x10, 0x00, 0x02, 0x24, 0x00, 0x01, 0x03];
+    let rxpdo = large_rxpdo(alloc, last)?;
+    let plant = line(alloc, &[(41, &manager), (51, rxpdo.as_slice())], &[])?;
+    Ok(image_of(alloc, &plant).map(|image| image.outputs()))
 }
 
 #[test]
-fn most_segments_of_a_slave(rt: HostRuntime) {
-    assert!(rt; has_many(rt.alloc(), 8, Ok((0, 8))) == Some(true));
-    assert!(rt; has_many(rt.alloc(), 9, Err(ImageFault::ImageOverLimit)) == Some(true));
+fn largest_image(rt: HostRuntime) -> Result<(), Fail> {
+    assert!(rt; large_outputs(rt.alloc(), 158)? == Ok(1486));
+    assert!(rt; large_outputs(rt.alloc(), 159)? == Err(ImageFault::ImageOverLimit));
+    Ok(())
 }
 
-/// Whether a slave's layout is taken in, as slave 0 and where there is none.
-fn is_taken(layout: &mut Layout, words: &Words) -> bool {
-    layout.change(0, words).is_ok() && layout.change(2, words).is_ok()
+/// The segments of a line whose first slave has so many managers of type 4, each with a TXPDO of eight bits.
+fn many_inputs(alloc: Global, count: u8) -> Result<Result<usize, ImageFault>, WordsFault> {
+    let mut managers = Vec::new(alloc);
+    let mut txpdos = Vec::new(alloc);
+    for number in 0..count {
+        managers.extend_from_slice(&[0x00, 0x10, 1, 0, 0x20, 0, 1, 4])?;
+        txpdos.extend_from_slice(&[0x00, 0x1A, 1, number, 0, 0, 0, 0])?;
+        txpdos.extend_from_slice(&[0x00, 0x60, 1, 0, 5, 8, 0, 0])?;
+    }
+    let categories = [(41u16, managers.as_slice()), (50, txpdos.as_slice())];
+    let plant = line(alloc, &categories, &[])?;
+    Ok(image_of(alloc, &plant).map(|image| image.segments().len()))
 }
 
-/// The new layouts of two slaves.
-fn new_layouts(alloc: Global, first: &Words, last: &Words) -> Option<NewLayouts> {
-    let first = SlaveLayout::of(alloc, first).ok()?;
-    let last = SlaveLayout::of(alloc, last).ok()?;
+#[test]
+fn most_segments_of_a_slave(rt: HostRuntime) -> Result<(), Fail> {
+    assert!(rt; many_inputs(rt.alloc(), 8)? == Ok(8));
+    assert!(rt; many_inputs(rt.alloc(), 9)? == Err(ImageFault::ImageOverLimit));
+    Ok(())
+}
+
+/// The layout of a line that becomes the line worked out by hand, slave by slave, and whether both steps were within the limits.
+fn changed_layout(alloc: Global) -> Result<(Layout, bool), WordsFault> {
+    let plant = line(alloc, &FIRST_SLAVE, &[])?;
+    let last = device(alloc, 1024, &LAST_SLAVE)?;
+    let mut layout = Layout::of(alloc, &plant)?;
+    layout.change(0, &last)?;
+    layout.change(2, &last)?;
     let first = NewLayout {
         slave: 0,
-        layout: first,
+        layout: SlaveLayout::of(alloc, plant.slave(0))?,
     };
-    let last = NewLayout {
+    let second = NewLayout {
         slave: 1,
-        layout: last,
+        layout: SlaveLayout::of(alloc, &last)?,
     };
-    Some(NewLayouts::of(Vec::from_array(alloc, [first, last]).ok()?))
-}
-
-/// Whether the layout has this process image.
-fn shows(layout: &Layout, segments: &[Segment], totals: (usize, usize, u16)) -> bool {
-    match layout.image() {
-        Ok(image) => is_image(&image, segments, totals),
-        Err(_) => false,
-    }
-}
-
-/// Whether new layouts are within the limits, and have the image that was worked out by hand.
-fn becomes(layout: &mut Layout, new: NewLayouts) -> bool {
+    let new = NewLayouts::of(Vec::from_array(alloc, [first, second])?);
     let is_within = layout.has_process_image_with(&new);
     layout.put_all(new);
-    is_within && shows(layout, &SEGMENTS, (1, 6, 4))
-}
-
-/// Whether a line becomes the line worked out by hand, slave by slave.
-fn line_becomes(alloc: Global, plant: &Plant, last: &Words) -> Option<bool> {
-    let mut layout = Layout::of(alloc, plant).ok()?;
-    if plant.len() != 2 || !is_taken(&mut layout, last) {
-        return None;
-    }
-    let new = new_layouts(alloc, plant.slave(0), last)?;
-    Some(becomes(&mut layout, new))
-}
-
-fn layout_becomes(alloc: Global) -> Option<bool> {
-    let plant = line(alloc, &FIRST_SLAVE, &[])?;
-    let last = device(alloc, &LAST_SLAVE)?;
-    line_becomes(alloc, &plant, &last)
+    Ok((layout, is_within))
 }
 
 #[test]
-fn layout_under_changes(rt: HostRuntime) {
-    assert!(rt; layout_becomes(rt.alloc()) == Some(true));
+fn layout_under_changes(rt: HostRuntime) -> Result<(), Fail> {
+    let (layout, is_within) = changed_layout(rt.alloc())?;
+    assert!(rt; is_within && is_image(&layout.image()?, &SEGMENTS, (1, 6, 4)));
+    Ok(())
 }
 
-/// How many segments a layout has.
-fn segments_of(layout: &Layout) -> Option<usize> {
-    match layout.image() {
-        Ok(image) => Some(image.segments().len()),
-        Err(_) => None,
-    }
-}
-
-/// A copy of a slave's words with one of them changed.
-fn words_with(words: &Words, at: usize, value: u16) -> Option<Words> {
-    let mut new = words.try_copy().ok()?;
+/// The segments of a slave's layout once another alias, or another category, stands in its words.
+fn segments_after(alloc: Global, at: usize, value: u16) -> Result<usize, WordsFault> {
+    let old = device(alloc, 256, &LAST_SLAVE)?;
+    let mut new = old.try_copy()?;
     if at < new.len() {
         new.set(at, value);
     }
-    Some(new)
-}
-
-/// The new layout of the first slave, from its old one.
-fn changed(alloc: Global, layout: &Layout, plant: &Plant, new: &Words) -> Option<NewLayouts>
-    requires { layout.now ≡ plant.now }
-{
-    if plant.len() != 1 {
-        return None;
-    }
-    let layout = layout.slave(0).changed(alloc, plant.slave(0), new).ok()?;
-    let changed = NewLayout { slave: 0, layout };
-    Some(NewLayouts::of(Vec::from_array(alloc, [changed]).ok()?))
-}
-
-/// How many segments a line has once its first slave has these words.
-fn segments_with(alloc: Global, plant: &Plant, new: &Words) -> Option<usize> {
-    let mut layout = Layout::of(alloc, plant).ok()?;
-    let new = changed(alloc, &layout, plant, new)?;
-    layout.put_all(new);
-    segments_of(&layout)
-}
-
-/// How many segments a slave's layout has once another alias, or another category, stands in its words.
-fn segments_after(alloc: Global, at: usize, value: u16) -> Option<usize> {
-    let old = device(alloc, &LAST_SLAVE)?;
-    let new = words_with(&old, at, value)?;
-    let plant = Plant::of(Vec::from_array(alloc, [old]).ok()?);
-    segments_with(alloc, &plant, &new)
+    let plant = Plant::of(Vec::from_array(alloc, [old])?);
+    let mut layout = Layout::of(alloc, &plant)?;
+    let changed = NewLayout {
+        slave: 0,
+        layout: layout.slave(0).changed(alloc, plant.slave(0), &new)?,
+    };
+    layout.put_all(NewLayouts::of(Vec::from_array(alloc, [changed])?));
+    Ok(layout.image().map_or(99, |image| image.segments().len()))
 }
 
 #[test]
-fn a_slave_that_changes(rt: HostRuntime) {
-    assert!(rt; segments_after(rt.alloc(), 4, 7) == Some(1));
-    assert!(rt; segments_after(rt.alloc(), 64, 42) == Some(0));
+fn a_slave_that_changes(rt: HostRuntime) -> Result<(), Fail> {
+    assert!(rt; segments_after(rt.alloc(), 4, 7)? == 1);
+    assert!(rt; segments_after(rt.alloc(), 64, 42)? == 0);
+    Ok(())
 }
