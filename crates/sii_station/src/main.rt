@@ -3,13 +3,17 @@
 #![tactic(auto)]
 
 use station_serve::{FileStore, refuse_words, serve};
-use std::io::BufWriter;
+use std::alloc::Global;
+use std::fs::Files;
+use std::io::{BufWriter, Input, Print, Write};
 use std::process::ExitCode;
+use std::sync::Wait;
+use std::thread::Threads;
 use std::{env, io};
 
 fn main(rt: HostRuntime) -> ExitCode {
     let status = match words(&rt) {
-        Ok(words) => serve_words(&rt, &words),
+        Ok(words) => serve_words(&rt, rt.alloc(), &words, &mut rt.stderr()),
         Err(error) => refuse_words(&error, &mut rt.stderr()),
     };
     ExitCode::from(status)
@@ -22,17 +26,23 @@ fn words(rt: &HostRuntime) -> io::Result<Vec<String>> {
 }
 
 /// Does what the words ask for, with the output in a buffer.
-fn serve_words(rt: &HostRuntime, words: &[String]) -> u8 {
+fn serve_words<H: Files + Input + Print + Wait + Threads + Sync, E: Write>(
+    rt: &H,
+    alloc: Global,
+    words: &[String],
+    faults: &mut E,
+) -> u8 {
     let mut files = FileStore { files: rt };
-    match BufWriter::new(rt.alloc(), io::writer(rt)) {
+    match BufWriter::new(alloc, io::writer(rt)) {
         Ok(mut output) => serve(
-            rt.alloc(),
+            rt,
+            alloc,
             words,
             &mut rt.reader(),
             &mut files,
             &mut output,
-            &mut rt.stderr(),
+            faults,
         ),
-        Err(error) => refuse_words(&error, &mut rt.stderr()),
+        Err(error) => refuse_words(&error, faults),
     }
 }

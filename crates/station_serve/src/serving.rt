@@ -12,10 +12,13 @@ use station_session::{Fuse, recover_line, run_script};
 use std::alloc::Global;
 use std::io;
 use std::io::{Read, Write};
+use std::sync::Wait;
+use std::thread::Threads;
 
 /// Does what the arguments ask for, and answers the exit status: 0 done, 1 a command refused, 2 usage, 3 file or
 /// format, 4 device or stop, 5 memory. Word 0 of the arguments is the program's name.
-pub fn serve<R: Read, S: Store, W: Write, E: Write>(
+pub fn serve<H: Wait + Threads + Sync, R: Read, S: Store, W: Write, E: Write>(
+    rt: &H,
     alloc: Global,
     args: &[String],
     input: &mut R,
@@ -36,7 +39,16 @@ pub fn serve<R: Read, S: Store, W: Write, E: Write>(
         Ok(Task::Explain { code }) => status_of(explain(alloc, code, output), faults),
         Ok(Task::Init { line }) => status_of(init_line(alloc, line, store, output), faults),
         Ok(Task::Run { line, script, cut }) => {
-            run_script(alloc, line, script, cut.map(fuse_of), store, output, faults)
+            run_script(
+                rt,
+                alloc,
+                line,
+                script,
+                cut.map(fuse_of),
+                store,
+                output,
+                faults,
+            )
         }
         Ok(Task::Recover { line }) => recover_line(alloc, line, store, output, faults),
         Err(error) => show_usage(&error, output, faults),

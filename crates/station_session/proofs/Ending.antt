@@ -1,5 +1,5 @@
 -- What the files hold in the end.
-use Rattle.std.proofs.Common.{◌≡◌, ℕ, Bool, true, List, length, map, refl, sym, ◌∙◌, ap, subst, inl, inr, Result, Ok, Err}
+use Rattle.std.proofs.Common.{◌≡◌, ℕ, Bool, true, false, List, [], length, sym, ◌∙◌, ap, subst, inr, Result, Ok, Err}
 use Rattle.std.specs.Prelude.{IfErr, IfOk, IsTrue, MatchResult, OnErr, OnOk, string_bytes}
 use Rattle.std.proofs.lemmas.List.{length-map}
 use Rattle.sii_edit.specs.declared.command.Command.{Command}
@@ -7,6 +7,7 @@ use Rattle.site_core.specs.Line.{Line}
 use Rattle.site_core.specs.State.{State, Seen}
 use Rattle.site_line.specs.Owned.{OwnsAll}
 use Rattle.site_mem.specs.Site.{SiteValue}
+use Rattle.book_model.specs.Book.{Book}
 use Rattle.station_alone.specs.Station.{Station}
 use Rattle.station_recovery.specs.Recovery.{IsRecovered, BeginsRecovered}
 use Rattle.station_text.specs.declared.line_file.LineFile.{LineFile}
@@ -75,7 +76,7 @@ saves-by new line commands opened left (Err fault) saved state status one other 
 
 pub ends-station : (old new : Known) (line : LineFile) (commands : List Command) (opened left : Station) (served saved : Result (Unit {0}) Fault) (state : State) (status one other ended final : Status) → ServesSo commands served Done status opened left
     → state ≡ left.seen.state → OnOk saved (HoldsSite new line state) → ChangesAmong old new (files_of line) → OnErr served (¬ IsFaultless one) → OnErr saved (¬ IsFaultless other)
-    → (IsFaultless ended → IsFaultless one × IsFaultless other) → (final ≡ Done → (status ≡ Done) × (ended ≡ Done)) → (IsFaultless final → IsFaultless status × IsFaultless ended) → EndsStation old new line opened commands final
+    → (IsFaultless ended → IsFaultless one × IsFaultless other) → (final ≡ Done → (status ≡ Done) × (ended ≡ Done)) → (IsFaultless final → IsFaultless status × IsFaultless ended) → EndsStation true old new line opened commands final
 ends-station old new line commands opened left served saved state status one other ended final so is held others no_fault no_other each done_too faultless_too = record {
   others = others;
   saved = λ good.
@@ -83,12 +84,16 @@ ends-station old new line commands opened left served saved state status one oth
       saves-by new line commands opened left served saved state status one other final so is held no_fault no_other both.0 both.1 (λ done. (done_too done).0);
 }
 
-pub ends-opened : (old new : Known) (line : LineFile) (site : SiteValue) (was_old : Bool) (opened : Station) (commands : List Command) (status : Status) → was_old ≡ is_old site.seen.state.disk.bytes → StartsFrom was_old site opened
-    → EndsStation old new line opened commands status → EndsRun old new line site commands status
-ends-opened old new line site was_old opened commands status by_version starts ends = record {
+pub ends-opened : (is_cut : Bool) (old new : Known) (line : LineFile) (site : SiteValue) (was_old : Bool) (opened : Station) (commands : List Command) (status : Status) → was_old ≡ is_old site.seen.state.disk.bytes → StartsFrom was_old site opened
+    → EndsStation is_cut old new line opened commands status → EndsRun is_cut old new line site commands status
+ends-opened is_cut old new line site was_old opened commands status by_version starts ends = record {
   others = ends.others;
   saved = λ good. record { opened = opened; starts = subst (λ (b : Bool). StartsFrom b site opened) by_version starts; serves = ends.saved good };
 }
+
+-- the other way of serving isn't taken
+pub ends-cut : (is_cut way : Bool) (old new : Known) (line : LineFile) (opened : Station) (commands : List Command) (status : Status) → is_cut ≡ way → EndsStation way old new line opened commands status → EndsStation is_cut old new line opened commands status
+ends-cut is_cut way old new line opened commands status is ends = subst (λ (b : Bool). EndsStation b old new line opened commands status) (sym is) ends
 
 -- it was opened on what a recovery left
 pub starts-behind : (was_old : Bool) (site : SiteValue) (its : Line) (left : Seen) (r s : Station) → was_old ≡ true → IsRecovered r → BeginsRecovered site.seen r → its ≡ r.line → left ≡ r.seen → IsOpened its left s → StartsFrom was_old site s
@@ -105,15 +110,15 @@ old-by slaves bytes site was_old made is = is ∙ ap (λ (seen : Seen). is_old s
 
 -- ---- one that was given up
 
-pub ends-unopened : (old new : Known) (line : LineFile) (site : SiteValue) (commands : List Command) (status : Status) → ChangesAmong old new (files_of line) → ¬ IsFaultless status → EndsRun old new line site commands status
-ends-unopened old new line site commands status others bad = record { others = others; saved = λ good. absurd (bad good) }
+pub ends-unopened : (is_cut : Bool) (old new : Known) (line : LineFile) (site : SiteValue) (commands : List Command) (status : Status) → ChangesAmong old new (files_of line) → ¬ IsFaultless status → EndsRun is_cut old new line site commands status
+ends-unopened is_cut old new line site commands status others bad = record { others = others; saved = λ good. absurd (bad good) }
 
 pub ends-unrecovered : (old new : Known) (line : LineFile) (before : Seen) (status : Status) → ChangesAmong old new (files_of line) → ¬ IsFaultless status → EndsRecovery old new line before status
 ends-unrecovered old new line before status others bad = record { others = others; saved = λ done. absurd (bad (done-faultless status done)) }
 
 -- ---- one that was recovered
 
-saved-still : (new : Known) (line : LineFile) (saved : Result (Unit {0}) Fault) (state : State) (one : Status) → OnOk saved (HoldsSite new line state) → OnErr saved (¬ IsFaultless one) → IsFaultless one → HoldsSite new line state
+pub saved-still : (new : Known) (line : LineFile) (saved : Result (Unit {0}) Fault) (state : State) (one : Status) → OnOk saved (HoldsSite new line state) → OnErr saved (¬ IsFaultless one) → IsFaultless one → HoldsSite new line state
 saved-still new line (Ok kept) state one held bad good = held
 saved-still new line (Err fault) state one held bad good = absurd (bad good)
 
@@ -131,13 +136,18 @@ ends-recovered old new line before s saved state one other final is_recovered be
 
 -- ---- the whole
 
-pub runs : (old loaded new : Known) (name script : List ℕ) (line : LineFile) (site : SiteValue) (commands : List Command) (status : Status) → Loads old name line site → SpellsCommands old script commands → loaded ≡ old
-    → EndsRun loaded new line site commands status → Runs old new name script status
-runs old loaded new name script line site commands status given spelt same ends =
-    let P : Known → Type 0 = λ files. EndsRun files new line site commands status in
+pub runs : (is_cut : Bool) (old loaded new : Known) (name script : List ℕ) (line : LineFile) (site : SiteValue) (commands : List Command) (status : Status) → Loads old name line site → SpellsCommands old script commands → loaded ≡ old
+    → EndsRun is_cut loaded new line site commands status → Runs is_cut old new name script status
+runs is_cut old loaded new name script line site commands status given spelt same ends =
+    let P : Known → Type 0 = λ files. EndsRun is_cut files new line site commands status in
     inr (record { line = line; site = site; loaded = given; commands = commands; spelt = spelt; ends = subst P same ends })
 
 pub recovers : (old loaded new : Known) (name : List ℕ) (line : LineFile) (site : SiteValue) (status : Status) → Loads old name line site → loaded ≡ old → EndsRecovery loaded new line site.seen status → Recovers old new name status
 recovers old loaded new name line site status given same ends =
     let P : Known → Type 0 = λ files. EndsRecovery files new line site.seen status in
     inr (record { line = line; site = site; loaded = given; ends = subst P same ends })
+
+-- no command is accepted yet
+pub starts-none : (was_old : Bool) (site : SiteValue) (s : Station) → StartsFrom was_old site s → s.book.accepted ≡ []
+starts-none true site s starts = ap (λ (b : Book). b.accepted) starts.opened.opens.1.book
+starts-none false site s starts = ap (λ (b : Book). b.accepted) starts.opens.1.book

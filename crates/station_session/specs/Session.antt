@@ -1,5 +1,5 @@
 -- A line with its journal: what is read of it from files, how a station on it begins, and what its files hold in the end.
-use Rattle.std.specs.Prelude.{◌≡◌, ◌⊎◌, ◌==◌, ◌&&◌, Bool, true, false, not, nat_le, List, length, slice_index, string_bytes, ℕ, ⊤}
+use Rattle.std.specs.Prelude.{◌≡◌, ◌⊎◌, Ok, ◌==◌, ◌&&◌, Bool, true, false, not, nat_le, List, length, slice_index, string_bytes, ℕ, ⊤}
 use Rattle.sii_edit.specs.declared.command.Command.{Command}
 use Rattle.site_core.specs.Line.{Line}
 use Rattle.site_core.specs.State.{Seen}
@@ -19,6 +19,8 @@ use Rattle.station_files.specs.declared.faults.Status.{Status}
 use Rattle.station_files.specs.declared.faults.Status.TheVariants.{Done}
 use Rattle.station_bench.specs.Site.{IsSiteOf, files_of, HoldsSite}
 use Rattle.station_rounds.specs.Rounds.{AreAmong, Goes, IsServed}
+use Rattle.line_session.specs.declared.threads.Left.{Left}
+use Rattle.line_session.specs.AtDesk.{IsServedAtDesk}
 
 -- ---- what is read
 
@@ -102,30 +104,63 @@ pub record SavesServed (files : Known) (line : LineFile) (opened : Station) (com
   pub served : IsServed s.book
   pub held : HoldsSite files line s.seen.state
 
+-- The files hold what a recovery left of this site; or, where no command was submitted at a desk, what was left of the recovered
+-- station once the commands had been served on it.
+abbrev pub HoldsBehind : (is_driven : Bool) → Known → LineFile → Station → List Command → Status → Type 0
+HoldsBehind true files line r commands status = HoldsSite files line r.seen.state
+HoldsBehind false files line r commands status = SavesServed files line r commands status
+
+pub record SavesBehind (files : Known) (line : LineFile) (before : Seen) (is_driven : Bool) (commands : List Command) (status : Status) : Type 0 where
+  pub r : Station
+  pub recovered : IsRecovered r
+  pub begins : BeginsRecovered before r
+  pub holds : HoldsBehind is_driven files line r commands status
+
+-- No fault ended the work at the desk, and the files hold what is left behind it.
+pub record SavesLeft (files : Known) (line : LineFile) (left : Left) (commands : List Command) (status : Status) : Type 0 where
+  pub worst : status ≡ Done → left.status ≡ Done
+  pub ended : left.ended ≡ Ok tt
+  pub behind : SavesBehind files line left.site.seen left.is_driven commands status
+
+-- The files hold what a recovery left of a line that was taken apart as this station had it, served by threads at a desk that was closed
+-- with some of the commands accepted, all of them where the work is done, and put together again.
+pub record SavesAtDesk (files : Known) (line : LineFile) (opened : Station) (commands : List Command) (status : Status) : Type 0 where
+  pub is_driven : Bool
+  pub answers : Status
+  pub worst : status ≡ Done → answers ≡ Done
+  pub site : SiteValue
+  pub served : IsServedAtDesk opened commands is_driven answers site
+  pub behind : SavesBehind files line site.seen is_driven commands status
+
+-- A run that is to be cut is served on one thread, any other by threads.
+abbrev pub Serves : (is_cut : Bool) → Known → LineFile → Station → List Command → Status → Type 0
+Serves true files line opened commands status = SavesServed files line opened commands status
+Serves false files line opened commands status = SavesAtDesk files line opened commands status
+
 -- The line's files alone changed; and where no fault ended the work, they hold what was left of the station.
-pub record EndsStation (old new : Known) (line : LineFile) (opened : Station) (commands : List Command) (status : Status) : Type 0 where
+pub record EndsStation (is_cut : Bool) (old new : Known) (line : LineFile) (opened : Station) (commands : List Command) (status : Status) : Type 0 where
   pub others : ChangesAmong old new (files_of line)
-  pub saved : IsFaultless status → SavesServed new line opened commands status
+  pub saved : IsFaultless status → Serves is_cut new line opened commands status
 
 -- The files hold what was left of a station that was opened on this site, recovered first where its journal was old.
-pub record SavesRun (files : Known) (line : LineFile) (site : SiteValue) (commands : List Command) (status : Status) : Type 0 where
+pub record SavesRun (is_cut : Bool) (files : Known) (line : LineFile) (site : SiteValue) (commands : List Command) (status : Status) : Type 0 where
   pub opened : Station
   pub starts : StartsFrom (is_old site.seen.state.disk.bytes) site opened
-  pub serves : SavesServed files line opened commands status
+  pub serves : Serves is_cut files line opened commands status
 
 -- The same of a line on which a station was opened.
-pub record EndsRun (old new : Known) (line : LineFile) (site : SiteValue) (commands : List Command) (status : Status) : Type 0 where
+pub record EndsRun (is_cut : Bool) (old new : Known) (line : LineFile) (site : SiteValue) (commands : List Command) (status : Status) : Type 0 where
   pub others : ChangesAmong old new (files_of line)
-  pub saved : IsFaultless status → SavesRun new line site commands status
+  pub saved : IsFaultless status → SavesRun is_cut new line site commands status
 
 -- The line and the script were read before.
-pub record RunsFiles (old new : Known) (name script : List ℕ) (status : Status) : Type 0 where
+pub record RunsFiles (is_cut : Bool) (old new : Known) (name script : List ℕ) (status : Status) : Type 0 where
   pub line : LineFile
   pub site : SiteValue
   pub loaded : Loads old name line site
   pub commands : List Command
   pub spelt : SpellsCommands old script commands
-  pub ends : EndsRun old new line site commands status
+  pub ends : EndsRun is_cut old new line site commands status
 
-abbrev pub Runs : Known → Known → List ℕ → List ℕ → Status → Type 0
-Runs old new name script status = Stops old new status ⊎ RunsFiles old new name script status
+abbrev pub Runs : (is_cut : Bool) → Known → Known → List ℕ → List ℕ → Status → Type 0
+Runs is_cut old new name script status = Stops old new status ⊎ RunsFiles is_cut old new name script status

@@ -5,6 +5,7 @@ mod faults;
 mod recovery;
 mod run;
 mod session;
+mod threads;
 
 pub use recovery::recover_line;
 pub use run::{Fuse, run_script};

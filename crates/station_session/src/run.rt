@@ -1,10 +1,11 @@
 //! The subcommand `run`.
-ghost use Rattle.std.specs.Prelude.{◌≡◌, length, IfErr, IfOk, IsTrue, OnOk, MatchResult};
+ghost use Rattle.std.specs.Prelude.{◌≡◌, length, is_some, true, IfOk, IsTrue, MatchResult};
 ghost use Rattle.site_line.specs.Owned.{OwnsAll};
 ghost use Rattle.station_files.specs.ScriptFiles.{SpellsCommands};
 ghost use Rattle.station_session.specs.Session.{is_old, EndsRun, EndsStation, IsOpened, Loads, Runs, StartsFrom};
 
 use crate::session::{Session, give_up, load_session};
+use crate::threads::run_threads;
 use sii_edit::Command;
 use site_mem::{MemSite, Pattern};
 use station_alone::{Alone, OpenFault};
@@ -15,6 +16,8 @@ use station_rounds::serve_commands;
 use station_text::LineFile;
 use std::alloc::Global;
 use std::io::Write;
+use std::sync::Wait;
+use std::thread::Threads;
 
 /// A stop that is to come.
 #[derive(Clone, Copy)]
@@ -34,7 +37,8 @@ struct Given {
 
 /// Reads a line with its slaves, its journal and a script, submits the script's commands in order, serves them, and saves what the
 /// line holds. Nothing is written where something couldn't be read, or the journal is refused.
-pub fn run_script<S: Store, W: Write, E: Write>(
+pub fn run_script<S: Store, W: Write, E: Write, R: Wait + Threads + Sync>(
+    rt: &R,
     alloc: Global,
     name: &str,
     script: &str,
@@ -43,16 +47,17 @@ pub fn run_script<S: Store, W: Write, E: Write>(
     output: &mut W,
     faults: &mut E,
 ) -> Status
-    ensures { Runs (S.files store.old) (S.files store.new) name.now script.now result }
+    ensures { Runs (is_some fuse) (S.files store.old) (S.files store.new) name.now script.now result }
 {
     match load(alloc, name, script, store) {
-        Ok(given) => run_given(alloc, given, fuse, store, output, faults),
+        Ok(given) => run_given(rt, alloc, given, fuse, store, output, faults),
         Err(fault) => report_fault(fault, faults),
     }
 }
 
-/// Opens the station, serves the commands, and saves what the line holds.
-fn run_given<S: Store, W: Write, E: Write>(
+/// Opens the station, serves the commands, by threads unless a stop is to come, and saves what the line holds.
+fn run_given<S: Store, W: Write, E: Write, R: Wait + Threads + Sync>(
+    rt: &R,
     alloc: Global,
     given: Given,
     fuse: Option<Fuse>,
@@ -64,12 +69,15 @@ fn run_given<S: Store, W: Write, E: Write>(
     requires owned { OwnsAll given.session.site.line }
     requires slaves { length given.session.site.line.sizes ≡ length given.session.line.images.items }
     requires old { given.session.is_old ≡ is_old given.session.site.seen.state.disk.bytes }
-    ensures { EndsRun (S.files store.old) (S.files store.new) given.session.line given.session.site given.commands.items result }
+    ensures { EndsRun (is_some fuse) (S.files store.old) (S.files store.new) given.session.line given.session.site given.commands.items result }
 {
     let Given { session, commands } = given;
     let Session { line, site, is_old } = session;
     match open_station(alloc, site, is_old, fuse) {
-        Ok(alone) => run_station(alloc, &line, alone, &commands, store, output, faults),
+        Ok(alone) => match fuse {
+            Some(_) => run_station(alloc, &line, alone, &commands, store, output, faults),
+            None => run_threads(rt, alloc, &line, alone, &commands, store, output, faults),
+        },
         Err((left, fault)) => give_up(alloc, &line, left, fault, store, faults),
     }
 }
@@ -125,7 +133,7 @@ fn open_fused(
 }
 
 /// Serves the commands on an open station, and saves what its line holds.
-fn run_station<S: Store, W: Write, E: Write>(
+pub(crate) fn run_station<S: Store, W: Write, E: Write>(
     alloc: Global,
     line: &LineFile,
     mut alone: Alone<MemSite>,
@@ -136,7 +144,7 @@ fn run_station<S: Store, W: Write, E: Write>(
 ) -> Status
     requires disk { IsTrue alone.line.has_disk }
     requires slaves { length alone.line.sizes ≡ length line.now.images.items }
-    ensures { EndsStation (S.files store.old) (S.files store.new) line.now alone commands.now result }
+    ensures { EndsStation true (S.files store.old) (S.files store.new) line.now alone commands.now result }
 {
     let mut status = Status::Done;
     let slaves = line.images.len() as u16;

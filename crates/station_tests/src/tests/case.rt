@@ -5,6 +5,8 @@ use station_serve::serve;
 use std::alloc::{AllocError, Global};
 use std::io;
 use std::io::{Read, Write};
+use std::sync::Wait;
+use std::thread::Threads;
 
 /// The bytes of a file or of an input.
 #[derive(Clone, Copy)]
@@ -106,6 +108,7 @@ pub fn shelf_with(alloc: Global, files: Files) -> Result<Shelf, AllocError> {
 
 /// Runs the program on words that are parted by spaces.
 pub fn run_words<R: Read>(
+    rt: &(impl Wait + Threads + Sync),
     alloc: Global,
     words: &str,
     input: &mut R,
@@ -113,7 +116,7 @@ pub fn run_words<R: Read>(
 ) -> Result<Printed, AllocError> {
     let mut output = Vec::new(alloc);
     let mut faults = Vec::new(alloc);
-    let status = served(alloc, words, input, shelf, &mut output, &mut faults)?;
+    let status = served(rt, alloc, words, input, shelf, &mut output, &mut faults)?;
     Ok(Printed {
         status,
         output,
@@ -123,6 +126,7 @@ pub fn run_words<R: Read>(
 
 /// The status of a run with these streams.
 pub fn served<R: Read, W: Write>(
+    rt: &(impl Wait + Threads + Sync),
     alloc: Global,
     words: &str,
     input: &mut R,
@@ -134,14 +138,18 @@ pub fn served<R: Read, W: Write>(
     for word in words.split_ascii_whitespace() {
         args.push(String::from_str(alloc, word)?)?;
     }
-    Ok(serve(alloc, &args, input, shelf, output, faults))
+    Ok(serve(rt, alloc, &args, input, shelf, output, faults))
 }
 
 /// What of a run isn't as it is wanted; empty where all is.
-pub fn differs(alloc: Global, case: &Case) -> Result<&'static str, AllocError> {
+pub fn differs(
+    rt: &(impl Wait + Threads + Sync),
+    alloc: Global,
+    case: &Case,
+) -> Result<&'static str, AllocError> {
     let mut shelf = shelf_with(alloc, case.files)?;
     let input = spell(alloc, case.input)?;
-    let run = run_words(alloc, case.words, &mut input.as_slice(), &mut shelf)?;
+    let run = run_words(rt, alloc, case.words, &mut input.as_slice(), &mut shelf)?;
     let wrong = judge(case, &run);
     if !wrong.is_empty() {
         return Ok(wrong);
@@ -174,6 +182,7 @@ pub struct Step {
 
 /// What of runs in a row isn't as it is wanted; empty where all is.
 pub fn goes(
+    rt: &(impl Wait + Threads + Sync),
     alloc: Global,
     files: Files,
     steps: &[Step],
@@ -182,7 +191,7 @@ pub fn goes(
     let mut shelf = shelf_with(alloc, files)?;
     for step in steps {
         shelf.writes = 0;
-        let run = run_words(alloc, step.words, &mut io::empty(), &mut shelf)?;
+        let run = run_words(rt, alloc, step.words, &mut io::empty(), &mut shelf)?;
         let case = Case {
             status: step.status,
             output: step.output,

@@ -113,7 +113,7 @@ runs out at 66\n",
 #[test]
 fn images_are_shown(rt: HostRuntime) -> Result<(), Fail> {
     for case in &SHOWN {
-        assert_eq!(rt; differs(rt.alloc(), case)?, "", "{}", case.output);
+        assert_eq!(rt; differs(&rt, rt.alloc(), case)?, "", "{}", case.output);
     }
     Ok(())
 }
@@ -191,7 +191,7 @@ cdff\n",
 fn images_are_renamed(rt: HostRuntime) -> Result<(), Fail> {
     for case in &RENAMED {
         assert_eq!(rt;
-            differs(rt.alloc(), case)?,
+            differs(&rt, rt.alloc(), case)?,
             "",
             "{}{}",
             case.output,

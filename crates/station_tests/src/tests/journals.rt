@@ -4,7 +4,9 @@ use super::case::{
 use super::scripts::THREE;
 use std::alloc::{AllocError, Global};
 use std::io;
+use std::sync::Wait;
 use std::test::Fail;
+use std::thread::Threads;
 
 const LINE: Bytes = Bytes::Text("journal = 'j.bin'\narea = 4096\n[[slave]]\nimage = 's0.bin'");
 
@@ -52,14 +54,18 @@ const UNFORMATTED: [Story; 2] = [
     },
 ];
 
-fn differs(alloc: Global, story: &Story) -> Result<&'static str, AllocError> {
-    goes(alloc, story.files, story.steps, story.left)
+fn differs(
+    rt: &(impl Wait + Threads + Sync),
+    alloc: Global,
+    story: &Story,
+) -> Result<&'static str, AllocError> {
+    goes(rt, alloc, story.files, story.steps, story.left)
 }
 
 #[test]
 fn journals_are_formatted(rt: HostRuntime) -> Result<(), Fail> {
     for story in &UNFORMATTED {
-        assert_eq!(rt; differs(rt.alloc(), story)?, "");
+        assert_eq!(rt; differs(&rt, rt.alloc(), story)?, "");
     }
     Ok(())
 }
@@ -125,18 +131,24 @@ const REFUSED: [Case; 4] = [
 #[test]
 fn journals_that_are_refused(rt: HostRuntime) -> Result<(), Fail> {
     for case in &REFUSED {
-        assert_eq!(rt; case_differs(rt.alloc(), case)?, "", "{}", case.faults);
+        assert_eq!(rt; case_differs(&rt, rt.alloc(), case)?, "", "{}", case.faults);
     }
     Ok(())
 }
 
 /// Whether a journal that is cut to so many bytes is refused so, with nothing written.
-fn is_refused(alloc: Global, len: usize, words: &str, faults: &str) -> Result<bool, AllocError> {
+fn is_refused(
+    rt: &(impl Wait + Threads + Sync),
+    alloc: Global,
+    len: usize,
+    words: &str,
+    faults: &str,
+) -> Result<bool, AllocError> {
     let header = [0xA5, 2, 1, 0, 0, 0x10, 0, 0];
     let mut shelf = shelf_with(alloc, NEW)?;
     shelf.put("j.bin", &header[..len.min(8)])?;
     shelf.put("script.toml", b"command = []")?;
-    let run = run_words(alloc, words, &mut io::empty(), &mut shelf)?;
+    let run = run_words(rt, alloc, words, &mut io::empty(), &mut shelf)?;
     Ok(run.status == 3 && shelf.writes == 0 && run.faults.as_slice() == faults.as_bytes())
 }
 
@@ -149,9 +161,9 @@ const ON_A_JOURNAL: [&str; 2] = [
 fn journals_that_are_cut(rt: HostRuntime) -> Result<(), Fail> {
     for words in ON_A_JOURNAL {
         for len in 0..8usize {
-            assert!(rt; is_refused(rt.alloc(), len, words, "fault 50 NotAJournal\n")?);
+            assert!(rt; is_refused(&rt, rt.alloc(), len, words, "fault 50 NotAJournal\n")?);
         }
-        assert!(rt; is_refused(rt.alloc(), 8, words, "fault 52 BadJournal 8\n")?);
+        assert!(rt; is_refused(&rt, rt.alloc(), 8, words, "fault 52 BadJournal 8\n")?);
     }
     Ok(())
 }

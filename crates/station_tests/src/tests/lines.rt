@@ -87,7 +87,7 @@ outputs 1 inputs 6 counter 4\n",
 fn lines_are_laid_out(rt: HostRuntime) -> Result<(), Fail> {
     for case in &LAID_OUT {
         assert_eq!(rt;
-            differs(rt.alloc(), case)?,
+            differs(&rt, rt.alloc(), case)?,
             "",
             "{}{}",
             case.output,

@@ -1,7 +1,9 @@
 use super::case::{Bytes, Files, Step, goes};
 use super::scripts::{LINE, ONE, ZERO};
 use std::alloc::{AllocError, Global};
+use std::sync::Wait;
 use std::test::Fail;
+use std::thread::Threads;
 
 /// A journal of version 1 with one batch that is live, by which the slave gets alias 1.
 const OLD: Bytes = Bytes::Zeros(
@@ -117,14 +119,18 @@ const OLD_JOURNALS: [Story; 4] = [
     },
 ];
 
-fn differs(alloc: Global, story: &Story) -> Result<&'static str, AllocError> {
-    goes(alloc, story.files, story.steps, story.left)
+fn differs(
+    rt: &(impl Wait + Threads + Sync),
+    alloc: Global,
+    story: &Story,
+) -> Result<&'static str, AllocError> {
+    goes(rt, alloc, story.files, story.steps, story.left)
 }
 
 #[test]
 fn old_journals_are_migrated(rt: HostRuntime) -> Result<(), Fail> {
     for story in &OLD_JOURNALS {
-        assert_eq!(rt; differs(rt.alloc(), story)?, "");
+        assert_eq!(rt; differs(&rt, rt.alloc(), story)?, "");
     }
     Ok(())
 }

@@ -1,7 +1,9 @@
-use super::case::{ALONE, Bytes, Case, Files, differs, run_words, shelf_with};
+use super::case::{ALONE, Bytes, Case, Files, Step, differs, goes, run_words, shelf_with};
 use std::alloc::{AllocError, Global};
 use std::io;
+use std::sync::Wait;
 use std::test::Fail;
+use std::thread::Threads;
 
 pub const THREE: Bytes = Bytes::Text(
     "journal = 'j.bin'\n[[slave]]\nimage = 's0.bin'\n[[slave]]\nimage = 's1.bin'\n[[slave]]\nimage = 's2.bin'\n",
@@ -397,10 +399,10 @@ const ANSWERED_RUNS: [Case; 6] = [ANSWERED, UNFIT, NAMED, QUEUED, IDLE, LONG];
 #[test]
 fn scripts_are_run(rt: HostRuntime) -> Result<(), Fail> {
     for case in &ANSWERED_RUNS {
-        assert_eq!(rt; differs(rt.alloc(), case)?, "", "{}", case.output);
+        assert_eq!(rt; differs(&rt, rt.alloc(), case)?, "", "{}", case.output);
     }
     for case in &REFUSED {
-        assert_eq!(rt; differs(rt.alloc(), case)?, "", "{}", case.faults);
+        assert_eq!(rt; differs(&rt, rt.alloc(), case)?, "", "{}", case.faults);
     }
     Ok(())
 }
@@ -412,11 +414,11 @@ const ONE_SLAVE: Files = &[
 ];
 
 /// Whether more commands than can wait at once, of which none changes anything, are accepted all the same.
-fn waits_for_room(alloc: Global) -> Result<bool, AllocError> {
+fn waits_for_room(rt: &(impl Wait + Threads + Sync), alloc: Global) -> Result<bool, AllocError> {
     let script = "[[command]]\nalias = { slave = 0, value = 0 }\n".repeat(alloc, 1025)?;
     let mut shelf = shelf_with(alloc, ONE_SLAVE)?;
     shelf.put("script.toml", script.as_bytes())?;
-    let run = run_words(alloc, RUN, &mut io::empty(), &mut shelf)?;
+    let run = run_words(rt, alloc, RUN, &mut io::empty(), &mut shelf)?;
     let text = str::from_utf8(&run.output).unwrap_or("");
     let end = "command 1024 accepted 1024\naccepted 1025 durable 1025 settled 1025\n";
     Ok(run.status == 0 && text.ends_with(end))
@@ -424,6 +426,58 @@ fn waits_for_room(alloc: Global) -> Result<bool, AllocError> {
 
 #[test]
 fn a_full_book(rt: HostRuntime) -> Result<(), Fail> {
-    assert!(rt; waits_for_room(rt.alloc())?);
+    assert!(rt; waits_for_room(&rt, rt.alloc())?);
+    Ok(())
+}
+
+/// A run on one thread: the power cut comes behind the last write.
+const RUN_ON_ONE: &str = "station run line.toml script.toml --fuse 4294967295";
+
+/// What differs between a run on one thread and what a run by threads prints and leaves; empty where nothing does.
+fn differs_on_one(
+    rt: &(impl Wait + Threads + Sync),
+    alloc: Global,
+    case: &Case,
+) -> Result<&'static str, AllocError> {
+    let on_one = Case {
+        words: RUN_ON_ONE,
+        ..*case
+    };
+    differs(rt, alloc, &on_one)
+}
+
+/// What a run by threads leaves to recover; empty where nothing.
+fn leaves_live(
+    rt: &(impl Wait + Threads + Sync),
+    alloc: Global,
+    case: &Case,
+) -> Result<&'static str, AllocError> {
+    let run = Step {
+        words: case.words,
+        status: case.status,
+        output: case.output,
+        faults: case.faults,
+        writes: case.writes,
+    };
+    let recover = Step {
+        words: "station recover line.toml",
+        status: 0,
+        output: "recovered batches 0 commands 0 words 0\n",
+        ..run
+    };
+    goes(rt, alloc, case.files, &[run, recover], case.left)
+}
+
+#[test]
+fn threads_and_one_thread(rt: HostRuntime) -> Result<(), Fail> {
+    for case in &ANSWERED_RUNS {
+        assert_eq!(rt;
+            differs_on_one(&rt, rt.alloc(), case)?,
+            "",
+            "{}",
+            case.output
+        );
+        assert_eq!(rt; leaves_live(&rt, rt.alloc(), case)?, "", "{}", case.output);
+    }
     Ok(())
 }

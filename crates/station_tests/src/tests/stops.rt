@@ -2,7 +2,9 @@ use super::case::{Bytes, Files, Step, goes, leaves, run_words, shelf_with};
 use super::scripts::{JOURNAL_OF_ONE, LARGEST, LINE, LONG_FILES, ONE, QUEUED, ZERO};
 use std::alloc::{AllocError, Global};
 use std::io;
+use std::sync::Wait;
 use std::test::Fail;
+use std::thread::Threads;
 
 /// What runs in a row begin with, the runs, and what they leave.
 struct Story {
@@ -203,14 +205,18 @@ accepted 1 durable 0 settled 0\n",
     },
 ];
 
-fn differs(alloc: Global, story: &Story) -> Result<&'static str, AllocError> {
-    goes(alloc, story.files, story.steps, story.left)
+fn differs(
+    rt: &(impl Wait + Threads + Sync),
+    alloc: Global,
+    story: &Story,
+) -> Result<&'static str, AllocError> {
+    goes(rt, alloc, story.files, story.steps, story.left)
 }
 
 #[test]
 fn power_cuts(rt: HostRuntime) -> Result<(), Fail> {
     for story in &CUT {
-        assert_eq!(rt; differs(rt.alloc(), story)?, "");
+        assert_eq!(rt; differs(&rt, rt.alloc(), story)?, "");
     }
     Ok(())
 }
@@ -228,18 +234,23 @@ enum Came {
 const OLD: Files = &[("s0.bin", ZERO), ("s1.bin", ZERO), ("s2.bin", ZERO)];
 
 /// A run of three commands in one batch that is cut once so many writes have passed, and the recovery of the line.
-fn cut_at(alloc: Global, writes: u32, left: &str) -> Result<Came, AllocError> {
+fn cut_at(
+    rt: &(impl Wait + Threads + Sync),
+    alloc: Global,
+    writes: u32,
+    left: &str,
+) -> Result<Came, AllocError> {
     let words = format!(in alloc;
         "station run line.toml script.toml --fuse {writes} --left {left}"
     )?;
     let mut shelf = shelf_with(alloc, QUEUED.files)?;
-    let run = run_words(alloc, words.as_str(), &mut io::empty(), &mut shelf)?;
+    let run = run_words(rt, alloc, words.as_str(), &mut io::empty(), &mut shelf)?;
     let printed = str::from_utf8(&run.output).unwrap_or("");
     if run.status == 0 {
         return Ok(Came::Done);
     }
     let is_stopped = run.status == 4 && run.faults.as_slice() == "fault 42 Stopped\n".as_bytes();
-    let again = run_words(alloc, RECOVER.words, &mut io::empty(), &mut shelf)?;
+    let again = run_words(rt, alloc, RECOVER.words, &mut io::empty(), &mut shelf)?;
     let is_new = leaves(alloc, &shelf, QUEUED.left)?.is_empty();
     let is_old = leaves(alloc, &shelf, OLD)?.is_empty() && printed.contains(" durable 0 ");
     if is_stopped && again.status == 0 && (is_new || is_old) {
@@ -250,9 +261,13 @@ fn cut_at(alloc: Global, writes: u32, left: &str) -> Result<Came, AllocError> {
 }
 
 /// How many writes have to pass until a run isn't stopped; None where something is wrong before.
-fn writes_of_a_run(alloc: Global, left: &str) -> Result<Option<u32>, AllocError> {
+fn writes_of_a_run(
+    rt: &(impl Wait + Threads + Sync),
+    alloc: Global,
+    left: &str,
+) -> Result<Option<u32>, AllocError> {
     for writes in 0..100u32 {
-        match cut_at(alloc, writes, left)? {
+        match cut_at(rt, alloc, writes, left)? {
             Came::Done => return Ok(Some(writes)),
             Came::Kept => {}
             Came::Wrong => return Ok(None),
@@ -264,7 +279,7 @@ fn writes_of_a_run(alloc: Global, left: &str) -> Result<Option<u32>, AllocError>
 #[test]
 fn a_cut_at_each_write(rt: HostRuntime) -> Result<(), Fail> {
     for left in ["0", "165", "65535"] {
-        assert_eq!(rt; writes_of_a_run(rt.alloc(), left)?, Some(12), "{left}");
+        assert_eq!(rt; writes_of_a_run(&rt, rt.alloc(), left)?, Some(12), "{left}");
     }
     Ok(())
 }

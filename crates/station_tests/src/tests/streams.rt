@@ -4,7 +4,9 @@ use crate::shelf::Shelf;
 use std::alloc::{AllocError, Global};
 use std::io;
 use std::io::{Read, Write};
+use std::sync::Wait;
 use std::test::Fail;
+use std::thread::Threads;
 
 /// What a reader does at each call once it has given its first byte.
 #[derive(Clone, Copy, PartialEq, Eq)]
@@ -40,9 +42,19 @@ impl Read for Trickle {
 }
 
 /// Whether an alias of what this reader gives is `fault 90 File`.
-fn is_file_fault(alloc: Global, then: Then) -> Result<bool, AllocError> {
+fn is_file_fault(
+    rt: &(impl Wait + Threads + Sync),
+    alloc: Global,
+    then: Then,
+) -> Result<bool, AllocError> {
     let mut input = Trickle { calls: 0, then };
-    let run = run_words(alloc, "station alias 1", &mut input, &mut Shelf::new(alloc))?;
+    let run = run_words(
+        rt,
+        alloc,
+        "station alias 1",
+        &mut input,
+        &mut Shelf::new(alloc),
+    )?;
     Ok(
         run.status == 3
             && run.output.is_empty()
@@ -70,13 +82,19 @@ impl Read for Halting<'_> {
 #[test]
 fn readers(rt: HostRuntime) -> Result<(), Fail> {
     let alloc = rt.alloc();
-    assert!(rt; is_file_fault(alloc, Then::Fails)?);
-    assert!(rt; is_file_fault(alloc, Then::GoesOn)?);
+    assert!(rt; is_file_fault(&rt, alloc, Then::Fails)?);
+    assert!(rt; is_file_fault(&rt, alloc, Then::GoesOn)?);
     let mut input = Halting {
         rest: &[0xFF; 128],
         interrupted: false,
     };
-    let run = run_words(alloc, "station show", &mut input, &mut Shelf::new(alloc))?;
+    let run = run_words(
+        &rt,
+        alloc,
+        "station show",
+        &mut input,
+        &mut Shelf::new(alloc),
+    )?;
     assert!(rt; run.status == 3 && run.faults.is_empty());
     Ok(())
 }
@@ -110,11 +128,16 @@ const FILES: Files = &[
 ];
 
 /// Whether a run whose output can't be written is `fault 90 File`.
-fn is_unwritten(alloc: Global, words: &str) -> Result<bool, AllocError> {
+fn is_unwritten(
+    rt: &(impl Wait + Threads + Sync),
+    alloc: Global,
+    words: &str,
+) -> Result<bool, AllocError> {
     let mut faults = Vec::new(alloc);
     let mut shelf = shelf_with(alloc, FILES)?;
     let image = [0xFFu8; 128];
     let status = served(
+        rt,
         alloc,
         words,
         &mut image.as_slice(),
@@ -137,7 +160,7 @@ fn writers_that_fail(rt: HostRuntime) -> Result<(), Fail> {
         "station --help",
     ];
     for words in runs {
-        assert!(rt; is_unwritten(rt.alloc(), words)?, "{words}");
+        assert!(rt; is_unwritten(&rt, rt.alloc(), words)?, "{words}");
     }
     Ok(())
 }
@@ -148,7 +171,7 @@ fn a_store_that_takes_no_writes(rt: HostRuntime) -> Result<(), Fail> {
     let mut shelf = shelf_with(alloc, FILES)?;
     shelf.broken = true;
     let words = "station run line.toml script.toml";
-    let run = run_words(alloc, words, &mut io::empty(), &mut shelf)?;
+    let run = run_words(&rt, alloc, words, &mut io::empty(), &mut shelf)?;
     assert!(rt; run.status == 3 && run.faults.as_slice() == "fault 90 File\n".as_bytes());
     assert!(rt; run.output.as_slice() == "accepted 0 durable 0 settled 0\n".as_bytes());
     Ok(())

@@ -2,7 +2,9 @@ use super::case::{ALONE, Case, differs, run_words};
 use crate::shelf::Shelf;
 use std::alloc::{AllocError, Global};
 use std::io;
+use std::sync::Wait;
 use std::test::Fail;
+use std::thread::Threads;
 
 /// Words that are no use of the program.
 const WRONG: [&str; 29] = [
@@ -56,8 +58,14 @@ const HELP: [(&str, &str); 14] = [
 ];
 
 /// Whether the words end with this status, and print this on standard output or, of usage, anything on standard error.
-fn answers(alloc: Global, words: &str, status: u8, shown: &str) -> Result<bool, AllocError> {
-    let run = run_words(alloc, words, &mut io::empty(), &mut Shelf::new(alloc))?;
+fn answers(
+    rt: &(impl Wait + Threads + Sync),
+    alloc: Global,
+    words: &str,
+    status: u8,
+    shown: &str,
+) -> Result<bool, AllocError> {
+    let run = run_words(rt, alloc, words, &mut io::empty(), &mut Shelf::new(alloc))?;
     let text = str::from_utf8(&run.output).unwrap_or("");
     let is_parted = run.output.is_empty() != run.faults.is_empty();
     Ok(run.status == status && is_parted && text.contains(shown))
@@ -66,10 +74,10 @@ fn answers(alloc: Global, words: &str, status: u8, shown: &str) -> Result<bool, 
 #[test]
 fn usage_and_help(rt: HostRuntime) -> Result<(), Fail> {
     for words in WRONG {
-        assert!(rt; answers(rt.alloc(), words, 2, "")?, "{words}");
+        assert!(rt; answers(&rt, rt.alloc(), words, 2, "")?, "{words}");
     }
     for (words, shown) in HELP {
-        assert!(rt; answers(rt.alloc(), words, 0, shown)?, "{words}");
+        assert!(rt; answers(&rt, rt.alloc(), words, 0, shown)?, "{words}");
     }
     Ok(())
 }
@@ -98,8 +106,8 @@ const EXPLAINED: [Case; 3] = [
 #[test]
 fn versions_and_codes(rt: HostRuntime) -> Result<(), Fail> {
     for case in &EXPLAINED {
-        assert_eq!(rt; differs(rt.alloc(), case)?, "", "{}", case.words);
+        assert_eq!(rt; differs(&rt, rt.alloc(), case)?, "", "{}", case.words);
     }
-    assert!(rt; answers(rt.alloc(), "station explain", 0, "\n\n94 Exists: ")?);
+    assert!(rt; answers(&rt, rt.alloc(), "station explain", 0, "\n\n94 Exists: ")?);
     Ok(())
 }

@@ -1,0 +1,10 @@
+mod asks;
+mod line;
+mod meeting;
+mod memory;
+mod report;
+mod served;
+mod session;
+mod sites;
+mod stops;
+mod submitter;

@@ -1,0 +1,55 @@
+//! A gate that shows that two workers are under way at once.
+
+use station_jobs::Gate;
+use std::sync::atomic::{AtomicU64, Ordering};
+use std::thread::sleep;
+use std::time::{Clock, Duration};
+
+/// For so many turns, of a millisecond each, a worker is held up.
+const TURNS: usize = 10_000;
+
+/// Holds the first outcome of slave 0 until one of slave 1 was answered, and the second of slave 1 until slave 0 has its first.
+#[derive(Drop)]
+pub(crate) struct Meeting<'a, C: Clock> {
+    clock: &'a C,
+    /// How many outcomes each has had.
+    first: AtomicU64,
+    second: AtomicU64,
+}
+
+impl<'a, C: Clock> Meeting<'a, C> {
+    pub(crate) fn new(clock: &'a C) -> Self {
+        Meeting {
+            clock,
+            first: AtomicU64::new(0),
+            second: AtomicU64::new(0),
+        }
+    }
+
+    /// Waits until there were so many. False after all turns.
+    fn waits_for(&self, outcomes: &AtomicU64, count: u64) -> bool {
+        for _turn in 0..TURNS {
+            if outcomes.load(Ordering::SeqCst) >= count {
+                return true;
+            }
+            sleep(self.clock, Duration::from_millis(1));
+        }
+        false
+    }
+}
+
+impl<'a, C: Clock> Gate for Meeting<'a, C> {
+    fn pass(&self, slave: u16) -> bool {
+        match slave {
+            0 => {
+                self.first.fetch_add(1, Ordering::SeqCst);
+                self.waits_for(&self.second, 2)
+            }
+            1 => {
+                let earlier = self.second.fetch_add(1, Ordering::SeqCst);
+                earlier == 0 || self.waits_for(&self.first, 1)
+            }
+            _ => true,
+        }
+    }
+}

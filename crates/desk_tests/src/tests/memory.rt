@@ -1,0 +1,32 @@
+//! Memory for what a test is made of: asked for a second time where it is refused once.
+
+ghost use Rattle.std.specs.Prelude.{◌≡◌, length};
+
+use std::alloc::Global;
+use std::process::Abort;
+
+/// Puts it behind the others.
+pub(crate) fn put<T: Drop>(rt: &impl Abort, items: &mut Vec<T>, item: T) {
+    match items.push(item) {
+        Ok(()) => {}
+        Err(refused) => items.push(refused.value).ok().expect(rt, "memory"),
+    }
+}
+
+/// Room for so many.
+pub(crate) fn room<T: Drop>(rt: &impl Abort, alloc: Global, count: usize) -> Vec<T> {
+    match Vec::with_capacity(alloc, count) {
+        Ok(items) => items,
+        Err(_refused) => Vec::with_capacity(alloc, count).ok().expect(rt, "memory"),
+    }
+}
+
+/// So many zeros.
+pub(crate) fn zeros(rt: &impl Abort, alloc: Global, count: usize) -> Vec<u8>
+    ensures { length result.items ≡ count }
+{
+    match vec![in alloc; 0u8; count] {
+        Ok(bytes) => bytes,
+        Err(_refused) => vec![in alloc; 0u8; count].ok().expect(rt, "memory"),
+    }
+}

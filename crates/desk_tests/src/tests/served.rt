@@ -1,0 +1,193 @@
+//! A line is served by threads, and its desk closed.
+
+use crate::tests::asks::Ask;
+use crate::tests::line::Plan;
+use crate::tests::meeting::Meeting;
+use crate::tests::session::{LeftOut, Scenario, session};
+use crate::tests::sites::Trouble;
+use crate::tests::submitter::Pace;
+use site_mem::Parts;
+use station_desk::CloseFault;
+use station_jobs::{CycleNote, Gate, NoGate};
+use std::alloc::Global;
+use std::process::Abort;
+use std::sync::Wait;
+use std::test::*;
+use std::thread::Threads;
+
+/// Aliases for four slaves in turn.
+const FIRST: [Ask; 10] = [
+    Ask::Alias(0, 1),
+    Ask::Alias(1, 2),
+    Ask::Alias(2, 3),
+    Ask::Alias(3, 4),
+    Ask::Alias(0, 5),
+    Ask::Alias(1, 6),
+    Ask::Alias(2, 7),
+    Ask::Alias(3, 8),
+    Ask::Alias(0, 9),
+    Ask::Alias(1, 10),
+];
+
+const SECOND: [Ask; 10] = [
+    Ask::Alias(2, 11),
+    Ask::Alias(3, 12),
+    Ask::Alias(0, 13),
+    Ask::Alias(1, 14),
+    Ask::Alias(2, 15),
+    Ask::Alias(3, 16),
+    Ask::Alias(0, 17),
+    Ask::Alias(1, 18),
+    Ask::Alias(2, 19),
+    Ask::Alias(3, 20),
+];
+
+/// Four slaves of zeros.
+const FOUR: Plan = Plan {
+    words: 64,
+    slaves: &[&[], &[], &[], &[]],
+    area: 65_536,
+    has_cycle: false,
+};
+
+/// Two submit fifty aliases each, while process data are exchanged.
+const HUNDRED: Scenario = Scenario {
+    plan: Plan {
+        has_cycle: true,
+        ..FOUR
+    },
+    first: &FIRST,
+    second: &SECOND,
+    rounds: 5,
+    pace: Pace::Together,
+    trouble: Trouble::Nothing,
+    left_out: LeftOut::Nothing,
+};
+
+/// The same without process data.
+const MEETING: Scenario = Scenario {
+    plan: FOUR,
+    ..HUNDRED
+};
+
+/// How a desk is closed, how many commands are accepted and how many receipts given, and whether each slave reads as the book.
+type Account = (Option<CloseFault>, usize, usize, bool);
+
+/// What comes of the scenario.
+fn account<G: Gate + Sync, W: Wait + Threads + Sync + Abort>(
+    rt: &W,
+    alloc: Global,
+    scenario: &Scenario,
+    gate: &G,
+) -> Account {
+    let report = session(rt, alloc, scenario, gate);
+    (report.fault, report.accepted, report.receipts, report.reads)
+}
+
+#[test]
+fn two_submit(rt: HostRuntime) {
+    let came = account(&rt, rt.alloc(), &HUNDRED, &NoGate);
+    assert!(rt; came == (None, 100, 100, true));
+}
+
+#[test]
+fn two_meet(rt: HostRuntime) {
+    let came = account(&rt, rt.alloc(), &MEETING, &Meeting::new(&rt));
+    assert!(rt; came == (None, 100, 100, true));
+}
+
+/// A slave with a byte of outputs and four bytes of inputs: its SyncM, RXPDO and TXPDO categories.
+const BOTH: &[u8] = &[
+    41, 0, 16, 0, 0x00, 0x10, 0x80, 0x00, 0x26, 0x00, 0x01, 0x01, 0x80, 0x10, 0x80, 0x00, 0x22,
+    0x00, 0x01, 0x02, 0x00, 0x11, 0x01, 0x00, 0x24, 0x00, 0x01, 0x03, 0x80, 0x11, 0x04, 0x00, 0x20,
+    0x00, 0x01, 0x04, 51, 0, 8, 0, 0x00, 0x16, 0x01, 0x02, 0x00, 0x00, 0x00, 0x00, 0x00, 0x70,
+    0x01, 0x00, 0x05, 0x08, 0x00, 0x00, 50, 0, 12, 0, 0x00, 0x1a, 0x02, 0x03, 0x00, 0x00, 0x00,
+    0x00, 0x00, 0x60, 0x01, 0x00, 0x06, 0x10, 0x00, 0x00, 0x00, 0x60, 0x02, 0x00, 0x06, 0x10, 0x00,
+    0x00, 0xff, 0xff,
+];
+
+/// A slave with twelve bits of inputs.
+const INPUTS: &[u8] = &[
+    41, 0, 4, 0, 0x00, 0x10, 0x02, 0x00, 0x20, 0x00, 0x01, 0x04, 50, 0, 8, 0, 0x00, 0x1a, 0x01,
+    0x00, 0x00, 0x00, 0x00, 0x00, 0x00, 0x60, 0x01, 0x00, 0x00, 0x0c, 0x00, 0x00, 0xff, 0xff,
+];
+
+/// An alias for the first of two slaves with process data.
+const TURNING: Scenario = Scenario {
+    plan: Plan {
+        words: 128,
+        slaves: &[BOTH, INPUTS],
+        area: 4096,
+        has_cycle: true,
+    },
+    first: &[Ask::Alias(0, 1)],
+    second: &[],
+    rounds: 1,
+    ..HUNDRED
+};
+
+/// Slave 0's byte at 0x1100.
+fn byte_of(line: &Parts) -> Option<u8> {
+    match &line.process {
+        Some(halves) => Some(halves.first()?.peek(0x1100)),
+        None => None,
+    }
+}
+
+/// How the desk is closed, the last turn of the cycle, and slave 0's byte at 0x1100 then.
+fn last_turn<W: Wait + Threads + Sync + Abort>(
+    rt: &W,
+    alloc: Global,
+    scenario: &Scenario,
+) -> (Option<CloseFault>, Option<CycleNote>, Option<u8>) {
+    let report = session(rt, alloc, scenario, &NoGate);
+    (report.fault, report.last, byte_of(&report.line))
+}
+
+#[test]
+fn the_cycle_goes_on(rt: HostRuntime) {
+    let last = last_turn(&rt, rt.alloc(), &TURNING);
+    assert!(rt; last == (None, Some(CycleNote { prefix: 1, size: 7 }), Some(0)));
+}
+
+/// What befalls the line, what is left out, and why the desk isn't closed.
+const FAULTS: [(Trouble, LeftOut, CloseFault); 3] = [
+    (Trouble::Nothing, LeftOut::End, CloseFault::Mismatch),
+    (Trouble::Nothing, LeftOut::Share, CloseFault::Mismatch),
+    (
+        Trouble::WordsFail(0, 3),
+        LeftOut::Nothing,
+        CloseFault::Unserved,
+    ),
+];
+
+/// Two submit an alias each.
+const TWO: Scenario = Scenario {
+    first: &[Ask::Alias(0, 1)],
+    second: &[Ask::Alias(1, 1)],
+    rounds: 1,
+    ..MEETING
+};
+
+/// Why the desk isn't closed where this befalls its line, and this is left out.
+fn fault_of<W: Wait + Threads + Sync + Abort>(
+    rt: &W,
+    alloc: Global,
+    trouble: Trouble,
+    left_out: LeftOut,
+) -> Option<CloseFault> {
+    let scenario = Scenario {
+        trouble,
+        left_out,
+        ..TWO
+    };
+    session(rt, alloc, &scenario, &NoGate).fault
+}
+
+#[test]
+fn desks_that_are_not_closed(rt: HostRuntime) {
+    for (trouble, left_out, fault) in FAULTS {
+        let came = fault_of(&rt, rt.alloc(), trouble, left_out);
+        assert!(rt; came == Some(fault));
+    }
+}

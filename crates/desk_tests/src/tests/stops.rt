@@ -1,0 +1,232 @@
+//! One part of a line stops at each of its writes, and the line is recovered.
+
+use crate::tests::asks::Ask;
+use crate::tests::line::Plan;
+use crate::tests::report::Report;
+use crate::tests::session::{LeftOut, Scenario, session};
+use crate::tests::sites::{Trouble, site_of};
+use crate::tests::submitter::Pace;
+use esc_rom::RomFault;
+use jrn_format::JournalFault;
+use sii_words::Plant;
+use site_core::{DeviceFault, Site};
+use site_journal::ReadFault;
+use site_line::owns_all;
+use site_mem::{MemSite, Parts, Pattern};
+use station_alone::{Alone, OpenFault};
+use station_desk::CloseFault;
+use station_jobs::NoGate;
+use station_recovery::recover;
+use std::alloc::Global;
+use std::process::Abort;
+use std::sync::Wait;
+use std::test::*;
+use std::thread::Threads;
+
+/// Three slaves of zeros.
+const THREE: Plan = Plan {
+    words: 64,
+    slaves: &[&[], &[], &[]],
+    area: 4096,
+    has_cycle: false,
+};
+
+const ASKS: [Ask; 3] = [
+    Ask::Alias(0, 1),
+    Ask::Swap(0, 1),
+    Ask::Group(&[(2, 7), (0, 9)]),
+];
+
+/// One submits three commands.
+const STOPPING: Scenario = Scenario {
+    plan: THREE,
+    first: &ASKS,
+    second: &[],
+    rounds: 1,
+    pace: Pace::Queued,
+    trouble: Trouble::Nothing,
+    left_out: LeftOut::Nothing,
+};
+
+/// The aliases after so many of these.
+const ALIASES: [[u16; 3]; 4] = [[0, 0, 0], [1, 0, 0], [0, 1, 0], [9, 1, 7]];
+
+const PATTERNS: [Pattern; 4] = [
+    Pattern::Old,
+    Pattern::New,
+    Pattern::Fill(0x00a5),
+    Pattern::Fill(0x5a5a),
+];
+
+/// Whether a recovery failed for want of memory, its own or the disk's.
+fn is_memory(fault: OpenFault) -> bool {
+    matches!(
+        fault,
+        OpenFault::Memory
+            | OpenFault::Slave(RomFault::Memory)
+            | OpenFault::Journal(
+                ReadFault::Journal(JournalFault::Memory) | ReadFault::Device(DeviceFault::Disk),
+            )
+    )
+}
+
+/// Recovers the line. The site comes back where a growth was refused.
+fn try_recover(rt: &impl Abort, alloc: Global, site: MemSite) -> Result<Alone<MemSite>, MemSite> {
+    assert!(rt; site.has_disk() && owns_all(&site));
+    match recover(alloc, site) {
+        Ok((station, _counts)) => Ok(station),
+        Err((site, fault)) => {
+            assert!(rt; is_memory(fault));
+            Err(site)
+        }
+    }
+}
+
+/// Recovers the line, at the second try where a growth is refused.
+fn recovered(rt: &impl Abort, alloc: Global, parts: Parts) -> Alone<MemSite> {
+    match try_recover(rt, alloc, site_of(rt, alloc, parts)) {
+        Ok(station) => station,
+        Err(site) => try_recover(rt, alloc, site).ok().expect(rt, "memory"),
+    }
+}
+
+/// The aliases of the slaves.
+fn aliases_of(rt: &impl Abort, contents: &Plant) -> [u16; 3] {
+    assert!(rt; contents.len() == 3);
+    [
+        contents.slave(0).alias(),
+        contents.slave(1).alias(),
+        contents.slave(2).alias(),
+    ]
+}
+
+/// After how many commands the aliases are that the line has once it is recovered. None: after no number of them.
+fn place_left(rt: &impl Abort, alloc: Global, line: Parts) -> Option<u64> {
+    let station = recovered(rt, alloc, line);
+    place_of(aliases_of(rt, station.core().contents()))
+}
+
+/// After how many commands they are. None: after no number of them.
+fn place_of(aliases: [u16; 3]) -> Option<u64> {
+    for place in 0..4usize {
+        if ALIASES[place] == aliases {
+            return Some(place as u64);
+        }
+    }
+    None
+}
+
+/// Whether the line was stopped, whose desk was closed so. None: what it holds once it is recovered isn't what was acknowledged and
+/// perhaps more; or nothing stopped it, and it doesn't hold all; or all were queued first, and it holds neither all nor none.
+fn judged(
+    pace: Pace,
+    fault: Option<CloseFault>,
+    acknowledged: u64,
+    place: Option<u64>,
+) -> Option<bool> {
+    let place = place?;
+    let least = match fault {
+        None => 3,
+        Some(CloseFault::Unserved) => acknowledged,
+        Some(CloseFault::Mismatch) => return None,
+    };
+    if place < least || (pace == Pace::Queued && place != 0 && place != 3) {
+        return None;
+    }
+    Some(fault.is_some())
+}
+
+/// Whether the line with this trouble was stopped. None: as for one that is judged.
+fn is_stopped<W: Wait + Threads + Sync + Abort>(
+    rt: &W,
+    alloc: Global,
+    pace: Pace,
+    trouble: Trouble,
+) -> Option<bool> {
+    let scenario = Scenario {
+        pace,
+        trouble,
+        ..STOPPING
+    };
+    let Report {
+        fault,
+        acknowledged,
+        line,
+        ..
+    } = session(rt, alloc, &scenario, &NoGate);
+    judged(pace, fault, acknowledged, place_left(rt, alloc, line))
+}
+
+/// A part that stops.
+#[derive(Clone, Copy)]
+enum Part {
+    Disk,
+    Slave(u16),
+}
+
+fn trouble_of(part: Part, writes: u64, pattern: Pattern) -> Trouble {
+    match part {
+        Part::Disk => Trouble::DiskStops(writes, pattern),
+        Part::Slave(slave) => Trouble::SlaveStops(slave, writes, pattern),
+    }
+}
+
+/// By how many patterns the line is stopped where this part stops once so many writes have passed. None: as for one.
+fn stops_by<W: Wait + Threads + Sync + Abort>(
+    rt: &W,
+    alloc: Global,
+    pace: Pace,
+    part: Part,
+    writes: u64,
+) -> Option<usize> {
+    let mut count = 0usize;
+    for pattern in PATTERNS {
+        if is_stopped(rt, alloc, pace, trouble_of(part, writes, pattern))? {
+            count = count.saturating_add(1);
+        }
+    }
+    Some(count)
+}
+
+/// The first number of writes after which the line isn't stopped any more. None: as for one.
+fn first_unstopped<W: Wait + Threads + Sync + Abort>(
+    rt: &W,
+    alloc: Global,
+    pace: Pace,
+    part: Part,
+) -> Option<u64> {
+    for writes in 0..40u64 {
+        if stops_by(rt, alloc, pace, part, writes)? == 0 {
+            return Some(writes);
+        }
+    }
+    None
+}
+
+/// How the commands are submitted, which part stops, and how many writes it makes at least: four of the disk for each batch, and two
+/// words for a slave that gets an alias, the alias and the check byte.
+const STOPS: [(Pace, Part, u64); 8] = [
+    (Pace::OneByOne, Part::Disk, 12),
+    (Pace::OneByOne, Part::Slave(0), 2),
+    (Pace::OneByOne, Part::Slave(1), 2),
+    (Pace::OneByOne, Part::Slave(2), 2),
+    (Pace::Queued, Part::Disk, 4),
+    (Pace::Queued, Part::Slave(0), 2),
+    (Pace::Queued, Part::Slave(1), 2),
+    (Pace::Queued, Part::Slave(2), 2),
+];
+
+#[test]
+fn any_part_may_stop(rt: HostRuntime) {
+    for (pace, part, least) in STOPS {
+        let first = first_unstopped(&rt, rt.alloc(), pace, part);
+        assert!(rt; first >= Some(least));
+    }
+}
+
+/// The gate runs this with memory; `rt try --test --fail-alloc N` has the Nth growth refused. Then it is asked for again, or the disk's
+/// want of it closes the book, and a recovery finds what was acknowledged.
+#[test]
+fn a_refused_growth_loses_nothing(rt: HostRuntime) {
+    assert!(rt; is_stopped(&rt, rt.alloc(), Pace::Queued, Trouble::Nothing).is_some());
+}

@@ -1,0 +1,73 @@
+-- What the files hold behind a run by threads.
+use Rattle.std.proofs.Common.{◌≡◌, ℕ, Bool, true, false, List, refl, sym, subst, Result, Ok}
+use Rattle.std.specs.Prelude.{OnErr, OnOk}
+use Rattle.sii_edit.specs.declared.command.Command.{Command}
+use Rattle.site_core.specs.Line.{Line}
+use Rattle.site_core.specs.State.{State, Seen}
+use Rattle.station_alone.specs.Station.{Station}
+use Rattle.station_recovery.specs.Recovery.{IsRecovered, BeginsRecovered}
+use Rattle.station_text.specs.declared.line_file.LineFile.{LineFile}
+use Rattle.station_files.specs.Faults.{IsFaultless}
+use Rattle.station_files.specs.Files.{Known, ChangesAmong}
+use Rattle.station_files.specs.declared.faults.Fault.{Fault}
+use Rattle.station_files.specs.declared.faults.Status.{Status}
+use Rattle.station_files.specs.declared.faults.Status.TheVariants.{Done}
+use Rattle.station_bench.specs.Site.{files_of, HoldsSite}
+use Rattle.line_session.specs.declared.threads.Left.{Left}
+use Rattle.line_session.specs.AtDesk.{IsServedAtDesk}
+use Rattle.line_session.specs.Parts.{IsLineOf}
+use Rattle.station_session.specs.Session.{EndsStation, HoldsBehind, SavesBehind, SavesLeft, SavesServed}
+use Rattle.station_session.proofs.Ending.{saved-still}
+
+pub line-of : (line : Line) (slaves count : ℕ) → slaves ≡ count → IsLineOf slaves line → IsLineOf count line
+line-of line slaves count same is = subst (λ (n : ℕ). IsLineOf n line) same is
+
+-- nothing was served, and nothing is written
+pub ends-unserved : (files : Known) (line : LineFile) (opened : Station) (commands : List Command) (status : Status) → ¬ IsFaultless status → EndsStation false files files line opened commands status
+ends-unserved files line opened commands status bad = record { others = λ other out. refl; saved = λ good. absurd (bad good) }
+
+pub ends-left : (old new : Known) (line : LineFile) (opened : Station) (commands : List Command) (left : Left) (status : Status) → OnOk left.ended (IsServedAtDesk opened commands left.is_driven left.status left.site) → ChangesAmong old new (files_of line)
+    → (IsFaultless status → SavesLeft new line left commands status) → EndsStation false old new line opened commands status
+ends-left old new line opened commands left status served others saved = record {
+  others = others;
+  saved = λ good.
+      let s = saved good in
+      record {
+        is_driven = left.is_driven;
+        answers = left.status;
+        worst = s.worst;
+        site = left.site;
+        served = subst (λ (r : Result (Unit {0}) Fault). OnOk r (IsServedAtDesk opened commands left.is_driven left.status left.site)) s.ended served;
+        behind = s.behind;
+      };
+}
+
+serves-worse : (files : Known) (line : LineFile) (opened : Station) (commands : List Command) (one final : Status) → (final ≡ Done → one ≡ Done) → SavesServed files line opened commands one → SavesServed files line opened commands final
+serves-worse files line opened commands one final done_too saves = record { s = saves.s; accepted = saves.accepted; goes = saves.goes; among = saves.among; all = λ done. saves.all (done_too done); served = saves.served; held = saves.held }
+
+holds-worse : (is_driven : Bool) (files : Known) (line : LineFile) (r : Station) (commands : List Command) (one final : Status) → (final ≡ Done → one ≡ Done) → HoldsBehind is_driven files line r commands one → HoldsBehind is_driven files line r commands final
+holds-worse true files line r commands one final done_too holds = holds
+holds-worse false files line r commands one final done_too holds = serves-worse files line r commands one final done_too holds
+
+-- the answers were no worse than the whole
+pub saves-left : (files : Known) (line : LineFile) (left : Left) (commands : List Command) (saved final : Status) → left.ended ≡ Ok tt → (final ≡ Done → (left.status ≡ Done) × (saved ≡ Done)) → SavesBehind files line left.site.seen left.is_driven commands saved
+    → SavesLeft files line left commands final
+saves-left files line left commands saved final ended done_too behind = record {
+  worst = λ done. (done_too done).0;
+  ended = ended;
+  behind = record { r = behind.r; recovered = behind.recovered; begins = behind.begins; holds = holds-worse left.is_driven files line behind.r commands saved final (λ done. (done_too done).1) behind.holds };
+}
+
+-- the files hold what is left behind it
+pub saves_behind : (files : Known) (line : LineFile) (before : Seen) (r : Station) (is_driven : Bool) (commands : List Command) (status : Status) → IsRecovered r → BeginsRecovered before r
+    → (IsFaultless status → HoldsBehind is_driven files line r commands status) → IsFaultless status → SavesBehind files line before is_driven commands status
+saves_behind files line before r is_driven commands status recovered begins holds good = record { r = r; recovered = recovered; begins = begins; holds = holds good }
+
+-- what was recovered is saved
+pub holds-driven : (is_driven : Bool) (files : Known) (line : LineFile) (r : Station) (commands : List Command) (saved : Result (Unit {0}) Fault) (state : State) (status : Status) → is_driven ≡ true → state ≡ r.seen.state → OnOk saved (HoldsSite files line state)
+    → OnErr saved (¬ IsFaultless status) → IsFaultless status → HoldsBehind is_driven files line r commands status
+holds-driven is_driven files line r commands saved state status driven is held bad good =
+    subst (λ (b : Bool). HoldsBehind b files line r commands status) (sym driven) (subst (λ (s : State). HoldsSite files line s) is (saved-still files line saved state status held bad good))
+
+pub holds-undriven : (is_driven : Bool) (files : Known) (line : LineFile) (r : Station) (commands : List Command) (status : Status) → is_driven ≡ false → SavesServed files line r commands status → HoldsBehind is_driven files line r commands status
+holds-undriven is_driven files line r commands status undriven saves = subst (λ (b : Bool). HoldsBehind b files line r commands status) (sym undriven) saves

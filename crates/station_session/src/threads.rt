@@ -1,0 +1,127 @@
+//! A run by threads.
+ghost use Rattle.std.specs.Prelude.{◌≡◌, [], false, length, IsTrue, Ok};
+ghost use Rattle.station_files.specs.Faults.{IsFaultless};
+ghost use Rattle.station_files.specs.Files.{ChangesAmong};
+ghost use Rattle.station_bench.specs.Site.{files_of};
+ghost use Rattle.line_session.specs.Parts.{IsLineOf};
+ghost use Rattle.station_session.specs.Session.{EndsStation, HoldsBehind, SavesBehind, SavesLeft};
+
+use crate::run::run_station;
+use crate::session::give_up;
+use line_session::{Left, serve_by_threads};
+use sii_edit::Command;
+use site_mem::MemSite;
+use station_alone::Alone;
+use station_bench::save_site;
+use station_files::{Status, Store, report_fault, status_of, worse};
+use station_recovery::recover;
+use station_text::LineFile;
+use std::alloc::Global;
+use std::io::Write;
+use std::sync::Wait;
+use std::thread::Threads;
+
+/// Serves the commands by threads, recovers the line so that nothing is live, and saves what it holds.
+pub(crate) fn run_threads<S: Store, W: Write, E: Write, R: Wait + Threads + Sync>(
+    rt: &R,
+    alloc: Global,
+    line: &LineFile,
+    alone: Alone<MemSite>,
+    commands: &[Command],
+    store: &mut S,
+    output: &mut W,
+    faults: &mut E,
+) -> Status
+    requires none { alone.book.accepted ≡ [] }
+    ensures { EndsStation false (S.files store.old) (S.files store.new) line.now alone commands.now result }
+{
+    match serve_by_threads(rt, alloc, alone, line.images.len(), commands, output) {
+        Ok(left) => end_threads(alloc, line, left, commands, store, output, faults),
+        Err(fault) => report_fault(fault, faults),
+    }
+}
+
+/// Recovers and saves what is left of the line. After a fault it is saved as it is.
+fn end_threads<S: Store, W: Write, E: Write>(
+    alloc: Global,
+    line: &LineFile,
+    left: Left,
+    commands: &[Command],
+    store: &mut S,
+    output: &mut W,
+    faults: &mut E,
+) -> Status
+    requires { IsLineOf (length line.now.images.items) left.site.line }
+    ensures others { ChangesAmong (S.files store.old) (S.files store.new) (files_of line.now) }
+    ensures saved { IsFaultless result → SavesLeft (S.files store.new) line.now left commands.now result }
+{
+    let Left {
+        site,
+        is_driven,
+        status,
+        ended,
+    } = left;
+    match ended {
+        Ok(()) => {
+            let saved = save_behind(
+                alloc, line, site, is_driven, commands, store, output, faults,
+            );
+            worse(status, saved)
+        }
+        Err(fault) => {
+            let told = report_fault(fault, faults);
+            let saved = status_of(save_site(alloc, line, site, store), faults);
+            worse(status, worse(told, saved))
+        }
+    }
+}
+
+/// Recovers the line, and saves what it holds. Where the commands weren't submitted yet, they are served before.
+#[tactic(auto, using(crate::proofs::ThreadsEnd::saves_behind))]
+fn save_behind<S: Store, W: Write, E: Write>(
+    alloc: Global,
+    line: &LineFile,
+    site: MemSite,
+    is_driven: bool,
+    commands: &[Command],
+    store: &mut S,
+    output: &mut W,
+    faults: &mut E,
+) -> Status
+    requires { IsLineOf (length line.now.images.items) site.line }
+    ensures others { ChangesAmong (S.files store.old) (S.files store.new) (files_of line.now) }
+    ensures saved { IsFaultless result → SavesBehind (S.files store.new) line.now site.seen is_driven commands.now result }
+{
+    match recover(alloc, site) {
+        Ok((alone, _recovered)) => {
+            save_recovered(
+                alloc, line, alone, is_driven, commands, store, output, faults,
+            )
+        }
+        Err((left, fault)) => give_up(alloc, line, left, fault, store, faults),
+    }
+}
+
+/// Saves what a recovery left. Where the commands weren't submitted yet, they are served before.
+fn save_recovered<S: Store, W: Write, E: Write>(
+    alloc: Global,
+    line: &LineFile,
+    alone: Alone<MemSite>,
+    is_driven: bool,
+    commands: &[Command],
+    store: &mut S,
+    output: &mut W,
+    faults: &mut E,
+) -> Status
+    requires disk { IsTrue alone.line.has_disk }
+    requires slaves { length alone.line.sizes ≡ length line.now.images.items }
+    ensures others { ChangesAmong (S.files store.old) (S.files store.new) (files_of line.now) }
+    ensures saved { IsFaultless result → HoldsBehind is_driven (S.files store.new) line.now alone commands.now result }
+{
+    if !is_driven {
+        return run_station(alloc, line, alone, commands, store, output, faults);
+    }
+    let (_core, site) = alone.into_parts();
+    let saved = save_site(alloc, line, site, store);
+    status_of(saved, faults)
+}
