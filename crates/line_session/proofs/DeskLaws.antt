@@ -18,7 +18,6 @@ use Rattle.desk_laws.specs.Slaves.{IsJustOpened, AllReadAsContents}
 use Rattle.station_alone.specs.Station.{Station}
 use Rattle.station_desk.specs.Closing.{IsHandedIn}
 use Rattle.station_desk.specs.declared.closing.Ends.{Ends}
-use Rattle.station_files.specs.declared.faults.Fault.{Fault}
 use Rattle.station_files.specs.declared.faults.Status.{Status}
 use Rattle.station_files.specs.declared.faults.Status.TheVariants.{Done}
 use Rattle.station_rounds.specs.Rounds.{AreAmong}

@@ -1,11 +1,10 @@
 -- Halves that are given out, and come back, one by one.
-use Rattle.std.proofs.Common.{◌≡◌, ℕ, ◌+◌, List, [], ◌∷◌, ◌++◌, length, map, Some, None, Option, Result, Ok, Err, refl, sym, ◌∙◌, ap, subst, arith}
+use Rattle.std.proofs.Common.{◌≡◌, ℕ, ◌+◌, List, [], ◌∷◌, ◌++◌, length, Some, None, Option, Result, Ok, Err, refl, sym, ◌∙◌, ap, subst, arith}
 use Rattle.std.specs.Prelude.{is_some, IfSome, IfOk, IsTrue}
 use Rattle.std.specs.Global.{Vec}
 use Rattle.std.proofs.lemmas.Bool.{false≢true}
 use Rattle.std.proofs.lemmas.List.{length-map, map-append}
 use Rattle.esc_model.specs.SlaveHalf.{SlaveHalf}
-use Rattle.site_core.specs.Disk.{Disk}
 use Rattle.site_mem.specs.Line.{half_of, halves_of}
 use Rattle.site_mem.specs.Site.{SiteValue}
 use Rattle.site_mem.specs.Parts.{bytes_or_none, site_of}

@@ -1,4 +1,4 @@
-use Rattle.std.proofs.Common.{◌≡◌, ◌∙◌, [], ◌∷◌, ◌++◌, List, ap, subst, Option, Some, Result}
+use Rattle.std.proofs.Common.{◌∙◌, [], ◌∷◌, ◌++◌, List, ap, subst, Option, Some, Result}
 use Rattle.std.specs.Global.{Vec}
 use Rattle.desk_book.specs.Numbered.{Numbered}
 use Rattle.desk_book.specs.Serving.{Counts}
