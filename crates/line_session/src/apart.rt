@@ -1,6 +1,6 @@
 //! A line in memory is taken apart: a site for the disk, one for each slave, and one for the process data.
 
-ghost use Rattle.std.specs.Prelude.{◌≡◌, ◌+◌, ◌<◌, ◌≤◌, true, length, slice_set, vec_len, is_some, IfOk, IsSomeAnd, IsTrue};
+ghost use Rattle.std.specs.Prelude.{◌≡◌, ◌↔◌, ◌+◌, ◌<◌, ◌≤◌, true, length, slice_set, vec_len, is_some, IfOk, IsSomeAnd, IsTrue};
 ghost use Rattle.site_mem.specs.Line.{half_of, halves_of};
 ghost use Rattle.site_mem.specs.Parts.{site_of};
 ghost use Rattle.site_mem.specs.Site.{SiteValue};
@@ -140,7 +140,7 @@ fn sites_of(alloc: Global, line: Parts) -> Result<Sites<MemSite>, Fault>
 
 /// Whether the disk reaches to the end of a journal's area of so many bytes.
 fn reaches(parts: &Parts, capacity: u32) -> bool
-    ensures { IsTrue result → IsSomeAnd parts.now.disk (λ bytes. 8 + capacity ≤ length bytes.items) }
+    ensures { IsTrue result ↔ IsSomeAnd parts.now.disk (λ bytes. 8 + capacity ≤ length bytes.items) }
 {
     match &parts.disk {
         Some(bytes) => bytes.len() >= 8 + capacity as usize,

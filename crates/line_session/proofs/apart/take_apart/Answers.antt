@@ -5,4 +5,4 @@ pub returns : goal.returns
 returns c =
     let parts = c.into_parts-parts in
     let sites = c.in_ok-sites in
-    servable c.whole_sites.result sites.sites c.args.capacity c.args.site.seen.state parts.result.disk _ (c.reaches.ensures c.if-not-reaches.false) parts.ensures.disk parts.ensures.halves sites.ensures.disk sites.ensures.slaves sites.ensures.turning c.whole_sites.ensures
+    servable c.whole_sites.result sites.sites c.args.capacity c.args.site.seen.state parts.result.disk _ (c.reaches.ensures.0 c.if-not-reaches.false) parts.ensures.disk parts.ensures.halves sites.ensures.disk sites.ensures.slaves sites.ensures.turning c.whole_sites.ensures
