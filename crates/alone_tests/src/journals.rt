@@ -12,6 +12,7 @@ use crate::story::{Chapter, STOPPED, Story, all_told};
 use book_model::SubmitRefusal;
 use jrn_format::JournalFault::{self, BadJournal, BadVersion, NotAJournal, WrongLine};
 use site_journal::ReadFault;
+use site_mem::MemSite;
 use site_mem::Pattern::{self, Fill};
 use station_alone::Answer::Refused;
 use station_alone::OpenFault;
@@ -71,21 +72,22 @@ const OF_2: [u8; 26] = [
     0x01, 0x00, 0x00, 0x00, 0x04, 0x00, 0x01, 0x00, 0x02, 0x00,
 ];
 
-/// Why a recovery of the line is refused. Some: three calls of the disk are made, and no frame is sent.
-fn refusal(alloc: Global, line: &Line) -> Option<OpenFault> {
-    let site = site_of(alloc, parts_of(alloc, line)?, &Call(3))?;
+/// Why a recovery is refused. Some: three calls of the disk are made, and no frame is sent.
+fn refusal_on(alloc: Global, site: MemSite) -> Option<OpenFault> {
     let (mut site, came) = recovered(alloc, site);
-    if !fails(&mut site) {
-        return None;
-    }
-    came.err()
+    if fails(&mut site) { came.err() } else { None }
+}
+
+/// Whether a recovery of the line is refused so.
+fn is_refused(alloc: Global, line: &Line, why: JournalFault) -> Option<bool> {
+    let site = site_of(alloc, parts_of(alloc, line)?, &Call(3))?;
+    Some(refusal_on(alloc, site) == Some(OpenFault::Journal(ReadFault::Journal(why))))
 }
 
 #[test]
 fn what_is_no_journal_is_refused(rt: HostRuntime) {
     for (line, why) in &REFUSED {
-        let wanted = OpenFault::Journal(ReadFault::Journal(*why));
-        assert!(rt; refusal(rt.alloc(), line) == Some(wanted));
+        assert!(rt; is_refused(rt.alloc(), line, *why) == Some(true));
     }
 }
 

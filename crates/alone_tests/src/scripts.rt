@@ -1,19 +1,15 @@
 //! What a station answers step by step, and what a recovery finds of it.
 
 use crate::asks::Ask::{Alias, Group, Swap};
-use crate::line::{ALONE, THREE, TWO, parts_of};
+use crate::line::{ALONE, THREE, TWO};
 use crate::sites::Trouble::{Call, Fuse, Nothing, Words};
-use crate::sites::{open, site_of};
-use crate::stations::Event::{self, Disk, Rom, Serve, Status, Submit};
+use crate::stations::Event::{self, Disk, Rom, Run, Serve, Status, Submit};
 use crate::story::Chapter::{Aliases, Bytes, Recovery, Session};
 use crate::story::{Chapter, STOPPED, Story, all_told};
 use book_model::{Fault, SubmitRefusal};
 use sii_edit::{Cause, Refusal};
-use site_mem::MemSite;
 use site_mem::Pattern::{Fill, Old};
 use station_alone::Answer::{Accepted, Did, Ended, Failed, Idle, Refused};
-use station_alone::{Alone, Choice};
-use std::alloc::Global;
 
 /// Two aliases change places: durable with the fourth action of the disk, and settled with four words. Each write passes: the one of
 /// opening, four and two of the disk, and four words.
@@ -236,11 +232,15 @@ const DROPPED: [Chapter; 3] = [
     Aliases([9, 1, 7]),
 ];
 
-const SERVED: [Story; 8] = [
+/// Steps in a row are answered in their order.
+const IN_A_ROW: [Chapter; 1] = [Session(Nothing, &[Run(&[Idle, Idle, Idle, Ended])])];
+
+const SERVED: [Story; 9] = [
     (TWO, &SWAPPED),
     (TWO, &SWAPPED_BUT_LIVE),
     (TWO, &SPELT),
     (ALONE, &NAMED),
+    (ALONE, &IN_A_ROW),
     (ALONE, &AGAIN),
     (ALONE, &LOST),
     (THREE, &WITHOUT_RUNS),
@@ -265,29 +265,4 @@ fn steps_are_answered(rt: HostRuntime) {
 #[test]
 fn what_was_stopped_is_recovered(rt: HostRuntime) {
     all_told(&rt, rt.alloc(), &RECOVERED);
-}
-
-/// Whether steps in a row are answered in their order.
-fn are_answered(station: &mut Alone<MemSite>) -> bool {
-    let choices = [
-        Choice::Rom(0),
-        Choice::Disk,
-        Choice::Migrate,
-        Choice::Rom(1),
-    ];
-    match station.run(&choices) {
-        Ok(answers) => answers.as_slice() == [Idle, Idle, Idle, Ended].as_slice(),
-        Err(_) => false,
-    }
-}
-
-fn a_run_answers(alloc: Global) -> Option<bool> {
-    let site = site_of(alloc, parts_of(alloc, &ALONE)?, &Nothing)?;
-    let mut station = open(alloc, site).ok()?;
-    Some(are_answered(&mut station))
-}
-
-#[test]
-fn a_run_answers_in_order(rt: HostRuntime) {
-    assert!(rt; a_run_answers(rt.alloc()) == Some(true));
 }

@@ -16,6 +16,8 @@ pub(crate) enum Event {
     Rom(u16, u16, Answer),
     /// Rounds as long as something is done, and the last answer.
     Serve(Answer),
+    /// The answers to steps in a row: of slave 0, of the disk, a migration, and of slave 1.
+    Run(&'static [Answer]),
     /// How many commands are accepted, durable and settled, and how many bytes are live.
     Status([u64; 4]),
 }
@@ -76,6 +78,20 @@ pub(crate) fn serve(station: &mut Alone<MemSite>) -> Answer {
     Answer::Did
 }
 
+/// Whether steps in a row are answered so.
+fn is_run(station: &mut Alone<MemSite>, wanted: &[Answer]) -> bool {
+    let choices = [
+        Choice::Rom(0),
+        Choice::Disk,
+        Choice::Migrate,
+        Choice::Rom(1),
+    ];
+    match station.run(&choices) {
+        Ok(answers) => answers.as_slice() == wanted,
+        Err(_) => false,
+    }
+}
+
 /// Whether it comes as the event says.
 fn comes(alloc: Global, station: &mut Alone<MemSite>, event: &Event) -> bool {
     match event {
@@ -83,6 +99,7 @@ fn comes(alloc: Global, station: &mut Alone<MemSite>, event: &Event) -> bool {
         Event::Disk(times, wanted) => steps(station, &Choice::Disk, *times) == *wanted,
         Event::Rom(slave, times, wanted) => steps(station, &Choice::Rom(*slave), *times) == *wanted,
         Event::Serve(wanted) => serve(station) == *wanted,
+        Event::Run(wanted) => is_run(station, wanted),
         Event::Status(wanted) => status_of(station) == *wanted,
     }
 }

@@ -1,6 +1,6 @@
 //! A stop at each device write of a run, and at each of the recovery behind it.
 
-use crate::runs::{SERVED, Way, ended, kept_by, recovers};
+use crate::runs::{End, SERVED, Way, ended, kept_by, recovers};
 use crate::sites::{Trouble, recovered, site_of};
 use crate::story::STOPPED;
 use book_model::Fault;
@@ -51,17 +51,21 @@ pub(crate) fn writes_mended(
     None
 }
 
+/// Whether a run that ended so was stopped. None where it is neither stopped nor served.
+fn ends_stopped(end: &End) -> Option<bool> {
+    if end.fault == Some(Fault::Stopped) {
+        return Some(true);
+    }
+    if *end == SERVED { Some(false) } else { None }
+}
+
 /// Whether a run is stopped by the pattern behind so many writes, the one of opening aside. None where it ends otherwise, or
 /// isn't mended wherever its recovery is stopped.
 fn is_stopped(alloc: Global, way: Way, writes: u64, pattern: Pattern) -> Option<bool> {
     let trouble = Trouble::Fuse(writes.saturating_add(1), pattern);
     let (site, end) = ended(alloc, way, &trouble)?;
-    let kept = kept_by(way, end.status[1]);
-    writes_mended(alloc, &site, kept, pattern)?;
-    if end.fault == Some(Fault::Stopped) {
-        return Some(true);
-    }
-    if end == SERVED { Some(false) } else { None }
+    let mended = writes_mended(alloc, &site, kept_by(way, end.status[1]), pattern);
+    mended.and(ends_stopped(&end))
 }
 
 /// How many writes a run makes, where a recovery mends it wherever the pattern stops either.

@@ -2,7 +2,7 @@
 use Rattle.std.proofs.Common.{◌≡◌, ℕ, zero, suc, ◌+◌, ◌<◌, ◌≤◌, true, List, [], ◌∷◌, ◌++◌, length, get_or, set, take, drop, refl, sym, ◌∙◌, ap, subst, arith}
 use Rattle.sii_runs.specs.declared.run.Run.{Run}
 use Rattle.jrn_format.specs.declared.journal.Entry.{Entry}
-use Rattle.jrn_laws.specs.Halves.{Place, InOlder, live, with_batch, batch_in}
+use Rattle.book_model.specs.Below.{Place, InOlder, live, with_batch, batch_in}
 use Rattle.slave_queue.specs.Cells.{Cell, asked, written, nothing, cell_of}
 use Rattle.book_model.specs.Entries.{runs_of, live_runs}
 use Rattle.book_model.specs.Book.{Book, Slave, Errand, Free, Issuing, OpenSync, CloseSync, base_of, own, all_cells, nobody, slave_at, with_slave}

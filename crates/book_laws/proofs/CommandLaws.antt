@@ -4,9 +4,8 @@ use Rattle.sii_runs.specs.Redo.{SameShape, redone}
 use Rattle.sii_runs.specs.Run.{runs_between}
 use Rattle.sii_runs.proofs.RedoLaws.{redone-append, redone-nil}
 use Rattle.sii_runs.proofs.RunLaws.{redone-runs_between}
-use Rattle.sii_edit.specs.declared.command.Command.{Command}
-use Rattle.sii_edit.specs.Fold.{after, contents, contents_after}
-use Rattle.sii_edit.proofs.FoldLaws.{SameShape-contents}
+use Rattle.book_model.specs.Below.{Command, after, contents, contents_after}
+use Rattle.book_model.proofs.Below.{SameShape-contents}
 use Rattle.jrn_format.specs.declared.journal.Entry.{Entry}
 use Rattle.book_model.specs.Entries.{runs_of, entries_from}
 use Rattle.book_laws.specs.Fits.{after_entries}

@@ -13,12 +13,12 @@ use Rattle.book_model.specs.Book.{cell_at}
 use Rattle.book_model.specs.Open.{owing_words}
 use Rattle.book_laws.specs.Owed.{redone_word, CellFits, due}
 use Rattle.book_laws.specs.Plants.{word_at, EachWord, MayHoldAll, AllFit, AllSettled}
-use Rattle.jrn_laws.specs.Halves.{Halves, Place, InOlder, InNewer, live, with_batch, batch_in, retired, left_of}
+use Rattle.book_model.specs.Below.{Halves, Place, InOlder, InNewer, live, with_batch, batch_in, retired, left_of}
 use Rattle.book_laws.specs.Fits.{after_entries, owing_from, owing_all, with_cell, Fits, SameCells}
 use Rattle.sii_runs.proofs.RedoLaws.{redone-append, redone-nil}
 use Rattle.book_laws.proofs.CellLaws.{redone-due, values-append, due-append, owing-fits, opened-fits}
 use Rattle.book_laws.proofs.PlantLaws.{plant-leads, plant-leads-retired, all-fit-retired}
-use Rattle.jrn_laws.proofs.HalvesLaws.{with_batch-live}
+use Rattle.book_model.proofs.Below.{with_batch-live}
 
 pub runs_of-append : (xs ys : List Entry) → runs_of (xs ++ ys) ≡ runs_of xs ++ runs_of ys
 runs_of-append xs ys = flat_map-append (λ (e : Entry). e.runs) xs ys

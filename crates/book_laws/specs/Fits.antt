@@ -3,7 +3,7 @@ use Rattle.std.specs.Prelude.{◌≡◌, ℕ, suc, ◌+◌, ◌≤◌, List, [],
 use Rattle.sii_runs.specs.declared.run.Run.{Run}
 use Rattle.sii_runs.specs.Redo.{redone}
 use Rattle.jrn_format.specs.declared.journal.Entry.{Entry}
-use Rattle.jrn_laws.specs.Halves.{Halves, live}
+use Rattle.book_model.specs.Below.{Halves, live}
 use Rattle.slave_queue.specs.Cells.{Cell}
 use Rattle.book_model.specs.Entries.{runs_of, live_runs, values}
 use Rattle.book_model.specs.Book.{Book, base_of, own, all_cells, cell_at}

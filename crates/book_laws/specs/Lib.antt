@@ -1,3 +1,4 @@
 pub mod Owed
 pub mod Plants
 pub mod Fits
+pub mod Below

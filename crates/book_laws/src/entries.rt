@@ -1,8 +1,7 @@
 //! Accepted commands as entries of a journal.
 
 ghost use Rattle.std.specs.Prelude.{◌≡◌, ℕ, List};
-ghost use Rattle.sii_edit.specs.declared.command.Command.{Command};
-ghost use Rattle.sii_edit.specs.Fold.{contents_after};
+ghost use Rattle.book_model.specs.Below.{Command, contents_after};
 ghost use Rattle.book_model.specs.Entries.{entries_from};
 ghost use Rattle.book_laws.specs.Fits.{after_entries};
 

@@ -4,7 +4,7 @@ ghost use Rattle.std.specs.Prelude.{◌≡◌, ◌+◌, ℕ, List, [], ◌∷◌
 ghost use Rattle.sii_runs.specs.declared.run.Run.{Run};
 ghost use Rattle.sii_runs.specs.Redo.{redone};
 ghost use Rattle.jrn_format.specs.declared.journal.Batch.{Batch};
-ghost use Rattle.jrn_laws.specs.Halves.{live};
+ghost use Rattle.book_model.specs.Below.{live};
 ghost use Rattle.book_model.specs.Entries.{live_runs};
 ghost use Rattle.book_model.specs.Book.{Book, base_of, own, all_cells};
 ghost use Rattle.book_laws.specs.Plants.{MayHoldAll, AllSettled};

@@ -3,7 +3,7 @@
 ghost use Rattle.std.specs.Prelude.{◌≡◌, ◌≤◌, ◌<◌, ◌+◌, ℕ, true, List, [], ◌++◌, length, take, drop};
 ghost use Rattle.sii_runs.specs.declared.run.Run.{Run};
 ghost use Rattle.jrn_format.specs.declared.journal.Entry.{Entry};
-ghost use Rattle.jrn_laws.specs.Halves.{Place, InOlder};
+ghost use Rattle.book_model.specs.Below.{Place, InOlder};
 ghost use Rattle.slave_queue.specs.Cells.{cell_of};
 ghost use Rattle.book_model.specs.Entries.{live_runs};
 ghost use Rattle.book_model.specs.Book.{Book, OpenSync, CloseSync, own, all_cells, slave_at};

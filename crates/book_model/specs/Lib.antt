@@ -8,3 +8,4 @@ pub mod RomSteps
 pub mod Reading
 pub mod Machine
 pub mod Kept
+pub mod Below

@@ -7,3 +7,4 @@ pub mod Serving
 pub mod Submitting
 pub mod Asking
 pub mod Closing
+pub mod Below

@@ -1,6 +1,7 @@
 //! The book under the lock of a desk.
 
 ghost use Rattle.std.specs.Prelude.{◌≡◌, ◌⊎◌, ◌≤◌, ◌-◌, ◌+◌, [], length, IfOk, IfSome, IfNone, OnSome};
+ghost use Rattle.book_model.specs.Book.{contents_of};
 ghost use Rattle.desk_book.specs.Serving.{AreRomLogs, with_call};
 
 use crate::call::Call;
@@ -70,9 +71,31 @@ impl<T: Tickets, R: Refusals> Served<T, R> {
         requires refusals { (refusals.name ≡ R.name) × (refusals.count ≡ R.parts) }
         ensures { IfOk result (λ served. served ≡ record { calls = []; tickets = 0; refusals = 0; pool = record { tickets = tickets.count; refusals = refusals.count; given = 0 } }) }
     {
-        let slaves = no_notes(alloc, core.contents().len())?;
+        let Ok(slaves) = no_notes(alloc, core.contents().len()) else {
+            drop(core);
+            return Err(AllocError);
+        };
+        Ok(Served::with_notes(alloc, core, slaves, tickets, refusals))
+    }
+
+    /// Such a book with the notes of its slaves, to whom nothing was handed out yet.
+    fn with_notes(
+        alloc: Global,
+        core: Core,
+        slaves: Vec<Notes<RomNext, RomOutcome>>,
+        tickets: Parts,
+        refusals: Parts,
+    ) -> Served<T, R>
+        requires core { core ≡ T.opened }
+        requires none { core.accepted ≡ [] }
+        requires notes { AreRomLogs [] slaves.items }
+        requires count { length slaves.items ≡ length (contents_of core) }
+        requires tickets { (tickets.name ≡ T.name) × (tickets.count ≡ T.parts) }
+        requires refusals { (refusals.name ≡ R.name) × (refusals.count ≡ R.parts) }
+        ensures { result ≡ record { calls = []; tickets = 0; refusals = 0; pool = record { tickets = tickets.count; refusals = refusals.count; given = 0 } } }
+    {
         let (ticket_book, refusal_book, pool) = Pool::open(tickets, refusals);
-        Ok(Served {
+        Served {
             alloc,
             core,
             history: History::new(),
@@ -84,7 +107,7 @@ impl<T: Tickets, R: Refusals> Served<T, R> {
             disk: Notes::new(alloc),
             slaves,
             cycle: Vec::new(alloc),
-        })
+        }
     }
 
     /// A share of one part of each ledger. `None` where one of them has one part left, or none.

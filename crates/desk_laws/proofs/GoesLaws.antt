@@ -23,9 +23,8 @@ use Rattle.book_model.specs.Submit.{with_command}
 use Rattle.book_model.specs.DiskSteps.{can_retire, can_migrate, begun, action_of, doing_next, disk_next, behind_far_gate, went_on, disk_done}
 use Rattle.book_model.specs.RomSteps.{to_do, is_last, was_taken, with_errand, with_again, rom_next, rom_done}
 use Rattle.book_model.specs.Reading.{all_entries, applied, settled_prefix}
-use Rattle.book_laws.specs.Fits.{OwesNoMore}
-use Rattle.book_laws.proofs.SettledLaws.{prefix-stays}
-use Rattle.book_laws.proofs.CommandLaws.{entry_after, entries-push}
+use Rattle.world_law.specs.Below.{OwesNoMore}
+use Rattle.world_law.proofs.Below.{prefix-stays, entry_after, entries-push}
 use Rattle.desk_laws.specs.Turns.{AppendsNext}
 use Rattle.desk_laws.proofs.OwedLaws.{OweLess, owe-same, owe-asked, owe-written, count-set, owes-set, owes-live, count-live}
 

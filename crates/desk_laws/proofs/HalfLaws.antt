@@ -9,10 +9,8 @@ use Rattle.esc_model.proofs.OnlyResting.{MayRest-only, OnlyRests-leaves, OnlyRes
 use Rattle.esc_model.proofs.WordWriting.{taken_then_well}
 use Rattle.slave_queue.specs.Cells.{Known, Cell, asked, written, opened, nothing, cell_of, next_issue}
 use Rattle.book_model.specs.Book.{Errand, Free, Issuing, Unsettled, Settling}
-use Rattle.book_laws.specs.Owed.{MayBe, IsUnsure}
-use Rattle.up_laws.specs.Slaves.{HasTaken}
-use Rattle.up_laws.specs.Steps.{TakesOrNot}
-use Rattle.up_laws.proofs.SlaveLaws.{words-but, taken-left}
+use Rattle.world_law.specs.Below.{MayBe, IsUnsure, HasTaken, TakesOrNot}
+use Rattle.world_law.proofs.Below.{words-but, taken-left}
 
 -- the word is one of the slave's, and it is unknown
 pub record IsAsked (word : ℕ) (cells : List Cell) : Type 0 where

@@ -8,3 +8,4 @@ pub mod WordLaws
 pub mod StandLaws
 pub mod ServeLaws
 pub mod SlaveLaws
+pub mod Below

@@ -5,8 +5,8 @@ use Rattle.slave_queue.specs.Cells.{Cell, Holds, all_named, cell_of, asked, writ
 use Rattle.book_model.specs.Entries.{values}
 use Rattle.book_model.specs.Book.{Slave, nobody, all_cells, cell_at}
 use Rattle.book_model.specs.Open.{owing_words, owing_slaves}
-use Rattle.book_laws.specs.Fits.{OwesNoMore}
-use Rattle.book_laws.proofs.CellLaws.{length-all_named}
+use Rattle.world_law.specs.Below.{OwesNoMore}
+use Rattle.world_law.proofs.Below.{length-all_named}
 
 -- ---- one slave
 

@@ -20,8 +20,8 @@ use Rattle.book_model.specs.Book.{Book, Slave, Errand, Free, Issuing, Unsettled,
 use Rattle.book_model.specs.Submit.{with_command}
 use Rattle.book_model.specs.DiskSteps.{disk_next, disk_done}
 use Rattle.book_model.specs.RomSteps.{was_taken, is_last, with_errand, with_issue, rom_next, rom_done}
-use Rattle.book_laws.proofs.CellLaws.{asked-fits, written-fits}
-use Rattle.up_laws.specs.Steps.{MayComeBack}
+use Rattle.world_law.proofs.Below.{asked-fits, written-fits}
+use Rattle.world_law.specs.Below.{MayComeBack}
 use Rattle.station_jobs.specs.declared.log.Assignment.{Assignment}
 use Rattle.station_jobs.specs.Dispatch.{with_outcome}
 use Rattle.station_jobs.specs.Working.{HalfReturns, SlaveReturns}

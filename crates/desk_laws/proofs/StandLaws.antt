@@ -27,9 +27,7 @@ use Rattle.book_model.specs.Entries.{runs_of, namings, live_runs}
 use Rattle.slave_queue.specs.Pending.{last_of}
 use Rattle.jrn_laws.specs.Halves.{Place, live}
 use Rattle.book_model.specs.Reading.{all_entries}
-use Rattle.book_laws.proofs.CommandLaws.{entry_after, entries-push}
-use Rattle.book_laws.proofs.FitLaws.{runs_of-append}
-use Rattle.up_laws.proofs.WorkLaws.{owed-inside}
+use Rattle.world_law.proofs.Below.{entry_after, entries-push, runs_of-append, owed-inside}
 use Rattle.desk_book.proofs.OutLaws.{DiskNexts, disk_rests, disk_goes, nexts-of}
 use Rattle.desk_laws.specs.Turns.{AppendsNext}
 use Rattle.desk_laws.proofs.GoesLaws.{command-on, disk-asked-on, disk-told-on}

@@ -15,9 +15,8 @@ use Rattle.slave_queue.proofs.SettledLaws.{and-left, and-right, word-settled}
 use Rattle.book_model.specs.Entries.{runs_of, namings, values}
 use Rattle.book_model.specs.Open.{owing_words}
 use Rattle.book_model.specs.Reading.{settled_from, runs_settled, settled_prefix}
-use Rattle.book_laws.specs.Owed.{MayBe, IsUnsure, CellFits, due, redone_word}
-use Rattle.book_laws.proofs.CellLaws.{values-append, opened-fits, owing-fits}
-use Rattle.book_laws.proofs.SettledLaws.{slave-settled}
+use Rattle.world_law.specs.Below.{MayBe, IsUnsure, CellFits, due, redone_word}
+use Rattle.world_law.proofs.Below.{values-append, opened-fits, owing-fits, slave-settled}
 use Rattle.desk_laws.proofs.HalfLaws.{SameKnown}
 
 -- a cell for each word, and each leads there

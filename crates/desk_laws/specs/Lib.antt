@@ -1,3 +1,4 @@
 pub mod Events
 pub mod Turns
 pub mod Slaves
+pub mod Below

@@ -1,3 +1,4 @@
+mod alone;
 mod asks;
 mod line;
 mod meeting;

@@ -5,8 +5,7 @@ use Rattle.std.proofs.lemmas.List.{append-nil, length-map}
 use Rattle.sii_runs.specs.declared.run.Run.{Run}
 use Rattle.sii_runs.specs.Redo.{redone}
 use Rattle.sii_words.specs.Plant.{words_of}
-use Rattle.sii_edit.specs.declared.command.Command.{Command}
-use Rattle.sii_edit.specs.Fold.{contents_after}
+use Rattle.book_laws.specs.Below.{Command, contents_after}
 use Rattle.jrn_format.specs.declared.journal.Entry.{Entry}
 use Rattle.jrn_format.specs.declared.journal.Batch.{Batch}
 use Rattle.jrn_format.specs.declared.journal.Form.TheVariants.{Two}

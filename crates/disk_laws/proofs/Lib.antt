@@ -6,3 +6,4 @@ pub mod DoneLaws
 pub mod CarryLaws
 pub mod BeginLaws
 pub mod NextLaws
+pub mod Below

@@ -4,3 +4,4 @@ pub mod Doing
 pub mod Keeping
 pub mod Events
 pub mod Queue
+pub mod Below

@@ -12,12 +12,8 @@ use Rattle.book_model.specs.declared.next.DiskNext.TheVariants as disk
 use Rattle.book_model.specs.Book.{Book, with_fault}
 use Rattle.book_model.specs.DiskSteps.{disk_next, disk_done}
 use Rattle.book_model.specs.Machine.{Machine}
-use Rattle.disk_laws.specs.Frame.{Frame}
-use Rattle.disk_laws.specs.Events.{begun_on, ended_on, FailsOn, in_progress, rested}
-use Rattle.up_laws.specs.Steps.{acknowledged_by}
-use Rattle.up_laws.specs.Up.{Up}
-use Rattle.up_laws.proofs.DiskEventLaws.{up-begins, up-fails}
-use Rattle.up_laws.proofs.DiskEndLaws.{up-ends}
+use Rattle.desk_laws.specs.Below.{Frame, begun_on, ended_on, FailsOn, in_progress, rested, acknowledged_by, Up}
+use Rattle.desk_laws.proofs.Below.{up-begins, up-fails, up-ends}
 use Rattle.station_jobs.specs.Dispatch.{with_outcome}
 use Rattle.desk_book.specs.declared.call.Call.{Call}
 use Rattle.desk_book.specs.Calls.{AreAnswered}

@@ -16,14 +16,8 @@ use Rattle.book_model.specs.Book.{Book, Slave, Errand, Free, Issuing, Unsettled,
 use Rattle.book_model.specs.Machine.{Machine, reopened, MayKeep}
 use Rattle.book_model.specs.Machine as machines
 use Rattle.book_model.specs.Kept.{Kept}
-use Rattle.book_laws.specs.Plants.{MayHoldAll}
-use Rattle.book_laws.specs.Fits.{SameCells}
-use Rattle.migration_laws.proofs.FormLaws.{journal-kept}
-use Rattle.up_laws.specs.Slaves.{SlaveFits}
-use Rattle.up_laws.specs.Up.{SlavesFit}
-use Rattle.up_laws.specs.Opening.{capacity_in, words_in, book_on}
-use Rattle.up_laws.proofs.LineLaws.{half-there, holds-all}
-use Rattle.up_laws.proofs.OpeningLaws.{up-opens}
+use Rattle.desk_laws.specs.Below.{MayHoldAll, SameCells, SlaveFits, SlavesFit, capacity_in, words_in, book_on}
+use Rattle.desk_laws.proofs.Below.{journal-kept, half-there, holds-all, up-opens}
 use Rattle.desk_book.specs.declared.call.Call.{Call}
 use Rattle.desk_book.specs.Calls.{replayed, AreAnswered, IsOut}
 use Rattle.desk_book.specs.Closing.{is_served}

@@ -13,9 +13,8 @@ use Rattle.book_model.specs.declared.next.RomNext.TheVariants as next
 use Rattle.book_model.specs.declared.next.RomOutcome.{RomOutcome}
 use Rattle.book_model.specs.declared.next.RomOutcome.TheVariants as outcomes
 use Rattle.esc_rom.specs.Access.{DiffersAtWord}
-use Rattle.up_laws.specs.Opening.{words_in}
-use Rattle.up_laws.proofs.OutcomeLaws.{set-same}
-use Rattle.world_law.proofs.StandsLaws.{as-read}
+use Rattle.desk_laws.specs.Below.{words_in}
+use Rattle.desk_laws.proofs.Below.{set-same, as-read}
 use Rattle.station_jobs.specs.Jobs.{DoneInTurn, MayEnd, IsDone}
 use Rattle.station_jobs.specs.Left.{CameBackInTurn, LeftInProgress}
 use Rattle.station_jobs.specs.Working.{CallsSlave, HalfReturns, SlaveReturns, LeftInCall}

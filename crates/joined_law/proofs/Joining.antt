@@ -14,11 +14,8 @@ use Rattle.book_model.specs.Open.{finish}
 use Rattle.book_model.specs.DiskSteps.{disk_next, disk_done}
 use Rattle.book_model.specs.RomSteps.{rom_next, rom_done}
 use Rattle.book_model.specs.Machine.{Machine, accepts}
-use Rattle.disk_laws.specs.Frame.{Frame}
-use Rattle.up_laws.specs.Up.{Up}
-use Rattle.up_laws.proofs.CallLaws.{up-finished}
-use Rattle.up_laws.proofs.SubmitLaws.{up-submits}
-use Rattle.world_law.specs.Law.{MachineFits}
+use Rattle.desk_laws.specs.Below.{Frame, Up, MachineFits}
+use Rattle.desk_laws.proofs.Below.{up-finished, up-submits}
 use Rattle.desk_book.specs.declared.call.Call.{Call}
 use Rattle.desk_book.specs.declared.call.Call.TheVariants.{Submitted, DiskAsked, DiskTold, SlaveAsked, SlaveTold, PlanAsked, Finished}
 use Rattle.desk_book.specs.Calls.{after, replayed, AreAnswered, IsAnswered}

@@ -7,3 +7,4 @@ pub mod SlaveOn
 pub mod Joining
 pub mod Ending
 pub mod TogetherLaws
+pub mod Below

@@ -15,11 +15,8 @@ use Rattle.book_model.specs.declared.next.RomOutcome.TheVariants as outcomes
 use Rattle.book_model.specs.Book.{Book, Slave, Errand, Free, Issuing, Unsettled, Settling, nobody, slave_at}
 use Rattle.book_model.specs.RomSteps.{was_taken, is_last, with_issue, rom_next, rom_done}
 use Rattle.book_model.specs.Machine.{Machine}
-use Rattle.disk_laws.specs.Frame.{Frame}
-use Rattle.up_laws.specs.Up.{Up}
-use Rattle.up_laws.proofs.LineLaws.{half-there}
-use Rattle.up_laws.proofs.OutcomeLaws.{set-same, up-settles}
-use Rattle.up_laws.proofs.WorkLaws.{up-works}
+use Rattle.desk_laws.specs.Below.{Frame, Up}
+use Rattle.desk_laws.proofs.Below.{half-there, set-same, up-settles, up-works}
 use Rattle.station_jobs.specs.Dispatch.{with_outcome}
 use Rattle.desk_book.specs.declared.call.Call.{Call}
 use Rattle.desk_book.specs.declared.call.Call.TheVariants.{SlaveAsked, SlaveTold}

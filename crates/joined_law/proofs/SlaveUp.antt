@@ -17,14 +17,8 @@ use Rattle.book_model.specs.declared.next.RomOutcome.TheVariants as outcomes
 use Rattle.book_model.specs.Book.{Book, Slave, Errand, Free, Issuing, Unsettled, Settling, nobody, slave_at, with_fault}
 use Rattle.book_model.specs.RomSteps.{with_errand, rom_done}
 use Rattle.book_model.specs.Machine.{Machine}
-use Rattle.book_laws.specs.Owed.{MayBe}
-use Rattle.disk_laws.specs.Frame.{Frame}
-use Rattle.up_laws.specs.Slaves.{SlaveFits, Asks}
-use Rattle.up_laws.specs.Steps.{TakesOrNot, MayComeBack}
-use Rattle.up_laws.specs.Up.{Up}
-use Rattle.up_laws.proofs.RomLaws.{up-errand}
-use Rattle.up_laws.proofs.GoesLaws.{up-rests, up-faulted}
-use Rattle.up_laws.proofs.SlaveEventLaws.{up-back}
+use Rattle.desk_laws.specs.Below.{MayBe, Frame, SlaveFits, Asks, TakesOrNot, MayComeBack, Up}
+use Rattle.desk_laws.proofs.Below.{up-errand, up-rests, up-faulted, up-back}
 use Rattle.station_jobs.specs.Working.{HalfReturns}
 use Rattle.desk_laws.proofs.HalfLaws.{HalfFits, words-issued, size-issued}
 use Rattle.joined_law.proofs.HalfWork.{HalfLeft, set-here}

@@ -13,7 +13,7 @@ use Rattle.book_model.specs.Entries.{sizes_of, live_runs}
 use Rattle.book_model.specs.Machine.{Machine, reopened, MayKeep}
 use Rattle.book_model.specs.Machine as machines
 use Rattle.book_model.specs.Kept.{Kept}
-use Rattle.up_laws.specs.Opening.{IsFound, words_in}
+use Rattle.desk_laws.specs.Below.{IsFound, words_in, EventFits, MachineFits}
 use Rattle.station_jobs.specs.declared.log.Assignment.{Assignment}
 use Rattle.station_jobs.specs.Left.{LeftInProgress}
 use Rattle.station_jobs.specs.Flushing.{LeftInAction, IsFlushed}
@@ -21,7 +21,6 @@ use Rattle.station_jobs.specs.Working.{LeftInCall, IsWorked}
 use Rattle.desk_book.specs.declared.call.Call.{Call}
 use Rattle.desk_book.specs.Logs.{DiskEntry, RomEntry, disk_log, rom_log}
 use Rattle.desk_laws.specs.Events.{event_of}
-use Rattle.world_law.specs.Law.{EventFits, MachineFits}
 
 -- No job, or one of which nothing was told yet.
 abbrev pub MayBeOut : {J O : Type 0} → List (Assignment J O) → Type 0

@@ -1,2 +1,3 @@
 pub mod Joined
 pub mod Together
+pub mod Below

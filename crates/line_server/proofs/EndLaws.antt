@@ -13,7 +13,7 @@ use Rattle.station_jobs.specs.declared.log.SlaveLog.{SlaveLog}
 use Rattle.station_jobs.specs.Ends.{Stay}
 use Rattle.station_threads.specs.Parts.{PartOf, IsEndOfSlave, AreEndsOf}
 use Rattle.station_desk.specs.Sides.{begins_below, RomHands}
-use Rattle.desk_book.specs.Asking.{is_rom_job}
+use Rattle.station_desk.specs.Below.{is_rom_job}
 use Rattle.line_server.specs.Sites.{IsPartOf, ArePartsOf, AreEndsOfSites}
 use Rattle.line_server.proofs.PlaceLaws.{placed-through, placed-long, placed-more}
 

@@ -7,8 +7,8 @@ use std::thread::Threads;
 
 /// One who submits and waits while the line is served.
 pub trait Client<T: Tickets, R: Refusals> {
-    /// Drives the desk, on the thread that serves the line; it may start others. What is submitted here is done meanwhile. Once this
-    /// returns no more commands are accepted.
+    /// Drives the desk, on the thread that serves the line. What is submitted is done meanwhile; others may submit too, from threads
+    /// that were started before. Once this returns no more commands are accepted.
     fn drive<W: Wait + Threads + Sync>(&mut self, rt: &W, desk: &Desk<T, R>);
 }
 

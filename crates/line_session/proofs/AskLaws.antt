@@ -6,9 +6,7 @@ use Rattle.std.proofs.lemmas.Option.{slice_get_within, get_or_from_slice_get}
 use Rattle.std.specs.Prelude.{slice_get, is_some, All, IfOk}
 use Rattle.std.specs.Global.{Vec}
 use Rattle.sii_edit.specs.declared.command.Command.{Command}
-use Rattle.desk_book.specs.Numbered.{Numbered}
-use Rattle.desk_book.specs.Serving.{Counts}
-use Rattle.desk_book.specs.Closing.{StandsAt}
+use Rattle.station_desk.specs.Below.{Numbered, Counts, StandsAt}
 use Rattle.station_files.specs.declared.faults.Fault.{Fault}
 use Rattle.station_files.specs.declared.faults.Status.{Status}
 use Rattle.station_files.specs.declared.faults.Status.TheVariants.{Done}

@@ -2,5 +2,5 @@ pub mod AskLaws
 pub mod HalfPlaces
 mod PartLaws
 pub mod SlaveLaws
+mod LeftLaws
 pub mod DeskLaws
-pub mod Sent

@@ -10,13 +10,13 @@ use Rattle.station_jobs.specs.declared.log.SlaveLog.{SlaveLog}
 use Rattle.station_jobs.specs.Ends.{Stay}
 use Rattle.station_threads.specs.Parts.{IsEndOfSlave}
 use Rattle.station_desk.specs.declared.closing.Ends.{Ends}
-use Rattle.desk_laws.specs.Slaves.{IsAsOpened, ReadsAsContents, AllReadAsContents}
+use Rattle.station_desk.specs.Below.{IsAsOpened, ReadsAsContents, AllReadAsContents}
 use Rattle.line_server.specs.Places.{AllPlaced}
 use Rattle.line_session.specs.Parts.{Sites, HasHalf, EndsWith, IsApart, AreEndsOf, IsTogether}
 use Rattle.line_session.specs.AtDesk.{seen_of}
 
 -- what belongs to the item at this place
-placed-at : {A B : Type 0} (Is : ℕ → A → B → Type 0) (place : ℕ) (xs : List A) (ys : List B) (k : ℕ) (x : A) → AllPlaced Is place xs ys → slice_get xs k ≡ Some x → (y : B) × (slice_get ys k ≡ Some y) × Is (place + k) x y
+pub placed-at : {A B : Type 0} (Is : ℕ → A → B → Type 0) (place : ℕ) (xs : List A) (ys : List B) (k : ℕ) (x : A) → AllPlaced Is place xs ys → slice_get xs k ≡ Some x → (y : B) × (slice_get ys k ≡ Some y) × Is (place + k) x y
 placed-at Is place [] ys k x all at = absurd (omega (arith, slice_get_within [] k x at))
 placed-at Is place (a ∷ xs) [] k x all at = absurd all
 placed-at Is place (a ∷ xs) (b ∷ ys) zero x all at =

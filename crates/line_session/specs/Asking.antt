@@ -1,9 +1,8 @@
 -- Commands that are submitted at a desk, and what comes of them.
-use Rattle.std.specs.Prelude.{◌≡◌, ◌≢◌, ℕ, ◌+◌, List, map, length, slice_get, Option, Some, None, Result, Ok, Err, ⊤}
+use Rattle.std.specs.Prelude.{◌≡◌, ◌≢◌, ℕ, ◌+◌, List, [], map, length, slice_get, Option, Some, None, Result, Ok, Err, ⊤}
 use Rattle.std.specs.Global.{Vec}
 use Rattle.sii_edit.specs.declared.command.Command.{Command}
-use Rattle.desk_book.specs.Numbered.{Numbered}
-use Rattle.desk_book.specs.Serving.{Counts}
+use Rattle.station_desk.specs.Below.{Numbered, Counts}
 use Rattle.station_files.specs.declared.faults.Fault.{Fault}
 use Rattle.station_files.specs.declared.faults.Status.{Status}
 use Rattle.station_files.specs.declared.faults.Status.TheVariants.{Done}
@@ -46,3 +45,12 @@ abbrev pub ComesTo : List Command → Status → Counts → Option (Result (Vec 
 ComesTo commands status counts None = (status ≡ Done) × (counts.tickets ≡ 0)
 ComesTo commands status counts (Some (Ok receipts)) = Receives commands Done status no_counts counts receipts.items
 ComesTo commands status counts (Some (Err fault)) = ⊤
+
+-- the receipts that came, if any did; and the fault, if one came
+abbrev pub receipts_of : Option (Result (Vec Numbered) Fault) → List Numbered
+receipts_of (Some (Ok receipts)) = receipts.items
+receipts_of came = []
+
+abbrev pub fault_of : Option (Result (Vec Numbered) Fault) → Result (Unit {0}) Fault
+fault_of (Some (Err fault)) = Err fault
+fault_of came = Ok tt

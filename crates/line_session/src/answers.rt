@@ -1,8 +1,10 @@
 //! What the desk answers, as it is printed.
 
 ghost use Rattle.std.specs.Prelude.{◌≢◌};
+ghost use Rattle.station_desk.specs.Below.{AreAnswered};
 
-use book_model::{Status as Totals, SubmitRefusal};
+use book_model::SubmitRefusal;
+use station_desk::{Refusals, Served, Tickets};
 use station_files::{Fault, Status, worse};
 use station_rounds::refused_as;
 use std::io::Write;
@@ -32,16 +34,20 @@ pub(crate) fn print_refused<O: Write>(
     Ok(())
 }
 
-/// Prints the totals, where that is asked for.
-pub(crate) fn print_totals<O: Write>(
-    totals: Totals,
+/// Prints how many commands a book has accepted, and how many of them are durable and settled, where that is asked for.
+pub(crate) fn print_totals<T: Tickets, R: Refusals, O: Write>(
+    book: &Served<T, R>,
     is_asked: bool,
     output: &mut O,
-) -> Result<(), Fault> {
+) -> Result<(), Fault>
+    ensures { AreAnswered T.opened book.now.calls }
+{
+    let accepted = book.accepted().len();
     if !is_asked {
         return Ok(());
     }
-    let (accepted, durable, settled) = (totals.accepted, totals.durable, totals.settled);
+    let totals = book.status();
+    let (durable, settled) = (totals.durable, totals.settled);
     writeln!(
         output,
         "accepted {accepted} durable {durable} settled {settled}"

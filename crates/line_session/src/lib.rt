@@ -5,9 +5,11 @@
 mod answers;
 mod apart;
 mod asked;
+mod closing;
 mod submitter;
 mod submitting;
 mod threads;
 mod together;
 
+pub use closing::Ending;
 pub use threads::{Left, serve_by_threads};

@@ -1,15 +1,15 @@
 //! A line is served by threads.
 
-ghost use Rattle.std.specs.Prelude.{◌≡◌, ◌+◌, ◌≤◌, [], length, vec_capacity, IfOk, OnOk};
+ghost use Rattle.std.specs.Prelude.{◌≡◌, ◌+◌, ◌≤◌, [], length, vec_capacity, IfOk};
 ghost use Rattle.site_mem.specs.Site.{SiteValue};
 ghost use Rattle.line_server.specs.Sites.{OwnParts};
 ghost use Rattle.line_session.specs.Asking.{no_counts};
-ghost use Rattle.line_session.specs.AtDesk.{Closes, ClosesWith, IsServedAtDesk};
-ghost use Rattle.line_session.specs.Parts.{AreEndsOf, IsLineOf, IsTogether};
+ghost use Rattle.line_session.specs.AtDesk.{EndsSo, LeavesSo};
+ghost use Rattle.line_session.specs.Parts.{AreEndsOf, IsLineOf, IsServable, IsTogether};
 
-use crate::answers::print_totals;
 use crate::apart::take_apart;
 use crate::asked::Asked;
+use crate::closing::{AtDesk, Ending, hand_in};
 use crate::submitter::Submitter;
 use crate::together::put_together;
 use book_core::Core;
@@ -18,38 +18,22 @@ use line_server::{Client, Sites, serve_line};
 use sii_edit::Command;
 use site_mem::MemSite;
 use station_alone::Alone;
-use station_desk::{
-    Closed, Desk, Ends, NotClosed, Parts, Receipt, Refusals, Share, Tickets, close,
-};
+use station_desk::{Desk, Ends, Parts, Refusals, Share, Tickets};
 use station_files::{Fault, Status};
 use station_jobs::NoGate;
-use station_rounds::fault_of_book;
 use std::alloc::Global;
 use std::io::Write;
 use std::marker::{Brand, PhantomData};
 use std::sync::Wait;
 use std::thread::Threads;
 
-/// What came of a desk that was closed.
-#[derive(Drop)]
-struct AtDesk {
-    ends: Ends<MemSite>,
-    is_driven: bool,
-    status: Status,
-    ended: Result<(), Fault>,
-}
-
 /// What is left of a line that was served at a desk.
 #[derive(Drop)]
 pub struct Left {
     /// The line, put together again.
     pub site: MemSite,
-    /// Whether the commands were submitted. Where a thread couldn't be made none was.
-    pub is_driven: bool,
-    /// The worst of the answers to the commands.
-    pub status: Status,
-    /// Whether a fault ended the work.
-    pub ended: Result<(), Fault>,
+    /// How the work ended.
+    pub ending: Ending,
 }
 
 /// Serves the commands by threads on the line of this station, which has so many slaves, and puts together what is left of it. Prints
@@ -68,11 +52,10 @@ pub fn serve_by_threads<O: Write, W: Wait + Threads + Sync>(
 ) -> Result<Left, Fault>
     requires { alone.book.accepted ≡ [] }
     ensures line { IfOk result (λ left. IsLineOf slaves left.site.line) }
-    ensures served { IfOk result (λ left. OnOk left.ended (IsServedAtDesk alone commands.now left.is_driven left.status left.site)) }
+    ensures left { IfOk result (λ left. LeavesSo alone commands.now left.ending left.site) }
 {
     let (core, site) = alone.into_parts();
-    let room = Vec::with_capacity(alloc, slaves)?;
-    let sites = take_apart(alloc, site, core.capacity())?;
+    let (sites, room) = prepare(alloc, site, core.capacity(), slaves)?;
     let at = serve_at_desk::<Brand, Brand, Brand, O, W>(
         rt,
         alloc,
@@ -86,6 +69,21 @@ pub fn serve_by_threads<O: Write, W: Wait + Threads + Sync>(
     put_back(alloc, room, slaves, at)
 }
 
+/// The sites of a line, and room for the halves of so many slaves.
+fn prepare(
+    alloc: Global,
+    site: MemSite,
+    capacity: u32,
+    slaves: usize,
+) -> Result<(Sites<MemSite>, Vec<Option<RomHalf>>), Fault>
+    ensures sites { IfOk result (λ prepared. IsServable capacity site.seen.state prepared.0) }
+    ensures room { IfOk result (λ prepared. prepared.1.items ≡ []) }
+{
+    let sites = take_apart(alloc, site, capacity)?;
+    let room = Vec::with_capacity(alloc, slaves)?;
+    Ok((sites, room))
+}
+
 /// Puts together what is left of a line of so many slaves.
 fn put_back(
     alloc: Global,
@@ -95,21 +93,11 @@ fn put_back(
 ) -> Result<Left, Fault>
     requires { room.items ≡ [] }
     ensures line { IfOk result (λ left. IsLineOf slaves left.site.line) }
-    ensures left { IfOk result (λ left. IsTogether at.ends left.site × (left.is_driven ≡ at.is_driven) × (left.status ≡ at.status) × (left.ended ≡ at.ended)) }
+    ensures left { IfOk result (λ left. IsTogether at.ends left.site × (left.ending ≡ at.ending)) }
 {
-    let AtDesk {
-        ends,
-        is_driven,
-        status,
-        ended,
-    } = at;
+    let AtDesk { ends, ending } = at;
     let site = put_together(alloc, room, slaves, ends)?;
-    Ok(Left {
-        site,
-        is_driven,
-        status,
-        ended,
-    })
+    Ok(Left { site, ending })
 }
 
 /// Makes a desk of the book, has it serve the sites while the commands are submitted, and closes it.
@@ -139,10 +127,38 @@ fn serve_at_desk<
     requires owned { OwnParts (λ (s : SiteValue). s.line) sites.disk sites.slaves.items sites.cycle }
     requires long { 8 + core.capacity ≤ length sites.disk.seen.state.disk.bytes }
     ensures of_sites { IfOk result (λ at. AreEndsOf sites at.ends) }
-    ensures closes { IfOk result (λ at. OnOk at.ended (ClosesWith T.opened C.commands at.is_driven at.status at.ends)) }
+    ensures ending { IfOk result (λ at. EndsSo T.opened C.commands at.ends at.ending) }
 {
-    let room = Vec::with_capacity(alloc, 1)?;
-    let (desk, share) = open_desk::<T, R, W>(rt, alloc, core, tickets, refusals)?;
+    let opened = open_desk::<T, R, W>(rt, alloc, core, tickets, refusals)?;
+    serve_opened::<T, R, C, O, W>(rt, alloc, opened, sites, commands, output)
+}
+
+/// Has a desk that was just made serve the sites while the commands are submitted, and closes it.
+fn serve_opened<
+    'c,
+    'o,
+    T: Tickets + Send + Sync,
+    R: Refusals + Send + Sync,
+    C: Asked,
+    O: Write,
+    W: Wait + Threads + Sync,
+>(
+    rt: &W,
+    alloc: Global,
+    opened: Opened<T, R>,
+    sites: Sites<MemSite>,
+    commands: &'c [Command],
+    output: &'o mut O,
+) -> Result<AtDesk, Fault>
+    requires room { (opened.room.items ≡ []) × (1 ≤ vec_capacity opened.room) }
+    requires share { opened.share ≡ no_counts }
+    requires commands { commands.now ≡ C.commands }
+    requires owned { OwnParts (λ (s : SiteValue). s.line) sites.disk sites.slaves.items sites.cycle }
+    requires long { opened.desk.limit ≤ length sites.disk.seen.state.disk.bytes }
+    ensures of_sites { IfOk result (λ at. AreEndsOf sites at.ends) }
+    ensures ending { IfOk result (λ at. EndsSo T.opened C.commands at.ends at.ending) }
+{
+    let Opened { desk, share, room } = opened;
     let submitter = Submitter::<'c, 'o, T, R, C, O> {
         alloc,
         commands,
@@ -174,13 +190,21 @@ fn serve_submitter<
     requires owned { OwnParts (λ (s : SiteValue). s.line) sites.disk sites.slaves.items sites.cycle }
     requires long { desk.limit ≤ length sites.disk.seen.state.disk.bytes }
     ensures of_sites { IfOk result (λ at. AreEndsOf sites at.ends) }
-    ensures closes { IfOk result (λ at. OnOk at.ended (ClosesWith T.opened C.commands at.is_driven at.status at.ends)) }
+    ensures ending { IfOk result (λ at. EndsSo T.opened C.commands at.ends at.ending) }
 {
     let mut submitter = submitter;
     match serve_sites(rt, alloc, &desk, sites, &NoGate, &mut submitter) {
         Ok(ends) => Ok(hand_in(desk, submitter, room, ends)),
         Err(_sites) => Err(Fault::Memory),
     }
+}
+
+/// A desk that was just made, a share for the one who submits, and room to hand that in.
+#[derive(Drop)]
+struct Opened<T: Tickets, R: Refusals> {
+    desk: Desk<T, R>,
+    share: Share<T, R>,
+    room: Vec<Share<T, R>>,
 }
 
 /// A desk of this book, with a share for the one who submits.
@@ -190,19 +214,34 @@ fn open_desk<T: Tickets, R: Refusals, W: Wait>(
     core: Core,
     tickets: Parts,
     refusals: Parts,
-) -> Result<(Desk<T, R>, Share<T, R>), Fault>
+) -> Result<Opened<T, R>, Fault>
     requires core { core ≡ T.opened }
     requires none { core.accepted ≡ [] }
     requires tickets { (tickets.name ≡ T.name) × (tickets.count ≡ T.parts) }
     requires refusals { (refusals.name ≡ R.name) × (refusals.count ≡ R.parts) }
-    ensures limit { IfOk result (λ opened. opened.0.limit ≡ 8 + core.capacity) }
-    ensures share { IfOk result (λ opened. opened.1 ≡ no_counts) }
+    ensures limit { IfOk result (λ opened. opened.desk.limit ≡ 8 + core.capacity) }
+    ensures share { IfOk result (λ opened. opened.share ≡ no_counts) }
+    ensures room { IfOk result (λ opened. (opened.room.items ≡ []) × (1 ≤ vec_capacity opened.room)) }
 {
     let desk = Desk::of(alloc, core, tickets, refusals)?;
-    match desk.share(rt) {
-        Ok(share) => Ok((desk, share)),
-        Err(_) => Err(Fault::Unserved),
-    }
+    share_of(rt, alloc, desk)
+}
+
+/// This desk with a share of it.
+fn share_of<T: Tickets, R: Refusals, W: Wait>(
+    rt: &W,
+    alloc: Global,
+    desk: Desk<T, R>,
+) -> Result<Opened<T, R>, Fault>
+    ensures limit { IfOk result (λ opened. opened.desk.limit ≡ desk.limit) }
+    ensures share { IfOk result (λ opened. opened.share ≡ no_counts) }
+    ensures room { IfOk result (λ opened. (opened.room.items ≡ []) × (1 ≤ vec_capacity opened.room)) }
+{
+    let Ok(share) = desk.share(rt) else {
+        return Err(Fault::Unserved);
+    };
+    let room = Vec::with_capacity(alloc, 1)?;
+    Ok(Opened { desk, share, room })
 }
 
 /// Has the desk serve the sites while the client drives it. They come back where there is no memory.
@@ -224,99 +263,4 @@ fn serve_sites<
     ensures { IfOk result (λ ends. AreEndsOf sites ends) }
 {
     serve_line(rt, alloc, desk, sites, gate, client)
-}
-
-/// Closes the desk with what the submitter and the others hand in. Prints the totals, unless a fault came first.
-fn hand_in<T: Tickets, R: Refusals, C: Asked, O: Write>(
-    desk: Desk<T, R>,
-    submitter: Submitter<'_, '_, T, R, C, O>,
-    room: Vec<Share<T, R>>,
-    ends: Ends<MemSite>,
-) -> AtDesk
-    requires { (room.items ≡ []) × (1 ≤ vec_capacity room) }
-    ensures ends { result.ends ≡ ends }
-    ensures closes { OnOk result.ended (ClosesWith T.opened C.commands result.is_driven result.status ends) }
-{
-    let Submitter {
-        alloc,
-        output,
-        share,
-        status,
-        came,
-        ..
-    } = submitter;
-    let mut shares = room;
-    shares.push_reserved(share);
-    match came {
-        Some(Ok(receipts)) => {
-            let (left, ended) = close_desk(desk, shares, receipts, ends, true, output);
-            AtDesk {
-                ends: left,
-                is_driven: true,
-                status,
-                ended,
-            }
-        }
-        Some(Err(fault)) => {
-            let (left, closed) = close_desk(desk, shares, Vec::new(alloc), ends, false, output);
-            AtDesk {
-                ends: left,
-                is_driven: true,
-                status,
-                ended: Err(told_of(fault, closed)),
-            }
-        }
-        None => {
-            let (left, ended) = close_desk(desk, shares, Vec::new(alloc), ends, false, output);
-            AtDesk {
-                ends: left,
-                is_driven: false,
-                status,
-                ended,
-            }
-        }
-    }
-}
-
-/// The fault of a submitter that gave up, at a desk of which this came. Where it is that a command isn't served, the desk tells why.
-fn told_of(fault: Fault, closed: Result<(), Fault>) -> Fault {
-    match (fault, closed) {
-        (Fault::Unserved, Err(why)) => why,
-        _ => fault,
-    }
-}
-
-/// Closes the desk, and prints the totals where that is asked for. The ends come back.
-///
-/// # Errors
-///
-/// Why the desk isn't closed: what has closed the book, or `Unserved`. Or why the totals can't be printed.
-fn close_desk<T: Tickets, R: Refusals, O: Write>(
-    desk: Desk<T, R>,
-    shares: Vec<Share<T, R>>,
-    receipts: Vec<Receipt>,
-    ends: Ends<MemSite>,
-    has_totals: bool,
-    output: &mut O,
-) -> (Ends<MemSite>, Result<(), Fault>)
-    ensures ends { result.0 ≡ ends }
-    ensures closes { OnOk result.1 (Closes T.opened shares.items receipts.items ends) }
-{
-    match close(desk, shares, receipts, ends) {
-        Ok(closed) => {
-            let Closed { book, ends } = closed;
-            let _accepted = book.accepted();
-            let printed = print_totals(book.status(), has_totals, output);
-            (ends, printed)
-        }
-        Err(left) => {
-            let NotClosed { book, ends, .. } = left;
-            let _printed = print_totals(book.status(), has_totals, output);
-            let why = match book.fault() {
-                Some(fault) => fault_of_book(fault),
-                None => Fault::Unserved,
-            };
-            (ends, Err(why))
-        }
-    }
 }

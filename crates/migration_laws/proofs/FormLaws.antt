@@ -11,8 +11,7 @@ use Rattle.book_model.specs.Book.{Book, Doing, Resting, Payload, PayloadSync, Op
 use Rattle.book_model.specs.DiskSteps.{action_of, doing_next, disk_next, went_on, disk_done}
 use Rattle.book_model.specs.Machine.{Machine}
 use Rattle.book_model.specs.Kept.{Kept}
-use Rattle.book_laws.specs.Plants.{MayHoldAll}
-use Rattle.book_laws.specs.Fits.{BookFits}
+use Rattle.disk_laws.specs.Below.{MayHoldAll, BookFits}
 use Rattle.disk_laws.specs.Frame.{Frame, IsFrame}
 use Rattle.disk_laws.specs.Events.{begun_on, ended_on, FailsOn, in_progress, rested}
 use Rattle.disk_laws.specs.Keeping.{IsOfBook, IsOfLine}

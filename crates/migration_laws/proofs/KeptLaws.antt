@@ -4,8 +4,7 @@ use Rattle.std.specs.List.{AllByRecursion}
 use Rattle.std.proofs.lemmas.List.{append-nil, length-map}
 use Rattle.sii_runs.specs.declared.run.Run.{Run}
 use Rattle.sii_runs.specs.Redo.{redone}
-use Rattle.sii_edit.specs.declared.command.Command.{Command}
-use Rattle.sii_edit.specs.Fold.{contents_after}
+use Rattle.disk_laws.specs.Below.{Command, contents_after, MayHoldAll, BookFits, after_entries}
 use Rattle.jrn_format.specs.declared.journal.Batch.{Batch}
 use Rattle.jrn_format.specs.declared.journal.Form.{Form}
 use Rattle.jrn_format.specs.declared.journal.Form.TheVariants.{One}
@@ -18,10 +17,7 @@ use Rattle.book_model.specs.Book.{Book, Doing, Resting, Payload, PayloadSync, Op
 use Rattle.book_model.specs.Machine.{Machine}
 use Rattle.book_model.specs.Machine as machines
 use Rattle.book_model.specs.Kept.{Kept}
-use Rattle.book_laws.specs.Plants.{MayHoldAll}
-use Rattle.book_laws.specs.Fits.{BookFits, after_entries}
-use Rattle.book_laws.proofs.FitLaws.{kept-live, kept-newer}
-use Rattle.book_laws.proofs.CommandLaws.{entries-contents, length-entries}
+use Rattle.disk_laws.proofs.Below.{kept-live, kept-newer, entries-contents, length-entries}
 use Rattle.disk_laws.specs.Frame.{Frame}
 use Rattle.disk_laws.specs.Doing.{Retiring}
 use Rattle.disk_laws.specs.Keeping.{IsOfBook, IsOfLine}

@@ -7,3 +7,4 @@ pub mod BeginLaws
 pub mod DoneLaws
 pub mod FormLaws
 pub mod FoundLaws
+pub mod Below

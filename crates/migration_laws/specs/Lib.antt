@@ -1,3 +1,4 @@
 pub mod OldFile
 pub mod OldDoing
 pub mod OldQueue
+pub mod Below

@@ -5,7 +5,7 @@ use Rattle.jrn_format.specs.declared.journal.Form.TheVariants.{One, Two, Moving}
 use Rattle.book_model.specs.Entries.{live_runs}
 use Rattle.book_model.specs.Book.{Book, queued, all_cells}
 use Rattle.book_model.specs.Reading.{runs_settled}
-use Rattle.book_laws.specs.Plants.{AllSettled}
+use Rattle.disk_laws.specs.Below.{AllSettled}
 use Rattle.disk_laws.specs.Frame.{Frame, IsFrame}
 use Rattle.disk_laws.specs.Queue.{CanBegin}
 

@@ -17,8 +17,7 @@ use Rattle.book_model.specs.Book.{Book, Doing, Resting, Payload, PayloadSync, Op
 use Rattle.book_model.specs.DiskSteps.{action_of, doing_next, disk_next, disk_done}
 use Rattle.book_model.specs.Machine.{Machine}
 use Rattle.book_model.specs.Kept.{Kept}
-use Rattle.disk_laws.specs.Frame.{Frame}
-use Rattle.disk_laws.specs.Events.{gate_byte, begun_on, ended_on, FailsOn, in_progress, rested}
+use Rattle.up_laws.specs.Below.{Frame, gate_byte, begun_on, ended_on, FailsOn, in_progress, rested}
 use Rattle.up_laws.specs.Steps.{acknowledged_by}
 use Rattle.up_laws.specs.Up.{Up}
 use Rattle.up_laws.proofs.LineLaws.{up-kept}

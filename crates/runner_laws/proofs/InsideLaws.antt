@@ -17,12 +17,21 @@ use Rattle.book_model.specs.declared.next.DiskNext.TheVariants as next
 use Rattle.book_model.specs.Book.{Book, Doing, Resting, Payload, PayloadSync, OpenGate, OpenSync, CloseGate, CloseSync, FarGate, Mark, MarkSync, Version, VersionSync, half_at}
 use Rattle.book_model.specs.DiskSteps.{place_at, action_of, disk_next}
 use Rattle.book_model.specs.Machine.{Machine}
-use Rattle.disk_laws.specs.Frame.{Frame, room, IsFramed}
-use Rattle.disk_laws.specs.Events.{begun_on, in_progress}
-use Rattle.disk_laws.specs.Doing.{OpensGate, DoingFits}
-use Rattle.disk_laws.proofs.DoneLaws.{place-at, half-at}
-use Rattle.migration_laws.specs.OldFile.{IsVersioned, BeforeVersion}
-use Rattle.migration_laws.specs.OldDoing.{OldDoingFits, FormFits, JournalFits}
+use Rattle.up_laws.specs.Below.{
+  Frame,
+  room,
+  IsFramed,
+  begun_on,
+  in_progress,
+  OpensGate,
+  DoingFits,
+  IsVersioned,
+  BeforeVersion,
+  OldDoingFits,
+  FormFits,
+  JournalFits,
+}
+use Rattle.up_laws.proofs.Below.{place-at, half-at}
 use Rattle.up_laws.specs.Up.{Up}
 use Rattle.runner_laws.proofs.DiskRuns.{IsAction, begun-up, out-of}
 

@@ -24,7 +24,7 @@ use Rattle.book_model.specs.DiskSteps.{went_on, disk_next, disk_done}
 use Rattle.book_model.specs.RomSteps.{is_last, with_again, rom_next, rom_done}
 use Rattle.book_model.specs.Machine.{Machine}
 use Rattle.book_model.specs.Kept.{Kept}
-use Rattle.disk_laws.specs.Events.{rested}
+use Rattle.up_laws.specs.Below.{rested}
 use Rattle.up_laws.specs.Opening.{words_in, IsFound, book_on}
 use Rattle.up_laws.proofs.OpeningLaws.{up-opens}
 use Rattle.up_laws.proofs.SlaveEventLaws as events

@@ -24,11 +24,8 @@ use Rattle.book_model.specs.Book.{Book, Slave, Errand, Free, Issuing, Settling, 
 use Rattle.book_model.specs.RomSteps.{was_taken, rom_next, rom_done}
 use Rattle.book_model.specs.Machine.{Machine}
 use Rattle.book_model.specs.Kept.{Kept}
-use Rattle.book_laws.specs.Owed.{IsUnsure}
-use Rattle.book_laws.specs.Plants.{MayHoldAll}
-use Rattle.book_laws.proofs.BookLaws.{cells_of}
-use Rattle.migration_laws.proofs.FormLaws.{journal-kept}
-use Rattle.disk_laws.specs.Frame.{Frame}
+use Rattle.up_laws.specs.Below.{IsUnsure, MayHoldAll, Frame}
+use Rattle.up_laws.proofs.Below.{cells_of, journal-kept}
 use Rattle.up_laws.specs.Slaves.{Asks, ErrandFits}
 use Rattle.up_laws.specs.Steps.{TakesOrNot, MayBegin, took_after}
 use Rattle.up_laws.specs.Up.{Up}

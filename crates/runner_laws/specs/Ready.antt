@@ -8,7 +8,7 @@ use Rattle.book_model.specs.declared.next.RomOutcome.{RomOutcome}
 use Rattle.book_model.specs.declared.next.RomOutcome.TheVariants as outcomes
 use Rattle.book_model.specs.Book.{Book}
 use Rattle.book_model.specs.Machine.{Machine}
-use Rattle.disk_laws.specs.Frame.{Frame}
+use Rattle.up_laws.specs.Below.{Frame}
 use Rattle.up_laws.specs.Up.{Up}
 
 -- Nothing is handed out for the disk, and, unless a fault has closed the book, the station is up as some machine.

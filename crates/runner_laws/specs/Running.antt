@@ -16,8 +16,7 @@ use Rattle.book_model.specs.DiskSteps.{disk_done}
 use Rattle.book_model.specs.RomSteps.{rom_done}
 use Rattle.book_model.specs.Machine.{Machine}
 use Rattle.book_model.specs.Kept.{Kept}
-use Rattle.disk_laws.specs.Frame.{Frame}
-use Rattle.disk_laws.specs.Events.{gate_byte}
+use Rattle.up_laws.specs.Below.{Frame, gate_byte}
 use Rattle.up_laws.specs.Steps.{acknowledged_by}
 use Rattle.up_laws.specs.Up.{Up}
 

@@ -12,7 +12,7 @@ ghost use Rattle.book_model.specs.Book.{Book};
 ghost use Rattle.book_model.specs.DiskSteps.{disk_next};
 ghost use Rattle.book_model.specs.RomSteps.{rom_next};
 ghost use Rattle.book_model.specs.Machine.{Machine};
-ghost use Rattle.disk_laws.specs.Frame.{Frame};
+ghost use Rattle.up_laws.specs.Below.{Frame};
 ghost use Rattle.up_laws.specs.Up.{Up};
 ghost use Rattle.runner_laws.specs.Running.{CallsDisk, KeepsAll, UpAfterDisk, UpAfterIssue, UpAfterSettle};
 

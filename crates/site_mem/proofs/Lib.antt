@@ -7,4 +7,5 @@ pub mod Replies
 pub mod Passing
 pub mod Owning
 pub mod Wholes
+pub mod Sent
 mod Absent

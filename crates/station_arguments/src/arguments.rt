@@ -158,72 +158,102 @@ Example:
 /// Reads the words of a command line, the program's name first.
 pub fn read_arguments<'a>(alloc: Global, words: &'a [String]) -> Result<Task<'a>, Error> {
     let mut command = station(alloc)?;
+    read_words(&mut command, words)
+}
+
+/// Reads the words of a command line as this command has them.
+fn read_words<'a>(command: &mut Command<'a>, words: &'a [String]) -> Result<Task<'a>, Error> {
     let matches = command.try_get_matches_from_mut(words)?;
+    task_of(command, &matches)
+}
+
+/// What the subcommand asks for.
+fn task_of<'a>(command: &mut Command<'a>, matches: &ArgMatches<'a>) -> Result<Task<'a>, Error> {
     if let Some(alias) = matches.subcommand_matches("alias") {
-        return alias_task(&mut command, alias);
+        return alias_task(command, alias);
     }
+    if let Some(run) = matches.subcommand_matches("run") {
+        return run_task(command, run);
+    }
+    if let Some(explain) = matches.subcommand_matches("explain") {
+        return explain_task(command, explain);
+    }
+    match plain_task(matches) {
+        Some(task) => Ok(task),
+        None => refused(
+            command,
+            ErrorKind::MissingSubcommand,
+            "a subcommand is needed",
+        ),
+    }
+}
+
+/// What a subcommand asks for whose arguments need no further look.
+fn plain_task<'a>(matches: &ArgMatches<'a>) -> Option<Task<'a>> {
     if let Some(show) = matches.subcommand_matches("show") {
-        return Ok(Task::Show {
+        return Some(Task::Show {
             hex: show.get_flag("hex"),
         });
     }
     if let Some(init) = matches.subcommand_matches("init") {
-        return Ok(init_task(init));
-    }
-    if let Some(run) = matches.subcommand_matches("run") {
-        return run_task(&mut command, run);
+        return Some(init_task(init));
     }
     if let Some(recover) = matches.subcommand_matches("recover") {
-        return Ok(recover_task(recover));
+        return Some(recover_task(recover));
     }
-    if let Some(layout) = matches.subcommand_matches("layout") {
-        return Ok(layout_task(layout));
-    }
-    if let Some(explain) = matches.subcommand_matches("explain") {
-        return explain_task(&mut command, explain);
-    }
-    Err(command.error(ErrorKind::MissingSubcommand, "a subcommand is needed")?)
+    let layout = matches.subcommand_matches("layout")?;
+    Some(layout_task(layout))
 }
 
 /// The whole command line.
 fn station<'a>(alloc: Global) -> Result<Command<'a>, AllocError> {
-    Command::new(alloc, "sii_station")
+    let station = Command::new(alloc, "sii_station")
         .about("Reprograms the SII EEPROMs of a line of EtherCAT slaves")
         .version(VERSION)
         .after_help("Example:\n  sii_station alias 1001 < slave.bin > renamed.bin")
-        .subcommand_required(true)
-        .subcommand(show_command(alloc)?)?
-        .subcommand(alias_command(alloc)?)?
-        .subcommand(init_command(alloc)?)?
-        .subcommand(run_command(alloc)?)?
-        .subcommand(recover_command(alloc)?)?
-        .subcommand(layout_command(alloc)?)?
-        .subcommand(explain_command(alloc)?)
+        .subcommand_required(true);
+    let station = with_subcommand(station, show_command(alloc))?;
+    let station = with_subcommand(station, alias_command(alloc))?;
+    let station = with_subcommand(station, init_command(alloc))?;
+    let station = with_subcommand(station, run_command(alloc))?;
+    let station = with_subcommand(station, recover_command(alloc))?;
+    let station = with_subcommand(station, layout_command(alloc))?;
+    with_subcommand(station, explain_command(alloc))
+}
+
+/// The command with one more subcommand, where there was memory to make that one.
+fn with_subcommand<'a>(
+    command: Command<'a>,
+    subcommand: Result<Command<'a>, AllocError>,
+) -> Result<Command<'a>, AllocError> {
+    command.subcommand(subcommand?)
+}
+
+fn hex_argument<'a>(alloc: Global, help: &'a str) -> Arg<'a> {
+    Arg::new(alloc, "hex")
+        .long("hex")
+        .help(help)
+        .action(ArgAction::SetTrue)
 }
 
 fn show_command<'a>(alloc: Global) -> Result<Command<'a>, AllocError> {
-    let hex = Arg::new(alloc, "hex")
-        .long("hex")
-        .help("Reads hexadecimal text in place of bytes")
-        .action(ArgAction::SetTrue);
     Command::new(alloc, "show")
         .about("Prints what an EEPROM image says")
         .long_about(
             "Reads the image of a slave's EEPROM from standard input and prints its alias, whether its check byte is right, its identity and its categories. An image has 64 to 4096 words, low byte first.",
         )
         .after_help("Example:\n  sii_station show < slave.bin")
-        .arg(hex)
+        .arg(hex_argument(alloc, "Reads hexadecimal text in place of bytes"))
+}
+
+fn value_argument<'a>(alloc: Global) -> Arg<'a> {
+    Arg::new(alloc, "VALUE")
+        .help("The new alias, 0 to 65535")
+        .required(true)
+        .value_parser(value_parser!(u16))
 }
 
 fn alias_command<'a>(alloc: Global) -> Result<Command<'a>, AllocError> {
-    let value = Arg::new(alloc, "VALUE")
-        .help("The new alias, 0 to 65535")
-        .required(true)
-        .value_parser(value_parser!(u16));
-    let hex = Arg::new(alloc, "hex")
-        .long("hex")
-        .help("Reads and writes hexadecimal text in place of bytes")
-        .action(ArgAction::SetTrue);
     Command::new(alloc, "alias")
         .about(
             "Sets the configured station alias of an EEPROM image, and the check byte that goes with it",
@@ -232,8 +262,8 @@ fn alias_command<'a>(alloc: Global) -> Result<Command<'a>, AllocError> {
             "Reads the image of a slave's EEPROM from standard input, sets the configured station alias and the check byte that goes with it, and writes the image to standard output. An image has 64 to 4096 words, low byte first.",
         )
         .after_help("Example:\n  sii_station alias 1001 < slave.bin > renamed.bin")
-        .arg(value)?
-        .arg(hex)
+        .arg(value_argument(alloc))?
+        .arg(hex_argument(alloc, "Reads and writes hexadecimal text in place of bytes"))
 }
 
 fn init_command<'a>(alloc: Global) -> Result<Command<'a>, AllocError> {
@@ -247,11 +277,14 @@ fn init_command<'a>(alloc: Global) -> Result<Command<'a>, AllocError> {
         .arg(line_argument(alloc))
 }
 
-fn run_command<'a>(alloc: Global) -> Result<Command<'a>, AllocError> {
-    let script = Arg::new(alloc, "SCRIPT")
+fn script_argument<'a>(alloc: Global) -> Arg<'a> {
+    Arg::new(alloc, "SCRIPT")
         .help("The script file: the commands, in order")
         .long_help(SCRIPT_FILE)
-        .required(true);
+        .required(true)
+}
+
+fn run_command<'a>(alloc: Global) -> Result<Command<'a>, AllocError> {
     Command::new(alloc, "run")
         .about("Runs a script of commands on a line of slaves")
         .long_about(
@@ -260,7 +293,7 @@ fn run_command<'a>(alloc: Global) -> Result<Command<'a>, AllocError> {
         .after_help("Example:\n  sii_station run line.toml script.toml")
         .after_long_help(RUN_ANSWERS)
         .arg(line_argument(alloc))?
-        .arg(script)?
+        .arg(script_argument(alloc))?
         .arg(fuse_argument(alloc))?
         .arg(left_argument(alloc))
 }
@@ -333,10 +366,11 @@ fn run_task<'a>(command: &mut Command<'a>, matches: &ArgMatches<'a>) -> Result<T
     let fuse = matches.get_str("fuse");
     let left = matches.get_str("left");
     if !fuse.is_none_or(is_digits) || !left.is_none_or(is_digits) {
-        return Err(command.error(
+        return refused(
+            command,
             ErrorKind::ValueValidation,
             "K is a number in digits, 0 to 4294967295, and W one of 0 to 65535",
-        )?);
+        );
     }
     let left = matches.get_one::<u16>("left").unwrap_or(0);
     let cut = match matches.get_one::<u32>("fuse") {
@@ -372,10 +406,11 @@ fn alias_task<'a>(command: &mut Command<'a>, matches: &ArgMatches<'a>) -> Result
             value,
             hex: matches.get_flag("hex"),
         }),
-        _ => Err(command.error(
+        _ => refused(
+            command,
             ErrorKind::ValueValidation,
             "VALUE is a number in digits, 0 to 65535",
-        )?),
+        ),
     }
 }
 
@@ -394,9 +429,19 @@ fn explain_task<'a>(
     };
     match find_code(text) {
         Some(code) => Ok(Task::Explain { code: Some(code) }),
-        None => Err(command.error(
+        None => refused(
+            command,
             ErrorKind::ValueValidation,
             "CODE is the number or the name of a fault or a refusal",
-        )?),
+        ),
     }
+}
+
+/// The error of a command line that asks for nothing that can be done: this message, and the usage.
+fn refused<'a>(
+    command: &mut Command<'a>,
+    kind: ErrorKind,
+    message: &str,
+) -> Result<Task<'a>, Error> {
+    Err(command.error(kind, message)?)
 }

@@ -85,9 +85,25 @@ pub fn save_site<S: Store>(
         halves,
         process: _,
     } = site.into_parts();
-    let slaves = spell_halves(alloc, &halves)?;
     let journal = disk.unwrap();
-    write_line(line, &journal, &slaves, store)?;
+    save_parts(alloc, line, &journal, &halves, store)
+}
+
+/// Writes these bytes to the journal's file, and the words of these halves to the slaves' files.
+fn save_parts<S: Store>(
+    alloc: Global,
+    line: &LineFile,
+    journal: &[u8],
+    halves: &[Option<RomHalf>],
+    store: &mut S,
+) -> Result<(), Fault>
+    requires { length line.now.images.items ≡ length halves.now }
+    ensures saved { OnOk result (HoldsAll (S.files store.new) (files_of line.now) (journal.now ∷ map (λ half. bytes_of half.words) (halves_of halves.now))) }
+    ensures others { ChangesAmong (S.files store.old) (S.files store.new) (files_of line.now) }
+    ensures failed { IfErr result IsOfStream }
+{
+    let slaves = spell_halves(alloc, halves)?;
+    write_line(line, journal, &slaves, store)?;
     Ok(())
 }
 

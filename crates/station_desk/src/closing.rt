@@ -3,7 +3,7 @@
 ghost use Rattle.std.specs.Prelude.{◌≡◌, ◌↔◌, IsTrue, true, false, length, IfOk, IfErr};
 ghost use Rattle.desk_book.specs.Calls.{replayed};
 ghost use Rattle.desk_book.specs.Closing.{AllWorked, CountAll, is_served};
-ghost use Rattle.desk_laws.specs.Slaves.{IsJustOpened, AllReadAsContents};
+ghost use Rattle.joined_law.specs.Below.{IsJustOpened, AllReadAsContents};
 ghost use Rattle.joined_law.specs.Joined.{IsKeptAs};
 ghost use Rattle.joined_law.specs.Together.{AllEndSo, IsLeft};
 ghost use Rattle.station_jobs.specs.Flushing.{IsFlushed};

@@ -53,7 +53,7 @@ pub enum Failure {
 }
 
 /// What the program ends with. The highest that applies wins.
-#[derive(Clone, Copy, PartialEq, Eq, PartialOrd, Ord)]
+#[derive(Clone, Copy, PartialEq, PartialOrd)]
 pub enum Status {
     Done = 0,
     Refused = 1,
@@ -116,6 +116,17 @@ impl Fault {
             _ => Status::File,
         }
     }
+
+    /// The number that is printed behind its code, if there is one.
+    fn detail(self) -> Option<usize> {
+        match self {
+            Fault::SlaveDead { slave } => Some(usize::from(slave)),
+            Fault::BadVersion { found } => Some(usize::from(found)),
+            Fault::BadJournal { at } => Some(at),
+            Fault::BadScript { command } => Some(command),
+            _ => None,
+        }
+    }
 }
 
 impl Refused {
@@ -145,12 +156,9 @@ impl Failure {
 impl fmt::Display for Fault {
     fn fmt<W: fmt::Write>(&self, f: &mut fmt::Formatter<W>) -> fmt::Result {
         let code = self.code();
-        match self {
-            Fault::SlaveDead { slave } => write!(f, "fault {code} {slave}"),
-            Fault::BadVersion { found } => write!(f, "fault {code} {found}"),
-            Fault::BadJournal { at } => write!(f, "fault {code} {at}"),
-            Fault::BadScript { command } => write!(f, "fault {code} {command}"),
-            _ => write!(f, "fault {code}"),
+        match self.detail() {
+            Some(detail) => write!(f, "fault {code} {detail}"),
+            None => write!(f, "fault {code}"),
         }
     }
 }

@@ -6,6 +6,7 @@ ghost use Rattle.station_files.specs.Faults.{IsOfStream};
 ghost use Rattle.station_files.specs.ImageText.{RefusesInput, Spells, SpellsLower};
 
 use crate::faults::Fault;
+use crate::printing::write_whole;
 use crate::reading::read_to_end;
 use sii_words::ImageFile;
 use station_text::{hex_lines, read_hex};
@@ -18,10 +19,18 @@ pub fn read_image<R: Read>(alloc: Global, hex: bool, input: &mut R) -> Result<Im
     ensures refused { IfErr result (λ fault. IfSome (R.remaining input.old) (λ text. RefusesInput hex text fault)) }
 {
     let bytes = read_to_end(alloc, input)?;
+    spelt_image(alloc, hex, &bytes)
+}
+
+/// The image that these bytes spell.
+fn spelt_image(alloc: Global, hex: bool, input: &[u8]) -> Result<ImageFile, Fault>
+    ensures read { IfOk result (λ image. Spells hex input.now (bytes_of image)) }
+    ensures refused { IfErr result (RefusesInput hex input.now) }
+{
     if !hex {
-        return Ok(ImageFile::from_bytes(alloc, &bytes)?);
+        return Ok(ImageFile::from_bytes(alloc, input)?);
     }
-    let Ok(text) = str::from_utf8(&bytes) else {
+    let Ok(text) = str::from_utf8(input) else {
         return Err(Fault::BadHex);
     };
     let spelt = read_hex(alloc, text)?;
@@ -40,9 +49,7 @@ pub fn write_image<W: Write>(
     ensures failed { IfErr result IsOfStream }
 {
     let text = spell_image(alloc, hex, image)?;
-    output.write_all(&text)?;
-    output.flush()?;
-    Ok(())
+    write_whole(&text, output)
 }
 
 /// What an image's bytes are written as.

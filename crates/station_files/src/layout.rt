@@ -5,6 +5,7 @@ ghost use Rattle.station_listing.specs.declared.layout_listing.LayoutListing.{La
 
 use crate::faults::Fault;
 use crate::line::load_plant;
+use crate::printing::print_listing;
 use crate::store::Store;
 use station_listing::{LayoutListing, list_layout};
 use std::alloc::Global;
@@ -23,9 +24,7 @@ pub fn show_layout<S: Store, W: Write>(
     ensures same { S.files store.new ≡ S.files store.old }
 {
     let listing = list_line(alloc, line, store)?;
-    let text = format!(in alloc; "{listing}")?;
-    output.write_all(text.as_bytes())?;
-    output.flush()?;
+    print_listing(alloc, &listing, output)?;
     Ok(())
 }
 

@@ -7,6 +7,7 @@ mod faults;
 mod image;
 mod layout;
 mod line;
+mod printing;
 mod reading;
 mod reporting;
 mod saving;

@@ -20,7 +20,7 @@ pub fn load_commands<S: Store>(
     ensures commands { IfOk result (λ commands. AllZip (LoadsCommand (S.files store.old)) script.now commands.items) }
     ensures same { S.files store.new ≡ S.files store.old }
 {
-    let mut commands = Vec::with_capacity(alloc, script.len())?;
+    let mut commands = Vec::new(alloc);
     for command in script {
         commands.push(load_command(alloc, command, store)?)?;
     }
@@ -73,7 +73,7 @@ fn load_edits<S: Store>(
     ensures edits { IfOk result (λ loaded. AllZip (λ one edit. LoadsEdit (S.files store.old) one.edit edit) edits.now loaded.items) }
     ensures same { S.files store.new ≡ S.files store.old }
 {
-    let mut loaded = Vec::with_capacity(alloc, edits.len())?;
+    let mut loaded = Vec::new(alloc);
     for one in edits {
         loaded.push(load_edit(alloc, &one.edit, store)?)?;
     }
@@ -88,7 +88,7 @@ fn load_guarded_edits<S: Store>(
     ensures edits { IfOk result (λ loaded. AllZip (LoadsGuarded (S.files store.old)) edits.now loaded.items) }
     ensures same { S.files store.new ≡ S.files store.old }
 {
-    let mut loaded = Vec::with_capacity(alloc, edits.len())?;
+    let mut loaded = Vec::new(alloc);
     for one in edits {
         loaded.push(load_guarded_edit(alloc, one, store)?)?;
     }

@@ -5,6 +5,7 @@ ghost use Rattle.station_files.specs.Show.{IsStatusOf, ShowsStatus};
 
 use crate::faults::{Fault, Status};
 use crate::image::read_image;
+use crate::printing::print_listing;
 use station_listing::{Listing, list_image};
 use std::alloc::Global;
 use std::io::{Read, Write};
@@ -22,9 +23,7 @@ pub fn show_image<R: Read, W: Write>(
 {
     let image = read_image(alloc, hex, input)?;
     let listing = list_image(alloc, &image)?;
-    let text = format!(in alloc; "{listing}")?;
-    output.write_all(text.as_bytes())?;
-    output.flush()?;
+    print_listing(alloc, &listing, output)?;
     Ok(status_of(&listing))
 }
 

@@ -48,7 +48,7 @@ pub struct FileStore<'r, R> {
 impl<R: Files> Store for FileStore<'_, R> {
     fn read(&mut self, alloc: Global, name: &str) -> io::Result<Option<Vec<u8>>> {
         match File::open(self.files, name) {
-            Ok(mut file) => Ok(Some(read_to_end(alloc, &mut file)?)),
+            Ok(mut file) => read_to_end(alloc, &mut file).map(Some),
             Err(error) if error.kind() == io::ErrorKind::NotFound => Ok(None),
             Err(error) => Err(error),
         }

@@ -1,9 +1,10 @@
 -- What the files hold behind a run by threads.
-use Rattle.std.proofs.Common.{◌≡◌, ℕ, Bool, true, false, List, refl, sym, subst, Result, Ok}
-use Rattle.std.specs.Prelude.{OnErr, OnOk}
+use Rattle.std.proofs.Common.{◌≡◌, ℕ, Bool, true, false, List, refl, sym, subst, Result, Ok, Err}
+use Rattle.std.specs.Prelude.{MatchResult, OnErr, OnOk}
 use Rattle.sii_edit.specs.declared.command.Command.{Command}
 use Rattle.site_core.specs.Line.{Line}
 use Rattle.site_core.specs.State.{State, Seen}
+use Rattle.site_mem.specs.Site.{SiteValue}
 use Rattle.station_alone.specs.Station.{Station}
 use Rattle.station_recovery.specs.Recovery.{IsRecovered, BeginsRecovered}
 use Rattle.station_text.specs.declared.line_file.LineFile.{LineFile}
@@ -14,7 +15,7 @@ use Rattle.station_files.specs.declared.faults.Status.{Status}
 use Rattle.station_files.specs.declared.faults.Status.TheVariants.{Done}
 use Rattle.station_bench.specs.Site.{files_of, HoldsSite}
 use Rattle.line_session.specs.declared.threads.Left.{Left}
-use Rattle.line_session.specs.AtDesk.{IsServedAtDesk}
+use Rattle.line_session.specs.AtDesk.{IsServedAtDesk, IsStoppedAtDesk, LeavesSo}
 use Rattle.line_session.specs.Parts.{IsLineOf}
 use Rattle.station_session.specs.Session.{EndsStation, HoldsBehind, SavesBehind, SavesLeft, SavesServed}
 use Rattle.station_session.proofs.Ending.{saved-still}
@@ -26,18 +27,23 @@ line-of line slaves count same is = subst (λ (n : ℕ). IsLineOf n line) same i
 pub ends-unserved : (files : Known) (line : LineFile) (opened : Station) (commands : List Command) (status : Status) → ¬ IsFaultless status → EndsStation false files files line opened commands status
 ends-unserved files line opened commands status bad = record { others = λ other out. refl; saved = λ good. absurd (bad good) }
 
-pub ends-left : (old new : Known) (line : LineFile) (opened : Station) (commands : List Command) (left : Left) (status : Status) → OnOk left.ended (IsServedAtDesk opened commands left.is_driven left.status left.site) → ChangesAmong old new (files_of line)
+served-of : (opened : Station) (commands : List Command) (is_driven is_matched : Bool) (status : Status) (site : SiteValue) (ended : Result (Unit {0}) Fault) → ended ≡ Ok tt
+    → MatchResult ended (λ done. IsServedAtDesk opened commands is_driven status site) (λ fault. IsStoppedAtDesk opened is_matched site) → IsServedAtDesk opened commands is_driven status site
+served-of opened commands is_driven is_matched status site (Ok done) is served = served
+served-of opened commands is_driven is_matched status site (Err fault) is served = absurd cc
+
+pub ends-left : (old new : Known) (line : LineFile) (opened : Station) (commands : List Command) (left : Left) (status : Status) → LeavesSo opened commands left.ending left.site → ChangesAmong old new (files_of line)
     → (IsFaultless status → SavesLeft new line left commands status) → EndsStation false old new line opened commands status
 ends-left old new line opened commands left status served others saved = record {
   others = others;
   saved = λ good.
       let s = saved good in
       record {
-        is_driven = left.is_driven;
-        answers = left.status;
+        is_driven = left.ending.is_driven;
+        answers = left.ending.status;
         worst = s.worst;
         site = left.site;
-        served = subst (λ (r : Result (Unit {0}) Fault). OnOk r (IsServedAtDesk opened commands left.is_driven left.status left.site)) s.ended served;
+        served = served-of opened commands left.ending.is_driven left.ending.is_matched left.ending.status left.site left.ending.ended s.ended served;
         behind = s.behind;
       };
 }
@@ -50,12 +56,12 @@ holds-worse true files line r commands one final done_too holds = holds
 holds-worse false files line r commands one final done_too holds = serves-worse files line r commands one final done_too holds
 
 -- the answers were no worse than the whole
-pub saves-left : (files : Known) (line : LineFile) (left : Left) (commands : List Command) (saved final : Status) → left.ended ≡ Ok tt → (final ≡ Done → (left.status ≡ Done) × (saved ≡ Done)) → SavesBehind files line left.site.seen left.is_driven commands saved
+pub saves-left : (files : Known) (line : LineFile) (left : Left) (commands : List Command) (saved final : Status) → left.ending.ended ≡ Ok tt → (final ≡ Done → (left.ending.status ≡ Done) × (saved ≡ Done)) → SavesBehind files line left.site.seen left.ending.is_driven commands saved
     → SavesLeft files line left commands final
 saves-left files line left commands saved final ended done_too behind = record {
   worst = λ done. (done_too done).0;
   ended = ended;
-  behind = record { r = behind.r; recovered = behind.recovered; begins = behind.begins; holds = holds-worse left.is_driven files line behind.r commands saved final (λ done. (done_too done).1) behind.holds };
+  behind = record { r = behind.r; recovered = behind.recovered; begins = behind.begins; holds = holds-worse left.ending.is_driven files line behind.r commands saved final (λ done. (done_too done).1) behind.holds };
 }
 
 -- the files hold what is left behind it

@@ -118,9 +118,9 @@ pub record SavesBehind (files : Known) (line : LineFile) (before : Seen) (is_dri
 
 -- No fault ended the work at the desk, and the files hold what is left behind it.
 pub record SavesLeft (files : Known) (line : LineFile) (left : Left) (commands : List Command) (status : Status) : Type 0 where
-  pub worst : status ≡ Done → left.status ≡ Done
-  pub ended : left.ended ≡ Ok tt
-  pub behind : SavesBehind files line left.site.seen left.is_driven commands status
+  pub worst : status ≡ Done → left.ending.status ≡ Done
+  pub ended : left.ending.ended ≡ Ok tt
+  pub behind : SavesBehind files line left.site.seen left.ending.is_driven commands status
 
 -- The files hold what a recovery left of a line that was taken apart as this station had it, served by threads at a desk that was closed
 -- with some of the commands accepted, all of them where the work is done, and put together again.

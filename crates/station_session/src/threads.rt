@@ -8,7 +8,7 @@ ghost use Rattle.station_session.specs.Session.{EndsStation, HoldsBehind, SavesB
 
 use crate::run::run_station;
 use crate::session::give_up;
-use line_session::{Left, serve_by_threads};
+use line_session::{Ending, Left, serve_by_threads};
 use sii_edit::Command;
 use site_mem::MemSite;
 use station_alone::Alone;
@@ -55,12 +55,13 @@ fn end_threads<S: Store, W: Write, E: Write>(
     ensures others { ChangesAmong (S.files store.old) (S.files store.new) (files_of line.now) }
     ensures saved { IsFaultless result → SavesLeft (S.files store.new) line.now left commands.now result }
 {
-    let Left {
-        site,
+    let Left { site, ending } = left;
+    let Ending {
         is_driven,
         status,
         ended,
-    } = left;
+        ..
+    } = ending;
     match ended {
         Ok(()) => {
             let saved = save_behind(

@@ -5,7 +5,7 @@ use Rattle.site_core.specs.State.{State}
 use Rattle.book_model.specs.Book.{Book, is_closed, is_version_2}
 use Rattle.book_model.specs.Open.{finish, migrate}
 use Rattle.book_model.specs.Machine.{Machine}
-use Rattle.disk_laws.specs.Frame.{Frame}
+use Rattle.migration_laws.specs.Below.{Frame}
 use Rattle.migration_laws.proofs.FormLaws.{journal-same}
 use Rattle.up_laws.specs.Up.{Up}
 

@@ -17,11 +17,8 @@ use Rattle.book_model.specs.Entries.{runs_of, live_runs, sizes_of}
 use Rattle.book_model.specs.Book.{Book, Doing, Resting, Payload, PayloadSync, OpenGate, OpenSync, CloseGate, CloseSync, FarGate, Mark, MarkSync, Version, VersionSync, base_of, own, appended, being_appended, all_cells}
 use Rattle.book_model.specs.DiskSteps.{behind_far_gate, went_on, disk_done}
 use Rattle.book_model.specs.Machine.{Machine}
-use Rattle.book_laws.proofs.FitLaws.{entries-in, step-retired}
-use Rattle.book_laws.proofs.BookLaws.{open-sync-fits}
-use Rattle.disk_laws.specs.Frame.{Frame}
-use Rattle.disk_laws.specs.Doing.{Appending, Retiring, DoingFits}
-use Rattle.disk_laws.specs.Events.{ended_on, in_progress, rested}
+use Rattle.migration_laws.proofs.Below.{entries-in, step-retired, open-sync-fits}
+use Rattle.migration_laws.specs.Below.{Frame, Appending, Retiring, DoingFits, ended_on, in_progress, rested}
 use Rattle.migration_laws.specs.OldDoing.{OldDoingFits, FormFits, JournalFits}
 use Rattle.migration_laws.proofs.FormLaws.{journal-ends}
 use Rattle.up_laws.specs.Steps.{acknowledged_by}

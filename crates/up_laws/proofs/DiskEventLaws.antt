@@ -22,12 +22,8 @@ use Rattle.book_model.specs.Book.{room as book_room}
 use Rattle.book_model.specs.DiskSteps.{action_of, begun, doing_next, disk_next}
 use Rattle.book_model.specs.Reading.{runs_settled}
 use Rattle.book_model.specs.Machine.{Machine}
-use Rattle.book_laws.specs.Plants.{AllFit, AllSettled}
-use Rattle.book_laws.proofs.FitLaws.{live_runs-append}
-use Rattle.book_laws.proofs.SettledLaws.{retire-settled}
-use Rattle.disk_laws.specs.Frame.{Frame}
-use Rattle.disk_laws.specs.Events.{begun_on, FailsOn, in_progress, rested}
-use Rattle.disk_laws.proofs.BeginLaws.{BegunAs, appends, retires, migrates, rests, begun-as}
+use Rattle.migration_laws.specs.Below.{AllFit, AllSettled, Frame, begun_on, FailsOn, in_progress, rested}
+use Rattle.migration_laws.proofs.Below.{live_runs-append, retire-settled, BegunAs, appends, retires, migrates, rests, begun-as}
 use Rattle.migration_laws.specs.OldDoing.{JournalFits}
 use Rattle.migration_laws.specs.OldQueue.{OldCanBegin, FormCanBegin, JournalCanBegin}
 use Rattle.migration_laws.proofs.FormLaws.{journal-begins, journal-fails}

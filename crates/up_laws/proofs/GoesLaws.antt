@@ -10,10 +10,8 @@ use Rattle.slave_queue.specs.Cells.{cell_of}
 use Rattle.book_model.specs.declared.fault.Fault.{Fault}
 use Rattle.book_model.specs.Book.{Book, Slave, nobody, all_cells, cell_at, slave_at, with_slave, with_fault}
 use Rattle.book_model.specs.Machine.{Machine}
-use Rattle.book_laws.specs.Fits.{BookFits, SameCells}
-use Rattle.book_laws.proofs.BookLaws.{cells_of, length-all_cells}
-use Rattle.disk_laws.specs.Frame.{Frame}
-use Rattle.disk_laws.proofs.CarryLaws.{Carries}
+use Rattle.migration_laws.specs.Below.{BookFits, SameCells, Frame}
+use Rattle.migration_laws.proofs.Below.{cells_of, length-all_cells, Carries}
 use Rattle.migration_laws.proofs.FormLaws.{journal-same, journal-faulted}
 use Rattle.up_laws.specs.Slaves.{SlaveFits}
 use Rattle.up_laws.specs.Up.{SlavesFit, Up}

@@ -12,3 +12,4 @@ pub mod EntryLaws
 pub mod SubmitLaws
 pub mod OpeningLaws
 pub mod SlaveEventLaws
+pub mod Below

@@ -11,11 +11,8 @@ use Rattle.slave_queue.specs.Cells.{Cell, cell_of}
 use Rattle.book_model.specs.Book.{Book, Slave, nobody, all_cells}
 use Rattle.book_model.specs.Machine.{Machine}
 use Rattle.book_model.specs.Kept.{Kept}
-use Rattle.book_laws.specs.Owed.{MayBe}
-use Rattle.book_laws.specs.Plants.{MayHoldAll}
-use Rattle.book_laws.specs.Fits.{SameCells}
-use Rattle.book_laws.proofs.BookLaws.{cells_of, length-all_cells}
-use Rattle.disk_laws.specs.Frame.{Frame}
+use Rattle.migration_laws.specs.Below.{MayBe, MayHoldAll, SameCells, Frame}
+use Rattle.migration_laws.proofs.Below.{cells_of, length-all_cells}
 use Rattle.migration_laws.proofs.FormLaws.{journal-kept}
 use Rattle.up_laws.specs.Up.{SlavesFit, Up}
 

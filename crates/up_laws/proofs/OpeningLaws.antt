@@ -23,11 +23,8 @@ use Rattle.book_model.specs.Open.{opened_slave, open_book}
 use Rattle.book_model.specs.Machine.{Machine, reopened, MayKeep}
 use Rattle.book_model.specs.Machine as machines
 use Rattle.book_model.specs.Kept.{Kept}
-use Rattle.book_laws.specs.Plants.{word_at, EachWord}
-use Rattle.book_laws.specs.Fits.{Fits, BookFits, SameCells}
-use Rattle.book_laws.proofs.FitLaws.{step-opened}
-use Rattle.book_laws.proofs.BookLaws.{all_cells-owing, length-all_cells}
-use Rattle.disk_laws.specs.Frame.{Frame}
+use Rattle.migration_laws.specs.Below.{word_at, EachWord, Fits, BookFits, SameCells, Frame}
+use Rattle.migration_laws.proofs.Below.{step-opened, all_cells-owing, length-all_cells}
 use Rattle.migration_laws.proofs.FoundLaws.{book-found}
 use Rattle.up_laws.specs.Slaves.{SlaveFits}
 use Rattle.up_laws.specs.Up.{SlavesFit, Up}

@@ -14,7 +14,7 @@ use Rattle.book_model.specs.declared.fault.Fault.TheVariants as faults
 use Rattle.book_model.specs.Book.{Book, Errand, Free, Issuing, Unsettled, Settling, slave_at, with_fault}
 use Rattle.book_model.specs.RomSteps.{is_last, with_again, with_errand, with_written, was_taken, rom_next, rom_done}
 use Rattle.book_model.specs.Machine.{Machine}
-use Rattle.disk_laws.specs.Frame.{Frame}
+use Rattle.migration_laws.specs.Below.{Frame}
 use Rattle.up_laws.specs.Slaves.{SlaveFits}
 use Rattle.up_laws.specs.Up.{Up}
 use Rattle.up_laws.proofs.SlaveLaws.{slave-freed, slave-issued, slave-settles}

@@ -6,9 +6,8 @@ use Rattle.slave_queue.specs.Cells.{Known, Unsure, Cell, all_named, owing, cell_
 use Rattle.book_model.specs.Entries.{values}
 use Rattle.book_model.specs.Book.{Slave, Errand, Free, Issuing, Unsettled, Settling, nobody, all_cells}
 use Rattle.book_model.specs.Open.{owing_words, owing_slaves}
-use Rattle.book_laws.specs.Owed.{MayBe, IsAmong}
-use Rattle.book_laws.specs.Fits.{SameCells}
-use Rattle.book_laws.proofs.BookLaws.{cells_of, length-all_cells}
+use Rattle.migration_laws.specs.Below.{MayBe, IsAmong, SameCells}
+use Rattle.migration_laws.proofs.Below.{cells_of, length-all_cells}
 use Rattle.up_laws.specs.Slaves.{Asks, ErrandFits, SlaveFits}
 use Rattle.up_laws.specs.Up.{SlavesFit}
 

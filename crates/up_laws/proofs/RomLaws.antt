@@ -12,11 +12,8 @@ use Rattle.slave_queue.specs.Cells.{nothing as no_cell}
 use Rattle.book_model.specs.Book.{Book, Slave, Errand, Free, Issuing, Settling, base_of, own, all_cells, slave_at}
 use Rattle.book_model.specs.RomSteps.{with_issue, with_written, with_errand}
 use Rattle.book_model.specs.Machine.{Machine}
-use Rattle.book_laws.specs.Owed.{IsAmong}
-use Rattle.book_laws.specs.Fits.{Fits, BookFits}
-use Rattle.book_laws.proofs.CellLaws.{length-all_named}
-use Rattle.book_laws.proofs.BookLaws.{all_cells-set, cells_of, issued-fits, written-word-fits}
-use Rattle.disk_laws.specs.Frame.{Frame}
+use Rattle.migration_laws.specs.Below.{IsAmong, Fits, BookFits, Frame}
+use Rattle.migration_laws.proofs.Below.{length-all_named, all_cells-set, cells_of, issued-fits, written-word-fits}
 use Rattle.up_laws.specs.Slaves.{Asks, SlaveFits}
 use Rattle.up_laws.specs.Steps.{TakesOrNot}
 use Rattle.up_laws.specs.Up.{Up}

@@ -13,7 +13,7 @@ use Rattle.book_model.specs.declared.next.RomOutcome.TheVariants.{Issued, Settle
 use Rattle.book_model.specs.Book.{Book, Errand, Free, Issuing, Unsettled, Settling, slave_at}
 use Rattle.book_model.specs.RomSteps.{to_do, with_errand, with_issue, without_work, rom_next, rom_done}
 use Rattle.book_model.specs.Machine.{Machine}
-use Rattle.disk_laws.specs.Frame.{Frame}
+use Rattle.migration_laws.specs.Below.{Frame}
 use Rattle.up_laws.specs.Steps.{MayBegin, took_after, MayComeBack}
 use Rattle.up_laws.specs.Up.{Up}
 use Rattle.up_laws.proofs.OutcomeLaws.{set-same, up-issued, up-settles, up-settled, up-stopped, up-dead, up-again}

@@ -9,7 +9,7 @@ use Rattle.esc_model.proofs.OnlyResting.{MayRest-only, OnlyRests-leaves, OnlyRes
 use Rattle.esc_model.proofs.WordWriting.{taken_then_well}
 use Rattle.slave_queue.specs.Cells.{Cell, asked, written, nothing, cell_of, next_issue}
 use Rattle.book_model.specs.Book.{Errand, Free, Issuing, Unsettled, Settling}
-use Rattle.book_laws.specs.Owed.{MayBe, IsAmong}
+use Rattle.migration_laws.specs.Below.{MayBe, IsAmong}
 use Rattle.up_laws.specs.Slaves.{HasTaken, Asks, ErrandFits, SlaveFits}
 
 -- ---- coming to rest

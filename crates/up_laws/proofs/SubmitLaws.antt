@@ -28,12 +28,8 @@ use Rattle.book_model.specs.Entries.{runs_of, sizes_of}
 use Rattle.book_model.specs.Book.{Book, base_of, contents_of, own, queued, room, all_cells, is_closed, is_version_2, appended, being_appended}
 use Rattle.book_model.specs.Submit.{entry_for, is_too_large, is_full, sized, submit, with_command}
 use Rattle.book_model.specs.Machine.{Machine, accepts}
-use Rattle.book_laws.specs.Fits.{Fits}
-use Rattle.book_laws.proofs.CommandLaws.{entries-push}
-use Rattle.disk_laws.specs.Frame.{Frame}
-use Rattle.disk_laws.specs.Doing.{Appends}
-use Rattle.disk_laws.proofs.CarryLaws.{Carries}
-use Rattle.disk_laws.proofs.KeptLaws.{same_sizes}
+use Rattle.migration_laws.specs.Below.{Fits, Frame, Appends}
+use Rattle.migration_laws.proofs.Below.{entries-push, Carries, same_sizes}
 use Rattle.migration_laws.proofs.FormLaws.{journal-same}
 use Rattle.up_laws.specs.Up.{Up}
 use Rattle.up_laws.proofs.EntryLaws.{entry-fits, entry-within}

@@ -15,12 +15,8 @@ use Rattle.book_model.specs.Entries.{live_runs, namings}
 use Rattle.book_model.specs.Book.{Book, slave_at}
 use Rattle.book_model.specs.RomSteps.{to_do, with_issue}
 use Rattle.book_model.specs.Machine.{Machine}
-use Rattle.book_laws.specs.Owed.{IsAmong, CellFits, due, redone_word}
-use Rattle.book_laws.specs.Plants.{word_at}
-use Rattle.book_laws.proofs.BookLaws.{cells_of, length-all_cells}
-use Rattle.book_laws.proofs.CellLaws.{redone-due}
-use Rattle.book_laws.proofs.IssueLaws.{issue-among}
-use Rattle.disk_laws.specs.Frame.{Frame}
+use Rattle.migration_laws.specs.Below.{IsAmong, CellFits, due, redone_word, word_at, Frame}
+use Rattle.migration_laws.proofs.Below.{cells_of, length-all_cells, redone-due, issue-among}
 use Rattle.up_laws.specs.Steps.{TakesOrNot}
 use Rattle.up_laws.specs.Up.{Up}
 use Rattle.up_laws.proofs.RomLaws.{up-issues}

@@ -2,3 +2,4 @@ pub mod Slaves
 pub mod Up
 pub mod Steps
 pub mod Opening
+pub mod Below

@@ -4,7 +4,7 @@ use Rattle.esc_model.specs.SlaveHalf.{SlaveHalf, MayRest, MayLeave}
 use Rattle.esc_model.specs.WordAccess.{TakesWord}
 use Rattle.slave_queue.specs.Cells.{Cell, cell_of}
 use Rattle.book_model.specs.Book.{Errand, Free, Issuing, Unsettled, Settling}
-use Rattle.book_laws.specs.Owed.{MayBe, IsUnsure, IsAmong}
+use Rattle.migration_laws.specs.Below.{MayBe, IsUnsure, IsAmong}
 
 -- the half took this word and value, and may have come to rest since
 pub record HasTaken (slave word value : ℕ) (half : SlaveHalf) : Type 0 where

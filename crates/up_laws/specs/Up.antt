@@ -12,9 +12,7 @@ use Rattle.book_model.specs.declared.refusal.TheConstants.{QUEUE}
 use Rattle.book_model.specs.Entries.{sizes_of}
 use Rattle.book_model.specs.Book.{Book, Slave, Doing, own, queued, appended, all_cells, nobody, is_version_2}
 use Rattle.book_model.specs.Machine.{Machine}
-use Rattle.book_laws.specs.Fits.{BookFits, SameCells}
-use Rattle.disk_laws.specs.Frame.{Frame}
-use Rattle.disk_laws.specs.Keeping.{IsOfBook, IsOfLine}
+use Rattle.migration_laws.specs.Below.{BookFits, SameCells, Frame, IsOfBook, IsOfLine}
 use Rattle.migration_laws.specs.OldDoing.{JournalFits}
 use Rattle.up_laws.specs.Slaves.{SlaveFits}
 

@@ -7,7 +7,7 @@ ghost use Rattle.book_model.specs.declared.next.RomOutcome.{RomOutcome};
 ghost use Rattle.book_model.specs.Book.{Book, slave_at};
 ghost use Rattle.book_model.specs.RomSteps.{rom_next, rom_done};
 ghost use Rattle.book_model.specs.Machine.{Machine};
-ghost use Rattle.disk_laws.specs.Frame.{Frame};
+ghost use Rattle.migration_laws.specs.Below.{Frame};
 ghost use Rattle.up_laws.specs.Steps.{MayBegin, took_after, MayComeBack};
 ghost use Rattle.up_laws.specs.Up.{Up};
 

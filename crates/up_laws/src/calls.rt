@@ -8,7 +8,7 @@ ghost use Rattle.book_model.specs.Book.{Book, contents_of, is_version_2};
 ghost use Rattle.book_model.specs.Submit.{submit, with_command};
 ghost use Rattle.book_model.specs.Open.{finish, migrate};
 ghost use Rattle.book_model.specs.Machine.{Machine, accepts};
-ghost use Rattle.disk_laws.specs.Frame.{Frame};
+ghost use Rattle.migration_laws.specs.Below.{Frame};
 ghost use Rattle.up_laws.specs.Up.{Up};
 
 /// A command is accepted, and the contents after it are words of 16 bits.

@@ -7,8 +7,7 @@ ghost use Rattle.book_model.specs.declared.fault.Fault.{Fault};
 ghost use Rattle.book_model.specs.Book.{Book, with_fault};
 ghost use Rattle.book_model.specs.DiskSteps.{disk_next, disk_done};
 ghost use Rattle.book_model.specs.Machine.{Machine};
-ghost use Rattle.disk_laws.specs.Frame.{Frame};
-ghost use Rattle.disk_laws.specs.Events.{begun_on, ended_on, FailsOn, in_progress, rested};
+ghost use Rattle.migration_laws.specs.Below.{Frame, begun_on, ended_on, FailsOn, in_progress, rested};
 ghost use Rattle.up_laws.specs.Steps.{acknowledged_by};
 ghost use Rattle.up_laws.specs.Up.{Up};
 

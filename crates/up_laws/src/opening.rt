@@ -5,7 +5,7 @@ ghost use Rattle.jrn_format.specs.declared.journal.Journal.{Journal};
 ghost use Rattle.site_core.specs.State.{State};
 ghost use Rattle.book_model.specs.Machine.{Machine, reopened, MayKeep};
 ghost use Rattle.book_model.specs.Kept.{Kept};
-ghost use Rattle.disk_laws.specs.Frame.{Frame};
+ghost use Rattle.migration_laws.specs.Below.{Frame};
 ghost use Rattle.up_laws.specs.Up.{Up};
 ghost use Rattle.up_laws.specs.Opening.{words_in, IsFound, book_on};
 

@@ -10,7 +10,7 @@ ghost use Rattle.book_model.specs.declared.next.RomOutcome.TheVariants as outcom
 ghost use Rattle.book_model.specs.Book.{Book, Free, Issuing, Unsettled, Settling, slave_at};
 ghost use Rattle.book_model.specs.RomSteps.{to_do, with_errand, with_issue, was_taken, rom_next, rom_done};
 ghost use Rattle.book_model.specs.Machine.{Machine};
-ghost use Rattle.disk_laws.specs.Frame.{Frame};
+ghost use Rattle.migration_laws.specs.Below.{Frame};
 ghost use Rattle.up_laws.specs.Steps.{TakesOrNot};
 ghost use Rattle.up_laws.specs.Up.{Up};
 

@@ -5,7 +5,7 @@ ghost use Rattle.esc_model.specs.SlaveHalf.{SlaveHalf, MayRest};
 ghost use Rattle.esc_model.specs.WordAccess.{IsWell, OnlyRests, TakesWord};
 ghost use Rattle.slave_queue.specs.Cells.{Cell, asked, written, cell_of};
 ghost use Rattle.book_model.specs.Book.{Errand, Free, Issuing, Settling};
-ghost use Rattle.book_laws.specs.Owed.{IsAmong};
+ghost use Rattle.migration_laws.specs.Below.{IsAmong};
 ghost use Rattle.up_laws.specs.Slaves.{SlaveFits};
 
 /// A busy slave may come to rest at any time.

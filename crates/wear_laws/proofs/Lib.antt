@@ -1,3 +1,4 @@
 pub mod CountLaws
 pub mod SlaveLaws
 pub mod BookLaws
+pub mod Below

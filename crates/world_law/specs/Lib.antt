@@ -1,3 +1,4 @@
 pub mod World
 pub mod Happenings
 pub mod Law
+pub mod Below

@@ -1,4 +1,6 @@
 ghost use Rattle.std.specs.Prelude.{◌≡◌, ℕ, ◌<◌, ◌↔◌, length, All, IsTrue, IfOk};
+ghost use Rattle.std.specs.List.{AllByRecursion};
+ghost use Rattle.esc_model.specs.WordAccess.{IsIdle};
 ghost use Rattle.jrn_format.specs.Journal.{IsJournal};
 ghost use Rattle.book_model.specs.Memory.{OutOfMemory};
 ghost use Rattle.book_model.specs.Entries.{sizes_of};
@@ -19,6 +21,7 @@ use sii_edit::{Cause, Command};
 use sii_image::ImageFault;
 use site_core::{DeviceFault, Issued, Settled};
 use std::alloc::Global;
+use std::mem::replace;
 
 /// Whether a command was refused for want of memory.
 fn is_memory(refusal: SubmitRefusal) -> bool
@@ -71,6 +74,13 @@ fn scan_bytes(alloc: Global, bytes: &[u8], sizes: &[u16]) -> Result<Option<Journ
         Err(JournalFault::WrongLine) => return Ok(None),
         Err(JournalFault::BadJournal { .. }) => return Ok(None),
     }
+}
+
+/// This station, or none, takes the place of what stands there, which is dropped by a call: so its drop is proved once.
+fn set_station(place: &mut Option<Station>, station: Option<Station>)
+    ensures { place.new ≡ station }
+{
+    drop(replace(place, station));
 }
 
 impl World {
@@ -219,7 +229,7 @@ impl World {
     fn stop(&mut self, left: &Left)
         ensures { Happened (Event.Stop left.now) self.old self.new }
     {
-        self.station = None;
+        set_station(&mut self.station, None);
         self.disk.stop(&left.bytes);
         self.line.stop(&left.words);
     }
@@ -264,9 +274,19 @@ impl World {
         let Some(journal) = self.scan()? else {
             return Ok(());
         };
+        self.come_up(journal)
+    }
+
+    /// The station comes up on this journal.
+    fn come_up(&mut self, journal: Journal) -> Result<(), CoreFault>
+        requires can { CanOpen self.old.book }
+        requires idle { AllByRecursion IsIdle self.old.state.halves }
+        requires journal { IsJournal self.old.state.disk.bytes (sizes_of (words_in self.old.state.halves)) journal }
+        ensures { Went Event.Open self.old result self.new }
+    {
         let station = self.start(journal)?;
         self.disk.sync();
-        self.station = Some(station);
+        set_station(&mut self.station, Some(station));
         Ok(())
     }
 }

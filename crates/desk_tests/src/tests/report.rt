@@ -45,6 +45,31 @@ struct Outcome<T: Tickets, R: Refusals> {
     ends: Ends<MemSite>,
 }
 
+impl<T: Tickets, R: Refusals> Outcome<T, R> {
+    fn closed(closed: Closed<T, R, MemSite>) -> Self {
+        let Closed { book, ends } = closed;
+        Outcome {
+            fault: None,
+            book,
+            ends,
+        }
+    }
+
+    fn not_closed(left: NotClosed<T, R, MemSite>) -> Self {
+        let NotClosed {
+            fault,
+            book,
+            ends,
+            ..
+        } = left;
+        Outcome {
+            fault: Some(fault),
+            book,
+            ends,
+        }
+    }
+}
+
 /// Closes the desk.
 fn close_with<T: Tickets, R: Refusals>(
     desk: Desk<T, R>,
@@ -53,27 +78,8 @@ fn close_with<T: Tickets, R: Refusals>(
 ) -> Outcome<T, R> {
     let Held { shares, receipts } = held;
     match close(desk, shares, receipts, ends) {
-        Ok(closed) => {
-            let Closed { book, ends } = closed;
-            Outcome {
-                fault: None,
-                book,
-                ends,
-            }
-        }
-        Err(left) => {
-            let NotClosed {
-                fault,
-                book,
-                ends,
-                ..
-            } = left;
-            Outcome {
-                fault: Some(fault),
-                book,
-                ends,
-            }
-        }
+        Ok(closed) => Outcome::closed(closed),
+        Err(left) => Outcome::not_closed(left),
     }
 }
 
@@ -86,13 +92,18 @@ fn acknowledged(receipts: &[Receipt]) -> u64 {
     below
 }
 
-/// What a stop leaves of the site at the end of its work.
-fn left_of<L: Leads + Drop>(rt: &impl Abort, alloc: Global, end: End<MemSite, L>) -> Parts {
-    let (site, _log) = end.into_parts();
+/// What a stop leaves of the site.
+fn left_at(rt: &impl Abort, alloc: Global, site: &MemSite) -> Parts {
     match site.snapshot(alloc) {
         Ok(parts) => parts,
         Err(_refused) => site.snapshot(alloc).expect(rt, "memory"),
     }
+}
+
+/// What a stop leaves of the site at the end of its work.
+fn left_of<L: Leads + Drop>(rt: &impl Abort, alloc: Global, end: End<MemSite, L>) -> Parts {
+    let (site, _log) = end.into_parts();
+    left_at(rt, alloc, &site)
 }
 
 /// What a stop leaves of a slave.

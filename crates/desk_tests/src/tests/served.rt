@@ -3,7 +3,7 @@
 use crate::tests::asks::Ask;
 use crate::tests::line::Plan;
 use crate::tests::meeting::Meeting;
-use crate::tests::session::{LeftOut, Scenario, session};
+use crate::tests::session::{LeftOut, Scenario, Way, session};
 use crate::tests::sites::Trouble;
 use crate::tests::submitter::Pace;
 use site_mem::Parts;
@@ -60,6 +60,7 @@ const HUNDRED: Scenario = Scenario {
     second: &SECOND,
     rounds: 5,
     pace: Pace::Together,
+    way: Way::Threads,
     trouble: Trouble::Nothing,
     left_out: LeftOut::Nothing,
 };

@@ -4,12 +4,13 @@ ghost use Rattle.std.specs.Prelude.{◌≡◌, ◌≤◌, ◌+◌, [], length, I
 ghost use Rattle.line_server.specs.Sites.{OwnParts};
 ghost use Rattle.site_mem.specs.Site.{SiteValue};
 
+use crate::tests::alone::serve_alone;
 use crate::tests::asks::Ask;
 use crate::tests::line::{Plan, book_of};
 use crate::tests::memory::{put, room};
 use crate::tests::report::{Held, Report, report_of};
 use crate::tests::sites::{Trouble, sites_of};
-use crate::tests::submitter::{Both, Pace, Submitter};
+use crate::tests::submitter::{Driver, Pace, Submitter, ended, start_submitting};
 use book_core::Core;
 use line_server::{Sites, serve_line};
 use site_mem::MemSite;
@@ -19,7 +20,8 @@ use std::alloc::Global;
 use std::marker::Brand;
 use std::process::Abort;
 use std::sync::Wait;
-use std::thread::Threads;
+use std::thread;
+use std::thread::{Scope, Threads};
 
 /// What is left out as the desk is closed.
 #[derive(Clone, Copy, PartialEq, Eq)]
@@ -31,6 +33,15 @@ pub(crate) enum LeftOut {
     Share,
 }
 
+/// How a line is served.
+#[derive(Clone, Copy, PartialEq, Eq)]
+pub(crate) enum Way {
+    /// Each part in a thread.
+    Threads,
+    /// On one thread, one part after the other. The disk has to stop.
+    Alone,
+}
+
 /// A line that two submit to, each these commands in so many rounds.
 #[derive(Clone, Copy)]
 pub(crate) struct Scenario {
@@ -39,6 +50,7 @@ pub(crate) struct Scenario {
     pub(crate) second: &'static [Ask],
     pub(crate) rounds: usize,
     pub(crate) pace: Pace,
+    pub(crate) way: Way,
     pub(crate) trouble: Trouble,
     pub(crate) left_out: LeftOut,
 }
@@ -55,7 +67,7 @@ fn submitter<T: Tickets, R: Refusals, W: Wait + Abort>(
     Submitter::new(rt, alloc, share, asks, scenario.rounds, scenario.pace)
 }
 
-/// Serves the line while both submit. The sites come back where a growth was refused.
+/// Serves the line while the driver submits. The sites come back where a growth was refused.
 fn try_serve<
     T: Tickets + Send + Sync,
     R: Refusals + Send + Sync,
@@ -67,16 +79,16 @@ fn try_serve<
     desk: &Desk<T, R>,
     sites: Sites<MemSite>,
     gate: &G,
-    both: &mut Both<T, R>,
+    driver: &mut Driver<T, R>,
 ) -> Result<Ends<MemSite>, Sites<MemSite>>
     requires owned { OwnParts (λ (site : SiteValue). site.line) sites.disk sites.slaves.items sites.cycle }
     requires long { desk.now.limit ≤ length sites.disk.seen.state.disk.bytes }
     ensures { IfErr result (λ same. same ≡ sites) }
 {
-    serve_line(rt, alloc, desk, sites, gate, both)
+    serve_line(rt, alloc, desk, sites, gate, driver)
 }
 
-/// Serves the line while both submit, at the second try where a growth is refused.
+/// Serves the line while the driver submits, at the second try where a growth is refused.
 fn serve<
     T: Tickets + Send + Sync,
     R: Refusals + Send + Sync,
@@ -88,29 +100,122 @@ fn serve<
     desk: &Desk<T, R>,
     sites: Sites<MemSite>,
     gate: &G,
-    both: &mut Both<T, R>,
+    driver: &mut Driver<T, R>,
 ) -> Ends<MemSite>
     requires owned { OwnParts (λ (site : SiteValue). site.line) sites.disk sites.slaves.items sites.cycle }
     requires long { desk.now.limit ≤ length sites.disk.seen.state.disk.bytes }
 {
-    match try_serve(rt, alloc, desk, sites, gate, both) {
+    match try_serve(rt, alloc, desk, sites, gate, driver) {
         Ok(ends) => ends,
-        Err(sites) => try_serve(rt, alloc, desk, sites, gate, both)
+        Err(sites) => try_serve(rt, alloc, desk, sites, gate, driver)
             .ok()
             .expect(rt, "memory"),
     }
+}
+
+/// Two who submit: one drives, the other does so in a thread of its own.
+#[derive(Drop)]
+struct Both<T: Tickets, R: Refusals> {
+    driver: Driver<T, R>,
+    other: Submitter<T, R>,
+}
+
+/// Serves the line while both submit, the other in a thread of the scope.
+fn serve_in<
+    's,
+    E,
+    T: Tickets + Send + Sync + 's,
+    R: Refusals + Send + Sync + 's,
+    G: Gate + Sync,
+    W: Wait + Threads + Sync + Abort,
+>(
+    scope: &'s Scope<'s, E>,
+    rt: &'s W,
+    alloc: Global,
+    desk: &'s Desk<T, R>,
+    sites: Sites<MemSite>,
+    gate: &'s G,
+    driver: &mut Driver<T, R>,
+    other: Submitter<T, R>,
+) -> (Ends<MemSite>, Submitter<T, R>)
+    requires owned { OwnParts (λ (site : SiteValue). site.line) sites.disk sites.slaves.items sites.cycle }
+    requires long { desk.now.limit ≤ length sites.disk.seen.state.disk.bytes }
+{
+    let started = start_submitting(scope, rt, desk, other);
+    let ends = serve(rt, alloc, desk, sites, gate, driver);
+    (ends, ended(rt, started))
+}
+
+/// Serves the line by threads, while both submit.
+fn serve_both<
+    'e,
+    T: Tickets + Send + Sync + 'e,
+    R: Refusals + Send + Sync + 'e,
+    G: Gate + Sync,
+    W: Wait + Threads + Sync + Abort,
+>(
+    rt: &'e W,
+    alloc: Global,
+    desk: &'e Desk<T, R>,
+    sites: Sites<MemSite>,
+    gate: &'e G,
+    driver: &'e mut Driver<T, R>,
+    other: Submitter<T, R>,
+) -> (Ends<MemSite>, Submitter<T, R>)
+    requires owned { OwnParts (λ (site : SiteValue). site.line) sites.disk sites.slaves.items sites.cycle }
+    requires long { desk.now.limit ≤ length sites.disk.seen.state.disk.bytes }
+{
+    thread::scope(
+        thread::scope_env(),
+        rt,
+        move |scope| -> (Ends<MemSite>, Submitter<T, R>)
+            requires owned { OwnParts (λ (site : SiteValue). site.line) sites.disk sites.slaves.items sites.cycle }
+            requires long { desk.now.limit ≤ length sites.disk.seen.state.disk.bytes }
+        { serve_in(scope, rt, alloc, desk, sites, gate, driver, other) },
+    )
+}
+
+/// Serves the line so, while both submit.
+fn serve_so<
+    T: Tickets + Send + Sync,
+    R: Refusals + Send + Sync,
+    G: Gate + Sync,
+    W: Wait + Threads + Sync + Abort,
+>(
+    rt: &W,
+    alloc: Global,
+    desk: &Desk<T, R>,
+    sites: Sites<MemSite>,
+    way: Way,
+    gate: &G,
+    driver: &mut Driver<T, R>,
+    other: Submitter<T, R>,
+) -> (Ends<MemSite>, Submitter<T, R>)
+    requires owned { OwnParts (λ (site : SiteValue). site.line) sites.disk sites.slaves.items sites.cycle }
+    requires long { desk.now.limit ≤ length sites.disk.seen.state.disk.bytes }
+{
+    match way {
+        Way::Threads => serve_both(rt, alloc, desk, sites, gate, driver, other),
+        Way::Alone => (serve_alone(rt, alloc, desk, sites), other),
+    }
+}
+
+/// How many commands the two submit.
+fn count_of(scenario: &Scenario) -> u64 {
+    let asks = scenario.first.len().saturating_add(scenario.second.len());
+    asks.saturating_mul(scenario.rounds) as u64
 }
 
 /// All that the two hold, but for what is left out.
 fn held<T: Tickets, R: Refusals>(
     rt: &impl Abort,
     alloc: Global,
-    first: Submitter<T, R>,
-    second: Submitter<T, R>,
+    both: Both<T, R>,
     left_out: LeftOut,
 ) -> Held<T, R> {
-    let (one, mut receipts) = first.into_parts();
-    let (other, others) = second.into_parts();
+    let Both { driver, other } = both;
+    let (one, mut receipts) = driver.submitter.into_parts();
+    let (other, others) = other.into_parts();
     hand_in(rt, &mut receipts, others);
     let mut shares = room(rt, alloc, 2);
     put(rt, &mut shares, one);
@@ -133,6 +238,60 @@ fn ends_but(mut ends: Ends<MemSite>, left_out: LeftOut) -> Ends<MemSite> {
         ends.workers.remove(1);
     }
     ends
+}
+
+/// The two who submit to the desk, which gives no third share.
+fn both_of<T: Tickets, R: Refusals, W: Wait + Abort>(
+    rt: &W,
+    alloc: Global,
+    desk: &Desk<T, R>,
+    scenario: &Scenario,
+) -> Both<T, R> {
+    let mut first = submitter(rt, alloc, desk, scenario, scenario.first);
+    let mut other = submitter(rt, alloc, desk, scenario, scenario.second);
+    assert!(rt; desk.share(rt).is_err());
+    first.begin(rt, desk);
+    other.begin(rt, desk);
+    let driver = Driver {
+        submitter: first,
+        accepted: count_of(scenario),
+    };
+    Both { driver, other }
+}
+
+/// Serves the line by the desk. What is left out is left out of what is handed in, and of the ends.
+fn serve_at<
+    T: Tickets + Send + Sync,
+    R: Refusals + Send + Sync,
+    G: Gate + Sync,
+    W: Wait + Threads + Sync + Abort,
+>(
+    rt: &W,
+    alloc: Global,
+    desk: &Desk<T, R>,
+    sites: Sites<MemSite>,
+    scenario: &Scenario,
+    gate: &G,
+) -> (Held<T, R>, Ends<MemSite>)
+    requires owned { OwnParts (λ (site : SiteValue). site.line) sites.disk sites.slaves.items sites.cycle }
+    requires long { desk.now.limit ≤ length sites.disk.seen.state.disk.bytes }
+{
+    let Both { mut driver, other } = both_of(rt, alloc, desk, scenario);
+    let (ends, mut other) = serve_so(
+        rt,
+        alloc,
+        desk,
+        sites,
+        scenario.way,
+        gate,
+        &mut driver,
+        other,
+    );
+    other.wait_all(rt, desk);
+    (
+        held(rt, alloc, Both { driver, other }, scenario.left_out),
+        ends_but(ends, scenario.left_out),
+    )
 }
 
 /// Serves the line by a desk of this book, and closes the desk. None: a growth was refused as the desk was made.
@@ -159,17 +318,7 @@ fn serve_by<
     requires long { 8 + core.capacity ≤ length sites.disk.seen.state.disk.bytes }
 {
     let desk = Desk::<T, R>::of(alloc, core, tickets, refusals).ok()?;
-    let mut both = Both {
-        first: submitter(rt, alloc, &desk, scenario, scenario.first),
-        second: submitter(rt, alloc, &desk, scenario, scenario.second),
-    };
-    assert!(rt; desk.share(rt).is_err());
-    both.first.begin(rt, &desk);
-    both.second.begin(rt, &desk);
-    let ends = serve(rt, alloc, &desk, sites, gate, &mut both);
-    let Both { first, second } = both;
-    let held = held(rt, alloc, first, second, scenario.left_out);
-    let ends = ends_but(ends, scenario.left_out);
+    let (held, ends) = serve_at(rt, alloc, &desk, sites, scenario, gate);
     Some(report_of(rt, alloc, &scenario.plan, desk, held, ends))
 }
 

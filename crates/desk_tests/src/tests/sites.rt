@@ -34,7 +34,7 @@ const FIRST_STATION: u16 = 0x1001;
 const DELAY: u32 = 3;
 
 /// The number of a slave, or of slaves.
-fn number_of(slave: usize) -> u16 {
+pub(crate) fn number_of(slave: usize) -> u16 {
     u16::try_from(slave).unwrap_or(0)
 }
 

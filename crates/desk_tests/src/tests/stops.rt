@@ -3,7 +3,7 @@
 use crate::tests::asks::Ask;
 use crate::tests::line::Plan;
 use crate::tests::report::Report;
-use crate::tests::session::{LeftOut, Scenario, session};
+use crate::tests::session::{LeftOut, Scenario, Way, session};
 use crate::tests::sites::{Trouble, site_of};
 use crate::tests::submitter::Pace;
 use esc_rom::RomFault;
@@ -44,6 +44,7 @@ const STOPPING: Scenario = Scenario {
     second: &[],
     rounds: 1,
     pace: Pace::Queued,
+    way: Way::Threads,
     trouble: Trouble::Nothing,
     left_out: LeftOut::Nothing,
 };
@@ -117,10 +118,12 @@ fn place_of(aliases: [u16; 3]) -> Option<u64> {
 }
 
 /// Whether the line was stopped, whose desk was closed so. None: what it holds once it is recovered isn't what was acknowledged and
-/// perhaps more; or nothing stopped it, and it doesn't hold all; or all were queued first, and it holds neither all nor none.
+/// perhaps more; or nothing stopped it, and it doesn't hold all; or all were queued first, and it accepted less or more than these, or
+/// holds neither all nor none.
 fn judged(
     pace: Pace,
     fault: Option<CloseFault>,
+    accepted: usize,
     acknowledged: u64,
     place: Option<u64>,
 ) -> Option<bool> {
@@ -130,31 +133,27 @@ fn judged(
         Some(CloseFault::Unserved) => acknowledged,
         Some(CloseFault::Mismatch) => return None,
     };
-    if place < least || (pace == Pace::Queued && place != 0 && place != 3) {
+    if place < least || (pace == Pace::Queued && (accepted != 3 || place != 0 && place != 3)) {
         return None;
     }
     Some(fault.is_some())
 }
 
-/// Whether the line with this trouble was stopped. None: as for one that is judged.
+/// Whether the line was stopped. None: as for one that is judged.
 fn is_stopped<W: Wait + Threads + Sync + Abort>(
     rt: &W,
     alloc: Global,
-    pace: Pace,
-    trouble: Trouble,
+    scenario: &Scenario,
 ) -> Option<bool> {
-    let scenario = Scenario {
-        pace,
-        trouble,
-        ..STOPPING
-    };
     let Report {
         fault,
+        accepted,
         acknowledged,
         line,
         ..
-    } = session(rt, alloc, &scenario, &NoGate);
-    judged(pace, fault, acknowledged, place_left(rt, alloc, line))
+    } = session(rt, alloc, scenario, &NoGate);
+    let place = place_left(rt, alloc, line);
+    judged(scenario.pace, fault, accepted, acknowledged, place)
 }
 
 /// A part that stops.
@@ -181,7 +180,12 @@ fn stops_by<W: Wait + Threads + Sync + Abort>(
 ) -> Option<usize> {
     let mut count = 0usize;
     for pattern in PATTERNS {
-        if is_stopped(rt, alloc, pace, trouble_of(part, writes, pattern))? {
+        let scenario = Scenario {
+            pace,
+            trouble: trouble_of(part, writes, pattern),
+            ..STOPPING
+        };
+        if is_stopped(rt, alloc, &scenario)? {
             count = count.saturating_add(1);
         }
     }
@@ -228,5 +232,18 @@ fn any_part_may_stop(rt: HostRuntime) {
 /// want of it closes the book, and a recovery finds what was acknowledged.
 #[test]
 fn a_refused_growth_loses_nothing(rt: HostRuntime) {
-    assert!(rt; is_stopped(&rt, rt.alloc(), Pace::Queued, Trouble::Nothing).is_some());
+    assert!(rt; is_stopped(&rt, rt.alloc(), &STOPPING).is_some());
+}
+
+/// Three commands are queued, and the disk stops at its first write.
+const ALONE: Scenario = Scenario {
+    way: Way::Alone,
+    trouble: Trouble::DiskStops(0, Pattern::Old),
+    ..STOPPING
+};
+
+/// The same on one thread, so that the growths of a desk come in the same order each time.
+#[test]
+fn a_growth_refused_on_one_thread_loses_nothing(rt: HostRuntime) {
+    assert!(rt; is_stopped(&rt, rt.alloc(), &ALONE) == Some(true));
 }

@@ -1,15 +1,17 @@
 //! Those who submit to a desk while its line is served.
 
+ghost use denote.Param.Send.{IsSync};
+
 use crate::tests::asks::{Ask, command};
 use crate::tests::memory::room;
 use book_model::SubmitRefusal;
 use line_server::Client;
-use sii_edit::Cause;
+use sii_edit::{Cause, Command};
 use station_desk::{Desk, Receipt, Refusals, Share, Ticket, Tickets};
 use std::alloc::Global;
 use std::process::Abort;
 use std::sync::Wait;
-use std::thread::Threads;
+use std::thread::{JoinHandle, Scope, Threads};
 
 /// When a submitter waits for what it submitted.
 #[derive(Clone, Copy, PartialEq, Eq)]
@@ -41,6 +43,18 @@ fn is_out_of_memory(refusal: SubmitRefusal) -> bool {
     }
 }
 
+/// Waits for a command, and keeps its receipt. What isn't acknowledged is left out.
+fn wait_for<T: Tickets, R: Refusals, W: Wait>(
+    rt: &W,
+    desk: &Desk<T, R>,
+    ticket: Ticket,
+    receipts: &mut Vec<Receipt>,
+) {
+    if let Ok(receipt) = desk.wait(rt, ticket) {
+        let _ = receipts.push(receipt);
+    }
+}
+
 impl<T: Tickets, R: Refusals> Submitter<T, R> {
     /// One who submits these commands, in so many rounds.
     pub(crate) fn new(
@@ -64,31 +78,55 @@ impl<T: Tickets, R: Refusals> Submitter<T, R> {
     }
 
     /// Submits a command. False where a growth was refused; then nothing has changed.
-    fn is_submitted<W: Wait>(&mut self, rt: &W, desk: &Desk<T, R>, ask: &Ask) -> bool {
-        let Some(command) = command(self.alloc, ask) else {
-            return false;
-        };
+    fn is_taken<W: Wait>(&mut self, rt: &W, desk: &Desk<T, R>, command: Command) -> bool {
         match desk.submit(rt, &mut self.share, command) {
             Ok(ticket) => self.tickets.push(ticket).is_ok(),
             Err(refused) => !is_out_of_memory(refused.refusal),
         }
     }
 
+    /// Submits what is asked for. False where a growth was refused; then nothing has changed.
+    fn is_submitted<W: Wait>(&mut self, rt: &W, desk: &Desk<T, R>, ask: &Ask) -> bool {
+        match command(self.alloc, ask) {
+            Some(command) => self.is_taken(rt, desk, command),
+            None => false,
+        }
+    }
+
     /// Waits for all that was submitted. What isn't acknowledged is left out.
-    fn wait_all<W: Wait>(&mut self, rt: &W, desk: &Desk<T, R>) {
+    pub(crate) fn wait_all<W: Wait>(&mut self, rt: &W, desk: &Desk<T, R>) {
         while let Some(ticket) = self.tickets.pop() {
-            if let Ok(receipt) = desk.wait(rt, ticket) {
-                let _ = self.receipts.push(receipt);
+            wait_for(rt, desk, ticket, &mut self.receipts);
+        }
+    }
+
+    /// Submits what is asked for, again where a growth was refused.
+    fn submit<W: Wait>(&mut self, rt: &W, desk: &Desk<T, R>, ask: &Ask) {
+        if !self.is_submitted(rt, desk, ask) {
+            self.is_submitted(rt, desk, ask);
+        }
+    }
+
+    /// Submits all commands once, and waits for none.
+    fn submit_each<W: Wait>(&mut self, rt: &W, desk: &Desk<T, R>) {
+        for ask in self.asks {
+            self.submit(rt, desk, ask);
+        }
+    }
+
+    /// Submits what is to be submitted while the line is served, and waits for none.
+    fn submit_rounds<W: Wait>(&mut self, rt: &W, desk: &Desk<T, R>) {
+        if self.pace != Pace::Queued {
+            for _round in 0..self.rounds {
+                self.submit_each(rt, desk);
             }
         }
     }
 
-    /// Submits all commands once, each again where a growth was refused.
+    /// Submits all commands once.
     fn submit_all<W: Wait>(&mut self, rt: &W, desk: &Desk<T, R>) {
         for ask in self.asks {
-            if !self.is_submitted(rt, desk, ask) {
-                self.is_submitted(rt, desk, ask);
-            }
+            self.submit(rt, desk, ask);
             if self.pace == Pace::OneByOne {
                 self.wait_all(rt, desk);
             }
@@ -102,13 +140,14 @@ impl<T: Tickets, R: Refusals> Submitter<T, R> {
         }
     }
 
-    /// Submits what is to be submitted while the line is served.
+    /// Submits what is to be submitted while the line is served, and then waits for what isn't acknowledged yet.
     fn go_on<W: Wait>(&mut self, rt: &W, desk: &Desk<T, R>) {
         if self.pace != Pace::Queued {
             for _round in 0..self.rounds {
                 self.submit_all(rt, desk);
             }
         }
+        self.wait_all(rt, desk);
     }
 
     /// Its share, and its receipts.
@@ -122,18 +161,72 @@ impl<T: Tickets, R: Refusals> Submitter<T, R> {
     }
 }
 
-/// Two who submit while the line is served, and then wait for what isn't acknowledged yet.
-#[derive(Drop)]
-pub(crate) struct Both<T: Tickets, R: Refusals> {
-    pub(crate) first: Submitter<T, R>,
-    pub(crate) second: Submitter<T, R>,
+/// Submits, and gives it back.
+fn submitted<T: Tickets, R: Refusals, W: Wait>(
+    rt: &W,
+    desk: &Desk<T, R>,
+    mut submitter: Submitter<T, R>,
+) -> Submitter<T, R> {
+    submitter.submit_rounds(rt, desk);
+    submitter
 }
 
-impl<T: Tickets, R: Refusals> Client<T, R> for Both<T, R> {
+/// One who submits in a thread, or has done so already.
+type Started<T, R> = Result<JoinHandle<Submitter<T, R>>, Submitter<T, R>>;
+
+/// Starts a thread in which it submits. Where none can be made it submits here, before the line is served: it waits for nobody.
+pub(crate) fn start_submitting<
+    's,
+    E,
+    T: Tickets + Send + Sync + 's,
+    R: Refusals + Send + Sync + 's,
+    W: Wait + Threads + Sync,
+>(
+    scope: &'s Scope<'s, E>,
+    rt: &'s W,
+    desk: &'s Desk<T, R>,
+    submitter: Submitter<T, R>,
+) -> Started<T, R> {
+    let submits = move || -> Submitter<T, R>
+        requires { IsSync W.row }
+    { submitted(rt, desk, submitter) };
+    match scope.spawn(submits) {
+        Ok(handle) => Ok(handle),
+        Err(refused) => Err((refused.value)()),
+    }
+}
+
+/// Waits for it, unless it has submitted already.
+pub(crate) fn ended<T: Tickets, R: Refusals, W: Threads>(
+    rt: &W,
+    started: Started<T, R>,
+) -> Submitter<T, R> {
+    match started {
+        Ok(handle) => handle.join(rt),
+        Err(submitter) => submitter,
+    }
+}
+
+/// Waits until so many commands are accepted, or no more are.
+fn wait_for_others<T: Tickets, R: Refusals, W: Wait>(rt: &W, desk: &Desk<T, R>, accepted: u64) {
+    for _ in rt.forever() {
+        let seen = desk.status(rt);
+        if seen.accepted >= accepted || desk.changed(rt, &seen) == seen {
+            break;
+        }
+    }
+}
+
+/// One who submits on the thread that serves the line, and then lets others submit until so many commands are accepted.
+#[derive(Drop)]
+pub(crate) struct Driver<T: Tickets, R: Refusals> {
+    pub(crate) submitter: Submitter<T, R>,
+    pub(crate) accepted: u64,
+}
+
+impl<T: Tickets, R: Refusals> Client<T, R> for Driver<T, R> {
     fn drive<W: Wait + Threads + Sync>(&mut self, rt: &W, desk: &Desk<T, R>) {
-        self.first.go_on(rt, desk);
-        self.second.go_on(rt, desk);
-        self.first.wait_all(rt, desk);
-        self.second.wait_all(rt, desk);
+        self.submitter.go_on(rt, desk);
+        wait_for_others(rt, desk, self.accepted);
     }
 }

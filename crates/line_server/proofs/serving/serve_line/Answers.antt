@@ -1,7 +1,7 @@
 use Rattle.std.proofs.Common.{refl, arith}
 use denote.Param.Send.{sendable}
 use Rattle.line_server.proofs.EndLaws.{parts-long, ends-of-sites}
-use Rattle.desk_sent.proofs.Sent.{disk-send, rom-send, cycle-send}
+use Rattle.station_desk.proofs.Sent.{disk-send, rom-send, cycle-send}
 use Rattle.line_server.proofs.serving.serve_line.Goals as goal
 
 pub serve-disk-requires-send-F : goal.serve-disk-requires-send-F

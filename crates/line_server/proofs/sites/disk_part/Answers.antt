@@ -1,5 +1,5 @@
 use denote.Param.Send.{sendable}
-use Rattle.desk_sent.proofs.Sent.{disk-send}
+use Rattle.station_desk.proofs.Sent.{disk-send}
 use Rattle.line_server.proofs.sites.disk_part.Goals as goal
 
 pub new-requires-send-D : goal.new-requires-send-D

@@ -4,7 +4,7 @@ use denote.Param.Send.{sendable}
 use Rattle.site_core.specs.Line.{Owns}
 use Rattle.line_server.proofs.PlaceLaws.{place-of}
 use Rattle.line_server.proofs.EndLaws.{parts-long, parts-more}
-use Rattle.desk_sent.proofs.Sent.{rom-send}
+use Rattle.station_desk.proofs.Sent.{rom-send}
 use Rattle.line_server.proofs.sites.slave_parts.Goals as goal
 
 pub overflow_cast-slave : goal.overflow_cast-slave

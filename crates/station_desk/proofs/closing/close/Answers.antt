@@ -2,7 +2,7 @@ use Rattle.std.proofs.Common.{◌≡◌, ◌∙◌, List, IsTrue, sym, subst}
 use Rattle.desk_book.specs.Numbered.{Numbered}
 use Rattle.desk_book.specs.Serving.{Counts}
 use Rattle.station_desk.specs.Closing.{IsHandedIn}
-use Rattle.desk_laws.proofs.SlaveLaws.{all-read}
+use Rattle.joined_law.proofs.Below.{all-read}
 use Rattle.joined_law.proofs.TogetherLaws.{all-kept, all-left}
 use Rattle.station_desk.proofs.closing.close.Goals as goal
 

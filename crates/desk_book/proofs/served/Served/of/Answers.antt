@@ -1,21 +1,10 @@
-use Rattle.std.proofs.Common.{length, sym, ap, arith}
-use Rattle.book_model.specs.Book.{Book, contents_of}
-use Rattle.desk_book.proofs.CountLaws.{each-slave}
+use Rattle.std.proofs.Common.{◌≡◌, length, ap, arith}
 use Rattle.desk_book.proofs.served.Served.of.Goals as goal
 
-pub invariant_of-result : goal.invariant_of-result
-invariant_of-result g c =
-    let totals = c.open-ticket_book.ensures.totals in
-    let opened = g.T.Tickets.opened in
-    rw c.new.ensures (
-      record { same = c.requires.core; answers = tt },
-      record {
-        accepted = omega (arith, totals.0, ap length c.requires.none);
-        refused = omega (arith, totals.1);
-        fit = omega (arith, totals.0);
-        refused_fit = omega (arith, totals.1);
-      },
-      sym totals.1,
-      record { of_disk = c.new-2.ensures; of_slaves = c.in_ok-slaves.ensures.none; of_cycle = c.new-3.ensures.items },
-      omega (arith, c.in_ok-slaves.ensures.count, c.len.ensures.len, ap length c.contents.ensures, ap (λ (b : Book). length (contents_of b)) c.requires.core, each-slave opened opened.accepted),
-    )
+pub with_notes-requires-clause-notes : goal.with_notes-requires-clause-notes
+with_notes-requires-clause-notes g c = let none = c.no_notes.ensures.none in rw c.in-Ok.is at none
+
+pub with_notes-requires-clause-count : goal.with_notes-requires-clause-count
+with_notes-requires-clause-count g c =
+    let count : length c.in-Ok.slaves.items ≡ c.len.result = (let made = c.no_notes.ensures.count in rw c.in-Ok.is at made) in
+    omega (arith, count, c.len.ensures.len, ap length c.contents.ensures)

@@ -1,5 +1,5 @@
 use denote.Param.Send.{sendable}
-use Rattle.desk_tests.proofs.Sent.{site-send}
+use Rattle.site_mem.proofs.Sent.{site-send}
 use Rattle.desk_tests.proofs.tests.session.try_serve.Goals as goal
 
 pub serve_line-requires-send-S : goal.serve_line-requires-send-S

@@ -15,4 +15,4 @@ returns c =
     let left = c.args.left.now in
     let on_disk = subst (λ (l : List LeftByte). StopsAs l now.state.disk (disk_of c.stop.new.self)) c.deref.ensures.value c.stop.ensures in
     let torn = subst (λ (l : List LeftWord). TornBy l now.state.halves c.stop-2.new.self.halves) c.deref-2.ensures.value c.stop-2.ensures.halves in
-    seen _ now _ _ c.self.view_is (stops now left (disk_of c.stop.new.self) c.stop-2.new.self on_disk torn c.stop-2.ensures.took)
+    rw c.set_station.ensures (seen _ now _ _ c.self.view_is (stops now left (disk_of c.stop.new.self) c.stop-2.new.self on_disk torn c.stop-2.ensures.took))

@@ -52,7 +52,7 @@ module _ (T R : RattleType) (t : tickets.Ghosts T.Denot) (l : ledger.Ghosts T.De
   served-send : IsSend (Served.the_row T R t l r)
   served-send = search (send-History, core-send, notes.the_send, pool.the_send, book.the_send, crosses, sendable) depth 40 fits 20000
 
-  desk-sync : IsSync (Desk.the_row T R t l r)
+  pub desk-sync : IsSync (Desk.the_row T R t l r)
   desk-sync = search (sendable, crosses, served-send) depth 40
 
   module _ (a : NamedLft) where

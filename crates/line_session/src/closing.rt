@@ -1,0 +1,173 @@
+//! A desk is closed with what the submitter and those who did its jobs hand in.
+
+ghost use Rattle.std.specs.Prelude.{◌≡◌, ◌≤◌, [], true, is_err, vec_capacity, MatchResult, Ok, OnOk};
+ghost use Rattle.station_desk.specs.Below.{AreAnswered};
+ghost use Rattle.line_session.specs.Asking.{fault_of, receipts_of};
+ghost use Rattle.line_session.specs.AtDesk.{Closes, EndsSo, IsStopped};
+
+use crate::answers::print_totals;
+use crate::asked::Asked;
+use crate::submitter::Submitter;
+use site_mem::MemSite;
+use station_desk::{
+    CloseFault, Closed, Desk, Ends, NotClosed, Receipt, Refusals, Served, Share, Tickets, close,
+};
+use station_files::{Fault, Status};
+use station_rounds::fault_of_book;
+use std::alloc::Global;
+use std::io::Write;
+
+/// How the work at a desk ended.
+#[derive(Drop)]
+pub struct Ending {
+    /// Whether the commands were submitted. Where a thread couldn't be made none was.
+    pub is_driven: bool,
+    /// Whether what was handed in to close the desk is what it handed out.
+    pub is_matched: bool,
+    /// The worst of the answers to the commands.
+    pub status: Status,
+    /// Whether a fault ended the work.
+    pub ended: Result<(), Fault>,
+}
+
+/// What came of a desk.
+#[derive(Drop)]
+pub(crate) struct AtDesk {
+    pub(crate) ends: Ends<MemSite>,
+    pub(crate) ending: Ending,
+}
+
+/// Closes the desk with what the submitter and the others hand in. Prints the totals, unless a fault came first.
+pub(crate) fn hand_in<T: Tickets, R: Refusals, C: Asked, O: Write>(
+    desk: Desk<T, R>,
+    submitter: Submitter<'_, '_, T, R, C, O>,
+    room: Vec<Share<T, R>>,
+    ends: Ends<MemSite>,
+) -> AtDesk
+    requires { (room.items ≡ []) × (1 ≤ vec_capacity room) }
+    ensures ends { result.ends ≡ ends }
+    ensures ending { EndsSo T.opened C.commands ends result.ending }
+{
+    let Submitter {
+        alloc,
+        output,
+        share,
+        status,
+        came,
+        ..
+    } = submitter;
+    let mut shares = room;
+    shares.push_reserved(share);
+    let is_driven = came.is_some();
+    let has_totals = has_receipts(&came);
+    let (receipts, asked) = received(alloc, came);
+    let (ends, is_matched, closed) = close_desk(desk, shares, receipts, ends, has_totals, output);
+    let ending = Ending {
+        is_driven,
+        is_matched,
+        status,
+        ended: told_of(asked, closed),
+    };
+    AtDesk { ends, ending }
+}
+
+/// Whether receipts came of submitting.
+fn has_receipts(came: &Option<Result<Vec<Receipt>, Fault>>) -> bool {
+    matches!(came, Some(Ok(_)))
+}
+
+/// The receipts that came of submitting, if any did, and the fault, if one came.
+fn received(
+    alloc: Global,
+    came: Option<Result<Vec<Receipt>, Fault>>,
+) -> (Vec<Receipt>, Result<(), Fault>)
+    ensures receipts { result.0.items ≡ receipts_of came }
+    ensures fault { result.1 ≡ fault_of came }
+{
+    match came {
+        Some(Ok(receipts)) => (receipts, Ok(())),
+        Some(Err(fault)) => (Vec::new(alloc), Err(fault)),
+        None => (Vec::new(alloc), Ok(())),
+    }
+}
+
+/// What is told of a submitter of whom this came, at a desk of which that came. Where a command wasn't served, the desk tells why.
+fn told_of(asked: Result<(), Fault>, closed: Result<(), Fault>) -> Result<(), Fault>
+    ensures { OnOk result ((asked ≡ Ok tt) × (closed ≡ Ok tt)) }
+{
+    match (asked, closed) {
+        (Ok(()), end) => end,
+        (Err(Fault::Unserved), Err(why)) => Err(why),
+        (Err(fault), _) => Err(fault),
+    }
+}
+
+/// What came of closing a desk: the ends come back, with whether what was handed in is what the desk handed out, and why it isn't closed
+/// or told.
+type Told = (Ends<MemSite>, bool, Result<(), Fault>);
+
+/// Closes the desk, and prints the totals where that is asked for.
+///
+/// # Errors
+///
+/// Why the desk isn't closed: what has closed the book, or `Unserved`. Or why the totals can't be printed.
+fn close_desk<T: Tickets, R: Refusals, O: Write>(
+    desk: Desk<T, R>,
+    shares: Vec<Share<T, R>>,
+    receipts: Vec<Receipt>,
+    ends: Ends<MemSite>,
+    has_totals: bool,
+    output: &mut O,
+) -> Told
+    ensures ends { result.0 ≡ ends }
+    ensures closes { MatchResult result.2 (λ done. Closes T.opened shares.items receipts.items ends) (λ fault. IsStopped T.opened result.1 ends) }
+{
+    match close(desk, shares, receipts, ends) {
+        Ok(closed) => tell_closed(closed, has_totals, output),
+        Err(left) => tell_open(left, has_totals, output),
+    }
+}
+
+/// Prints the totals of a desk that is closed, where that is asked for.
+fn tell_closed<T: Tickets, R: Refusals, O: Write>(
+    closed: Closed<T, R, MemSite>,
+    has_totals: bool,
+    output: &mut O,
+) -> Told
+    ensures ends { (result.0 ≡ closed.ends) × (result.1 ≡ true) }
+    ensures answered { AreAnswered T.opened closed.book.calls }
+{
+    let Closed { book, ends } = closed;
+    let printed = print_totals(&book, has_totals, output);
+    (ends, true, printed)
+}
+
+/// Tells why a desk isn't closed, and prints the totals where that is asked for.
+fn tell_open<T: Tickets, R: Refusals, O: Write>(
+    left: NotClosed<T, R, MemSite>,
+    has_totals: bool,
+    output: &mut O,
+) -> Told
+    ensures ends { result.0 ≡ left.ends }
+    ensures unserved { result.1 ≡ true → left.fault ≡ CloseFault.Unserved }
+    ensures matched { left.fault ≡ CloseFault.Unserved → result.1 ≡ true }
+    ensures fault { is_err result.2 ≡ true }
+    ensures answered { AreAnswered T.opened left.book.calls }
+{
+    let NotClosed {
+        fault,
+        book,
+        ends,
+        ..
+    } = left;
+    let _printed = print_totals(&book, has_totals, output);
+    (ends, fault == CloseFault::Unserved, Err(why_open(&book)))
+}
+
+/// Why a book isn't served: what has closed it, if anything has.
+fn why_open<T: Tickets, R: Refusals>(book: &Served<T, R>) -> Fault {
+    match book.fault() {
+        Some(fault) => fault_of_book(fault),
+        None => Fault::Unserved,
+    }
+}

@@ -1,0 +1,31 @@
+//! Printing on standard output.
+ghost use Rattle.std.specs.Prelude.{IfErr, OnOk};
+ghost use Rattle.std.specs.Io.KnownBytes.{Appends};
+ghost use Rattle.station_files.specs.Faults.{IsOfStream};
+
+use crate::faults::Fault;
+use std::alloc::Global;
+use std::fmt::Display;
+use std::io::Write;
+
+/// Prints a listing. Nothing is printed where memory is refused.
+pub fn print_listing<L: Display, W: Write>(
+    alloc: Global,
+    listing: &L,
+    output: &mut W,
+) -> Result<(), Fault>
+    ensures failed { IfErr result IsOfStream }
+{
+    let text = format!(in alloc; "{listing}")?;
+    write_whole(text.as_bytes(), output)
+}
+
+/// Writes these bytes, with nothing left in a buffer.
+pub fn write_whole<W: Write>(bytes: &[u8], output: &mut W) -> Result<(), Fault>
+    ensures written { OnOk result (Appends (W.contents output.old) (W.contents output.new) bytes.now) }
+    ensures failed { IfErr result IsOfStream }
+{
+    output.write_all(bytes)?;
+    output.flush()?;
+    Ok(())
+}
