@@ -30,18 +30,24 @@ pub(crate) fn fails(site: &mut MemSite) -> bool {
 /// What the failure did to a run that has these parts and ended so.
 fn failure_of(alloc: Global, parts: Parts, end: &End, is_over: bool) -> Failure {
     if is_over {
+        drop(parts);
         return Failure::Over;
     }
+    if end.fault == Some(Fault::Disk) {
+        let is_kept = recovers(alloc, parts, kept_by(Way::OneByOne, end.status[1]));
+        return if is_kept {
+            Failure::Closed
+        } else {
+            Failure::Wrong
+        };
+    }
+    let aliases = aliases_of(&parts);
+    drop(parts);
     if *end == UNOPENED {
         return Failure::Unopened;
     }
-    if *end == SERVED && aliases_of(&parts) == [9, 1, 7] {
+    if *end == SERVED && aliases == [9, 1, 7] {
         return Failure::Served;
-    }
-    if end.fault == Some(Fault::Disk)
-        && recovers(alloc, parts, kept_by(Way::OneByOne, end.status[1]))
-    {
-        return Failure::Closed;
     }
     Failure::Wrong
 }

@@ -130,18 +130,24 @@ fn recovers_at_last(alloc: Global, parts: Parts, kept: &[[u16; 3]]) -> bool {
     let (site, came) = recovered(alloc, site);
     let left = site.into_parts();
     match came {
-        Ok(_) => is_found(&left, kept),
-        Err(fault) => is_memory(fault) && recovers(alloc, left, kept),
+        Err(fault) if is_memory(fault) => recovers(alloc, left, kept),
+        _ => {
+            let is_found = is_found(&left, kept);
+            drop(left);
+            came.is_ok() && is_found
+        }
     }
 }
 
 /// Whether nothing is lost behind an end.
 fn is_kept(alloc: Global, parts: Parts, work: Work, end: &End) -> bool {
     if work == Work::Serve && end.fault.is_none() {
-        return *end == SERVED && aliases_of(&parts) == [9, 1, 7];
+        let aliases = aliases_of(&parts);
+        drop(parts);
+        return *end == SERVED && aliases == [9, 1, 7];
     }
     let is_disk = end.fault.is_none() || end.fault == Some(Fault::Disk);
-    is_disk && recovers_at_last(alloc, parts, kept_by(Way::Queued, end.status[1]))
+    recovers_at_last(alloc, parts, kept_by(Way::Queued, end.status[1])) && is_disk
 }
 
 /// Whether the work goes well, and nothing is lost. None where there is no memory for the line.

@@ -187,7 +187,9 @@ fn an_old_journal_is_migrated(rt: HostRuntime) {
 /// How many writes the recovery of the old journal makes, where a second one mends it wherever the pattern stops it.
 fn writes_of_a_migration(alloc: Global, pattern: Pattern) -> Option<u64> {
     let site = site_of(alloc, parts_of(alloc, &OLD)?, &Nothing)?;
-    writes_mended(alloc, &site, &[[1, 0, 0]], pattern)
+    let writes = writes_mended(alloc, &site, &[[1, 0, 0]], pattern);
+    drop(site);
+    writes
 }
 
 #[test]

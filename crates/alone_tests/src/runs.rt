@@ -116,5 +116,8 @@ pub(crate) fn recovers(alloc: Global, parts: Parts, kept: &[[u16; 3]]) -> bool {
         return false;
     };
     let (site, came) = recovered(alloc, site);
-    came.is_ok() && is_found(&site.into_parts(), kept)
+    let left = site.into_parts();
+    let is_found = is_found(&left, kept);
+    drop(left);
+    came.is_ok() && is_found
 }

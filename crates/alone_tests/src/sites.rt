@@ -32,6 +32,7 @@ fn set(site: &mut MemSite, trouble: &Trouble) {
 /// The site of these parts, where they are whole, on which this is to go wrong.
 pub(crate) fn site_of(alloc: Global, parts: Parts, trouble: &Trouble) -> Option<MemSite> {
     if !parts.is_whole() {
+        drop(parts);
         return None;
     }
     let mut site = MemSite::of_parts(alloc, parts);
@@ -41,7 +42,8 @@ pub(crate) fn site_of(alloc: Global, parts: Parts, trouble: &Trouble) -> Option<
 
 /// The site, off its station.
 pub(crate) fn off(station: Alone<MemSite>) -> MemSite {
-    let (_core, site) = station.into_parts();
+    let (core, site) = station.into_parts();
+    drop(core);
     site
 }
 

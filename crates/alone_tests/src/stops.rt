@@ -65,6 +65,7 @@ fn is_stopped(alloc: Global, way: Way, writes: u64, pattern: Pattern) -> Option<
     let trouble = Trouble::Fuse(writes.saturating_add(1), pattern);
     let (site, end) = ended(alloc, way, &trouble)?;
     let mended = writes_mended(alloc, &site, kept_by(way, end.status[1]), pattern);
+    drop(site);
     mended.and(ends_stopped(&end))
 }
 

@@ -70,6 +70,7 @@ fn told(alloc: Global, line: &Line, chapters: &[Chapter]) -> Option<usize> {
     for count in 0..chapters.len() {
         let (left, is_told) = comes(alloc, parts, &chapters[count])?;
         if !is_told {
+            drop(left);
             return Some(count);
         }
         parts = left;

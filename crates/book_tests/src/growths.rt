@@ -30,20 +30,27 @@ fn comes_at_last(alloc: Global, core: &mut Core, event: &Event) -> Option<bool> 
 }
 
 /// How many events come as they are told, before one that doesn't.
-fn told_at_last(rt: &impl Abort, alloc: Global, line: &Line, events: &[Event]) -> Option<usize> {
-    let mut core = book_at_last(rt, alloc, line)?;
+fn told_at_last(alloc: Global, core: &mut Core, events: &[Event]) -> Option<usize> {
     for count in 0..events.len() {
-        if !comes_at_last(alloc, &mut core, &events[count])? {
+        if !comes_at_last(alloc, core, &events[count])? {
             return Some(count);
         }
     }
     Some(events.len())
 }
 
+/// The same, of a book over this line.
+fn told_of(rt: &impl Abort, alloc: Global, line: &Line, events: &[Event]) -> Option<usize> {
+    let mut core = book_at_last(rt, alloc, line)?;
+    let count = told_at_last(alloc, &mut core, events);
+    drop(core);
+    count
+}
+
 /// All comes as each case tells it.
 fn all_come_at_last(rt: &impl Abort, alloc: Global, cases: &[Case]) {
     for (line, events) in cases {
-        let count = told_at_last(rt, alloc, line, events);
+        let count = told_of(rt, alloc, line, events);
         assert_eq!(rt; count, Some(events.len()));
     }
 }

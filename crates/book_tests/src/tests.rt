@@ -20,7 +20,9 @@ pub(crate) type Case = (Line, &'static [Event]);
 /// How many events come as they are told, before one that doesn't.
 fn told_of(rt: &impl Abort, alloc: Global, line: &Line, events: &[Event]) -> Option<usize> {
     let mut core = book(rt, alloc, line)?;
-    told(alloc, &mut core, events)
+    let count = told(alloc, &mut core, events);
+    drop(core);
+    count
 }
 
 /// All comes as each case tells it.

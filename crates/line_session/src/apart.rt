@@ -112,6 +112,46 @@ fn processes(alloc: Global, halves: &[Option<RomHalf>]) -> Result<Vec<ProcessHal
     Ok(processes)
 }
 
+/// A site with this disk alone.
+fn disk_site(alloc: Global, sizes: &Vec<u16>, disk: Option<Vec<u8>>) -> Result<MemSite, Fault>
+    ensures { IfOk result (λ site. HasDiskOf disk site) }
+{
+    let mut parts = nothing(alloc, sizes)?;
+    parts.disk = disk;
+    site_of(alloc, parts)
+}
+
+/// A site with the process data of these slaves alone, just switched on.
+fn cycle_site(
+    alloc: Global,
+    sizes: &Vec<u16>,
+    halves: &[Option<RomHalf>],
+) -> Result<MemSite, Fault> {
+    let processes = processes(alloc, halves)?;
+    let mut parts = nothing(alloc, sizes)?;
+    parts.process = Some(processes);
+    site_of(alloc, parts)
+}
+
+/// A site with this disk alone, and one with the process data of these slaves.
+fn disk_and_cycle(
+    alloc: Global,
+    sizes: &Vec<u16>,
+    disk: Option<Vec<u8>>,
+    halves: &[Option<RomHalf>],
+) -> Result<(MemSite, MemSite), Fault>
+    ensures { IfOk result (λ sites. HasDiskOf disk sites.0) }
+{
+    let cycle = cycle_site(alloc, sizes, halves)?;
+    match disk_site(alloc, sizes, disk) {
+        Ok(disk) => Ok((disk, cycle)),
+        Err(fault) => {
+            drop(cycle);
+            Err(fault)
+        }
+    }
+}
+
 /// The sites of the line's parts. Its process data are switched on.
 fn sites_of(alloc: Global, line: Parts) -> Result<Sites<MemSite>, Fault>
     ensures disk { IfOk result (λ sites. HasDiskOf line.disk sites.disk) }
@@ -124,18 +164,19 @@ fn sites_of(alloc: Global, line: Parts) -> Result<Sites<MemSite>, Fault>
         halves,
         ..
     } = line;
-    let mut of_disk = nothing(alloc, &sizes)?;
-    let mut of_cycle = nothing(alloc, &sizes)?;
-    of_disk.disk = disk;
-    of_cycle.process = Some(processes(alloc, &halves)?);
-    let slaves = slave_sites(alloc, &sizes, halves)?;
-    let disk = site_of(alloc, of_disk)?;
-    let cycle = site_of(alloc, of_cycle)?;
-    Ok(Line {
-        disk,
-        slaves,
-        cycle: Some(cycle),
-    })
+    let (disk, cycle) = disk_and_cycle(alloc, &sizes, disk, &halves)?;
+    match slave_sites(alloc, &sizes, halves) {
+        Ok(slaves) => Ok(Line {
+            disk,
+            slaves,
+            cycle: Some(cycle),
+        }),
+        Err(fault) => {
+            drop(disk);
+            drop(cycle);
+            Err(fault)
+        }
+    }
 }
 
 /// Whether the disk reaches to the end of a journal's area of so many bytes.
@@ -155,6 +196,7 @@ fn whole_sites(sites: Sites<MemSite>) -> Result<Sites<MemSite>, Fault>
     if own_parts(&sites) {
         Ok(sites)
     } else {
+        drop(sites);
         Err(Fault::Unserved)
     }
 }
@@ -173,6 +215,7 @@ pub(crate) fn take_apart(
 {
     let parts = site.into_parts();
     if !reaches(&parts, capacity) {
+        drop(parts);
         return Err(Fault::Unserved);
     }
     let sites = sites_of(alloc, parts)?;

@@ -139,6 +139,7 @@ fn tell_closed<T: Tickets, R: Refusals, O: Write>(
 {
     let Closed { book, ends } = closed;
     let printed = print_totals(&book, has_totals, output);
+    drop(book);
     (ends, true, printed)
 }
 
@@ -157,11 +158,16 @@ fn tell_open<T: Tickets, R: Refusals, O: Write>(
     let NotClosed {
         fault,
         book,
+        shares,
+        receipts,
         ends,
-        ..
     } = left;
     let _printed = print_totals(&book, has_totals, output);
-    (ends, fault == CloseFault::Unserved, Err(why_open(&book)))
+    let why = why_open(&book);
+    drop(book);
+    drop(shares);
+    drop(receipts);
+    (ends, fault == CloseFault::Unserved, Err(why))
 }
 
 /// Why a book isn't served: what has closed it, if anything has.

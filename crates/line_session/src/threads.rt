@@ -21,7 +21,7 @@ use station_alone::Alone;
 use station_desk::{Desk, Ends, Parts, Refusals, Share, Tickets};
 use station_files::{Fault, Status};
 use station_jobs::NoGate;
-use std::alloc::Global;
+use std::alloc::{AllocError, Global};
 use std::io::Write;
 use std::marker::{Brand, PhantomData};
 use std::sync::Wait;
@@ -55,7 +55,13 @@ pub fn serve_by_threads<O: Write, W: Wait + Threads + Sync>(
     ensures left { IfOk result (λ left. LeavesSo alone commands.now left.ending left.site) }
 {
     let (core, site) = alone.into_parts();
-    let (sites, room) = prepare(alloc, site, core.capacity(), slaves)?;
+    let (sites, room) = match prepare(alloc, site, core.capacity(), slaves) {
+        Ok(prepared) => prepared,
+        Err(fault) => {
+            drop(core);
+            return Err(fault);
+        }
+    };
     let at = serve_at_desk::<Brand, Brand, Brand, O, W>(
         rt,
         alloc,
@@ -80,8 +86,13 @@ fn prepare(
     ensures room { IfOk result (λ prepared. prepared.1.items ≡ []) }
 {
     let sites = take_apart(alloc, site, capacity)?;
-    let room = Vec::with_capacity(alloc, slaves)?;
-    Ok((sites, room))
+    match Vec::with_capacity(alloc, slaves) {
+        Ok(room) => Ok((sites, room)),
+        Err(AllocError) => {
+            drop(sites);
+            Err(Fault::Memory)
+        }
+    }
 }
 
 /// Puts together what is left of a line of so many slaves.
@@ -129,8 +140,13 @@ fn serve_at_desk<
     ensures of_sites { IfOk result (λ at. AreEndsOf sites at.ends) }
     ensures ending { IfOk result (λ at. EndsSo T.opened C.commands at.ends at.ending) }
 {
-    let opened = open_desk::<T, R, W>(rt, alloc, core, tickets, refusals)?;
-    serve_opened::<T, R, C, O, W>(rt, alloc, opened, sites, commands, output)
+    match open_desk::<T, R, W>(rt, alloc, core, tickets, refusals) {
+        Ok(opened) => serve_opened::<T, R, C, O, W>(rt, alloc, opened, sites, commands, output),
+        Err(fault) => {
+            drop(sites);
+            Err(fault)
+        }
+    }
 }
 
 /// Has a desk that was just made serve the sites while the commands are submitted, and closes it.
@@ -195,7 +211,13 @@ fn serve_submitter<
     let mut submitter = submitter;
     match serve_sites(rt, alloc, &desk, sites, &NoGate, &mut submitter) {
         Ok(ends) => Ok(hand_in(desk, submitter, room, ends)),
-        Err(_sites) => Err(Fault::Memory),
+        Err(sites) => {
+            drop(sites);
+            drop(desk);
+            drop(submitter);
+            drop(room);
+            Err(Fault::Memory)
+        }
     }
 }
 

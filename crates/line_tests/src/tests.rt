@@ -145,7 +145,9 @@ fn is_written(alloc: Global, failing: u32, passing: u64, rounds: &[Round]) -> bo
     };
     site.fail_writes(0, failing);
     site.fail_once(passing);
-    go_so(&mut site, rounds) && alias_of(alloc, &mut site) == Some(1)
+    let is_written = go_so(&mut site, rounds) && alias_of(alloc, &mut site) == Some(1);
+    drop(site);
+    is_written
 }
 
 #[test]
@@ -160,7 +162,9 @@ fn is_settled(alloc: Global, delay: u32, settled: Settled) -> bool {
     let Some(mut site) = line(alloc, delay) else {
         return false;
     };
-    goes_so(&mut site, (Issued::Taken, settled))
+    let is_settled = goes_so(&mut site, (Issued::Taken, settled));
+    drop(site);
+    is_settled
 }
 
 #[test]
@@ -182,7 +186,9 @@ fn is_missed(alloc: Global, station: u16) -> bool {
     let Some(mut site) = line_of(alloc, &[station], 1) else {
         return false;
     };
-    is_dead(&mut site)
+    let is_dead = is_dead(&mut site);
+    drop(site);
+    is_dead
 }
 
 #[test]
@@ -218,11 +224,14 @@ fn has_stopped(site: &mut impl Site) -> bool {
 fn left_by_a_stop(alloc: Global, pattern: Pattern) -> Option<[(u16, bool); 2]> {
     let mut site = line_of(alloc, &[0x1001, 0x1002], 9)?;
     site.fuse(1, pattern);
-    if !stops_in_the_second(&mut site) || !has_stopped(&mut site) {
-        return None;
-    }
+    let has_stopped = stops_in_the_second(&mut site) && has_stopped(&mut site);
     let parts = site.into_parts();
-    Some([left(&parts, 0)?, left(&parts, 1)?])
+    let both = (left(&parts, 0), left(&parts, 1));
+    drop(parts);
+    match both {
+        (Some(first), Some(second)) if has_stopped => Some([first, second]),
+        _ => None,
+    }
 }
 
 // The word of the second slave is torn, and that of the first stays in flight.
@@ -258,8 +267,10 @@ fn goes_and_comes(
         return false;
     };
     let mut frame = Frame::new();
-    frame.push(command, 0, address, content).is_ok()
-        && is_exchanged(&mut site, &mut frame, sent, back)
+    let is_exchanged = frame.push(command, 0, address, content).is_ok()
+        && is_exchanged(&mut site, &mut frame, sent, back);
+    drop(site);
+    is_exchanged
 }
 
 // The bytes that issue word 4 = 1 to slave 0.

@@ -38,7 +38,8 @@ fn finish<S: Site>(station: Alone<S>, found: Found) -> Result<(Alone<S>, Recover
             Ok((station, recovered))
         }
         Err(fault) => {
-            let (_core, site) = station.into_parts();
+            let (core, site) = station.into_parts();
+            drop(core);
             Err((site, fault))
         }
     }

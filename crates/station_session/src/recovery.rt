@@ -57,7 +57,8 @@ fn recover_site<S: Store, W: Write, E: Write>(
 {
     match recover(alloc, site) {
         Ok((alone, recovered)) => {
-            let (_core, left) = alone.into_parts();
+            let (core, left) = alone.into_parts();
+            drop(core);
             let saved = status_of(save_site(alloc, line, left, store), faults);
             worse(saved, print_recovered(recovered, output, faults))
         }

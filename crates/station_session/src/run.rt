@@ -90,8 +90,13 @@ fn load<S: Store>(alloc: Global, name: &str, script: &str, store: &mut S) -> Res
     ensures same { S.files store.new ≡ S.files store.old }
 {
     let session = load_session(alloc, name, store)?;
-    let commands = load_script(alloc, script, store)?;
-    Ok(Given { session, commands })
+    match load_script(alloc, script, store) {
+        Ok(commands) => Ok(Given { session, commands }),
+        Err(fault) => {
+            drop(session);
+            Err(fault)
+        }
+    }
 }
 
 /// Opens the station. An old journal is recovered first, and then the fuse is set.
@@ -108,7 +113,8 @@ fn open_station(
 {
     if is_old {
         let (alone, _recovered) = recover(alloc, site)?;
-        let (_core, left) = alone.into_parts();
+        let (core, left) = alone.into_parts();
+        drop(core);
         return open_fused(alloc, left, fuse);
     }
     open_fused(alloc, site, fuse)
@@ -149,7 +155,8 @@ pub(crate) fn run_station<S: Store, W: Write, E: Write>(
     let mut status = Status::Done;
     let slaves = line.images.len() as u16;
     let served = serve_commands(&mut alone, slaves, commands, output, &mut status);
-    let (_core, site) = alone.into_parts();
+    let (core, site) = alone.into_parts();
+    drop(core);
     let saved = save_site(alloc, line, site, store);
     let ended = worse(status_of(served, faults), status_of(saved, faults));
     worse(status, ended)

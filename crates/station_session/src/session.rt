@@ -77,6 +77,7 @@ pub(crate) fn give_up<S: Store, E: Write>(
     let is_refused = is_refused(&fault);
     let status = report_fault(of_open(fault), faults);
     if is_refused {
+        drop(site);
         return status;
     }
     let saved = save_site(alloc, line, site, store);

@@ -78,7 +78,6 @@ fn end_threads<S: Store, W: Write, E: Write>(
 }
 
 /// Recovers the line, and saves what it holds. Where the commands weren't submitted yet, they are served before.
-#[tactic(auto, using(crate::proofs::ThreadsEnd::saves_behind))]
 fn save_behind<S: Store, W: Write, E: Write>(
     alloc: Global,
     line: &LineFile,
@@ -122,7 +121,8 @@ fn save_recovered<S: Store, W: Write, E: Write>(
     if !is_driven {
         return run_station(alloc, line, alone, commands, store, output, faults);
     }
-    let (_core, site) = alone.into_parts();
+    let (core, site) = alone.into_parts();
+    drop(core);
     let saved = save_site(alloc, line, site, store);
     status_of(saved, faults)
 }

@@ -171,8 +171,12 @@ pub(crate) type Case = (&'static [u8], &'static [&'static [Act]]);
 /// Whether a case comes as it is told.
 fn is_told(alloc: Global, front: &[u8], parts: &[&[Act]]) -> bool {
     match world_on(alloc, 1, front) {
-        Some(mut world) => return parts_told(alloc, &mut world, parts),
-        None => return false,
+        Some(mut world) => {
+            let is_told = parts_told(alloc, &mut world, parts);
+            drop(world);
+            is_told
+        }
+        None => false,
     }
 }
 

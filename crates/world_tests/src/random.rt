@@ -215,8 +215,12 @@ fn list_goes_well(
 /// Whether all is well in a list of events on a disk that begins so.
 fn world_goes_well(alloc: Global, front: &[u8], session: &mut Session, dice: &mut Dice) -> bool {
     match world_on(alloc, 2, front) {
-        Some(mut world) => return list_goes_well(alloc, &mut world, session, dice),
-        None => return false,
+        Some(mut world) => {
+            let is_well = list_goes_well(alloc, &mut world, session, dice);
+            drop(world);
+            is_well
+        }
+        None => false,
     }
 }
 

@@ -43,7 +43,12 @@ pub(crate) fn serve_alone<T: Tickets + Send + Sync, R: Refusals + Send + Sync, W
     requires owned { OwnParts (λ (site : SiteValue). site.line) sites.disk sites.slaves.items sites.cycle }
     requires long { desk.now.limit ≤ length sites.disk.seen.state.disk.bytes }
 {
-    let Line { disk, slaves, .. } = sites;
+    let Line {
+        disk,
+        slaves,
+        cycle,
+    } = sites;
+    drop(cycle);
     let flusher = flush(rt, disk, desk.disk_side());
     Ends {
         flusher,

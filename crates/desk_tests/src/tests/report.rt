@@ -102,16 +102,21 @@ fn left_at(rt: &impl Abort, alloc: Global, site: &MemSite) -> Parts {
 
 /// What a stop leaves of the site at the end of its work.
 fn left_of<L: Leads + Drop>(rt: &impl Abort, alloc: Global, end: End<MemSite, L>) -> Parts {
-    let (site, _log) = end.into_parts();
-    left_at(rt, alloc, &site)
+    let (site, log) = end.into_parts();
+    drop(log);
+    let left = left_at(rt, alloc, &site);
+    drop(site);
+    left
 }
 
 /// What a stop leaves of a slave.
 fn half_left(rt: &impl Abort, alloc: Global, end: End<MemSite, SlaveLog>) -> Option<RomHalf> {
     let slave = usize::from(end.log().slave);
-    let Parts { mut halves, .. } = left_of(rt, alloc, end);
-    assert!(rt; slave < halves.len());
-    halves.swap_remove(slave)
+    let mut left = left_of(rt, alloc, end);
+    assert!(rt; slave < left.halves.len());
+    let half = left.halves.swap_remove(slave);
+    drop(left);
+    half
 }
 
 /// What a stop leaves of the slaves.
@@ -215,13 +220,16 @@ pub(crate) fn report_of<T: Tickets, R: Refusals>(
     let last = last_turn(&ends.cycle);
     let Outcome { fault, book, ends } = close_with(desk, held, ends);
     let line = put_together(rt, alloc, plan, ends);
+    let accepted = accepted_by(&book);
+    let reads = reads_as_book(&line, &book);
+    drop(book);
     Report {
         fault,
-        accepted: accepted_by(&book),
+        accepted,
         receipts,
         acknowledged,
         last,
-        reads: reads_as_book(&line, &book),
+        reads,
         line,
     }
 }

@@ -82,7 +82,9 @@ fn account<G: Gate + Sync, W: Wait + Threads + Sync + Abort>(
     gate: &G,
 ) -> Account {
     let report = session(rt, alloc, scenario, gate);
-    (report.fault, report.accepted, report.receipts, report.reads)
+    let came = (report.fault, report.accepted, report.receipts, report.reads);
+    drop(report);
+    came
 }
 
 #[test]
@@ -182,7 +184,10 @@ fn fault_of<W: Wait + Threads + Sync + Abort>(
         left_out,
         ..TWO
     };
-    session(rt, alloc, &scenario, &NoGate).fault
+    let report = session(rt, alloc, &scenario, &NoGate);
+    let fault = report.fault;
+    drop(report);
+    fault
 }
 
 #[test]

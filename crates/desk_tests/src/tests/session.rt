@@ -219,7 +219,9 @@ fn held<T: Tickets, R: Refusals>(
     hand_in(rt, &mut receipts, others);
     let mut shares = room(rt, alloc, 2);
     put(rt, &mut shares, one);
-    if left_out != LeftOut::Share {
+    if left_out == LeftOut::Share {
+        drop(other);
+    } else {
         put(rt, &mut shares, other);
     }
     Held { shares, receipts }
@@ -235,7 +237,7 @@ fn hand_in(rt: &impl Abort, receipts: &mut Vec<Receipt>, others: Vec<Receipt>) {
 /// The ends, but for what is left out.
 fn ends_but(mut ends: Ends<MemSite>, left_out: LeftOut) -> Ends<MemSite> {
     if left_out == LeftOut::End && ends.workers.len() > 1 {
-        ends.workers.remove(1);
+        drop(ends.workers.remove(1));
     }
     ends
 }
@@ -317,7 +319,10 @@ fn serve_by<
     requires owned { OwnParts (λ (site : SiteValue). site.line) sites.disk sites.slaves.items sites.cycle }
     requires long { 8 + core.capacity ≤ length sites.disk.seen.state.disk.bytes }
 {
-    let desk = Desk::<T, R>::of(alloc, core, tickets, refusals).ok()?;
+    let Ok(desk) = Desk::<T, R>::of(alloc, core, tickets, refusals) else {
+        drop(sites);
+        return None;
+    };
     let (held, ends) = serve_at(rt, alloc, &desk, sites, scenario, gate);
     Some(report_of(rt, alloc, &scenario.plan, desk, held, ends))
 }

@@ -104,7 +104,9 @@ fn aliases_of(rt: &impl Abort, contents: &Plant) -> [u16; 3] {
 /// After how many commands the aliases are that the line has once it is recovered. None: after no number of them.
 fn place_left(rt: &impl Abort, alloc: Global, line: Parts) -> Option<u64> {
     let station = recovered(rt, alloc, line);
-    place_of(aliases_of(rt, station.core().contents()))
+    let aliases = aliases_of(rt, station.core().contents());
+    drop(station);
+    place_of(aliases)
 }
 
 /// After how many commands they are. None: after no number of them.

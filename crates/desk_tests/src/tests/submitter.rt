@@ -7,7 +7,7 @@ use crate::tests::memory::room;
 use book_model::SubmitRefusal;
 use line_server::Client;
 use sii_edit::{Cause, Command};
-use station_desk::{Desk, Receipt, Refusals, Share, Ticket, Tickets};
+use station_desk::{Desk, Receipt, Refusals, Refused, Share, Ticket, Tickets};
 use std::alloc::Global;
 use std::process::Abort;
 use std::sync::Wait;
@@ -50,8 +50,9 @@ fn wait_for<T: Tickets, R: Refusals, W: Wait>(
     ticket: Ticket,
     receipts: &mut Vec<Receipt>,
 ) {
-    if let Ok(receipt) = desk.wait(rt, ticket) {
-        let _ = receipts.push(receipt);
+    match desk.wait(rt, ticket) {
+        Ok(receipt) => drop(receipts.push(receipt)),
+        Err(left) => drop(left),
     }
 }
 
@@ -81,7 +82,11 @@ impl<T: Tickets, R: Refusals> Submitter<T, R> {
     fn is_taken<W: Wait>(&mut self, rt: &W, desk: &Desk<T, R>, command: Command) -> bool {
         match desk.submit(rt, &mut self.share, command) {
             Ok(ticket) => self.tickets.push(ticket).is_ok(),
-            Err(refused) => !is_out_of_memory(refused.refusal),
+            Err(refused) => {
+                let Refused { refusal, command } = refused;
+                drop(command);
+                !is_out_of_memory(refusal)
+            }
         }
     }
 

@@ -143,9 +143,11 @@ fn exchange_data(alloc: Global) -> bool {
         return false;
     };
     let output = fp(0x1001, 0x1100);
-    is_set_up(&mut site)
+    let goes_so = is_set_up(&mut site)
         && all_are_exchanged(&mut site)
-        && is_cycled(&mut site, Command::Fprd, output, &[0], &[0xaa, 1, 0])
+        && is_cycled(&mut site, Command::Fprd, output, &[0], &[0xaa, 1, 0]);
+    drop(site);
+    goes_so
 }
 
 #[test]

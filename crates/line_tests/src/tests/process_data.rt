@@ -185,7 +185,11 @@ fn exchange_and_fail(alloc: Global) -> bool {
     let Some(mut site) = line_of(alloc, &[0x1001, 0x1002]) else {
         return false;
     };
-    exchange(&mut site, &plan) && miss_a_slave(&mut site, &plan) && lose_a_frame(&mut site, &plan)
+    let goes_so = exchange(&mut site, &plan)
+        && miss_a_slave(&mut site, &plan)
+        && lose_a_frame(&mut site, &plan);
+    drop(site);
+    goes_so
 }
 
 #[test]
@@ -220,7 +224,9 @@ fn is_reconfigured(alloc: Global) -> bool {
     let Some(mut site) = line_of(alloc, &[0x1001, 0x1002]) else {
         return false;
     };
-    is_without_data(&mut site, &empty) && comes_and_goes(&mut site, &empty, &plan)
+    let goes_so = is_without_data(&mut site, &empty) && comes_and_goes(&mut site, &empty, &plan);
+    drop(site);
+    goes_so
 }
 
 #[test]
@@ -273,7 +279,9 @@ fn exchanges_all(
     let Some(mut site) = line_of(alloc, &[0x1001]) else {
         return false;
     };
-    exchange_all(&mut site, &plan, outputs, counter, inputs, last)
+    let goes_so = exchange_all(&mut site, &plan, outputs, counter, inputs, last);
+    drop(site);
+    goes_so
 }
 
 #[test]

@@ -87,6 +87,14 @@ fn holds(parts: &Parts, bytes: &[u8], alias: u16, is_in_flight: bool) -> bool {
     }
 }
 
+// Whether the site leaves these bytes, and word 4 with this value and not in flight.
+fn leaves(site: MemSite, bytes: &[u8], alias: u16) -> bool {
+    let parts = site.into_parts();
+    let is_so = holds(&parts, bytes, alias, false);
+    drop(parts);
+    is_so
+}
+
 // A write and a sync succeed, and a second write does where the site stops in the sync behind it. Whether the calls answer so.
 fn stops_in_the_second(site: &mut impl Site, in_sync: bool) -> bool {
     site.has_disk()
@@ -108,9 +116,8 @@ fn tears(alloc: Global, passing: u64, pattern: Pattern, bytes: &[u8]) -> bool {
         return false;
     };
     site.fuse(passing, pattern);
-    stops_in_the_second(&mut site, passing == 3)
-        && has_stopped(&mut site)
-        && holds(&site.into_parts(), bytes, 0, false)
+    let stops = stops_in_the_second(&mut site, passing == 3) && has_stopped(&mut site);
+    leaves(site, bytes, 0) && stops
 }
 
 #[test]
@@ -131,7 +138,8 @@ fn tears_both(alloc: Global, pattern: Pattern, bytes: &[u8], alias: u16) -> bool
         return false;
     };
     site.fuse(1, pattern);
-    stops_in_a_word(&mut site) && holds(&site.into_parts(), bytes, alias, false)
+    let stops = stops_in_a_word(&mut site);
+    leaves(site, bytes, alias) && stops
 }
 
 #[test]
@@ -162,7 +170,7 @@ fn fails_in_turn(alloc: Global) -> bool {
     let fails = fails_to_write(&mut site);
     site.fail_once(0);
     let loses = loses_a_frame(&mut site);
-    fails && loses && holds(&site.into_parts(), &[1, 2, 3, 4], 0, false)
+    leaves(site, &[1, 2, 3, 4], 0) && fails && loses
 }
 
 #[test]
@@ -185,7 +193,8 @@ fn keeps_its_value(alloc: Global, failing: u32, times: u32, alias: u16) -> bool 
         return false;
     };
     site.fail_writes(0, failing);
-    is_issued(&mut site, times) && holds(&site.into_parts(), &[1, 2, 3, 4], alias, false)
+    let is_issued = is_issued(&mut site, times);
+    leaves(site, &[1, 2, 3, 4], alias) && is_issued
 }
 
 #[test]
@@ -212,26 +221,38 @@ fn is_left(alloc: Global, site: &mut MemSite, at: usize, over: &[u8], bytes: &[u
         return false;
     }
     match site.snapshot(alloc) {
-        Ok(parts) => holds(&parts, bytes, 0, true),
+        Ok(parts) => {
+            let is_so = holds(&parts, bytes, 0, true);
+            drop(parts);
+            is_so
+        }
         Err(_memory) => false,
     }
 }
 
 // Whether a snapshot of a site with this fuse is so.
-fn leaves(alloc: Global, fuse: Option<Pattern>, at: usize, over: &[u8], bytes: &[u8]) -> bool {
+fn is_left_with(
+    alloc: Global,
+    fuse: Option<Pattern>,
+    at: usize,
+    over: &[u8],
+    bytes: &[u8],
+) -> bool {
     let Some(mut site) = site(alloc) else {
         return false;
     };
     if let Some(pattern) = fuse {
         site.fuse(9, pattern);
     }
-    is_left(alloc, &mut site, at, over, bytes)
+    let is_left = is_left(alloc, &mut site, at, over, bytes);
+    drop(site);
+    is_left
 }
 
 #[test]
 fn a_snapshot_is_what_a_stop_leaves(rt: HostRuntime) {
     for (fuse, at, over, bytes) in &SNAPSHOTS {
-        assert!(rt; leaves(rt.alloc(), *fuse, *at, over, bytes));
+        assert!(rt; is_left_with(rt.alloc(), *fuse, *at, over, bytes));
     }
 }
 
@@ -250,10 +271,12 @@ fn reads_what_is_written(alloc: Global) -> bool {
     let Some(mut site) = site(alloc) else {
         return false;
     };
-    site.slaves() == 1
+    let is_so = site.slaves() == 1
         && site.words_of(0) == 64
         && writes(&mut site, 3, &[7, 9])
-        && read(&mut site) == Some([3, 7, 9])
+        && read(&mut site) == Some([3, 7, 9]);
+    drop(site);
+    is_so
 }
 
 #[test]

@@ -1,3 +1,4 @@
+use Rattle.std.proofs.Common.{inl}
 use Rattle.std.specs.Prelude.{is_some}
 use Rattle.station_session.proofs.Ending.{runs}
 use Rattle.station_session.proofs.run.run_script.Goals as goal
@@ -15,3 +16,6 @@ pub returns-in-Ok : goal.returns-in-Ok
 returns-in-Ok g c =
     runs (is_some c.args.fuse) (g.S.Store.files c.args.store.now) (g.S.Store.files c.load.new.store) (g.S.Store.files c.run_given.new.store) c.args.name.now c.args.script.now c.in-Ok.given.session.line c.in-Ok.given.session.site c.in-Ok.given.commands.items c.run_given.result
     c.in-Ok.ensures.loaded c.in-Ok.ensures.spelt c.load.ensures.same c.run_given.ensures
+
+pub returns-in-Err : goal.returns-in-Err
+returns-in-Err g c = inl (c.load.ensures.same, c.report_fault.ensures.fault)
