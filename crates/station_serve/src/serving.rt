@@ -51,11 +51,7 @@ pub fn serve<H: Wait + Threads + Sync, R: Read, S: Store, W: Write, E: Write>(
             )
         }
         Ok(Task::Recover { line }) => recover_line(alloc, line, store, output, faults),
-        Err(error) => {
-            let shown = show_usage(&error, output, faults);
-            drop(error);
-            shown
-        }
+        Err(error) => show_usage(&error, output, faults),
     };
     status as u8
 }
