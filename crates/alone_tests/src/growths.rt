@@ -57,7 +57,7 @@ fn is_accepted(alloc: Global, station: &mut Alone<MemSite>, ask: &Ask) -> bool {
 }
 
 fn are_accepted(alloc: Global, station: &mut Alone<MemSite>) -> bool {
-    for ask in &ASKS {
+    for ask in ASKS {
         if !is_accepted(alloc, station, ask) {
             return false;
         }

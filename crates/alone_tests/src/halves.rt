@@ -15,7 +15,7 @@ const LONG: Line = Line {
 };
 
 /// Words 0 to 64 of the slave, and words behind them: so many that the batch has 2,047 bytes with its closing gate, and one more.
-const FULL: [Chapter; 2] = [
+const FULL: &[Chapter] = &[
     Session(
         Nothing,
         &[
@@ -45,7 +45,7 @@ const FULL: [Chapter; 2] = [
 ];
 
 /// An image with alias 1 in half 0, and alias 2 in half 1.
-const BOTH: [Chapter; 3] = [
+const BOTH: &[Chapter] = &[
     Session(
         Nothing,
         &[
@@ -60,7 +60,7 @@ const BOTH: [Chapter; 3] = [
 ];
 
 /// The first of them is retired.
-const SECOND: [Chapter; 3] = [
+const SECOND: &[Chapter] = &[
     Session(
         Nothing,
         &[
@@ -76,9 +76,9 @@ const SECOND: [Chapter; 3] = [
     Aliases([2, 0, 0]),
 ];
 
-const STORIES: [Story; 3] = [(LONG, &FULL), (LONG, &BOTH), (LONG, &SECOND)];
+const STORIES: &[Story] = &[(LONG, FULL), (LONG, BOTH), (LONG, SECOND)];
 
 #[test]
 fn halves_are_filled(rt: HostRuntime) {
-    all_told(&rt, rt.alloc(), &STORIES);
+    all_told(&rt, rt.alloc(), STORIES);
 }

@@ -19,7 +19,7 @@ use station_alone::OpenFault;
 use std::alloc::Global;
 
 /// Lines whose disk holds no journal of theirs, and why not.
-const REFUSED: [(Line, JournalFault); 7] = [
+const REFUSED: &[(Line, JournalFault)] = &[
     // A batch of 2,042 bytes would not find room for its closing gate.
     (
         Line {
@@ -48,8 +48,8 @@ const REFUSED: [(Line, JournalFault); 7] = [
     // Both halves are live, and neither generation follows the other.
     (
         Line {
-            first: &OF_0,
-            second: &OF_2,
+            first: OF_0,
+            second: OF_2,
             ..ALONE
         },
         BadJournal { at: 8 },
@@ -57,17 +57,17 @@ const REFUSED: [(Line, JournalFault); 7] = [
 ];
 
 /// Batches by which slave 0 gets alias 1 or 2, of generations 255, 0 and 2.
-const OF_255: [u8; 26] = [
+const OF_255: &[u8] = &[
     0xa5, 0xff, 0x14, 0x00, 0x00, 0x00, 0x01, 0x00, 0x00, 0x00, 0x00, 0x00, 0x00, 0x00, 0x00, 0x00,
     0x01, 0x00, 0x00, 0x00, 0x04, 0x00, 0x01, 0x00, 0x01, 0x00,
 ];
 
-const OF_0: [u8; 26] = [
+const OF_0: &[u8] = &[
     0xa5, 0x00, 0x14, 0x00, 0x00, 0x00, 0x01, 0x00, 0x00, 0x00, 0x00, 0x00, 0x00, 0x00, 0x00, 0x00,
     0x01, 0x00, 0x00, 0x00, 0x04, 0x00, 0x01, 0x00, 0x02, 0x00,
 ];
 
-const OF_2: [u8; 26] = [
+const OF_2: &[u8] = &[
     0xa5, 0x02, 0x14, 0x00, 0x00, 0x00, 0x01, 0x00, 0x00, 0x00, 0x00, 0x00, 0x00, 0x00, 0x00, 0x00,
     0x01, 0x00, 0x00, 0x00, 0x04, 0x00, 0x01, 0x00, 0x02, 0x00,
 ];
@@ -86,25 +86,25 @@ fn is_refused(alloc: Global, line: &Line, why: JournalFault) -> Option<bool> {
 
 #[test]
 fn what_is_no_journal_is_refused(rt: HostRuntime) {
-    for (line, why) in &REFUSED {
+    for (line, why) in REFUSED {
         assert!(rt; is_refused(rt.alloc(), line, *why) == Some(true));
     }
 }
 
 /// Each of the halves' batches comes first in turn: the alias of generation 0 stays.
-const GENERATIONS: [Story; 2] = [
+const GENERATIONS: &[Story] = &[
     (
         Line {
-            first: &OF_255,
-            second: &OF_0,
+            first: OF_255,
+            second: OF_0,
             ..ALONE
         },
         &[Recovery(Nothing, Ok([2, 2, 1])), Aliases([2, 0, 0])],
     ),
     (
         Line {
-            first: &OF_0,
-            second: &OF_255,
+            first: OF_0,
+            second: OF_255,
             ..ALONE
         },
         &[Recovery(Nothing, Ok([2, 2, 1])), Aliases([2, 0, 0])],
@@ -113,7 +113,7 @@ const GENERATIONS: [Story; 2] = [
 
 #[test]
 fn the_newer_half_counts(rt: HostRuntime) {
-    all_told(&rt, rt.alloc(), &GENERATIONS);
+    all_told(&rt, rt.alloc(), GENERATIONS);
 }
 
 /// A journal of version 1 with a batch by which the slave gets alias 1.
@@ -132,7 +132,7 @@ const NEW: &[u8] = &[
     0xa5, 0x02, 0x01, 0x00, 0x00, 0x10, 0x00, 0x00, 0x00, 0x4d, 0x49, 0x47, 0x32,
 ];
 
-const MIGRATED: [Chapter; 4] = [
+const MIGRATED: &[Chapter] = &[
     Recovery(Nothing, Ok([1, 1, 2])),
     Aliases([1, 0, 0]),
     Bytes(0, NEW),
@@ -140,13 +140,13 @@ const MIGRATED: [Chapter; 4] = [
 ];
 
 /// Before the migration no command is taken.
-const UNMIGRATED: [Chapter; 1] = [Session(
+const UNMIGRATED: &[Chapter] = &[Session(
     Nothing,
     &[Submit(Alias(0, 1), Refused(SubmitRefusal::OldJournal))],
 )];
 
 /// The version byte is torn: it is neither, and it is the new one.
-const TORN_VERSION: [Chapter; 5] = [
+const TORN_VERSION: &[Chapter] = &[
     Recovery(Fuse(8, Fill(0x0077)), Err(STOPPED)),
     Bytes(0, &[0xa5, 0x77, 0x01]),
     Recovery(Nothing, Ok([0, 0, 0])),
@@ -154,7 +154,7 @@ const TORN_VERSION: [Chapter; 5] = [
     Bytes(0, NEW),
 ];
 
-const NEW_VERSION: [Chapter; 4] = [
+const NEW_VERSION: &[Chapter] = &[
     Recovery(Fuse(8, Fill(2)), Err(STOPPED)),
     Bytes(0, NEW),
     Recovery(Nothing, Ok([0, 0, 0])),
@@ -162,7 +162,7 @@ const NEW_VERSION: [Chapter; 4] = [
 ];
 
 /// The mark is torn, and so is the gate of the second half.
-const TORN_MARK: [Chapter; 6] = [
+const TORN_MARK: &[Chapter] = &[
     Recovery(Fuse(6, Fill(0x00a5)), Err(STOPPED)),
     Bytes(0, &[0xa5, 0x01]),
     Bytes(9, &[0xa5, 0xa5, 0xa5, 0xa5]),
@@ -171,17 +171,17 @@ const TORN_MARK: [Chapter; 6] = [
     Bytes(0, NEW),
 ];
 
-const MIGRATIONS: [Story; 5] = [
-    (OLD, &MIGRATED),
-    (OLD, &UNMIGRATED),
-    (OLD, &TORN_VERSION),
-    (OLD, &NEW_VERSION),
-    (OLD, &TORN_MARK),
+const MIGRATIONS: &[Story] = &[
+    (OLD, MIGRATED),
+    (OLD, UNMIGRATED),
+    (OLD, TORN_VERSION),
+    (OLD, NEW_VERSION),
+    (OLD, TORN_MARK),
 ];
 
 #[test]
 fn an_old_journal_is_migrated(rt: HostRuntime) {
-    all_told(&rt, rt.alloc(), &MIGRATIONS);
+    all_told(&rt, rt.alloc(), MIGRATIONS);
 }
 
 /// How many writes the recovery of the old journal makes, where a second one mends it wherever the pattern stops it.

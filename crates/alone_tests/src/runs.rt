@@ -9,16 +9,16 @@ use site_mem::{MemSite, Parts};
 use station_alone::Alone;
 use std::alloc::Global;
 
-pub(crate) const ASKS: [Ask; 3] = [
+pub(crate) const ASKS: &[Ask] = &[
     Ask::Alias(0, 1),
     Ask::Swap(0, 1),
     Ask::Group(&[(2, 7), (0, 9)]),
 ];
 
 /// The aliases behind each batch, where each command is one, and where all are one.
-const ONE_BY_ONE: [[u16; 3]; 4] = [[0, 0, 0], [1, 0, 0], [0, 1, 0], [9, 1, 7]];
+const ONE_BY_ONE: &[[u16; 3]] = &[[0, 0, 0], [1, 0, 0], [0, 1, 0], [9, 1, 7]];
 
-const QUEUED: [[u16; 3]; 2] = [[0, 0, 0], [9, 1, 7]];
+const QUEUED: &[[u16; 3]] = &[[0, 0, 0], [9, 1, 7]];
 
 /// How they are asked.
 #[derive(Clone, Copy, PartialEq)]
@@ -50,7 +50,7 @@ pub(crate) const UNOPENED: End = End {
 };
 
 fn run(alloc: Global, station: &mut Alone<MemSite>, way: Way) {
-    for ask in &ASKS {
+    for ask in ASKS {
         submit(alloc, station, ask);
         if way == Way::OneByOne {
             serve(station);

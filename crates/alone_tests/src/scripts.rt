@@ -13,7 +13,7 @@ use station_alone::Answer::{Accepted, Did, Ended, Failed, Idle, Refused};
 
 /// Two aliases change places: durable with the fourth action of the disk, and settled with four words. Each write passes: the one of
 /// opening, four and two of the disk, and four words.
-const SWAPPED: [Chapter; 2] = [
+const SWAPPED: &[Chapter] = &[
     Session(
         Fuse(11, Old),
         &[
@@ -31,7 +31,7 @@ const SWAPPED: [Chapter; 2] = [
 ];
 
 /// The last of these writes is torn.
-const SWAPPED_BUT_LIVE: [Chapter; 1] = [Session(
+const SWAPPED_BUT_LIVE: &[Chapter] = &[Session(
     Fuse(10, Old),
     &[
         Submit(Swap(0, 1), Accepted(0)),
@@ -41,13 +41,13 @@ const SWAPPED_BUT_LIVE: [Chapter; 1] = [Session(
 )];
 
 /// How its batch begins.
-const SPELT: [Chapter; 2] = [
+const SPELT: &[Chapter] = &[
     Session(Nothing, &[Submit(Swap(0, 1), Accepted(0)), Disk(4, Did)]),
     Bytes(8, &[0xa5, 0x00, 0x2c, 0x00, 0x00, 0x00]),
 ];
 
 /// A slave gets alias 1: its batch behind a closed gate, and behind an open one, which isn't synced.
-const NAMED: [Chapter; 4] = [
+const NAMED: &[Chapter] = &[
     Session(Nothing, &[Submit(Alias(0, 1), Accepted(0)), Disk(2, Did)]),
     Bytes(8, &[0x00, 0x00, 0x1c]),
     Session(
@@ -76,7 +76,7 @@ const TO_THE_GATE: &[Event] = &[
 ];
 
 /// It reads as an open one.
-const TORN_OPEN: [Chapter; 4] = [
+const TORN_OPEN: &[Chapter] = &[
     Session(Fuse(3, Fill(0x00a5)), TO_THE_GATE),
     Bytes(8, &[0xa5]),
     Recovery(Nothing, Ok([1, 1, 2])),
@@ -84,7 +84,7 @@ const TORN_OPEN: [Chapter; 4] = [
 ];
 
 /// It reads as a closed one.
-const TORN_CLOSED: [Chapter; 4] = [
+const TORN_CLOSED: &[Chapter] = &[
     Session(Fuse(3, Fill(0x5a5a)), TO_THE_GATE),
     Bytes(8, &[0x5a]),
     Recovery(Nothing, Ok([0, 0, 0])),
@@ -92,7 +92,7 @@ const TORN_CLOSED: [Chapter; 4] = [
 ];
 
 /// A word is torn, and torn again by a stop of the recovery, in which the other slave has taken its first word.
-const TORN_TWICE: [Chapter; 6] = [
+const TORN_TWICE: &[Chapter] = &[
     Session(
         Fuse(5, Fill(0xdead)),
         &[
@@ -116,7 +116,7 @@ const TO_THE_END: &[Event] = &[
 ];
 
 /// It reads as an open one.
-const LEFT_OPEN: [Chapter; 4] = [
+const LEFT_OPEN: &[Chapter] = &[
     Session(Fuse(7, Fill(0x00a5)), TO_THE_END),
     Aliases([1, 0, 0]),
     Recovery(Nothing, Ok([1, 1, 0])),
@@ -124,14 +124,14 @@ const LEFT_OPEN: [Chapter; 4] = [
 ];
 
 /// It reads as a closed one.
-const LEFT_CLOSED: [Chapter; 3] = [
+const LEFT_CLOSED: &[Chapter] = &[
     Session(Fuse(7, Fill(0)), TO_THE_END),
     Recovery(Nothing, Ok([0, 0, 0])),
     Aliases([1, 0, 0]),
 ];
 
 /// The first word ends in error once: three issues, and a settle behind each.
-const AGAIN: [Chapter; 2] = [
+const AGAIN: &[Chapter] = &[
     Session(
         Words(1),
         &[
@@ -148,7 +148,7 @@ const AGAIN: [Chapter; 2] = [
 ];
 
 /// It ends in error three times.
-const GIVEN_UP: [Chapter; 3] = [
+const GIVEN_UP: &[Chapter] = &[
     Session(
         Words(3),
         &[
@@ -165,7 +165,7 @@ const GIVEN_UP: [Chapter; 3] = [
 ];
 
 /// The frame of the first issue is lost. The calls before it open the station and write the batch.
-const LOST: [Chapter; 2] = [
+const LOST: &[Chapter] = &[
     Session(
         Call(108),
         &[
@@ -189,7 +189,7 @@ const NO_SLAVE: SubmitRefusal = SubmitRefusal::Command(Refusal {
 });
 
 /// Two commands are refused, and one changes nothing.
-const WITHOUT_RUNS: [Chapter; 1] = [Session(
+const WITHOUT_RUNS: &[Chapter] = &[Session(
     Fuse(7, Old),
     &[
         Submit(Swap(2, 2), Refused(SAME_SLAVE)),
@@ -201,7 +201,7 @@ const WITHOUT_RUNS: [Chapter; 1] = [Session(
 )];
 
 /// Three commands are queued: one batch, and six words, though ten are named.
-const ONCE: [Chapter; 2] = [
+const ONCE: &[Chapter] = &[
     Session(
         Fuse(13, Old),
         &[
@@ -218,7 +218,7 @@ const ONCE: [Chapter; 2] = [
 ];
 
 /// The station is dropped with all three durable.
-const DROPPED: [Chapter; 3] = [
+const DROPPED: &[Chapter] = &[
     Session(
         Nothing,
         &[
@@ -233,36 +233,36 @@ const DROPPED: [Chapter; 3] = [
 ];
 
 /// Steps in a row are answered in their order.
-const IN_A_ROW: [Chapter; 1] = [Session(Nothing, &[Run(&[Idle, Idle, Idle, Ended])])];
+const IN_A_ROW: &[Chapter] = &[Session(Nothing, &[Run(&[Idle, Idle, Idle, Ended])])];
 
-const SERVED: [Story; 9] = [
-    (TWO, &SWAPPED),
-    (TWO, &SWAPPED_BUT_LIVE),
-    (TWO, &SPELT),
-    (ALONE, &NAMED),
-    (ALONE, &IN_A_ROW),
-    (ALONE, &AGAIN),
-    (ALONE, &LOST),
-    (THREE, &WITHOUT_RUNS),
-    (THREE, &ONCE),
+const SERVED: &[Story] = &[
+    (TWO, SWAPPED),
+    (TWO, SWAPPED_BUT_LIVE),
+    (TWO, SPELT),
+    (ALONE, NAMED),
+    (ALONE, IN_A_ROW),
+    (ALONE, AGAIN),
+    (ALONE, LOST),
+    (THREE, WITHOUT_RUNS),
+    (THREE, ONCE),
 ];
 
-const RECOVERED: [Story; 7] = [
-    (ALONE, &TORN_OPEN),
-    (ALONE, &TORN_CLOSED),
-    (TWO, &TORN_TWICE),
-    (ALONE, &LEFT_OPEN),
-    (ALONE, &LEFT_CLOSED),
-    (ALONE, &GIVEN_UP),
-    (THREE, &DROPPED),
+const RECOVERED: &[Story] = &[
+    (ALONE, TORN_OPEN),
+    (ALONE, TORN_CLOSED),
+    (TWO, TORN_TWICE),
+    (ALONE, LEFT_OPEN),
+    (ALONE, LEFT_CLOSED),
+    (ALONE, GIVEN_UP),
+    (THREE, DROPPED),
 ];
 
 #[test]
 fn steps_are_answered(rt: HostRuntime) {
-    all_told(&rt, rt.alloc(), &SERVED);
+    all_told(&rt, rt.alloc(), SERVED);
 }
 
 #[test]
 fn what_was_stopped_is_recovered(rt: HostRuntime) {
-    all_told(&rt, rt.alloc(), &RECOVERED);
+    all_told(&rt, rt.alloc(), RECOVERED);
 }

@@ -57,8 +57,8 @@ fn all_come_at_last(rt: &impl Abort, alloc: Global, cases: &[Case]) {
 
 #[test]
 fn a_refused_growth_changes_nothing(rt: HostRuntime) {
-    all_come_at_last(&rt, rt.alloc(), &OLD);
-    all_come_at_last(&rt, rt.alloc(), &IMAGES);
-    all_come_at_last(&rt, rt.alloc(), &SERVED);
-    all_come_at_last(&rt, rt.alloc(), &HALVES);
+    all_come_at_last(&rt, rt.alloc(), OLD);
+    all_come_at_last(&rt, rt.alloc(), IMAGES);
+    all_come_at_last(&rt, rt.alloc(), SERVED);
+    all_come_at_last(&rt, rt.alloc(), HALVES);
 }

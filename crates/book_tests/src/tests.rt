@@ -41,9 +41,9 @@ const ONE: Slave = (128, &[(8, &[1]), (14, &[0x19])]);
 const LONG: Slave = (8192, &[(128, &[0xFF, 0xFF])]);
 
 /// A command without runs, as a batch of generation 0 and of generation 255.
-const OF_0: [u8; 18] = [0xa5, 0, 0x0c, 0, 0, 0, 1, 0, 0, 0, 0, 0, 0, 0, 0, 0, 0, 0];
+const OF_0: &[u8] = &[0xa5, 0, 0x0c, 0, 0, 0, 1, 0, 0, 0, 0, 0, 0, 0, 0, 0, 0, 0];
 
-const OF_255: [u8; 18] = [
+const OF_255: &[u8] = &[
     0xa5, 0xff, 0x0c, 0, 0, 0, 1, 0, 0, 0, 0, 0, 0, 0, 0, 0, 0, 0,
 ];
 
@@ -83,7 +83,7 @@ const ISSUE: RomNext = RomNext::Issue { word: 4, value: 1 };
 const SETTLE: RomNext = RomNext::Settle { taken: true };
 
 /// Two aliases change places.
-const SWAPPED: [Event; 18] = [
+const SWAPPED: &[Event] = &[
     Submit(Swap(0, 1), Ok(0)),
     Call(Status(1, 0, 0, 0)),
     Rom(0, Next(RomNext::Idle)),
@@ -105,7 +105,7 @@ const SWAPPED: [Event; 18] = [
 ];
 
 /// Outcomes that nothing waits for, or that are of another kind.
-const OUT_OF_ORDER: [Event; 24] = [
+const OUT_OF_ORDER: &[Event] = &[
     Disk(Done(Err(DeviceFault::Disk))),
     Rom(0, Outcome(RomOutcome::Stopped)),
     Submit(Alias(0, 1), Ok(0)),
@@ -133,7 +133,7 @@ const OUT_OF_ORDER: [Event; 24] = [
 ];
 
 /// The first word fails once.
-const AGAIN_ONCE: [Event; 8] = [
+const AGAIN_ONCE: &[Event] = &[
     Submit(Alias(0, 1), Ok(0)),
     Disk(Append(8, 34, 0)),
     Rom(0, Next(ISSUE)),
@@ -145,7 +145,7 @@ const AGAIN_ONCE: [Event; 8] = [
 ];
 
 /// The first word fails three times.
-const GIVEN_UP: [Event; 20] = [
+const GIVEN_UP: &[Event] = &[
     Submit(Alias(0, 1), Ok(0)),
     Disk(Append(8, 34, 0)),
     Rom(0, Next(ISSUE)),
@@ -169,7 +169,7 @@ const GIVEN_UP: [Event; 20] = [
 ];
 
 /// Two are refused, and one has no runs.
-const WITHOUT_RUNS: [Event; 8] = [
+const WITHOUT_RUNS: &[Event] = &[
     Submit(Swap(2, 2), Err(SAME_SLAVE)),
     Submit(Swap(3, 3), Err(NO_SLAVE)),
     Submit(Alias(0, 0), Ok(0)),
@@ -182,7 +182,7 @@ const WITHOUT_RUNS: [Event; 8] = [
 
 /// Three commands in one batch name each word of two slaves twice. The first is settled before any word is written: the second
 /// takes its alias away again.
-const ONCE: [Event; 9] = [
+const ONCE: &[Event] = &[
     Submit(Alias(0, 1), Ok(0)),
     Submit(Swap(0, 1), Ok(1)),
     Submit(Group(&[(2, 7), (0, 9)]), Ok(2)),
@@ -195,25 +195,25 @@ const ONCE: [Event; 9] = [
 ];
 
 /// Lines with an empty journal, and what comes of their books.
-pub(crate) const SERVED: [Case; 6] = [
+pub(crate) const SERVED: &[Case] = &[
     (
         Line {
             slaves: &[ONE, ZERO],
             header: [0xa5, 2, 2, 0, 0, 0x10, 0, 0],
             ..ALONE
         },
-        &SWAPPED,
+        SWAPPED,
     ),
-    (ALONE, &OUT_OF_ORDER),
-    (ALONE, &AGAIN_ONCE),
-    (ALONE, &GIVEN_UP),
+    (ALONE, OUT_OF_ORDER),
+    (ALONE, AGAIN_ONCE),
+    (ALONE, GIVEN_UP),
     (
         Line {
             slaves: &[ZERO, ZERO, ZERO],
             header: [0xa5, 2, 3, 0, 0, 0x10, 0, 0],
             ..ALONE
         },
-        &WITHOUT_RUNS,
+        WITHOUT_RUNS,
     ),
     (
         Line {
@@ -221,17 +221,17 @@ pub(crate) const SERVED: [Case; 6] = [
             header: [0xa5, 2, 3, 0, 0, 0x10, 0, 0],
             ..ALONE
         },
-        &ONCE,
+        ONCE,
     ),
 ];
 
 #[test]
 fn commands_are_served(rt: HostRuntime) {
-    all_come(&rt, rt.alloc(), &SERVED);
+    all_come(&rt, rt.alloc(), SERVED);
 }
 
 /// The last byte of a half of 2,048 bytes stays free: a batch has an even number of bytes, and a closed gate behind it.
-const FILLED: [Event; 15] = [
+const FILLED: &[Event] = &[
     Submit(Image((0, 0x30), 1012, 0x1111), Err(SubmitRefusal::TooLarge)),
     Submit(Image((0, 0x30), 1011, 0x1111), Ok(0)),
     Disk(Append(8, 2046, 0)),
@@ -250,7 +250,7 @@ const FILLED: [Event; 15] = [
 ];
 
 /// A half of 2,049 bytes is filled to its last one.
-const FILLED_WHOLLY: [Event; 6] = [
+const FILLED_WHOLLY: &[Event] = &[
     Submit(Image((0, 0x30), 1013, 0x1111), Err(SubmitRefusal::TooLarge)),
     Submit(Image((0, 0x30), 1012, 0x1111), Ok(0)),
     Disk(Append(8, 2048, 0)),
@@ -260,7 +260,7 @@ const FILLED_WHOLLY: [Event; 6] = [
 ];
 
 /// An image that gives the slave alias 1, and then alias 2 in the other half: alias 1 is never written.
-const OVERWRITTEN: [Event; 9] = [
+const OVERWRITTEN: &[Event] = &[
     Submit(Image((1, 0x19), 1000, 0x1111), Ok(0)),
     Disk(Append(8, 2040, 0)),
     Submit(Alias(0, 2), Ok(1)),
@@ -273,7 +273,7 @@ const OVERWRITTEN: [Event; 9] = [
 ];
 
 /// Generation 0 behind generation 255: found in the second half, found in the first, and come to.
-const NEWER_SECOND: [Event; 6] = [
+const NEWER_SECOND: &[Event] = &[
     Call(Status(0, 0, 0, 36)),
     Submit(Alias(0, 1), Ok(0)),
     Disk(Append(2074, 34, 0)),
@@ -282,14 +282,14 @@ const NEWER_SECOND: [Event; 6] = [
     Disk(Waits(Idle)),
 ];
 
-const NEWER_FIRST: [Event; 4] = [
+const NEWER_FIRST: &[Event] = &[
     Submit(Alias(0, 1), Ok(0)),
     Disk(Append(26, 34, 0)),
     Disk(Retire(2056)),
     Disk(Waits(Idle)),
 ];
 
-const COME_TO: [Event; 4] = [
+const COME_TO: &[Event] = &[
     Submit(Image((0, 0x30), 1011, 0x1111), Ok(0)),
     Disk(Append(2056, 2046, 0)),
     Disk(Retire(8)),
@@ -297,8 +297,8 @@ const COME_TO: [Event; 4] = [
 ];
 
 /// Journals with something live in them or a large area to fill, and what comes of their books.
-pub(crate) const HALVES: [Case; 6] = [
-    (LONG_ALONE, &FILLED),
+pub(crate) const HALVES: &[Case] = &[
+    (LONG_ALONE, FILLED),
     (
         Line {
             slaves: &[LONG],
@@ -306,51 +306,51 @@ pub(crate) const HALVES: [Case; 6] = [
             half: 2049,
             ..ALONE
         },
-        &FILLED_WHOLLY,
+        FILLED_WHOLLY,
     ),
-    (LONG_ALONE, &OVERWRITTEN),
+    (LONG_ALONE, OVERWRITTEN),
     (
         Line {
-            first: &OF_255,
-            second: &OF_0,
+            first: OF_255,
+            second: OF_0,
             ..ALONE
         },
-        &NEWER_SECOND,
+        NEWER_SECOND,
     ),
     (
         Line {
-            first: &OF_0,
-            second: &OF_255,
+            first: OF_0,
+            second: OF_255,
             ..ALONE
         },
-        &NEWER_FIRST,
+        NEWER_FIRST,
     ),
     (
         Line {
             slaves: &[LONG],
-            first: &OF_255,
+            first: OF_255,
             ..ALONE
         },
-        &COME_TO,
+        COME_TO,
     ),
 ];
 
 #[test]
 fn halves_are_filled_and_retired(rt: HostRuntime) {
-    all_come(&rt, rt.alloc(), &HALVES);
+    all_come(&rt, rt.alloc(), HALVES);
 }
 
 /// A slave gets alias 1, as a batch of version 1.
-const PLAIN: [u8; 33] = [
+const PLAIN: &[u8] = &[
     0xa5, 0x1c, 0, 0, 0, 1, 0, 0, 0, 0, 0, 0, 0, 0, 0, 2, 0, 0, 0, 4, 0, 1, 0, 1, 0, 0, 0, 7, 0, 1,
     0, 0x19, 0,
 ];
 
 /// A closed gate and the mark of a migration.
-const MARK: [u8; 5] = [0, 0x4d, 0x49, 0x47, 0x32];
+const MARK: &[u8] = &[0, 0x4d, 0x49, 0x47, 0x32];
 
 /// What is live is retired, and then the journal is migrated.
-const MIGRATED: [Event; 16] = [
+const MIGRATED: &[Event] = &[
     Submit(Alias(0, 2), Err(SubmitRefusal::OldJournal)),
     Call(Migrate(true)),
     Call(Status(0, 0, 0, 33)),
@@ -370,7 +370,7 @@ const MIGRATED: [Event; 16] = [
 ];
 
 /// A migration that was stopped goes on without its mark.
-const MIGRATED_ON: [Event; 8] = [
+const MIGRATED_ON: &[Event] = &[
     Submit(Alias(0, 1), Err(SubmitRefusal::OldJournal)),
     Disk(Waits(Idle)),
     Call(Migrate(true)),
@@ -382,28 +382,28 @@ const MIGRATED_ON: [Event; 8] = [
 ];
 
 /// Old journals, and what comes of their books.
-pub(crate) const OLD: [Case; 2] = [
+pub(crate) const OLD: &[Case] = &[
     (
         Line {
             header: [0xa5, 1, 1, 0, 0, 0x10, 0, 0],
-            first: &PLAIN,
+            first: PLAIN,
             ..ALONE
         },
-        &MIGRATED,
+        MIGRATED,
     ),
     (
         Line {
             header: [0xa5, 0x77, 1, 0, 0, 0x10, 0, 0],
-            first: &MARK,
+            first: MARK,
             ..ALONE
         },
-        &MIGRATED_ON,
+        MIGRATED_ON,
     ),
 ];
 
 #[test]
 fn old_journals_are_migrated(rt: HostRuntime) {
-    all_come(&rt, rt.alloc(), &OLD);
+    all_come(&rt, rt.alloc(), OLD);
 }
 
 /// A slave with managers 2 and 3 for process data, an RxPDO of 8 bits and a TxPDO of 32, and one with a TxPDO of 12 bits.
@@ -447,7 +447,7 @@ const SENSOR: Slave = (
 );
 
 /// The process image follows the commands that are settled, one after the other: the sensor's input grows to 20 bits.
-const PLANNED: [Event; 9] = [
+const PLANNED: &[Event] = &[
     Call(Plan(0, 1, 6)),
     Submit(Inputs(1, &[0x1a00, 1, 0, 0, 0x6000, 1, 0x1400, 0]), Ok(0)),
     Submit(Alias(0, 1), Ok(1)),
@@ -465,11 +465,11 @@ const CELL: Line = Line {
     ..ALONE
 };
 
-pub(crate) const IMAGES: [Case; 1] = [(CELL, &PLANNED)];
+pub(crate) const IMAGES: &[Case] = &[(CELL, PLANNED)];
 
 #[test]
 fn the_process_image_follows(rt: HostRuntime) {
-    all_come(&rt, rt.alloc(), &IMAGES);
+    all_come(&rt, rt.alloc(), IMAGES);
 }
 
 const WIDE: Line = Line {
@@ -479,7 +479,7 @@ const WIDE: Line = Line {
 };
 
 /// A full queue goes into one batch.
-const QUEUED: [Event; 6] = [
+const QUEUED: &[Event] = &[
     Fill(Alias(0, 0), 1024),
     Submit(Alias(9, 0), Err(NO_SLAVE)),
     Submit(Alias(0, 0), Err(SubmitRefusal::Full)),
@@ -488,9 +488,9 @@ const QUEUED: [Event; 6] = [
     Submit(Alias(0, 0), Ok(1024)),
 ];
 
-const QUEUES: [Case; 1] = [(WIDE, &QUEUED)];
+const QUEUES: &[Case] = &[(WIDE, QUEUED)];
 
 #[test]
 fn the_queue_holds_1024_commands(rt: HostRuntime) {
-    all_come(&rt, rt.alloc(), &QUEUES);
+    all_come(&rt, rt.alloc(), QUEUES);
 }

@@ -9,33 +9,33 @@ use std::alloc::{AllocError, Global};
 use std::test::Fail;
 
 /// Two strings of two bytes, and a byte that makes whole words.
-const NAMES: [u16; 4] = [0x0202, 0x4C45, 0x4902, 0x006E];
+const NAMES: &[u16] = &[0x0202, 0x4C45, 0x4902, 0x006E];
 
 /// The sync managers of a slave with mailbox and process data.
-const MANAGERS: [u16; 16] = [
+const MANAGERS: &[u16] = &[
     0x1000, 0x0080, 0x0026, 0x0101, 0x1080, 0x0080, 0x0022, 0x0201, 0x1100, 0x0001, 0x0024, 0x0301,
     0x1180, 0x0004, 0x0020, 0x0401,
 ];
 
 /// A TXPDO of two entries of 16 bits.
-const INPUTS: [u16; 12] = [
+const INPUTS: &[u16] = &[
     0x1A00, 0x0302, 0x0000, 0x0000, 0x6000, 0x0001, 0x1006, 0x0000, 0x6000, 0x0002, 0x1006, 0x0000,
 ];
 
 /// An RXPDO that ends inside its entry, and its first three words, which are no PDO.
-const CUT_OUTPUTS: [u16; 5] = [0x1600, 0x0001, 0x0000, 0x0000, 0x7000];
+const CUT_OUTPUTS: &[u16] = &[0x1600, 0x0001, 0x0000, 0x0000, 0x7000];
 
 /// How the chain ends that `with_chain` begins: behind it the end mark and a 7.
-const OLD: [u16; 12] = [51, 8, 0, 0, 0, 0, 0, 0, 0, 0, END, 7];
+const OLD: &[u16] = &[51, 8, 0, 0, 0, 0, 0, 0, 0, 0, END, 7];
 
 /// The same with its only category taken out.
-const EMPTIED: [u16; 12] = [END, 8, 0, 0, 0, 0, 0, 0, 0, 0, END, 7];
+const EMPTIED: &[u16] = &[END, 8, 0, 0, 0, 0, 0, 0, 0, 0, END, 7];
 
 /// The same with a category added.
-const LONGER: [u16; 15] = [51, 8, 0, 0, 0, 0, 0, 0, 0, 0, 10, 1, 1, END, 7];
+const LONGER: &[u16] = &[51, 8, 0, 0, 0, 0, 0, 0, 0, 0, 10, 1, 1, END, 7];
 
 /// The same with its only category so long that it fills the device.
-const FULL: [u16; 64] = [
+const FULL: &[u16] = &[
     51, 62, 0, 0, 0, 0, 0, 0, 0, 0, 0, 0, 0, 0, 0, 0, 0, 0, 0, 0, 0, 0, 0, 0, 0, 0, 0, 0, 0, 0, 0,
     0, 0, 0, 0, 0, 0, 0, 0, 0, 0, 0, 0, 0, 0, 0, 0, 0, 0, 0, 0, 0, 0, 0, 0, 0, 0, 0, 0, 0, 0, 0, 0,
     0,
@@ -51,11 +51,11 @@ enum Kind {
 }
 
 /// Contents, and what they are once they are read and written again.
-const AGAIN: [(Kind, &[u16], &[u16]); 5] = [
-    (Kind::Names, &NAMES, &NAMES),
+const AGAIN: &[(Kind, &[u16], &[u16])] = &[
+    (Kind::Names, NAMES, NAMES),
     (Kind::Names, &[], &[0]),
-    (Kind::Managers, &MANAGERS, &MANAGERS),
-    (Kind::Pdos, &INPUTS, &INPUTS),
+    (Kind::Managers, MANAGERS, MANAGERS),
+    (Kind::Pdos, INPUTS, INPUTS),
     (Kind::Units, &[0x0201, 0x03FF], &[0x0201, 0x03FF]),
 ];
 
@@ -86,7 +86,7 @@ fn again(alloc: Global, kind: Kind, words: &[u16]) -> Result<Vec<u16>, CatFault>
 
 #[test]
 fn contents_are_written_as_they_were_read(rt: HostRuntime) -> Result<(), Fail> {
-    for (kind, words, wanted) in &AGAIN {
+    for (kind, words, wanted) in AGAIN {
         assert!(rt; again(rt.alloc(), *kind, words)?.as_slice() == *wanted);
     }
     Ok(())
@@ -102,7 +102,7 @@ fn units_of_bytes(rt: HostRuntime) {
 fn contents_that_are_cut(rt: HostRuntime) -> Result<(), Fail> {
     let names = strings(rt.alloc(), &NAMES[..2]).err();
     assert!(rt; names == Some(CatFault::BadCategory { kind: STRINGS }));
-    let outputs = pdos(rt.alloc(), RXPDOS, &CUT_OUTPUTS).err();
+    let outputs = pdos(rt.alloc(), RXPDOS, CUT_OUTPUTS).err();
     assert!(rt; outputs == Some(CatFault::BadCategory { kind: RXPDOS }));
     assert!(rt; pdos(rt.alloc(), RXPDOS, &CUT_OUTPUTS[..3])?.is_empty());
     Ok(())
@@ -128,32 +128,32 @@ fn sizes_of_chain(alloc: Global, words: &[u16], then: u16) -> Result<(usize, usi
 }
 
 /// Chains, the word behind them, and how many categories they have and how many words the longest content.
-const CHAINS: [(&[u16], u16, Result<(usize, usize), ChainFault>); 4] = [
+const CHAINS: &[(&[u16], u16, Result<(usize, usize), ChainFault>)] = &[
     (&[], END, Ok((0, 0))),
     (&[], 0, Ok((32, 0))),
-    (&OLD, 7, Ok((1, 8))),
+    (OLD, 7, Ok((1, 8))),
     (&[51, 63], 0, Err(ChainFault::RunsOut { at: 64 })),
 ];
 
 #[test]
 fn chains(rt: HostRuntime) -> Result<(), Fail> {
-    for (words, then, wanted) in &CHAINS {
+    for (words, then, wanted) in CHAINS {
         assert!(rt; sizes_of_chain(rt.alloc(), words, *then) == *wanted);
     }
     Ok(())
 }
 
 /// What the only category of `OLD` is exchanged for, or none where one is added, and the chain then.
-const EDITED: [(Option<&[u16]>, &[u16]); 3] = [
-    (Some(&[]), &EMPTIED),
-    (None, &LONGER),
+const EDITED: &[(Option<&[u16]>, &[u16])] = &[
+    (Some(&[]), EMPTIED),
+    (None, LONGER),
     // All words are taken, and no end mark is left.
-    (Some(&[0; 62]), &FULL),
+    (Some(&[0; 62]), FULL),
 ];
 
 /// Such words with their only category exchanged, or taken out.
 fn exchanged(alloc: Global, content: &[u16]) -> Result<Vec<u16>, CatFault> {
-    let device = with_chain(alloc, &OLD, 7)?;
+    let device = with_chain(alloc, OLD, 7)?;
     if device.len() != 128 || chain(alloc, &device)?.len() != 1 {
         return Err(CatFault::BadCategory { kind: END });
     }
@@ -162,7 +162,7 @@ fn exchanged(alloc: Global, content: &[u16]) -> Result<Vec<u16>, CatFault> {
 
 /// Such words with a category added.
 fn with_strings(alloc: Global) -> Result<Vec<u16>, CatFault> {
-    let device = with_chain(alloc, &OLD, 7)?;
+    let device = with_chain(alloc, OLD, 7)?;
     if device.len() != 128 {
         return Err(CatFault::BadCategory { kind: END });
     }
@@ -184,7 +184,7 @@ fn gives(alloc: Global, content: Option<&[u16]>, wanted: &[u16]) -> Result<bool,
 
 #[test]
 fn edited_categories(rt: HostRuntime) -> Result<(), Fail> {
-    for (content, wanted) in &EDITED {
+    for (content, wanted) in EDITED {
         assert!(rt; gives(rt.alloc(), *content, wanted)?);
     }
     let over = exchanged(rt.alloc(), &[0; 63]).err();

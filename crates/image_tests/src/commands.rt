@@ -41,19 +41,19 @@ enum Order {
 }
 
 /// A content that fills a device of 128 words to its last one, and one that is a word too long.
-const FILLING: [u16; 62] = [7; 62];
+const FILLING: &[u16] = &[7; 62];
 
-const TOO_LONG: [u16; 63] = [7; 63];
+const TOO_LONG: &[u16] = &[7; 63];
 
-const LONGEST: [Ask; 64] = [Ask::Alias(2, 1); 64];
+const LONGEST: &[Ask] = &[Ask::Alias(2, 1); 64];
 
-const ONE_MORE: [Ask; 65] = [Ask::Alias(2, 1); 65];
+const ONE_MORE: &[Ask] = &[Ask::Alias(2, 1); 65];
 
 /// An image of vendor 2.
 const VENDOR_2: Ask = Ask::Image(0, [0, 0x0030, 2, 0xFFFF]);
 
 /// Commands, and why they are refused, if they are: the cause, and which edit of a group has it.
-const JUDGED: [(&Names, Order, Option<(Cause, Option<u8>)>); 17] = [
+const JUDGED: &[(&Names, Order, Option<(Cause, Option<u8>)>)] = &[
     (
         &UNCHECKED,
         Order::Swap(2, 2),
@@ -86,23 +86,19 @@ const JUDGED: [(&Names, Order, Option<(Cause, Option<u8>)>); 17] = [
         Order::Group(&[Ask::Image(1, [0, 0x0030, 0, 10])]),
         None,
     ),
+    (&ZEROS, Order::Group(&[Ask::Category(0, 60, FILLING)]), None),
     (
         &ZEROS,
-        Order::Group(&[Ask::Category(0, 60, &FILLING)]),
-        None,
-    ),
-    (
-        &ZEROS,
-        Order::Group(&[Ask::Category(0, 60, &TOO_LONG)]),
+        Order::Group(&[Ask::Category(0, 60, TOO_LONG)]),
         Some((Cause::NoRoom, Some(0))),
     ),
     (&ZEROS, Order::Group(&[]), Some((Cause::EmptyGroup, None))),
     (
         &ZEROS,
-        Order::Group(&ONE_MORE),
+        Order::Group(ONE_MORE),
         Some((Cause::GroupTooLong, None)),
     ),
-    (&ZEROS, Order::Group(&LONGEST), None),
+    (&ZEROS, Order::Group(LONGEST), None),
     // The identity is that just before the edit.
     (
         &UNCHECKED,
@@ -127,7 +123,7 @@ const JUDGED: [(&Names, Order, Option<(Cause, Option<u8>)>); 17] = [
 ];
 
 /// Commands, and the runs of one word that they lead to: slave, place and value.
-const LED_TO: [(&Names, Order, &[(u16, u16, u16)]); 4] = [
+const LED_TO: &[(&Names, Order, &[(u16, u16, u16)])] = &[
     (
         &NAMED,
         Order::Swap(0, 1),
@@ -151,7 +147,7 @@ const LED_TO: [(&Names, Order, &[(u16, u16, u16)]); 4] = [
 ];
 
 /// Edits one on the other, and the alias, the vendor and words 64 to 67 of the first slave then.
-const STACKED: [(Order, (u16, u32, [u16; 4])); 3] = [
+const STACKED: &[(Order, (u16, u32, [u16; 4]))] = &[
     (
         Order::Group(&[Ask::Category(0, 60, &[9]), Ask::Alias(0, 1)]),
         (1, 0, [60, 1, 9, 0xFFFF]),
@@ -167,7 +163,7 @@ const STACKED: [(Order, (u16, u32, [u16; 4])); 3] = [
 ];
 
 /// Word 7 of an image and the alias that it is to get; whether it gets it, and words 4 and 7 then.
-const RENAMED: [(u16, u16, (bool, u16, u16)); 3] = [
+const RENAMED: &[(u16, u16, (bool, u16, u16))] = &[
     (0xAB30, 0x0001, (true, 0x0001, 0xAB19)),
     (0x0030, 0xFFFF, (true, 0xFFFF, 0x00A6)),
     (0x0031, 0x0001, (false, 0x0000, 0x0031)),
@@ -267,7 +263,7 @@ fn judged(
 
 #[test]
 fn commands_are_judged_in_order(rt: HostRuntime) -> Result<(), Fail> {
-    for (names, order, wanted) in &JUDGED {
+    for (names, order, wanted) in JUDGED {
         assert_eq!(rt; judged(rt.alloc(), names, order)?, *wanted);
     }
     Ok(())
@@ -295,7 +291,7 @@ fn leads_to(
 
 #[test]
 fn aliases_are_runs_of_two_words(rt: HostRuntime) -> Result<(), Fail> {
-    for (names, order, wanted) in &LED_TO {
+    for (names, order, wanted) in LED_TO {
         assert!(rt; leads_to(rt.alloc(), names, order, wanted)?);
     }
     Ok(())
@@ -319,7 +315,7 @@ fn first_slave(alloc: Global, order: &Order) -> Result<(u16, u32, [u16; 4]), Fai
 
 #[test]
 fn edits_stand_on_each_other(rt: HostRuntime) -> Result<(), Fail> {
-    for (order, wanted) in &STACKED {
+    for (order, wanted) in STACKED {
         assert!(rt; first_slave(rt.alloc(), order)? == *wanted);
     }
     Ok(())
@@ -335,7 +331,7 @@ fn aliased(alloc: Global, seven: u16, alias: u16) -> Result<(bool, u16, u16), Fa
 
 #[test]
 fn images_get_aliases(rt: HostRuntime) -> Result<(), Fail> {
-    for (seven, alias, wanted) in &RENAMED {
+    for (seven, alias, wanted) in RENAMED {
         assert!(rt; aliased(rt.alloc(), *seven, *alias)? == *wanted);
     }
     Ok(())

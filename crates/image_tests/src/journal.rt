@@ -9,47 +9,47 @@ use std::alloc::{AllocError, Global};
 use std::test::Fail;
 
 /// Two aliases change places.
-const SWAP: [u8; 51] = [
+const SWAP: &[u8] = &[
     0xa5, 0x00, 0x2c, 0x00, 0x00, 0x00, 0x01, 0x00, 0, 0, 0, 0, 0, 0, 0, 0, 0x04, 0x00, 0x00, 0x00,
     0x04, 0x00, 0x01, 0x00, 0x00, 0x00, 0x00, 0x00, 0x07, 0x00, 0x01, 0x00, 0x30, 0x00, 0x01, 0x00,
     0x04, 0x00, 0x01, 0x00, 0x01, 0x00, 0x01, 0x00, 0x07, 0x00, 0x01, 0x00, 0x19, 0x00, 0x00,
 ];
 
 /// A slave gets alias 1.
-const ALIAS: [u8; 35] = [
+const ALIAS: &[u8] = &[
     0xa5, 0x00, 0x1c, 0x00, 0x00, 0x00, 0x01, 0x00, 0, 0, 0, 0, 0, 0, 0, 0, 0x02, 0x00, 0x00, 0x00,
     0x04, 0x00, 0x01, 0x00, 0x01, 0x00, 0x00, 0x00, 0x07, 0x00, 0x01, 0x00, 0x19, 0x00, 0x00,
 ];
 
 /// The same in version 1.
-const PLAIN: [u8; 34] = [
+const PLAIN: &[u8] = &[
     0xa5, 0x1c, 0x00, 0x00, 0x00, 0x01, 0x00, 0, 0, 0, 0, 0, 0, 0, 0, 0x02, 0x00, 0x00, 0x00, 0x04,
     0x00, 0x01, 0x00, 0x01, 0x00, 0x00, 0x00, 0x07, 0x00, 0x01, 0x00, 0x19, 0x00, 0x00,
 ];
 
 /// A command that changes nothing, of generation 0 and of others.
-const EMPTY: [u8; 19] = [
+const EMPTY: &[u8] = &[
     0xa5, 0x00, 0x0c, 0, 0, 0, 1, 0, 0, 0, 0, 0, 0, 0, 0, 0, 0, 0, 0,
 ];
 
-const OF_2: [u8; 19] = [
+const OF_2: &[u8] = &[
     0xa5, 0x02, 0x0c, 0, 0, 0, 1, 0, 0, 0, 0, 0, 0, 0, 0, 0, 0, 0, 0,
 ];
 
-const OF_3: [u8; 19] = [
+const OF_3: &[u8] = &[
     0xa5, 0x03, 0x0c, 0, 0, 0, 1, 0, 0, 0, 0, 0, 0, 0, 0, 0, 0, 0, 0,
 ];
 
-const OF_4: [u8; 19] = [
+const OF_4: &[u8] = &[
     0xa5, 0x04, 0x0c, 0, 0, 0, 1, 0, 0, 0, 0, 0, 0, 0, 0, 0, 0, 0, 0,
 ];
 
-const OF_255: [u8; 19] = [
+const OF_255: &[u8] = &[
     0xa5, 0xff, 0x0c, 0, 0, 0, 1, 0, 0, 0, 0, 0, 0, 0, 0, 0, 0, 0, 0,
 ];
 
 /// One of generation 2 and one of generation 3 in the same half.
-const MIXED: [u8; 37] = [
+const MIXED: &[u8] = &[
     0xa5, 0x02, 0x0c, 0, 0, 0, 1, 0, 0, 0, 0, 0, 0, 0, 0, 0, 0, 0, 0xa5, 0x03, 0x0c, 0, 0, 0, 1, 0,
     0, 0, 0, 0, 0, 0, 0, 0, 0, 0, 0,
 ];
@@ -58,12 +58,12 @@ const MIXED: [u8; 37] = [
 const TWO: [u8; 8] = [0xa5, 0x02, 0x02, 0x00, 0x00, 0x10, 0x00, 0x00];
 
 /// Of version 1, and with a torn version byte, for one slave.
-const ONE: [u8; 8] = [0xa5, 0x01, 0x01, 0x00, 0x00, 0x10, 0x00, 0x00];
+const ONE: &[u8] = &[0xa5, 0x01, 0x01, 0x00, 0x00, 0x10, 0x00, 0x00];
 
-const TORN: [u8; 8] = [0xa5, 0x77, 0x01, 0x00, 0x00, 0x10, 0x00, 0x00];
+const TORN: &[u8] = &[0xa5, 0x77, 0x01, 0x00, 0x00, 0x10, 0x00, 0x00];
 
 /// A closed gate and the mark of a migration.
-const MARK: [u8; 5] = [0x00, 0x4d, 0x49, 0x47, 0x32];
+const MARK: &[u8] = &[0x00, 0x4d, 0x49, 0x47, 0x32];
 
 /// A file of 4,104 bytes with this header, and these bytes in front of the halves of its area.
 fn file_of(alloc: Global, head: &[u8], first: &[u8], second: &[u8]) -> Result<Vec<u8>, AllocError> {
@@ -122,21 +122,21 @@ fn refusal(
 }
 
 /// What is live by the bytes in front of the halves, on a line of two slaves of 64 words.
-const LIVE: [(&[u8], &[u8], &[(u8, u8, usize)]); 7] = [
-    (&SWAP, &[], &[(0, 0, 4)]),
-    (&[], &ALIAS, &[(1, 0, 2)]),
+const LIVE: &[(&[u8], &[u8], &[(u8, u8, usize)])] = &[
+    (SWAP, &[], &[(0, 0, 4)]),
+    (&[], ALIAS, &[(1, 0, 2)]),
     (&[], &[], &[]),
     // What stands behind a closed gate isn't read.
     (&[0x00, 0xa5, 0xff, 0xff], &[0x01, 0xa5], &[]),
-    (&OF_255, &EMPTY, &[(0, 255, 0), (1, 0, 0)]),
-    (&EMPTY, &OF_255, &[(1, 255, 0), (0, 0, 0)]),
-    (&OF_4, &OF_3, &[(1, 3, 0), (0, 4, 0)]),
+    (OF_255, EMPTY, &[(0, 255, 0), (1, 0, 0)]),
+    (EMPTY, OF_255, &[(1, 255, 0), (0, 0, 0)]),
+    (OF_4, OF_3, &[(1, 3, 0), (0, 4, 0)]),
 ];
 
 #[test]
 fn live_batches_are_found(rt: HostRuntime) -> Result<(), Fail> {
     let alloc = rt.alloc();
-    for (first, second, wanted) in &LIVE {
+    for (first, second, wanted) in LIVE {
         let file = file_of(alloc, &TWO, first, second)?;
         assert!(rt; is_live(alloc, &file, &[64, 64], Form::Two, wanted));
     }
@@ -146,8 +146,8 @@ fn live_batches_are_found(rt: HostRuntime) -> Result<(), Fail> {
 #[test]
 fn older_forms_are_found(rt: HostRuntime) -> Result<(), Fail> {
     let alloc = rt.alloc();
-    let one = file_of(alloc, &ONE, &PLAIN, &[])?;
-    let moving = file_of(alloc, &TORN, &MARK, &[])?;
+    let one = file_of(alloc, ONE, PLAIN, &[])?;
+    let moving = file_of(alloc, TORN, MARK, &[])?;
     assert!(rt;
         is_live(alloc, &one, &[64], Form::One, &[(0, 0, 2)])
             && is_live(alloc, &moving, &[64], Form::Moving, &[])
@@ -162,12 +162,12 @@ const AT_4: JournalFault = JournalFault::BadJournal { at: 4 };
 const CUT: JournalFault = JournalFault::BadJournal { at: 4104 };
 
 /// Halves that a line of two slaves refuses: one of 64 words, and one of 8 or as many as stated.
-const REFUSED: [(&[u8], &[u8], &[u16], JournalFault); 13] = [
+const REFUSED: &[(&[u8], &[u8], &[u16], JournalFault)] = &[
     // Generations that don't follow one another.
-    (&EMPTY, &OF_2, &[64, 64], AT_8),
-    (&OF_2, &EMPTY, &[64, 64], AT_8),
-    (&OF_3, &OF_3, &[64, 64], AT_8),
-    (&MIXED, &[], &[64, 64], AT_8),
+    (EMPTY, OF_2, &[64, 64], AT_8),
+    (OF_2, EMPTY, &[64, 64], AT_8),
+    (OF_3, OF_3, &[64, 64], AT_8),
+    (MIXED, &[], &[64, 64], AT_8),
     // Longer than the half, and just so long that no gate stands behind it.
     (&[0xa5, 0x00, 0xff, 0xff, 0xff, 0xff], &[], &[64, 64], AT_8),
     (&[0xa5, 0x00, 0xfa, 0x07, 0x00, 0x00], &[], &[64, 64], AT_8),
@@ -204,8 +204,8 @@ const REFUSED: [(&[u8], &[u8], &[u16], JournalFault); 13] = [
         JournalFault::BadJournal { at: 2056 },
     ),
     // Another line: a slave more, a word that isn't there, a slave that isn't there.
-    (&SWAP, &[], &[64, 64, 64], JournalFault::WrongLine),
-    (&SWAP, &[], &[64, 7], JournalFault::WrongLine),
+    (SWAP, &[], &[64, 64, 64], JournalFault::WrongLine),
+    (SWAP, &[], &[64, 7], JournalFault::WrongLine),
     (
         &[
             0xa5, 0, 0x14, 0, 0, 0, 1, 0, 0, 0, 0, 0, 0, 0, 0, 0, 1, 0, 2, 0, 0, 0, 1, 0, 0, 0, 0,
@@ -217,7 +217,7 @@ const REFUSED: [(&[u8], &[u8], &[u16], JournalFault); 13] = [
 ];
 
 /// Headers that a line of one slave of 64 words refuses, with the bytes behind them.
-const HEADERS: [([u8; 8], &[u8], JournalFault); 8] = [
+const HEADERS: &[([u8; 8], &[u8], JournalFault)] = &[
     (
         [0x00, 2, 1, 0, 0x00, 0x10, 0, 0],
         &[],
@@ -235,7 +235,7 @@ const HEADERS: [([u8; 8], &[u8], JournalFault); 8] = [
     ),
     (
         [0xa5, 0x77, 2, 0, 0x00, 0x10, 0, 0],
-        &MARK,
+        MARK,
         JournalFault::WrongLine,
     ),
     // The mark behind an open gate is none.
@@ -252,10 +252,10 @@ const HEADERS: [([u8; 8], &[u8], JournalFault); 8] = [
 #[test]
 fn journals_are_refused(rt: HostRuntime) -> Result<(), Fail> {
     let alloc = rt.alloc();
-    for (first, second, sizes, fault) in &REFUSED {
+    for (first, second, sizes, fault) in REFUSED {
         assert_eq!(rt; refusal(alloc, &TWO, first, second, sizes)?, Some(*fault));
     }
-    for (head, first, fault) in &HEADERS {
+    for (head, first, fault) in HEADERS {
         assert_eq!(rt; refusal(alloc, head, first, &[], &[64])?, Some(*fault));
     }
     Ok(())
@@ -272,7 +272,7 @@ fn cut_fault(size: usize) -> JournalFault {
 #[test]
 fn files_cut_short(rt: HostRuntime) -> Result<(), Fail> {
     let alloc = rt.alloc();
-    let file = file_of(alloc, &TWO, &SWAP, &[])?;
+    let file = file_of(alloc, &TWO, SWAP, &[])?;
     for size in 0..4104usize {
         assert!(rt; size <= file.len());
         assert_eq!(rt;
@@ -281,7 +281,7 @@ fn files_cut_short(rt: HostRuntime) -> Result<(), Fail> {
         );
     }
     // Too short for the mark of a migration, and just long enough.
-    let moving = file_of(alloc, &TORN, &MARK, &[])?;
+    let moving = file_of(alloc, TORN, MARK, &[])?;
     assert!(rt; 13 <= moving.len());
     let unknown = Some(JournalFault::BadVersion { found: 0x77 });
     let short = Some(JournalFault::BadJournal { at: 13 });
@@ -341,15 +341,15 @@ fn is_spelt(alloc: Global, named: &[(u16, u16, u16)], bytes: &[u8]) -> Result<bo
     )
 }
 
-const SPELT: [(&[(u16, u16, u16)], &[u8]); 3] = [
-    (&[(0, 4, 0), (0, 7, 0x30), (1, 4, 1), (1, 7, 0x19)], &SWAP),
-    (&[(0, 4, 1), (0, 7, 0x19)], &ALIAS),
-    (&[], &EMPTY),
+const SPELT: &[(&[(u16, u16, u16)], &[u8])] = &[
+    (&[(0, 4, 0), (0, 7, 0x30), (1, 4, 1), (1, 7, 0x19)], SWAP),
+    (&[(0, 4, 1), (0, 7, 0x19)], ALIAS),
+    (&[], EMPTY),
 ];
 
 #[test]
 fn batches_are_spelt(rt: HostRuntime) -> Result<(), Fail> {
-    for (named, bytes) in &SPELT {
+    for (named, bytes) in SPELT {
         assert!(rt; is_spelt(rt.alloc(), named, bytes)?);
     }
     Ok(())

@@ -7,41 +7,37 @@ use sii_words::{Plant, Words, WordsFault};
 use std::alloc::Global;
 use std::test::Fail;
 
-const MANAGERS: [u8; 32] = [
+const MANAGERS: &[u8] = &[
     0x00, 0x10, 0x80, 0x00, 0x26, 0x00, 0x01, 0x01, 0x80, 0x10, 0x80, 0x00, 0x22, 0x00, 0x01, 0x02,
     0x00, 0x11, 0x01, 0x00, 0x24, 0x00, 0x01, 0x03, 0x80, 0x11, 0x04, 0x00, 0x20, 0x00, 0x01, 0x04,
 ];
 
-const RXPDO: [u8; 16] = [
+const RXPDO: &[u8] = &[
     0x00, 0x16, 0x01, 0x02, 0x00, 0x00, 0x00, 0x00, 0x00, 0x70, 0x01, 0x00, 0x05, 0x08, 0x00, 0x00,
 ];
 
-const TXPDO: [u8; 24] = [
+const TXPDO: &[u8] = &[
     0x00, 0x1A, 0x02, 0x03, 0x00, 0x00, 0x00, 0x00, 0x00, 0x60, 0x01, 0x00, 0x06, 0x10, 0x00, 0x00,
     0x00, 0x60, 0x02, 0x00, 0x06, 0x10, 0x00, 0x00,
 ];
 
-const LAST_MANAGERS: [u8; 8] = [0x00, 0x10, 0x02, 0x00, 0x20, 0x00, 0x01, 0x04];
+const LAST_MANAGERS: &[u8] = &[0x00, 0x10, 0x02, 0x00, 0x20, 0x00, 0x01, 0x04];
 
-const LAST_TXPDO: [u8; 16] = [
+const LAST_TXPDO: &[u8] = &[
     0x00, 0x1A, 0x01, 0x00, 0x00, 0x00, 0x00, 0x00, 0x00, 0x60, 0x01, 0x00, 0x00, 0x0C, 0x00, 0x00,
 ];
 
-const FIRST_SLAVE: [(u16, &[u8]); 3] = [(41, &MANAGERS), (51, &RXPDO), (50, &TXPDO)];
+const FIRST_SLAVE: &[(u16, &[u8])] = &[(41, MANAGERS), (51, RXPDO), (50, TXPDO)];
 
-const LAST_SLAVE: [(u16, &[u8]); 2] = [(41, &LAST_MANAGERS), (50, &LAST_TXPDO)];
+const LAST_SLAVE: &[(u16, &[u8])] = &[(41, LAST_MANAGERS), (50, LAST_TXPDO)];
 
 /// Slaves that describe nothing: a chain that isn't whole, and a PDO that isn't whole.
-const NOTHING: [&[(u16, &[u8])]; 2] = [
-    &[(41, &MANAGERS), (51, &RXPDO), (4095, &[0x77; 840])],
-    &[
-        (41, &MANAGERS),
-        (51, &RXPDO),
-        (50, &[0, 0, 1, 3, 0, 0, 0, 0]),
-    ],
+const NOTHING: &[&[(u16, &[u8])]] = &[
+    &[(41, MANAGERS), (51, RXPDO), (4095, &[0x77; 840])],
+    &[(41, MANAGERS), (51, RXPDO), (50, &[0, 0, 1, 3, 0, 0, 0, 0])],
 ];
 
-const SEGMENTS: [Segment; 3] = [
+const SEGMENTS: &[Segment] = &[
     Segment {
         slave: 0,
         manager: 2,
@@ -74,7 +70,7 @@ const SEGMENTS: [Segment; 3] = [
     },
 ];
 
-const LAST_ALONE: [Segment; 1] = [Segment {
+const LAST_ALONE: &[Segment] = &[Segment {
     slave: 1,
     manager: 0,
     output: false,
@@ -114,20 +110,20 @@ fn is_image(image: &ProcessImage, segments: &[Segment], totals: (usize, usize, u
 
 #[test]
 fn image_of_a_line(rt: HostRuntime) -> Result<(), Fail> {
-    let plant = line(rt.alloc(), &FIRST_SLAVE, &LAST_SLAVE)?;
+    let plant = line(rt.alloc(), FIRST_SLAVE, LAST_SLAVE)?;
     let plan = Plan {
         prefix: 0,
         image: image_of(rt.alloc(), &plant)?,
     };
-    assert!(rt; plan.prefix == 0 && is_image(&plan.image, &SEGMENTS, (1, 6, 4)));
+    assert!(rt; plan.prefix == 0 && is_image(&plan.image, SEGMENTS, (1, 6, 4)));
     Ok(())
 }
 
 #[test]
 fn slaves_that_describe_nothing(rt: HostRuntime) -> Result<(), Fail> {
-    for categories in &NOTHING {
-        let plant = line(rt.alloc(), *categories, &LAST_SLAVE)?;
-        assert!(rt; is_image(&image_of(rt.alloc(), &plant)?, &LAST_ALONE, (0, 2, 1)));
+    for categories in NOTHING {
+        let plant = line(rt.alloc(), *categories, LAST_SLAVE)?;
+        assert!(rt; is_image(&image_of(rt.alloc(), &plant)?, LAST_ALONE, (0, 2, 1)));
     }
     Ok(())
 }
@@ -181,8 +177,8 @@ fn most_segments_of_a_slave(rt: HostRuntime) -> Result<(), Fail> {
 
 /// The layout of a line that becomes the line worked out by hand, slave by slave, and whether both steps were within the limits.
 fn changed_layout(alloc: Global) -> Result<(Layout, bool), WordsFault> {
-    let plant = line(alloc, &FIRST_SLAVE, &[])?;
-    let last = device(alloc, 1024, &LAST_SLAVE)?;
+    let plant = line(alloc, FIRST_SLAVE, &[])?;
+    let last = device(alloc, 1024, LAST_SLAVE)?;
     let mut layout = Layout::of(alloc, &plant)?;
     layout.change(0, &last)?;
     layout.change(2, &last)?;
@@ -203,13 +199,13 @@ fn changed_layout(alloc: Global) -> Result<(Layout, bool), WordsFault> {
 #[test]
 fn layout_under_changes(rt: HostRuntime) -> Result<(), Fail> {
     let (layout, is_within) = changed_layout(rt.alloc())?;
-    assert!(rt; is_within && is_image(&layout.image()?, &SEGMENTS, (1, 6, 4)));
+    assert!(rt; is_within && is_image(&layout.image()?, SEGMENTS, (1, 6, 4)));
     Ok(())
 }
 
 /// The segments of a slave's layout once another alias, or another category, stands in its words.
 fn segments_after(alloc: Global, at: usize, value: u16) -> Result<usize, WordsFault> {
-    let old = device(alloc, 256, &LAST_SLAVE)?;
+    let old = device(alloc, 256, LAST_SLAVE)?;
     let mut new = old.try_copy()?;
     if at < new.len() {
         new.set(at, value);

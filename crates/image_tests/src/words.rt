@@ -9,7 +9,7 @@ use std::alloc::{AllocError, Global};
 use std::test::Fail;
 
 /// Aliases of devices whose other words are zeros, and their check bytes.
-const CHECK_BYTES: [(u16, u8); 3] = [(0x0000, 0x30), (0x0001, 0x19), (0xFFFF, 0xA6)];
+const CHECK_BYTES: &[(u16, u8)] = &[(0x0000, 0x30), (0x0001, 0x19), (0xFFFF, 0xA6)];
 
 /// The identity of 128 bytes that are their own indices.
 const COUNTED_IDENTITY: Identity = Identity {
@@ -20,7 +20,7 @@ const COUNTED_IDENTITY: Identity = Identity {
 };
 
 /// Numbers of bytes, and why they are no device and no image.
-const SIZES: [(usize, Option<WordsFault>, Option<WordsFault>); 6] = [
+const SIZES: &[(usize, Option<WordsFault>, Option<WordsFault>)] = &[
     (126, Some(WordsFault::BadSize), Some(WordsFault::BadSize)),
     (
         127,
@@ -69,7 +69,7 @@ fn checked_image(alloc: Global, bytes: &[u8]) -> Result<(u16, u8, bool), WordsFa
 
 #[test]
 fn check_bytes_of_aliases(rt: HostRuntime) -> Result<(), Fail> {
-    for (alias, check) in &CHECK_BYTES {
+    for (alias, check) in CHECK_BYTES {
         let bytes = bytes_with_alias(*alias, *check);
         assert!(rt; checked_words(rt.alloc(), &bytes)? == (*alias, *check, 0x19, true));
         assert!(rt; checked_image(rt.alloc(), &bytes)? == (*alias, *check, true));
@@ -90,7 +90,7 @@ fn faults_of(
 
 #[test]
 fn sizes(rt: HostRuntime) -> Result<(), Fail> {
-    for (length, of_words, of_image) in &SIZES {
+    for (length, of_words, of_image) in SIZES {
         assert!(rt;
             faults_of(rt.alloc(), *length)? == (*of_words, *of_image),
             "at {length}"

@@ -87,7 +87,7 @@ type Round = (Issued, Settled);
 
 // How many words fail, how many calls pass before one is lost (10,000: none is), and what each round answers. The word is written
 // then.
-const WRITTEN: [(u32, u64, &[Round]); 4] = [
+const WRITTEN: &[(u32, u64, &[Round])] = &[
     (0, 10_000, &[(Issued::Taken, Settled::Written)]),
     // A word that fails is issued again.
     (
@@ -152,7 +152,7 @@ fn is_written(alloc: Global, failing: u32, passing: u64, rounds: &[Round]) -> bo
 
 #[test]
 fn words_are_written(rt: HostRuntime) {
-    for (failing, passing, rounds) in &WRITTEN {
+    for (failing, passing, rounds) in WRITTEN {
         assert!(rt; is_written(rt.alloc(), *failing, *passing, rounds));
     }
 }
@@ -274,13 +274,13 @@ fn goes_and_comes(
 }
 
 // The bytes that issue word 4 = 1 to slave 0.
-const ISSUE: [u8; 22] = [
+const ISSUE: &[u8] = &[
     0x14, 0x10, 0x05, 0x00, 0x01, 0x10, 0x02, 0x05, 0x08, 0x00, 0x00, 0x00, 0x01, 0x02, 0x04, 0x00,
     0x00, 0x00, 0x01, 0x00, 0x00, 0x00,
 ];
 
 // Those that come back.
-const ISSUED: [u8; 22] = [
+const ISSUED: &[u8] = &[
     0x14, 0x10, 0x05, 0x00, 0x01, 0x10, 0x02, 0x05, 0x08, 0x00, 0x00, 0x00, 0x01, 0x02, 0x04, 0x00,
     0x00, 0x00, 0x01, 0x00, 0x01, 0x00,
 ];
@@ -289,7 +289,7 @@ const ISSUED: [u8; 22] = [
 fn an_issue_has_these_bytes(rt: HostRuntime) {
     let address = fp(0x1001, 0x0502);
     let content = &ISSUE[12..20];
-    assert!(rt; goes_and_comes(rt.alloc(), Command::Fpwr, address, content, &ISSUE, &ISSUED));
+    assert!(rt; goes_and_comes(rt.alloc(), Command::Fpwr, address, content, ISSUE, ISSUED));
 }
 
 // Whether there is no room for this content.

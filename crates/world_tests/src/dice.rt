@@ -11,7 +11,7 @@ use world_run::{LeftByte, LeftWord, WordEnd};
 pub(crate) struct Dice(u32);
 
 /// What comes back of a slave: mostly well.
-const OUTCOMES: [RomOutcome; 12] = [
+const OUTCOMES: &[RomOutcome] = &[
     RomOutcome::Issued(Issued::Taken),
     RomOutcome::Issued(Issued::Taken),
     RomOutcome::Issued(Issued::Taken),

@@ -11,13 +11,13 @@ use std::alloc::Global;
 use world_run::{DiskEnd, Event, WordEnd, World};
 
 /// Headers for two slaves, of version 1 and of version 2.
-const HEADERS: [[u8; 8]; 2] = [
+const HEADERS: &[[u8; 8]] = &[
     [0xA5, 1, 2, 0, 0, 0x10, 0, 0],
     [0xA5, 2, 2, 0, 0, 0x10, 0, 0],
 ];
 
 /// Aliases, each with the check byte of a slave that is zero otherwise.
-const ALIASES: [(u16, u16); 3] = [(0, 0x30), (1, 0x19), (0xFFFF, 0xA6)];
+const ALIASES: &[(u16, u16)] = &[(0, 0x30), (1, 0x19), (0xFFFF, 0xA6)];
 
 /// Whether a station is up that no fault has closed.
 fn is_up(world: &World) -> bool {

@@ -9,16 +9,16 @@ use site_core::{Issued, Settled};
 use world_run::{LeftByte, LeftWord, WordEnd};
 
 /// A header for one slave.
-const HEADER: [u8; 8] = [0xA5, 2, 1, 0, 0, 0x10, 0, 0];
+const HEADER: &[u8] = &[0xA5, 2, 1, 0, 0, 0x10, 0, 0];
 
 /// The slave is to get alias 1. Its batch is written and synced, and the write of its gate, byte 8, has begun.
-const UP_TO_THE_GATE: [Act; 7] = [Open, Alias(1), Begin, Done, Begin, Done, Begin];
+const UP_TO_THE_GATE: &[Act] = &[Open, Alias(1), Begin, Done, Begin, Done, Begin];
 
 /// The rest of the append.
-const DURABLE: [Act; 3] = [Done, Begin, Done];
+const DURABLE: &[Act] = &[Done, Begin, Done];
 
 /// A word is issued and written.
-const WORD: [Act; 5] = [
+const WORD: &[Act] = &[
     Rom,
     Back(RomOutcome::Issued(Issued::Taken)),
     Rest(WordEnd::Well),
@@ -27,10 +27,10 @@ const WORD: [Act; 5] = [
 ];
 
 /// An action of the disk.
-const ACTION: [Act; 2] = [Begin, Done];
+const ACTION: &[Act] = &[Begin, Done];
 
 /// The batch is live, and each of its words is written.
-const IN_PLACE: [Act; 20] = [
+const IN_PLACE: &[Act] = &[
     Open,
     Alias(1),
     Begin,
@@ -54,14 +54,14 @@ const IN_PLACE: [Act; 20] = [
 ];
 
 /// What a stop leaves of the gate.
-const GATE_OPEN: [LeftByte; 1] = [LeftByte { at: 8, byte: 0xA5 }];
+const GATE_OPEN: &[LeftByte] = &[LeftByte { at: 8, byte: 0xA5 }];
 
-const GATE_TORN: [LeftByte; 1] = [LeftByte { at: 8, byte: 0x5A }];
+const GATE_TORN: &[LeftByte] = &[LeftByte { at: 8, byte: 0x5A }];
 
-const GATE_CLOSED: [LeftByte; 1] = [LeftByte { at: 8, byte: 0 }];
+const GATE_CLOSED: &[LeftByte] = &[LeftByte { at: 8, byte: 0 }];
 
 /// Of a byte that is named twice the last counts. The others are synced.
-const NAMED_TWICE: [LeftByte; 4] = [
+const NAMED_TWICE: &[LeftByte] = &[
     LeftByte { at: 8, byte: 0x5A },
     LeftByte { at: 8, byte: 0xA5 },
     LeftByte { at: 0, byte: 0 },
@@ -69,37 +69,37 @@ const NAMED_TWICE: [LeftByte; 4] = [
 ];
 
 /// There is no such word in flight.
-const NO_WORD: [LeftWord; 2] = [
+const NO_WORD: &[LeftWord] = &[
     LeftWord { slave: 0, word: 7 },
     LeftWord { slave: 1, word: 7 },
 ];
 
 /// Whether a batch is found whose gate was torn as it was opened.
-const TORN_GATES: [Case; 4] = [
+const TORN_GATES: &[Case] = &[
     (
-        &HEADER,
+        HEADER,
         &[
-            &UP_TO_THE_GATE,
-            &[Stop(&GATE_TORN, &[]), Open, Sees(Book(0, 0))],
+            UP_TO_THE_GATE,
+            &[Stop(GATE_TORN, &[]), Open, Sees(Book(0, 0))],
         ],
     ),
     (
-        &HEADER,
+        HEADER,
         &[
-            &UP_TO_THE_GATE,
-            &[Stop(&GATE_OPEN, &[]), Open, Sees(Book(1, 34))],
+            UP_TO_THE_GATE,
+            &[Stop(GATE_OPEN, &[]), Open, Sees(Book(1, 34))],
         ],
     ),
     (
-        &HEADER,
-        &[&UP_TO_THE_GATE, &[Stop(&[], &[]), Open, Sees(Book(0, 0))]],
+        HEADER,
+        &[UP_TO_THE_GATE, &[Stop(&[], &[]), Open, Sees(Book(0, 0))]],
     ),
     (
-        &HEADER,
+        HEADER,
         &[
-            &UP_TO_THE_GATE,
+            UP_TO_THE_GATE,
             &[
-                Stop(&NAMED_TWICE, &NO_WORD),
+                Stop(NAMED_TWICE, NO_WORD),
                 Sees(Slave(0, 0x30)),
                 Open,
                 Sees(Book(1, 34)),
@@ -110,19 +110,19 @@ const TORN_GATES: [Case; 4] = [
 
 #[test]
 fn gates_are_torn(rt: HostRuntime) {
-    assert_eq!(rt; count_told(rt.alloc(), &TORN_GATES), TORN_GATES.len());
+    assert_eq!(rt; count_told(rt.alloc(), TORN_GATES), TORN_GATES.len());
 }
 
 /// A batch is in place, and its gate is torn as it is closed, or before that is synced. Where it is found again nothing is left to do
 /// but to close it.
-const TORN_RETIRES: [Case; 3] = [
+const TORN_RETIRES: &[Case] = &[
     (
-        &HEADER,
+        HEADER,
         &[
-            &IN_PLACE,
+            IN_PLACE,
             &[
                 Begin,
-                Stop(&GATE_CLOSED, &[]),
+                Stop(GATE_CLOSED, &[]),
                 Open,
                 Sees(Book(1, 0)),
                 Sees(Slave(1, 0x19)),
@@ -130,31 +130,31 @@ const TORN_RETIRES: [Case; 3] = [
         ],
     ),
     (
-        &HEADER,
+        HEADER,
         &[
-            &IN_PLACE,
+            IN_PLACE,
             &[
                 Begin,
-                Stop(&GATE_OPEN, &[]),
+                Stop(GATE_OPEN, &[]),
                 Open,
                 Sees(Book(1, 34)),
                 Sees(Slave(1, 0x19)),
             ],
-            &WORD,
-            &WORD,
-            &ACTION,
-            &ACTION,
+            WORD,
+            WORD,
+            ACTION,
+            ACTION,
             &[Sees(Book(1, 0)), Sees(Byte(8, 0)), Sees(Slave(1, 0x19))],
         ],
     ),
     (
-        &HEADER,
+        HEADER,
         &[
-            &IN_PLACE,
-            &ACTION,
+            IN_PLACE,
+            ACTION,
             &[
                 Begin,
-                Stop(&GATE_OPEN, &[]),
+                Stop(GATE_OPEN, &[]),
                 Open,
                 Sees(Book(1, 34)),
                 Sees(Slave(1, 0x19)),
@@ -165,34 +165,34 @@ const TORN_RETIRES: [Case; 3] = [
 
 #[test]
 fn retires_are_torn(rt: HostRuntime) {
-    assert_eq!(rt; count_told(rt.alloc(), &TORN_RETIRES), TORN_RETIRES.len());
+    assert_eq!(rt; count_told(rt.alloc(), TORN_RETIRES), TORN_RETIRES.len());
 }
 
-const FIRST: [LeftWord; 1] = [LeftWord {
+const FIRST: &[LeftWord] = &[LeftWord {
     slave: 0,
     word: 0xDEAD,
 }];
 
-const SECOND: [LeftWord; 1] = [LeftWord {
+const SECOND: &[LeftWord] = &[LeftWord {
     slave: 0,
     word: 0xBEEF,
 }];
 
 /// A word in flight is torn, and torn again as it is done again.
-const TORN_TWICE: [Act; 9] = [
+const TORN_TWICE: &[Act] = &[
     Rom,
-    Stop(&[], &FIRST),
+    Stop(&[], FIRST),
     Sees(Slave(0xDEAD, 0x30)),
     Open,
     Sees(Book(1, 34)),
     Rom,
-    Stop(&[], &SECOND),
+    Stop(&[], SECOND),
     Sees(Slave(0xBEEF, 0x30)),
     Open,
 ];
 
 /// A word that no stop tears is still in flight behind it, and no station opens until it has come to rest.
-const IN_FLIGHT: [Act; 7] = [
+const IN_FLIGHT: &[Act] = &[
     Rom,
     Stop(&[], &[]),
     Open,
@@ -203,75 +203,75 @@ const IN_FLIGHT: [Act; 7] = [
 ];
 
 /// The batch is done again, and retired.
-const RECOVERED: [Act; 3] = [Sees(Book(1, 0)), Sees(Byte(8, 0)), Sees(Slave(1, 0x19))];
+const RECOVERED: &[Act] = &[Sees(Book(1, 0)), Sees(Byte(8, 0)), Sees(Slave(1, 0x19))];
 
-const TORN_WORDS: [Case; 2] = [
+const TORN_WORDS: &[Case] = &[
     (
-        &HEADER,
+        HEADER,
         &[
-            &UP_TO_THE_GATE,
-            &DURABLE,
-            &TORN_TWICE,
-            &WORD,
-            &WORD,
-            &ACTION,
-            &ACTION,
-            &RECOVERED,
+            UP_TO_THE_GATE,
+            DURABLE,
+            TORN_TWICE,
+            WORD,
+            WORD,
+            ACTION,
+            ACTION,
+            RECOVERED,
         ],
     ),
     (
-        &HEADER,
+        HEADER,
         &[
-            &UP_TO_THE_GATE,
-            &DURABLE,
-            &IN_FLIGHT,
-            &WORD,
-            &WORD,
-            &ACTION,
-            &ACTION,
-            &RECOVERED,
+            UP_TO_THE_GATE,
+            DURABLE,
+            IN_FLIGHT,
+            WORD,
+            WORD,
+            ACTION,
+            ACTION,
+            RECOVERED,
         ],
     ),
 ];
 
 #[test]
 fn words_are_torn(rt: HostRuntime) {
-    assert_eq!(rt; count_told(rt.alloc(), &TORN_WORDS), TORN_WORDS.len());
+    assert_eq!(rt; count_told(rt.alloc(), TORN_WORDS), TORN_WORDS.len());
 }
 
 /// A header of version 1, and one with a batch that gives the slave alias 1.
-const OLD: [u8; 8] = [0xA5, 1, 1, 0, 0, 0x10, 0, 0];
+const OLD: &[u8] = &[0xA5, 1, 1, 0, 0, 0x10, 0, 0];
 
-const OLD_LIVE: [u8; 42] = [
+const OLD_LIVE: &[u8] = &[
     0xA5, 1, 1, 0, 0, 0x10, 0, 0, 0xA5, 0x1C, 0, 0, 0, 1, 0, 0, 0, 0, 0, 0, 0, 0, 0, 2, 0, 0, 0, 4,
     0, 1, 0, 1, 0, 0, 0, 7, 0, 1, 0, 0x19, 0, 0,
 ];
 
 /// What a stop leaves of the far gate, of the mark and of the version.
-const FAR_GATE: [LeftByte; 1] = [LeftByte {
+const FAR_GATE: &[LeftByte] = &[LeftByte {
     at: 2056,
     byte: 0xA5,
 }];
 
-const MARK: [LeftByte; 2] = [
+const MARK: &[LeftByte] = &[
     LeftByte { at: 9, byte: 0xA5 },
     LeftByte { at: 10, byte: 0x49 },
 ];
 
-const FAR_GATE_AND_MARK: [LeftByte; 2] = [
+const FAR_GATE_AND_MARK: &[LeftByte] = &[
     LeftByte { at: 9, byte: 0 },
     LeftByte { at: 2056, byte: 7 },
 ];
 
-const VERSION: [LeftByte; 1] = [LeftByte { at: 1, byte: 0x77 }];
+const VERSION: &[LeftByte] = &[LeftByte { at: 1, byte: 0x77 }];
 
-const VERSION_2: [LeftByte; 1] = [LeftByte { at: 1, byte: 2 }];
+const VERSION_2: &[LeftByte] = &[LeftByte { at: 1, byte: 2 }];
 
-const ASKED: [Act; 2] = [Open, Migrate];
+const ASKED: &[Act] = &[Open, Migrate];
 
 /// The far gate is closed, the mark is written, both are synced, the version is written, and it is synced. Then the station takes
 /// commands.
-const MIGRATED: [Act; 16] = [
+const MIGRATED: &[Act] = &[
     Open,
     Migrate,
     Begin,
@@ -291,10 +291,10 @@ const MIGRATED: [Act; 16] = [
 ];
 
 /// What was live is in place and retired before.
-const RETIRED: [Act; 4] = [Sees(Book(1, 33)), Migrate, Alias(2), Sees(Book(1, 33))];
+const RETIRED: &[Act] = &[Sees(Book(1, 33)), Migrate, Alias(2), Sees(Book(1, 33))];
 
 /// The file behind it.
-const FILE: [Act; 7] = [
+const FILE: &[Act] = &[
     Sees(Slave(1, 0x19)),
     Sees(Byte(0, 0xA5)),
     Sees(Byte(8, 0)),
@@ -305,102 +305,93 @@ const FILE: [Act; 7] = [
 ];
 
 /// A migration is stopped in each of its five steps, and a second one ends well.
-const TORN_MIGRATIONS: [Case; 7] = [
+const TORN_MIGRATIONS: &[Case] = &[
     (
-        &OLD,
+        OLD,
         &[
-            &ASKED,
+            ASKED,
             &[
                 Begin,
-                Stop(&FAR_GATE, &[]),
+                Stop(FAR_GATE, &[]),
                 Sees(Byte(1, 1)),
                 Sees(Byte(2056, 0xA5)),
             ],
-            &MIGRATED,
+            MIGRATED,
         ],
     ),
     (
-        &OLD,
+        OLD,
         &[
-            &ASKED,
-            &ACTION,
+            ASKED,
+            ACTION,
             &[
                 Begin,
-                Stop(&MARK, &[]),
+                Stop(MARK, &[]),
                 Sees(Byte(1, 1)),
                 Sees(Byte(10, 0x49)),
             ],
-            &MIGRATED,
+            MIGRATED,
         ],
     ),
     (
-        &OLD,
+        OLD,
         &[
-            &ASKED,
-            &ACTION,
-            &ACTION,
+            ASKED,
+            ACTION,
+            ACTION,
             &[
                 Begin,
-                Stop(&FAR_GATE_AND_MARK, &[]),
+                Stop(FAR_GATE_AND_MARK, &[]),
                 Sees(Byte(1, 1)),
                 Sees(Byte(2056, 7)),
             ],
-            &MIGRATED,
+            MIGRATED,
         ],
     ),
     (
-        &OLD,
+        OLD,
         &[
-            &ASKED,
-            &ACTION,
-            &ACTION,
-            &ACTION,
-            &[Begin, Stop(&VERSION, &[]), Sees(Byte(1, 0x77))],
-            &MIGRATED,
+            ASKED,
+            ACTION,
+            ACTION,
+            ACTION,
+            &[Begin, Stop(VERSION, &[]), Sees(Byte(1, 0x77))],
+            MIGRATED,
         ],
     ),
     (
-        &OLD,
+        OLD,
         &[
-            &ASKED,
-            &ACTION,
-            &ACTION,
-            &ACTION,
-            &[Begin, Stop(&VERSION_2, &[]), Sees(Byte(1, 2))],
-            &MIGRATED,
+            ASKED,
+            ACTION,
+            ACTION,
+            ACTION,
+            &[Begin, Stop(VERSION_2, &[]), Sees(Byte(1, 2))],
+            MIGRATED,
         ],
     ),
     (
-        &OLD,
+        OLD,
         &[
-            &ASKED,
-            &ACTION,
-            &ACTION,
-            &ACTION,
-            &ACTION,
-            &[Begin, Stop(&VERSION, &[]), Sees(Byte(1, 0x77))],
-            &MIGRATED,
+            ASKED,
+            ACTION,
+            ACTION,
+            ACTION,
+            ACTION,
+            &[Begin, Stop(VERSION, &[]), Sees(Byte(1, 0x77))],
+            MIGRATED,
         ],
     ),
     (
-        &OLD_LIVE,
-        &[
-            &[Open],
-            &RETIRED,
-            &WORD,
-            &WORD,
-            &ACTION,
-            &ACTION,
-            &MIGRATED,
-            &FILE,
-        ],
+        OLD_LIVE,
+        &[&[Open], RETIRED, WORD, WORD, ACTION, ACTION, MIGRATED, FILE],
     ),
 ];
 
 #[test]
 fn migrations_are_torn(rt: HostRuntime) {
     assert_eq!(rt;
-        count_told(rt.alloc(), &TORN_MIGRATIONS),
+        count_told(rt.alloc(), TORN_MIGRATIONS),
         TORN_MIGRATIONS.len()
     );
 }

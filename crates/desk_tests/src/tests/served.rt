@@ -16,7 +16,7 @@ use std::test::*;
 use std::thread::Threads;
 
 /// Aliases for four slaves in turn.
-const FIRST: [Ask; 10] = [
+const FIRST: &[Ask] = &[
     Ask::Alias(0, 1),
     Ask::Alias(1, 2),
     Ask::Alias(2, 3),
@@ -29,7 +29,7 @@ const FIRST: [Ask; 10] = [
     Ask::Alias(1, 10),
 ];
 
-const SECOND: [Ask; 10] = [
+const SECOND: &[Ask] = &[
     Ask::Alias(2, 11),
     Ask::Alias(3, 12),
     Ask::Alias(0, 13),
@@ -56,8 +56,8 @@ const HUNDRED: Scenario = Scenario {
         has_cycle: true,
         ..FOUR
     },
-    first: &FIRST,
-    second: &SECOND,
+    first: FIRST,
+    second: SECOND,
     rounds: 5,
     pace: Pace::Together,
     way: Way::Threads,

@@ -31,7 +31,7 @@ const THREE: Plan = Plan {
     has_cycle: false,
 };
 
-const ASKS: [Ask; 3] = [
+const ASKS: &[Ask] = &[
     Ask::Alias(0, 1),
     Ask::Swap(0, 1),
     Ask::Group(&[(2, 7), (0, 9)]),
@@ -40,7 +40,7 @@ const ASKS: [Ask; 3] = [
 /// One submits three commands.
 const STOPPING: Scenario = Scenario {
     plan: THREE,
-    first: &ASKS,
+    first: ASKS,
     second: &[],
     rounds: 1,
     pace: Pace::Queued,
@@ -50,7 +50,7 @@ const STOPPING: Scenario = Scenario {
 };
 
 /// The aliases after so many of these.
-const ALIASES: [[u16; 3]; 4] = [[0, 0, 0], [1, 0, 0], [0, 1, 0], [9, 1, 7]];
+const ALIASES: &[[u16; 3]] = &[[0, 0, 0], [1, 0, 0], [0, 1, 0], [9, 1, 7]];
 
 const PATTERNS: [Pattern; 4] = [
     Pattern::Old,

@@ -3,17 +3,17 @@
 use ecat_frame::{Command, Frame, FrameFault, fp};
 
 // An FPWR of 8 bytes at 0x0502 of station 0x1001.
-const ISSUE: [u8; 22] = [
+const ISSUE: &[u8] = &[
     0x14, 0x10, 5, 0, 0x01, 0x10, 0x02, 0x05, 8, 0, 0, 0, 0x01, 0x02, 4, 0, 0, 0, 1, 0, 0, 0,
 ];
 
 // A command, its address and its content, and the bytes of a frame of it alone.
-const SPELLED: [(Command, u32, &[u8], &[u8]); 5] = [
+const SPELLED: &[(Command, u32, &[u8], &[u8])] = &[
     (
         Command::Fpwr,
         0x0502_1001,
         &[0x01, 0x02, 4, 0, 0, 0, 1, 0],
-        &ISSUE,
+        ISSUE,
     ),
     (
         Command::Fpwr,
@@ -50,7 +50,7 @@ const SPELLED: [(Command, u32, &[u8], &[u8]); 5] = [
 ];
 
 // Bytes that are no frame, and the place of the first fault.
-const BROKEN: [(&[u8], usize); 7] = [
+const BROKEN: &[(&[u8], usize)] = &[
     // Another type.
     (&[0x14, 0x20, 0, 0], 1),
     // Too few bytes for a datagram.
@@ -98,7 +98,7 @@ const BROKEN: [(&[u8], usize); 7] = [
 ];
 
 // A frame, how many datagrams it has, and their one spelling.
-const READ: [(&[u8], usize, &[u8]); 3] = [
+const READ: &[(&[u8], usize, &[u8])] = &[
     // Padded.
     (
         &[
@@ -106,7 +106,7 @@ const READ: [(&[u8], usize, &[u8]); 3] = [
             0, 0, 0, 0, 0, 0, 0, 0, 0, 0, 0, 0, 0, 0, 0, 0, 0, 0, 0, 0, 0, 0, 0, 0, 0,
         ],
         1,
-        &ISSUE,
+        ISSUE,
     ),
     // Reserved bits, the circulating bit and an IRQ are set, as a slave may send it on.
     (
@@ -115,14 +115,14 @@ const READ: [(&[u8], usize, &[u8]); 3] = [
             1, 0, 0, 0,
         ],
         1,
-        &ISSUE,
+        ISSUE,
     ),
     // Without datagrams.
     (&[0, 0x10, 7, 7], 0, &[0, 0x10]),
 ];
 
 // By place, the content and the counter that are put into the poll and the issue of one frame, and the bytes then.
-const ANSWERED: [(usize, &[u8], u16, [u8; 36]); 2] = [
+const ANSWERED: &[(usize, &[u8], u16, [u8; 36])] = &[
     (
         0,
         &[0x34, 0x12],
@@ -168,7 +168,7 @@ fn is_spelled_as(command: Command, address: u32, content: &[u8], bytes: &[u8]) -
 #[test]
 fn a_datagram_has_these_bytes(rt: HostRuntime) {
     assert!(rt; fp(0x1001, 0x0502) == 0x0502_1001);
-    for (command, address, content, bytes) in &SPELLED {
+    for (command, address, content, bytes) in SPELLED {
         assert!(rt; is_spelled_as(*command, *address, content, bytes));
         assert!(rt; reads_as(bytes, *command, *address, content));
     }
@@ -187,7 +187,7 @@ fn bytes_that_are_no_frame(rt: HostRuntime) {
     for count in 0..22usize {
         assert!(rt; fault_in(&ISSUE[..count]) == Some(0));
     }
-    for (bytes, place) in &BROKEN {
+    for (bytes, place) in BROKEN {
         assert!(rt; fault_in(bytes) == Some(*place));
     }
     // A stated length above 1,498.
@@ -206,7 +206,7 @@ fn is_read_as(bytes: &[u8], count: usize, spelling: &[u8]) -> bool {
 
 #[test]
 fn padding_and_free_bits_are_ignored(rt: HostRuntime) {
-    for (bytes, count, spelling) in &READ {
+    for (bytes, count, spelling) in READ {
         assert!(rt; is_read_as(bytes, *count, spelling));
     }
 }
@@ -263,7 +263,7 @@ fn is_answered(frame: &mut Frame, k: usize, content: &[u8], counter: u16, bytes:
 
 // Whether each answer gives these bytes.
 fn are_answered(frame: &mut Frame) -> bool {
-    for (k, content, counter, bytes) in &ANSWERED {
+    for (k, content, counter, bytes) in ANSWERED {
         if !is_answered(frame, *k, content, *counter, bytes) {
             return false;
         }

@@ -8,7 +8,7 @@ use std::alloc::Global;
 const STATION: u16 = 0x1001;
 
 // The FMMUs of each slave of a line, the bytes of its memory from a place on, and what the exchange of the line adds there.
-const LINE: [(&[[u8; 16]], u16, &[u8], u16, u8); 2] = [
+const LINE: &[(&[[u8; 16]], u16, &[u8], u16, u8)] = &[
     (
         &[
             [0, 0, 0, 0, 1, 0, 0, 7, 0x00, 0x11, 0, 2, 1, 0, 0, 0],
@@ -29,7 +29,7 @@ const LINE: [(&[[u8; 16]], u16, &[u8], u16, u8); 2] = [
 ];
 
 // An FMMU, what an LRW of `01 02` at logical address 1 adds, and reads, where the memory from 0x1000 on is `a0 a1`.
-const RANGES: [([u8; 16], u16, [u8; 2]); 9] = [
+const RANGES: &[([u8; 16], u16, [u8; 2])] = &[
     (
         [1, 0, 0, 0, 2, 0, 0, 7, 0x00, 0x10, 0, 1, 1, 0, 0, 0],
         1,
@@ -78,7 +78,7 @@ const RANGES: [([u8; 16], u16, [u8; 2]); 9] = [
 ];
 
 // An address, how many bytes, and what a read and a write add.
-const GUARDED: [(u32, usize, u16, u16); 12] = [
+const GUARDED: &[(u32, usize, u16, u16)] = &[
     (0x0010_1001, 4, 1, 0),
     (0x000f_1001, 2, 0, 0),
     (0x0013_1001, 2, 0, 0),
@@ -131,7 +131,7 @@ fn exchanged(half: &mut ProcessHalf, content: &mut [u8]) -> Option<(u16, u8)> {
 // What comes back from a line whose slaves take part as they are told to.
 fn back_from_the_line(alloc: Global) -> Option<[u8; 7]> {
     let mut content = [0xaa, 0, 0, 0, 0, 0, 0];
-    for (units, place, memory, counter, output) in &LINE {
+    for (units, place, memory, counter, output) in LINE {
         let mut half = half_of(alloc, units, *place, memory)?;
         if exchanged(&mut half, &mut content) != Some((*counter, *output)) {
             return None;
@@ -156,7 +156,7 @@ fn mapped(alloc: Global, unit: &[u8; 16]) -> Option<(u16, [u8; 2], u8)> {
 
 #[test]
 fn ranges_are_mapped_whole(rt: HostRuntime) {
-    for (unit, counter, reads) in &RANGES {
+    for (unit, counter, reads) in RANGES {
         let byte = if *counter == 3 { 1 } else { 0xa0 };
         assert!(rt; mapped(rt.alloc(), unit) == Some((*counter, *reads, byte)));
     }
@@ -170,7 +170,7 @@ fn added(half: &mut ProcessHalf, command: Command, address: u32, count: usize) -
 
 // Whether each address is guarded so.
 fn is_guarded(half: &mut ProcessHalf) -> bool {
-    for (address, count, read, write) in &GUARDED {
+    for (address, count, read, write) in GUARDED {
         let is_so = added(half, Command::Fprd, *address, *count) == *read
             && added(half, Command::Fpwr, *address, *count) == *write;
         if !is_so {

@@ -8,12 +8,12 @@ use std::alloc::Global;
 const STATION: u16 = 0x1001;
 
 // The status after each poll of a word that is written, and the alias then.
-const POLLS: [(u8, u16); 2] = [(0x82, 0), (0x02, 1)];
+const POLLS: &[(u8, u16)] = &[(0x82, 0), (0x02, 1)];
 
-const DELAYS: [u32; 3] = [0, 3, 9_999];
+const DELAYS: &[u32] = &[0, 3, 9_999];
 
 // What is written at 0x0500 (whether the EEPROM is offered to the PDI), control and status with the address, and the error bits.
-const JUDGED: [(u8, [u8; 3], u8); 10] = [
+const JUDGED: &[(u8, [u8; 3], u8)] = &[
     (0, [0x00, 0x02, 0], 0x40),
     (0, [0x01, 0x04, 0], 0x20),
     (0, [0x01, 0x02, 64], 0x20),
@@ -27,7 +27,7 @@ const JUDGED: [(u8, [u8; 3], u8); 10] = [
 ];
 
 // A command, its address, how many bytes, what it adds at an idle half and what at a busy one.
-const TAKEN: [(Command, u32, usize, u16, u16); 12] = [
+const TAKEN: &[(Command, u32, usize, u16, u16)] = &[
     (Command::Fprd, 0x0500_1001, 16, 1, 1),
     (Command::Fprd, 0x0500_1002, 16, 0, 0),
     (Command::Fprd, 0x0500_1001, 0, 0, 0),
@@ -43,14 +43,14 @@ const TAKEN: [(Command, u32, usize, u16, u16); 12] = [
 ];
 
 // Word 7, and the four bytes at 0x0500 after power-up.
-const CHECKS: [(u16, [u8; 4]); 3] = [
+const CHECKS: &[(u16, [u8; 4])] = &[
     (0x0030, [0, 0, 0, 0x00]),
     (0x0031, [0, 0, 0, 0x18]),
     (0xff30, [0, 0, 0, 0x00]),
 ];
 
 // How a write of 1 to word 4 ends, the alias then, and the status.
-const ENDS: [(Rest, u16, u8); 3] = [
+const ENDS: &[(Rest, u16, u8)] = &[
     (Rest::Well, 1, 0x02),
     (Rest::Failed(7), 7, 0x22),
     (Rest::Torn(9), 9, 0x02),
@@ -104,7 +104,7 @@ fn is_written(half: &mut RomHalf) -> bool {
     if half.in_flight() != Some(WordWrite { word: 4, value: 1 }) {
         return false;
     }
-    for (status, alias) in &POLLS {
+    for (status, alias) in POLLS {
         if polled(half) != *status || half.words().alias() != *alias {
             return false;
         }
@@ -168,7 +168,7 @@ fn counts_datagrams(alloc: Global, delay: u32) -> bool {
 
 #[test]
 fn datagrams_are_counted(rt: HostRuntime) {
-    for delay in &DELAYS {
+    for delay in DELAYS {
         assert!(rt; counts_datagrams(rt.alloc(), *delay));
     }
 }
@@ -198,7 +198,7 @@ fn is_judged(alloc: Global, access: u8, order: &[u8; 3], errors: u8) -> bool {
 
 #[test]
 fn commands_are_judged(rt: HostRuntime) {
-    for (access, order, errors) in &JUDGED {
+    for (access, order, errors) in JUDGED {
         assert!(rt; is_judged(rt.alloc(), *access, order, *errors));
     }
 }
@@ -224,7 +224,7 @@ fn added_at_both(
 
 #[test]
 fn a_half_takes_its_own(rt: HostRuntime) {
-    for (command, address, count, idle, busy) in &TAKEN {
+    for (command, address, count, idle, busy) in TAKEN {
         let both = added_at_both(rt.alloc(), *command, *address, *count);
         assert!(rt; both == Some((*idle, *busy)));
     }
@@ -238,7 +238,7 @@ fn shown(alloc: Global, check: u16) -> Option<[u8; 4]> {
 
 #[test]
 fn the_check_is_shown(rt: HostRuntime) {
-    for (check, bytes) in &CHECKS {
+    for (check, bytes) in CHECKS {
         assert!(rt; shown(rt.alloc(), *check) == Some(*bytes));
     }
 }
@@ -254,7 +254,7 @@ fn ended(alloc: Global, rest: Rest) -> Option<(u16, u8)> {
 
 #[test]
 fn a_write_ends(rt: HostRuntime) {
-    for (rest, alias, status) in &ENDS {
+    for (rest, alias, status) in ENDS {
         assert!(rt; ended(rt.alloc(), *rest) == Some((*alias, *status)));
     }
 }

@@ -8,7 +8,7 @@ use std::alloc::Global;
 
 // By station and place, what is written to two slaves before they exchange data: their FMMUs and sync managers, and the inputs
 // that stand in their memory.
-const WRITTEN: [(u16, u16, &[u8]); 10] = [
+const WRITTEN: &[(u16, u16, &[u8])] = &[
     (0x1001, 0x0600, &[0; 128]),
     (
         0x1001,
@@ -46,7 +46,7 @@ const WRITTEN: [(u16, u16, &[u8]); 10] = [
 ];
 
 // Whether slave 0 and slave 1 are muted, and the frame that comes back.
-const EXCHANGED: [(bool, bool, [u8; 21]); 5] = [
+const EXCHANGED: &[(bool, bool, [u8; 21])] = &[
     (
         false,
         false,
@@ -111,7 +111,7 @@ fn is_cycled(
 
 // Whether all that is written is taken.
 fn is_set_up(site: &mut impl Site) -> bool {
-    for (station, register, content) in &WRITTEN {
+    for (station, register, content) in WRITTEN {
         let address = fp(*station, *register);
         if !is_cycled(site, Command::Fpwr, address, content, &[1, 0]) {
             return false;
@@ -129,7 +129,7 @@ fn is_exchanged(site: &mut MemSite, first: bool, second: bool, back: &[u8]) -> b
 
 // Whether each exchange is as it is told.
 fn all_are_exchanged(site: &mut MemSite) -> bool {
-    for (first, second, back) in &EXCHANGED {
+    for (first, second, back) in EXCHANGED {
         if !is_exchanged(site, *first, *second, back) {
             return false;
         }

@@ -30,7 +30,7 @@ const INPUTS: &[u8] = &[
 const NOTHING: &[u8] = &[0xff, 0xff];
 
 // By slave and register, what the two slaves hold once they are configured.
-const CONFIGURED: [(u16, u16, &[u8]); 7] = [
+const CONFIGURED: &[(u16, u16, &[u8])] = &[
     (0, 0x0810, &[0x00, 0x11, 0x01, 0x00, 0x24, 0x00, 0x01, 0x00]),
     (
         0,
@@ -53,16 +53,16 @@ const CONFIGURED: [(u16, u16, &[u8]); 7] = [
 ];
 
 // By slave and place, the inputs that stand in memory.
-const STANDING: [(usize, u16, &[u8]); 2] = [
+const STANDING: &[(usize, u16, &[u8])] = &[
     (0, 0x1180, &[0x11, 0x22, 0x33, 0x44]),
     (1, 0x1000, &[0x55, 0x06]),
 ];
 
 // The inputs that come back then.
-const INPUTS_BACK: [u8; 6] = [0x11, 0x22, 0x33, 0x44, 0x55, 0x06];
+const INPUTS_BACK: &[u8] = &[0x11, 0x22, 0x33, 0x44, 0x55, 0x06];
 
 // Where a turn fails, its inputs are as they were.
-const KEPT: [u8; 6] = [0xee; 6];
+const KEPT: &[u8] = &[0xee; 6];
 
 // A slave of 320 words whose categories are these.
 fn words_of(alloc: Global, categories: &[u8]) -> Option<Words> {
@@ -103,7 +103,7 @@ fn stand(halves: &mut [ProcessHalf], slave: usize, place: u16, bytes: &[u8]) {
 
 // The inputs stand in memory.
 fn stand_all(halves: &mut [ProcessHalf]) {
-    for (slave, place, bytes) in &STANDING {
+    for (slave, place, bytes) in STANDING {
         stand(halves, *slave, *place, bytes);
     }
 }
@@ -132,7 +132,7 @@ fn holds(site: &mut impl Site, slave: u16, register: u16, bytes: &[u8]) -> bool 
 
 // Whether the two slaves are configured as they are to be.
 fn is_configured(site: &mut impl Site) -> bool {
-    for (slave, register, bytes) in &CONFIGURED {
+    for (slave, register, bytes) in CONFIGURED {
         if !holds(site, *slave, *register, bytes) {
             return false;
         }
@@ -159,7 +159,7 @@ fn exchange(site: &mut impl Site, plan: &Plan) -> bool {
     site.has_process()
         && configure(site, plan).is_ok()
         && is_configured(site)
-        && turns(site, plan, &[0xaa], Ok(4), &INPUTS_BACK)
+        && turns(site, plan, &[0xaa], Ok(4), INPUTS_BACK)
         && holds(site, 0, 0x1100, &[0xaa])
 }
 
@@ -168,13 +168,13 @@ fn miss_a_slave(site: &mut MemSite, plan: &Plan) -> bool {
     site.mute(1, true);
     let (seen, expected) = (3, 4);
     let fault = CycleFault::WrongCounter { seen, expected };
-    turns(site, plan, &[0xaa], Err(fault), &KEPT)
+    turns(site, plan, &[0xaa], Err(fault), KEPT)
 }
 
 // Whether a turn fails whose frame is lost.
 fn lose_a_frame(site: &mut MemSite, plan: &Plan) -> bool {
     site.fail_once(0);
-    turns(site, plan, &[0xaa], Err(CycleFault::Lost), &KEPT)
+    turns(site, plan, &[0xaa], Err(CycleFault::Lost), KEPT)
 }
 
 // Whether two slaves exchange data, and fail to.

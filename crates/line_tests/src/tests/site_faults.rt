@@ -9,7 +9,7 @@ use std::alloc::Global;
 
 // How many device writes pass, of a write and a sync of 7 at place 0 and then of 8 and 8, before one is torn by a pattern, and the
 // disk then.
-const TORN: [(u64, Pattern, [u8; 4]); 6] = [
+const TORN: &[(u64, Pattern, [u8; 4])] = &[
     (2, Pattern::Old, [7, 2, 3, 4]),
     (3, Pattern::Old, [7, 2, 3, 4]),
     (2, Pattern::New, [8, 8, 3, 4]),
@@ -19,14 +19,14 @@ const TORN: [(u64, Pattern, [u8; 4]); 6] = [
 ];
 
 // A pattern, and the disk and word 4 where the site stops in that word while a 9 at place 0 is unsynced.
-const TORN_WITH_A_WORD: [(Pattern, [u8; 4], u16); 3] = [
+const TORN_WITH_A_WORD: &[(Pattern, [u8; 4], u16)] = &[
     (Pattern::Old, [1, 2, 3, 4], 0),
     (Pattern::New, [9, 2, 3, 4], 1),
     (Pattern::Fill(0xdead), [0xad, 2, 3, 4], 0xdead),
 ];
 
 // The fuse's pattern, what is written at a place and not synced, and the disk in a snapshot then.
-const SNAPSHOTS: [(Option<Pattern>, usize, &[u8], &[u8]); 8] = [
+const SNAPSHOTS: &[(Option<Pattern>, usize, &[u8], &[u8])] = &[
     (None, 1, &[8, 9], &[1, 2, 3, 4]),
     (None, 4, &[5], &[1, 2, 3, 4]),
     (Some(Pattern::Old), 1, &[8, 9], &[1, 2, 3, 4]),
@@ -38,7 +38,7 @@ const SNAPSHOTS: [(Option<Pattern>, usize, &[u8], &[u8]); 8] = [
 ];
 
 // How many words are to end in error, how often word 4 is issued and polled, and its value then.
-const FAILED: [(u32, u32, u16); 2] = [(1, 1, 0), (1, 2, 1)];
+const FAILED: &[(u32, u32, u16)] = &[(1, 1, 0), (1, 2, 1)];
 
 // A line of one slave of 64 words, and a disk of the bytes 1, 2, 3 and 4.
 fn site(alloc: Global) -> Option<MemSite> {
@@ -122,7 +122,7 @@ fn tears(alloc: Global, passing: u64, pattern: Pattern, bytes: &[u8]) -> bool {
 
 #[test]
 fn a_stop_tears_unsynced_bytes(rt: HostRuntime) {
-    for (passing, pattern, bytes) in &TORN {
+    for (passing, pattern, bytes) in TORN {
         assert!(rt; tears(rt.alloc(), *passing, *pattern, bytes));
     }
 }
@@ -144,7 +144,7 @@ fn tears_both(alloc: Global, pattern: Pattern, bytes: &[u8], alias: u16) -> bool
 
 #[test]
 fn a_stop_in_a_word_tears_unsynced_bytes(rt: HostRuntime) {
-    for (pattern, bytes, alias) in &TORN_WITH_A_WORD {
+    for (pattern, bytes, alias) in TORN_WITH_A_WORD {
         assert!(rt; tears_both(rt.alloc(), *pattern, bytes, *alias));
     }
 }
@@ -199,7 +199,7 @@ fn keeps_its_value(alloc: Global, failing: u32, times: u32, alias: u16) -> bool 
 
 #[test]
 fn a_word_that_fails_keeps_its_value(rt: HostRuntime) {
-    for (failing, times, alias) in &FAILED {
+    for (failing, times, alias) in FAILED {
         assert!(rt; keeps_its_value(rt.alloc(), *failing, *times, *alias));
     }
 }
@@ -251,7 +251,7 @@ fn is_left_with(
 
 #[test]
 fn a_snapshot_is_what_a_stop_leaves(rt: HostRuntime) {
-    for (fuse, at, over, bytes) in &SNAPSHOTS {
+    for (fuse, at, over, bytes) in SNAPSHOTS {
         assert!(rt; is_left_with(rt.alloc(), *fuse, *at, over, bytes));
     }
 }
