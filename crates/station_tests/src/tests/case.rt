@@ -5,7 +5,9 @@ use station_serve::serve;
 use std::alloc::{AllocError, Global};
 use std::io;
 use std::io::{Read, Write};
+use std::process::Abort;
 use std::sync::Wait;
+use std::test::Fail;
 use std::thread::Threads;
 
 /// The bytes of a file or of an input.
@@ -134,11 +136,35 @@ pub fn served<R: Read, W: Write>(
     output: &mut W,
     faults: &mut Vec<u8>,
 ) -> Result<u8, AllocError> {
+    let args = parted(alloc, words)?;
+    Ok(serve(rt, alloc, &args, input, shelf, output, faults))
+}
+
+fn parted(alloc: Global, words: &str) -> Result<Vec<String>, AllocError> {
     let mut args = Vec::new(alloc);
     for word in words.split_ascii_whitespace() {
         args.push(String::from_str(alloc, word)?)?;
     }
-    Ok(serve(rt, alloc, &args, input, shelf, output, faults))
+    Ok(args)
+}
+
+/// Checks each of these runs.
+pub fn all_come(
+    rt: &(impl Abort + Wait + Threads + Sync),
+    alloc: Global,
+    cases: &[Case],
+) -> Result<(), Fail> {
+    for case in cases {
+        let wrong = differs(rt, alloc, case)?;
+        assert!(rt;
+            wrong.is_empty(),
+            "{wrong}: {} {}{}",
+            case.words,
+            case.output,
+            case.faults
+        );
+    }
+    Ok(())
 }
 
 /// What of a run isn't as it is wanted; empty where all is.
@@ -150,7 +176,7 @@ pub fn differs(
     let mut shelf = shelf_with(alloc, case.files)?;
     let input = spell(alloc, case.input)?;
     let run = run_words(rt, alloc, case.words, &mut input.as_slice(), &mut shelf)?;
-    let wrong = judge(case, &run);
+    let wrong = judge(&run, case.status, case.output, case.faults);
     if !wrong.is_empty() {
         return Ok(wrong);
     }
@@ -180,7 +206,27 @@ pub struct Step {
     pub writes: usize,
 }
 
-/// What of runs in a row isn't as it is wanted; empty where all is.
+/// Files, runs over them in a row, and what they leave.
+pub struct Story {
+    pub files: Files,
+    pub steps: &'static [Step],
+    pub left: Files,
+}
+
+/// Checks that all comes as each story tells it.
+pub fn all_told(
+    rt: &(impl Abort + Wait + Threads + Sync),
+    alloc: Global,
+    stories: &[Story],
+) -> Result<(), Fail> {
+    for story in stories {
+        let wrong = goes(rt, alloc, story.files, story.steps, story.left)?;
+        assert!(rt; wrong.is_empty(), "{wrong}");
+    }
+    Ok(())
+}
+
+/// The words of the first of these runs in a row that isn't as it is wanted, or what is left otherwise; empty where all is.
 pub fn goes(
     rt: &(impl Wait + Threads + Sync),
     alloc: Global,
@@ -190,29 +236,34 @@ pub fn goes(
 ) -> Result<&'static str, AllocError> {
     let mut shelf = shelf_with(alloc, files)?;
     for step in steps {
-        shelf.writes = 0;
-        let run = run_words(rt, alloc, step.words, &mut io::empty(), &mut shelf)?;
-        let case = Case {
-            status: step.status,
-            output: step.output,
-            faults: step.faults,
-            ..ALONE
-        };
-        if !judge(&case, &run).is_empty() || shelf.writes != step.writes {
+        if !goes_on(rt, alloc, &mut shelf, step)? {
             return Ok(step.words);
         }
     }
     leaves(alloc, &shelf, left)
 }
 
-fn judge(case: &Case, run: &Printed) -> &'static str {
-    if run.status != case.status {
+/// Whether the next run over the files of a shelf is as it is wanted.
+fn goes_on(
+    rt: &(impl Wait + Threads + Sync),
+    alloc: Global,
+    shelf: &mut Shelf,
+    step: &Step,
+) -> Result<bool, AllocError> {
+    shelf.writes = 0;
+    let run = run_words(rt, alloc, step.words, &mut io::empty(), shelf)?;
+    let wrong = judge(&run, step.status, step.output, step.faults);
+    Ok(wrong.is_empty() && shelf.writes == step.writes)
+}
+
+fn judge(run: &Printed, status: u8, output: &str, faults: &str) -> &'static str {
+    if run.status != status {
         return "the status";
     }
-    if run.output.as_slice() != case.output.as_bytes() {
+    if run.output.as_slice() != output.as_bytes() {
         return "the output";
     }
-    if run.faults.as_slice() != case.faults.as_bytes() {
+    if run.faults.as_slice() != faults.as_bytes() {
         return "the faults";
     }
     ""

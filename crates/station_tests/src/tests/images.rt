@@ -1,4 +1,4 @@
-use super::case::{ALONE, Bytes, Case, differs};
+use super::case::{ALONE, Bytes, Case, all_come};
 use std::test::Fail;
 
 /// A slave with eight digital inputs and eight outputs, from its first word to the end mark.
@@ -42,7 +42,7 @@ const DIGITAL_IO: &str = "04010000000000000000000000003900
 0101000b00007060010c01010000ffff\n";
 
 /// Images, and what `show` says of them.
-const SHOWN: [Case; 5] = [
+const SHOWN: &[Case] = &[
     Case {
         words: "station show --hex",
         input: Bytes::Text(DIGITAL_IO),
@@ -112,14 +112,11 @@ runs out at 66\n",
 
 #[test]
 fn images_are_shown(rt: HostRuntime) -> Result<(), Fail> {
-    for case in &SHOWN {
-        assert_eq!(rt; differs(&rt, rt.alloc(), case)?, "", "{}", case.output);
-    }
-    Ok(())
+    all_come(&rt, rt.alloc(), SHOWN)
 }
 
 /// Images that get an alias, and inputs that don't.
-const RENAMED: [Case; 7] = [
+const RENAMED: &[Case] = &[
     Case {
         words: "station alias 00001 --hex",
         input: Bytes::Text(
@@ -189,14 +186,5 @@ cdff\n",
 
 #[test]
 fn images_are_renamed(rt: HostRuntime) -> Result<(), Fail> {
-    for case in &RENAMED {
-        assert_eq!(rt;
-            differs(&rt, rt.alloc(), case)?,
-            "",
-            "{}{}",
-            case.output,
-            case.faults
-        );
-    }
-    Ok(())
+    all_come(&rt, rt.alloc(), RENAMED)
 }

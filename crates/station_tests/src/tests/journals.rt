@@ -1,7 +1,8 @@
 use super::case::{
-    ALONE, Bytes, Case, Files, Step, differs as case_differs, goes, run_words, shelf_with,
+    ALONE, Bytes, Case, Files, Step, Story, all_come, all_told, run_words, shelf_with,
 };
 use super::scripts::THREE;
+use crate::shelf::Shelf;
 use std::alloc::{AllocError, Global};
 use std::io;
 use std::sync::Wait;
@@ -25,14 +26,7 @@ const INIT: Step = Step {
     writes: 2,
 };
 
-/// Files, runs over them in a row, and what they leave.
-struct Story {
-    files: Files,
-    steps: &'static [Step],
-    left: Files,
-}
-
-const UNFORMATTED: [Story; 2] = [
+const UNFORMATTED: &[Story] = &[
     Story {
         files: NEW,
         steps: &[INIT],
@@ -54,20 +48,9 @@ const UNFORMATTED: [Story; 2] = [
     },
 ];
 
-fn differs(
-    rt: &(impl Wait + Threads + Sync),
-    alloc: Global,
-    story: &Story,
-) -> Result<&'static str, AllocError> {
-    goes(rt, alloc, story.files, story.steps, story.left)
-}
-
 #[test]
 fn journals_are_formatted(rt: HostRuntime) -> Result<(), Fail> {
-    for story in &UNFORMATTED {
-        assert_eq!(rt; differs(&rt, rt.alloc(), story)?, "");
-    }
-    Ok(())
+    all_told(&rt, rt.alloc(), UNFORMATTED)
 }
 
 const TWO: Bytes = Bytes::Text(
@@ -89,7 +72,7 @@ const UNRECOVERED: Case = Case {
 };
 
 /// Journals that are none, or none of this line. Nothing is written.
-const REFUSED: [Case; 4] = [
+const REFUSED: &[Case] = &[
     Case {
         files: &[
             ("line.toml", TWO),
@@ -130,10 +113,16 @@ const REFUSED: [Case; 4] = [
 
 #[test]
 fn journals_that_are_refused(rt: HostRuntime) -> Result<(), Fail> {
-    for case in &REFUSED {
-        assert_eq!(rt; case_differs(&rt, rt.alloc(), case)?, "", "{}", case.faults);
-    }
-    Ok(())
+    all_come(&rt, rt.alloc(), REFUSED)
+}
+
+/// Files of a line whose journal is cut to so many bytes.
+fn with_cut_journal(alloc: Global, len: usize) -> Result<Shelf, AllocError> {
+    let header = [0xA5, 2, 1, 0, 0, 0x10, 0, 0];
+    let mut shelf = shelf_with(alloc, NEW)?;
+    shelf.put("j.bin", &header[..len.min(8)])?;
+    shelf.put("script.toml", b"command = []")?;
+    Ok(shelf)
 }
 
 /// Whether a journal that is cut to so many bytes is refused so, with nothing written.
@@ -144,15 +133,12 @@ fn is_refused(
     words: &str,
     faults: &str,
 ) -> Result<bool, AllocError> {
-    let header = [0xA5, 2, 1, 0, 0, 0x10, 0, 0];
-    let mut shelf = shelf_with(alloc, NEW)?;
-    shelf.put("j.bin", &header[..len.min(8)])?;
-    shelf.put("script.toml", b"command = []")?;
+    let mut shelf = with_cut_journal(alloc, len)?;
     let run = run_words(rt, alloc, words, &mut io::empty(), &mut shelf)?;
     Ok(run.status == 3 && shelf.writes == 0 && run.faults.as_slice() == faults.as_bytes())
 }
 
-const ON_A_JOURNAL: [&str; 2] = [
+const ON_A_JOURNAL: &[&str] = &[
     "station recover line.toml",
     "station run line.toml script.toml",
 ];

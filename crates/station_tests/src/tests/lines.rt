@@ -1,4 +1,4 @@
-use super::case::{ALONE, Bytes, Case, Files, differs};
+use super::case::{ALONE, Bytes, Case, Files, all_come};
 use std::test::Fail;
 
 const TWO: Bytes = Bytes::Text(
@@ -30,7 +30,7 @@ const LINE: Files = &[
 ];
 
 /// Lines, and what `layout` says of them.
-const LAID_OUT: [Case; 6] = [
+const LAID_OUT: &[Case] = &[
     Case {
         words: "station layout line.toml",
         files: LINE,
@@ -85,14 +85,5 @@ outputs 1 inputs 6 counter 4\n",
 
 #[test]
 fn lines_are_laid_out(rt: HostRuntime) -> Result<(), Fail> {
-    for case in &LAID_OUT {
-        assert_eq!(rt;
-            differs(&rt, rt.alloc(), case)?,
-            "",
-            "{}{}",
-            case.output,
-            case.faults
-        );
-    }
-    Ok(())
+    all_come(&rt, rt.alloc(), LAID_OUT)
 }

@@ -1,9 +1,6 @@
-use super::case::{Bytes, Files, Step, goes};
+use super::case::{Bytes, Files, Step, Story, all_told};
 use super::scripts::{LINE, ONE, ZERO};
-use std::alloc::{AllocError, Global};
-use std::sync::Wait;
 use std::test::Fail;
-use std::thread::Threads;
 
 /// A journal of version 1 with one batch that is live, by which the slave gets alias 1.
 const OLD: Bytes = Bytes::Zeros(
@@ -61,13 +58,6 @@ const LINE_OF_OLD: Files = &[
     ("script.toml", SCRIPT),
 ];
 
-/// What runs in a row begin with, the runs, and what they leave.
-struct Story {
-    files: Files,
-    steps: &'static [Step],
-    left: Files,
-}
-
 const RECOVER: Step = Step {
     words: "station recover line.toml",
     status: 0,
@@ -77,7 +67,7 @@ const RECOVER: Step = Step {
 };
 
 /// A run on an old journal prints nothing of the migration, and its fuse doesn't count it.
-const OLD_JOURNALS: [Story; 4] = [
+const OLD_JOURNALS: &[Story] = &[
     Story {
         files: LINE_OF_OLD,
         steps: &[
@@ -119,18 +109,7 @@ const OLD_JOURNALS: [Story; 4] = [
     },
 ];
 
-fn differs(
-    rt: &(impl Wait + Threads + Sync),
-    alloc: Global,
-    story: &Story,
-) -> Result<&'static str, AllocError> {
-    goes(rt, alloc, story.files, story.steps, story.left)
-}
-
 #[test]
 fn old_journals_are_migrated(rt: HostRuntime) -> Result<(), Fail> {
-    for story in &OLD_JOURNALS {
-        assert_eq!(rt; differs(&rt, rt.alloc(), story)?, "");
-    }
-    Ok(())
+    all_told(&rt, rt.alloc(), OLD_JOURNALS)
 }

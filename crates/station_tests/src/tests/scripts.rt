@@ -1,4 +1,6 @@
-use super::case::{ALONE, Bytes, Case, Files, Step, differs, goes, run_words, shelf_with};
+use super::case::{
+    ALONE, Bytes, Case, Files, Step, all_come, differs, goes, run_words, shelf_with,
+};
 use std::alloc::{AllocError, Global};
 use std::io;
 use std::sync::Wait;
@@ -182,7 +184,7 @@ const NOTHING: Bytes = Bytes::Text("command = []");
 
 /// The files are read in order: line, slaves, journal, script, its images. What the journal holds is judged last. A bad image stands
 /// behind a bad command, and a missing one behind a bad one.
-const REFUSED: [Case; 8] = [
+const REFUSED: &[Case] = &[
     Case {
         files: &[
             ("line.toml", LINE),
@@ -394,17 +396,12 @@ accepted 3 durable 3 settled 3\n",
     ..ALONE
 };
 
-const ANSWERED_RUNS: [Case; 6] = [ANSWERED, UNFIT, NAMED, QUEUED, IDLE, LONG];
+const ANSWERED_RUNS: &[Case] = &[ANSWERED, UNFIT, NAMED, QUEUED, IDLE, LONG];
 
 #[test]
 fn scripts_are_run(rt: HostRuntime) -> Result<(), Fail> {
-    for case in &ANSWERED_RUNS {
-        assert_eq!(rt; differs(&rt, rt.alloc(), case)?, "", "{}", case.output);
-    }
-    for case in &REFUSED {
-        assert_eq!(rt; differs(&rt, rt.alloc(), case)?, "", "{}", case.faults);
-    }
-    Ok(())
+    all_come(&rt, rt.alloc(), ANSWERED_RUNS)?;
+    all_come(&rt, rt.alloc(), REFUSED)
 }
 
 const ONE_SLAVE: Files = &[
@@ -470,14 +467,11 @@ fn leaves_live(
 
 #[test]
 fn threads_and_one_thread(rt: HostRuntime) -> Result<(), Fail> {
-    for case in &ANSWERED_RUNS {
-        assert_eq!(rt;
-            differs_on_one(&rt, rt.alloc(), case)?,
-            "",
-            "{}",
-            case.output
-        );
-        assert_eq!(rt; leaves_live(&rt, rt.alloc(), case)?, "", "{}", case.output);
+    for case in ANSWERED_RUNS {
+        let wrong = differs_on_one(&rt, rt.alloc(), case)?;
+        assert!(rt; wrong.is_empty(), "{wrong}: {}", case.output);
+        let wrong = leaves_live(&rt, rt.alloc(), case)?;
+        assert!(rt; wrong.is_empty(), "{wrong}: {}", case.output);
     }
     Ok(())
 }

@@ -1,17 +1,11 @@
-use super::case::{Bytes, Files, Step, goes, leaves, run_words, shelf_with};
+use super::case::{Bytes, Files, Step, Story, all_told, leaves, run_words, shelf_with};
 use super::scripts::{JOURNAL_OF_ONE, LARGEST, LINE, LONG_FILES, ONE, QUEUED, ZERO};
+use crate::shelf::Shelf;
 use std::alloc::{AllocError, Global};
 use std::io;
 use std::sync::Wait;
 use std::test::Fail;
 use std::thread::Threads;
-
-/// What runs in a row begin with, the runs, and what they leave.
-struct Story {
-    files: Files,
-    steps: &'static [Step],
-    left: Files,
-}
 
 /// A slave that gets alias 1: three writes and syncs until its batch is live, a fourth until it is acknowledged, two words, and two
 /// until it is retired.
@@ -40,8 +34,10 @@ const AT_THE_RETIRE: Step = Step {
     ..AT_THE_GATE
 };
 
+const RECOVER_LINE: &str = "station recover line.toml";
+
 const RECOVER: Step = Step {
-    words: "station recover line.toml",
+    words: RECOVER_LINE,
     status: 0,
     output: "recovered batches 0 commands 0 words 0\n",
     faults: "",
@@ -86,7 +82,7 @@ const IN_HALVES: Files = &[(
     ),
 )];
 
-const CUT: [Story; 8] = [
+const CUT: &[Story] = &[
     Story {
         files: ALIAS,
         steps: &[
@@ -205,20 +201,9 @@ accepted 1 durable 0 settled 0\n",
     },
 ];
 
-fn differs(
-    rt: &(impl Wait + Threads + Sync),
-    alloc: Global,
-    story: &Story,
-) -> Result<&'static str, AllocError> {
-    goes(rt, alloc, story.files, story.steps, story.left)
-}
-
 #[test]
 fn power_cuts(rt: HostRuntime) -> Result<(), Fail> {
-    for story in &CUT {
-        assert_eq!(rt; differs(&rt, rt.alloc(), story)?, "");
-    }
-    Ok(())
+    all_told(&rt, rt.alloc(), CUT)
 }
 
 /// How a run with a fuse ended.
@@ -232,6 +217,19 @@ enum Came {
 }
 
 const OLD: Files = &[("s0.bin", ZERO), ("s1.bin", ZERO), ("s2.bin", ZERO)];
+
+/// Whether a recovery leaves the line as it is with all commands or, where the run printed that none is durable, as it was.
+fn is_recovered(
+    rt: &(impl Wait + Threads + Sync),
+    alloc: Global,
+    shelf: &mut Shelf,
+    printed: &str,
+) -> Result<bool, AllocError> {
+    let run = run_words(rt, alloc, RECOVER_LINE, &mut io::empty(), shelf)?;
+    let is_new = leaves(alloc, shelf, QUEUED.left)?.is_empty();
+    let is_old = leaves(alloc, shelf, OLD)?.is_empty() && printed.contains(" durable 0 ");
+    Ok(run.status == 0 && (is_new || is_old))
+}
 
 /// A run of three commands in one batch that is cut once so many writes have passed, and the recovery of the line.
 fn cut_at(
@@ -250,10 +248,7 @@ fn cut_at(
         return Ok(Came::Done);
     }
     let is_stopped = run.status == 4 && run.faults.as_slice() == "fault 42 Stopped\n".as_bytes();
-    let again = run_words(rt, alloc, RECOVER.words, &mut io::empty(), &mut shelf)?;
-    let is_new = leaves(alloc, &shelf, QUEUED.left)?.is_empty();
-    let is_old = leaves(alloc, &shelf, OLD)?.is_empty() && printed.contains(" durable 0 ");
-    if is_stopped && again.status == 0 && (is_new || is_old) {
+    if is_recovered(rt, alloc, &mut shelf, printed)? && is_stopped {
         Ok(Came::Kept)
     } else {
         Ok(Came::Wrong)

@@ -148,18 +148,20 @@ fn is_unwritten(
     Ok(status == 3 && faults.as_slice() == "fault 90 File\n".as_bytes())
 }
 
+/// Runs that print.
+const PRINTING: &[&str] = &[
+    "station show",
+    "station layout line.toml",
+    "station init new.toml",
+    "station run line.toml script.toml",
+    "station recover line.toml",
+    "station explain",
+    "station --help",
+];
+
 #[test]
 fn writers_that_fail(rt: HostRuntime) -> Result<(), Fail> {
-    let runs = [
-        "station show",
-        "station layout line.toml",
-        "station init new.toml",
-        "station run line.toml script.toml",
-        "station recover line.toml",
-        "station explain",
-        "station --help",
-    ];
-    for words in runs {
+    for words in PRINTING {
         assert!(rt; is_unwritten(&rt, rt.alloc(), words)?, "{words}");
     }
     Ok(())

@@ -4,7 +4,7 @@ use std::alloc::{AllocError, Global};
 use std::test::Fail;
 
 /// Scripts that are none as a whole.
-const NO_SCRIPTS: [&str; 6] = [
+const NO_SCRIPTS: &[&str] = &[
     "",
     "command",
     "command = 1",
@@ -14,7 +14,7 @@ const NO_SCRIPTS: [&str; 6] = [
 ];
 
 /// Commands that are none.
-const REFUSED: [&str; 49] = [
+const REFUSED: &[&str] = &[
     "",
     "erase = 0",
     "swap = [0, 0]\nalias = { slave = 0, value = 1 }",
@@ -94,7 +94,7 @@ fn scripts_that_are_refused(rt: HostRuntime) -> Result<(), Fail> {
 }
 
 /// Texts that are no line file.
-const NO_LINES: [&str; 18] = [
+const NO_LINES: &[&str] = &[
     "",
     "journal",
     "journal = 'j.bin'",
@@ -140,7 +140,7 @@ fn lines_that_are_refused(rt: HostRuntime) -> Result<(), Fail> {
 }
 
 /// Texts that are no hexadecimal digits.
-const NO_HEX: [&str; 4] = ["003", "0x30", "30-30", "\u{e9}0"];
+const NO_HEX: &[&str] = &["003", "0x30", "30-30", "\u{e9}0"];
 
 fn is_bad_hex(alloc: Global, text: &str) -> bool {
     read_hex(alloc, text).err() == Some(HexFault::BadHex)

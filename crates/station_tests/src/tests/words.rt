@@ -1,4 +1,4 @@
-use super::case::{ALONE, Case, differs, run_words};
+use super::case::{ALONE, Case, all_come, run_words};
 use crate::shelf::Shelf;
 use std::alloc::{AllocError, Global};
 use std::io;
@@ -7,7 +7,7 @@ use std::test::Fail;
 use std::thread::Threads;
 
 /// Words that are no use of the program.
-const WRONG: [&str; 29] = [
+const WRONG: &[&str] = &[
     "station",
     "station show 1",
     "station show --hex --hex",
@@ -40,7 +40,7 @@ const WRONG: [&str; 29] = [
 ];
 
 /// Words that ask for help, and what it shows.
-const HELP: [(&str, &str); 14] = [
+const HELP: &[(&str, &str)] = &[
     ("station --help", "Example:\n"),
     ("station help", "Example:\n"),
     ("station show --help", "Example:\n"),
@@ -85,7 +85,7 @@ fn usage_and_help(rt: HostRuntime) -> Result<(), Fail> {
 const CHECK: &str =
     "15 BadCheck: The check byte is wrong. The low byte of word 7 doesn't go with words 0 to 6. Blank EEPROMs and damaged images are like that, and an alias or a swap would make them look right. Look at the image with show. Write a whole image, whose check byte is right, before the alias.\n";
 
-const EXPLAINED: [Case; 3] = [
+const EXPLAINED: &[Case] = &[
     Case {
         words: "station --version",
         output: "sii_station 0.1.0\n",
@@ -105,9 +105,7 @@ const EXPLAINED: [Case; 3] = [
 
 #[test]
 fn versions_and_codes(rt: HostRuntime) -> Result<(), Fail> {
-    for case in &EXPLAINED {
-        assert_eq!(rt; differs(&rt, rt.alloc(), case)?, "", "{}", case.words);
-    }
+    all_come(&rt, rt.alloc(), EXPLAINED)?;
     assert!(rt; answers(&rt, rt.alloc(), "station explain", 0, "\n\n94 Exists: ")?);
     Ok(())
 }
