@@ -121,6 +121,25 @@ fn ask_all<T: Tickets, R: Refusals, O: Write, W: Wait>(
     Ok(tickets)
 }
 
+/// Waits for the receipt of this ticket, which has this number.
+fn receive<T: Tickets, R: Refusals, W: Wait>(
+    rt: &W,
+    desk: &Desk<T, R>,
+    ticket: Ticket,
+    number: u64,
+) -> Result<Receipt, Fault>
+    ensures same { IfOk result (λ receipt. receipt ≡ ticket) }
+    ensures number { IfOk result (λ receipt. receipt.number ≡ number) }
+{
+    let Ok(receipt) = desk.wait(rt, ticket) else {
+        return Err(Fault::Unserved);
+    };
+    if receipt.number() != number {
+        return Err(Fault::Unserved);
+    }
+    Ok(receipt)
+}
+
 /// Waits for the receipt of each ticket, in order. Each has the number of its place.
 fn receive_all<T: Tickets, R: Refusals, W: Wait>(
     rt: &W,
@@ -133,12 +152,7 @@ fn receive_all<T: Tickets, R: Refusals, W: Wait>(
 {
     let mut receipts = Vec::with_capacity(alloc, tickets.len())?;
     for ticket in tickets {
-        let Ok(receipt) = desk.wait(rt, ticket) else {
-            return Err(Fault::Unserved);
-        };
-        if receipt.number() != receipts.len() as u64 {
-            return Err(Fault::Unserved);
-        }
+        let receipt = receive(rt, desk, ticket, receipts.len() as u64)?;
         receipts.push(receipt)?;
     }
     Ok(receipts)

@@ -9,6 +9,6 @@ loop-ticket-preserved g c =
     let ticket = c.in-Some.ticket in
     let steps : into_iter_items at.ticket-iterator ≡ ticket ∷ into_iter_items c.next.new.self = c.in-Some.ensures.steps.0 in (
       append_assoc at.yielded (ticket ∷ []) _ ∙ rw (← steps) at.invariant.0,
-      received-more at.receipts.items at.yielded c.in-Ok.receipt ticket _ at.invariant.1 c.in-Ok.ensures.receipt c.in_ok-push.ensures.items,
-      rw c.in_ok-push.ensures.items (in-order-more at.receipts.items c.in-Ok.receipt at.invariant.2 (omega (arith, at.receipts.ok.0, c.len.ensures, c.number.ensures, c.if-number-len.false))),
+      received-more at.receipts.items at.yielded c.in_ok-receipt.receipt ticket _ at.invariant.1 c.in_ok-receipt.ensures.same c.in_ok-push.ensures.items,
+      rw c.in_ok-push.ensures.items (in-order-more at.receipts.items c.in_ok-receipt.receipt at.invariant.2 (omega (arith, at.receipts.ok.0, c.len-in-loop-ticket.ensures, c.in_ok-receipt.ensures.number))),
     )
