@@ -1,6 +1,6 @@
 //! One datagram in one frame.
 
-ghost use Rattle.std.specs.Prelude.{◌≡◌, ◌≤◌, length};
+ghost use Rattle.std.specs.Prelude.{◌≡◌, ◌<◌, ◌≤◌, ◌∷◌, [], length};
 ghost use Rattle.ecat_frame.specs.Frame.{sent};
 ghost use Rattle.site_core.specs.Line.{Owns};
 ghost use Rattle.esc_model.specs.Orders.{address_of};
@@ -10,6 +10,20 @@ use crate::fault::Stop;
 use ecat_frame::{Command, Frame, fp};
 use esc_model::station_address;
 use site_core::{DeviceFault, Site};
+
+/// A frame with one datagram to a slave.
+fn frame_of(slave: u16, command: Command, register: u16, content: &[u8]) -> Frame
+    requires slave { slave < 64 }
+    requires short { length content.now ≤ 16 }
+    ensures { result ≡ sent command 0 (address_of slave register) content.now ∷ [] }
+{
+    let address = fp(station_address(slave), register);
+    let mut frame = Frame::new();
+    match frame.push(command, 0, address, content) {
+        Ok(()) => frame,
+        Err(_) => unreachable!(),
+    }
+}
 
 /// Sends one datagram to a slave. None where the frame is lost.
 pub(crate) fn send<S: Site>(
@@ -24,12 +38,7 @@ pub(crate) fn send<S: Site>(
     ensures sends { Sends (S.seen site.old) slave (sent command 0 (address_of slave register) content.now) result (S.seen site.new) }
     ensures line { S.line site.new ≡ S.line site.old }
 {
-    let address = fp(station_address(slave), register);
-    let mut frame = Frame::new();
-    match frame.push(command, 0, address, content) {
-        Ok(()) => {}
-        Err(_) => unreachable!(),
-    }
+    let mut frame = frame_of(slave, command, register, content);
     match site.exchange(slave, &mut frame) {
         Ok(()) => Ok(Some(frame)),
         Err(DeviceFault::Lost) => Ok(None),
