@@ -4,7 +4,7 @@
 
 use station_serve::{FileStore, refuse_words, serve};
 use std::alloc::Global;
-use std::fs::Files;
+use std::fs::{File, Files};
 use std::io::{BufWriter, Input, Print, Write};
 use std::process::ExitCode;
 use std::sync::Wait;
@@ -26,13 +26,13 @@ fn words(rt: &HostRuntime) -> io::Result<Vec<String>> {
 }
 
 /// Does what the words ask for, with the output in a buffer.
-fn serve_words<H: Files + Input + Print + Wait + Threads + Sync, E: Write>(
+fn serve_words<H: Files<File = File> + Input + Print + Wait + Threads + Sync, E: Write>(
     rt: &H,
     alloc: Global,
     words: &[String],
     faults: &mut E,
 ) -> u8 {
-    let mut files = FileStore { files: rt };
+    let mut files = FileStore::new(alloc, rt);
     match BufWriter::new(alloc, io::writer(rt)) {
         Ok(mut output) => serve(
             rt,

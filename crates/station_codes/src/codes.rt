@@ -45,6 +45,7 @@ pub enum Code {
     BadLine = 92,
     BadScript = 93,
     Exists = 94,
+    Busy = 95,
 }
 
 /// What stands in the table beside a code.
@@ -60,7 +61,7 @@ pub struct Entry {
 }
 
 /// All codes, by their numbers.
-pub const CODES: [Code; 40] = [
+pub const CODES: [Code; 41] = [
     Code::OddLength,
     Code::BadSize,
     Code::RunsOut,
@@ -101,6 +102,7 @@ pub const CODES: [Code; 40] = [
     Code::BadLine,
     Code::BadScript,
     Code::Exists,
+    Code::Busy,
 ];
 
 /// The code of this number or name, whose letters may be of either case.
@@ -161,6 +163,7 @@ impl Code {
             Code::BadLine => &BAD_LINE,
             Code::BadScript => &BAD_SCRIPT,
             Code::Exists => &EXISTS,
+            Code::Busy => &BUSY,
         }
     }
 }
@@ -449,4 +452,11 @@ const EXISTS: Entry = Entry {
     meaning: "The journal's file is there already.",
     reason: "A new journal would lose what it holds.",
     remedy: "Recover the line. Remove the file only if nothing of it is needed.",
+};
+
+const BUSY: Entry = Entry {
+    name: "Busy",
+    meaning: "Another station works on this journal.",
+    reason: "Two stations that write the same slaves would leave neither's commands.",
+    remedy: "Wait until it ends, or end it, and try again. Nothing was written.",
 };

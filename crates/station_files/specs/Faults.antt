@@ -11,11 +11,18 @@ use Rattle.station_text.specs.declared.line_file.LineFault.TheVariants as lines
 use Rattle.station_files.specs.declared.faults.Status.{Status}
 use Rattle.station_files.specs.declared.faults.Status.TheVariants.{Done, Refused}
 use Rattle.station_files.specs.declared.faults.Fault.{Fault}
-use Rattle.station_files.specs.declared.faults.Fault.TheVariants.{OddLength, BadSize, ImageOverLimit, Memory, File, BadHex, BadLine}
+use Rattle.station_files.specs.declared.faults.Fault.TheVariants.{OddLength, BadSize, ImageOverLimit, Memory, File, BadHex, BadLine, Busy}
+use Rattle.station_files.specs.declared.store.LockFault.{LockFault}
+use Rattle.station_files.specs.declared.store.LockFault.TheVariants as locks
 
 -- a file or stream failed, or memory was refused
 abbrev pub IsOfStream : Fault → Type 0
 IsOfStream fault = (fault ≡ File) ⊎ (fault ≡ Memory)
+
+-- what comes of a lock that isn't taken
+abbrev pub IsOfLock : LockFault → Fault → Type 0
+IsOfLock locks.Busy fault = fault ≡ Busy
+IsOfLock (locks.Io error) fault = IsOfStream fault
 
 abbrev pub of_words : WordsFault → Fault
 of_words words.OddLength = OddLength

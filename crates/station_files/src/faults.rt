@@ -36,6 +36,8 @@ pub enum Fault {
     BadScript { command: usize },
     /// There is a journal's file already.
     Exists,
+    /// Another station works on the journal.
+    Busy,
 }
 
 /// A refused command, as it is printed: why, and for an edit of a group which edit it was, counted from 0.
@@ -98,6 +100,7 @@ impl Fault {
             Fault::BadLine => Code::BadLine,
             Fault::BadScript { .. } => Code::BadScript,
             Fault::Exists => Code::Exists,
+            Fault::Busy => Code::Busy,
         }
     }
 

@@ -4,11 +4,13 @@
 
 mod alias;
 mod faults;
+mod file_store;
 mod image;
 mod layout;
 mod line;
 mod printing;
 mod reading;
+mod replacing;
 mod reporting;
 mod saving;
 mod script;
@@ -18,10 +20,11 @@ mod store;
 
 pub use alias::set_alias;
 pub use faults::{Failure, Fault, Refused, Status, worse};
+pub use file_store::{FileStore, SystemFile, SystemLock};
 pub use layout::show_layout;
 pub use line::{load_line, load_slaves};
 pub use reporting::{report, report_fault, status_of};
 pub use saving::{save_slaves, write_files};
 pub use script::load_script;
 pub use show::show_image;
-pub use store::{FileStore, Store, read_file};
+pub use store::{LockFault, Store, read_file};

@@ -5,5 +5,5 @@ mod explain;
 mod serving;
 
 pub use serving::{refuse_words, serve};
-pub use station_files::{FileStore, Store};
+pub use station_files::{FileStore, LockFault, Store};
 pub use station_text::{read_hex, read_line, read_script};

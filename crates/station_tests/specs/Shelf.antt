@@ -1,8 +1,24 @@
 -- Files in memory: the latest file of a name stands first.
-use Rattle.std.specs.Prelude.{ℕ, nat_eq, List, find, Option, option_map, string_bytes}
+use Rattle.std.specs.Prelude.{ℕ, nat_eq, List, find, Option, Some, None, option_map, string_bytes}
 use Rattle.std.specs.Cmp.Lexicographic.{pointwise}
+use Rattle.station_tests.specs.declared.shelf.Content.{Content}
+use Rattle.station_tests.specs.declared.shelf.Content.TheVariants.{Whole, Open}
 use Rattle.station_tests.specs.declared.shelf.Held.{Held}
 
--- the bytes of the file of this name
-abbrev pub bytes_at : List Held → List ℕ → Option (List ℕ)
-bytes_at files name = option_map (λ held. held.bytes.items) (find (λ held. pointwise nat_eq (string_bytes held.name) name) files)
+-- the file of this name
+abbrev pub held_at : List Held → List ℕ → Option Held
+held_at files name = find (λ held. pointwise nat_eq (string_bytes held.name) name) files
+
+-- the bytes of a file that isn't open
+abbrev pub whole : Content → Option (List ℕ)
+whole (Whole bytes) = Some bytes.items
+whole (Open cells) = None
+
+-- what is known of a file: nothing where it is open
+abbrev pub known_of : Option Held → Option (Option (List ℕ))
+known_of None = Some None
+known_of (Some held) = option_map (λ bytes. Some bytes) (whole held.content)
+
+-- what is known of the file of this name
+abbrev pub known_at : List Held → List ℕ → Option (Option (List ℕ))
+known_at files name = known_of (held_at files name)

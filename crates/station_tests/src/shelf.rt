@@ -1,79 +1,225 @@
 //! Files in memory.
-ghost use Rattle.std.specs.Prelude.{◌≡◌, ◌≢◌, ℕ, List, OnOk, Some, option_map};
-ghost use Rattle.station_tests.specs.Shelf.{bytes_at};
+ghost use Rattle.std.specs.Prelude.{◌≡◌, ◌≢◌, ℕ, List, IfOk, IfSome, OnOk, Some, option_map};
+ghost use Rattle.station_tests.specs.Shelf.{held_at, known_at, whole};
 
-use station_serve::Store;
+use crate::cells::{Cells, OpenFile, Pattern};
+use crate::troubles::{Passing, Trouble, Troubles};
+use station_serve::{LockFault, Store};
 use std::alloc::{AllocError, Global};
 use std::io;
+use std::sync::Arc;
 
-/// A file: its name and its bytes.
+/// What a file holds.
+#[derive(Drop)]
+pub enum Content {
+    Whole(Vec<u8>),
+    /// That of a file that was opened.
+    Open(Arc<Cells>),
+}
+
+/// A file: its name and what it holds.
 #[derive(Drop)]
 pub struct Held {
     pub name: String,
-    pub bytes: Vec<u8>,
+    pub content: Content,
 }
 
-/// Files in memory, the latest of a name first. A broken shelf takes no writes of a program.
+/// Files in memory, the latest of a name first. A broken shelf takes no whole files of a program.
 #[derive(Drop)]
 pub struct Shelf {
     pub alloc: Global,
     pub files: Vec<Held>,
     pub broken: bool,
-    /// How many files a program wrote.
+    /// Whether another station has the lock of each journal.
+    pub is_busy: bool,
+    /// How many files a program wrote whole.
     pub writes: usize,
+    /// How many of them didn't hold these bytes already.
+    pub replaced: usize,
+    pub pattern: Pattern,
+    pub troubles: Arc<Troubles>,
+}
+
+/// Nothing: the lock of a journal on a shelf is taken by saying so.
+#[derive(Drop)]
+pub struct ShelfLock {}
+
+impl Content {
+    fn bytes(&self, alloc: Global) -> Result<Vec<u8>, AllocError>
+        ensures { IfOk result (λ bytes. IfSome (whole self.now) (λ held. bytes.items ≡ held)) }
+    {
+        match self {
+            Content::Whole(bytes) => bytes.to_vec(alloc),
+            Content::Open(cells) => cells.bytes(alloc),
+        }
+    }
+
+    fn left(&self, alloc: Global, pattern: Pattern) -> Result<Vec<u8>, AllocError> {
+        match self {
+            Content::Whole(bytes) => bytes.to_vec(alloc),
+            Content::Open(cells) => cells.left(alloc, pattern),
+        }
+    }
+}
+
+impl Held {
+    /// The file that a power cut leaves of it.
+    fn left(&self, alloc: Global, pattern: Pattern) -> Result<Held, AllocError> {
+        Ok(Held {
+            name: self.name.try_clone()?,
+            content: Content::Whole(self.content.left(alloc, pattern)?),
+        })
+    }
 }
 
 impl Shelf {
     /// A shelf without files.
-    pub fn new(alloc: Global) -> Shelf {
-        Shelf {
+    ///
+    /// # Errors
+    ///
+    /// Where there is no memory.
+    pub fn new(alloc: Global) -> Result<Shelf, AllocError> {
+        Ok(Shelf {
             alloc,
             files: Vec::new(alloc),
             broken: false,
+            is_busy: false,
             writes: 0,
+            replaced: 0,
+            pattern: Pattern::Old,
+            troubles: troubles_of(alloc, Trouble::Nothing)?,
+        })
+    }
+
+    /// From now on this is to go wrong, and a power cut leaves so much.
+    pub fn trouble(&mut self, trouble: Trouble, pattern: Pattern) -> Result<(), AllocError> {
+        self.troubles = troubles_of(self.alloc, trouble)?;
+        self.pattern = pattern;
+        Ok(())
+    }
+
+    /// A shelf with what a power cut leaves of the files.
+    pub fn left(&self) -> Result<Shelf, AllocError> {
+        let mut left = Shelf::new(self.alloc)?;
+        for held in self.files.iter() {
+            left.files.push(held.left(self.alloc, self.pattern)?)?;
         }
+        Ok(left)
     }
 
     /// Makes these the bytes of a file.
     pub fn put(&mut self, name: &str, bytes: &[u8]) -> Result<(), AllocError>
-        ensures written { OnOk result (bytes_at self.new.files.items name.now ≡ Some bytes.now) }
-        ensures others { (other : List ℕ) → other ≢ name.now → bytes_at self.new.files.items other ≡ bytes_at self.old.files.items other }
+        ensures written { OnOk result (known_at self.new.files.items name.now ≡ Some (Some bytes.now)) }
+        ensures others { (other : List ℕ) → other ≢ name.now → known_at self.new.files.items other ≡ known_at self.old.files.items other }
     {
         let held = Held {
             name: String::from_str(self.alloc, name)?,
-            bytes: bytes.to_vec(self.alloc)?,
+            content: Content::Whole(bytes.to_vec(self.alloc)?),
         };
         self.files.insert(0, held)?;
         Ok(())
     }
 
-    /// The bytes of a file; None where there is no such file.
-    pub fn bytes(&self, name: &str) -> Option<&[u8]>
-        ensures { option_map (λ bytes. bytes.now) result ≡ bytes_at self.now.files.items name.now }
+    /// The file of this name.
+    fn find(&self, name: &str) -> Option<&Held>
+        ensures { option_map (λ held. held.now) result ≡ held_at self.now.files.items name.now }
     {
-        match self.files.iter().find(|held| held.name.as_str() == name) {
-            Some(held) => Some(held.bytes.as_slice()),
-            None => None,
+        self.files.iter().find(|held| held.name.as_str() == name)
+    }
+
+    /// The bytes of a file; None where there is no such file.
+    pub fn bytes(&self, alloc: Global, name: &str) -> Result<Option<Vec<u8>>, AllocError>
+        ensures { IfOk result (λ found. IfSome (known_at self.now.files.items name.now) (λ held.
+            option_map (λ bytes. bytes.items) found ≡ held)) }
+    {
+        match self.find(name) {
+            Some(held) => Ok(Some(held.content.bytes(alloc)?)),
+            None => Ok(None),
         }
+    }
+
+    /// Whether a file holds these bytes.
+    pub fn holds(&self, name: &str, bytes: &[u8]) -> Result<bool, AllocError> {
+        match self.bytes(self.alloc, name)? {
+            Some(held) => Ok(held.as_slice() == bytes),
+            None => Ok(false),
+        }
+    }
+
+    /// The cells of a file, which is open from now on; None where there is no such file.
+    fn cells(&mut self, name: &str) -> Result<Option<Arc<Cells>>, AllocError>
+        ensures others { (other : List ℕ) → other ≢ name.now → known_at self.new.files.items other ≡ known_at self.old.files.items other }
+    {
+        let Some(bytes) = self.bytes(self.alloc, name)? else {
+            return Ok(None);
+        };
+        let cells = Arc::new(self.alloc, Cells::of_bytes(self.alloc, &bytes)?)?;
+        let held = Held {
+            name: String::from_str(self.alloc, name)?,
+            content: Content::Open(Arc::try_clone(&cells)?),
+        };
+        self.files.insert(0, held)?;
+        Ok(Some(cells))
     }
 }
 
+fn troubles_of(alloc: Global, trouble: Trouble) -> Result<Arc<Troubles>, AllocError> {
+    Ok(Arc::new(alloc, Troubles::new(trouble))?)
+}
+
 impl Store for Shelf {
-    ghost files = { λ shelf name. Some (bytes_at shelf.files.items name) };
+    ghost files = { λ shelf. known_at shelf.files.items };
+
+    type File = OpenFile;
+
+    type Lock = ShelfLock;
 
     fn read(&mut self, alloc: Global, name: &str) -> io::Result<Option<Vec<u8>>> {
-        match self.bytes(name) {
-            Some(bytes) => Ok(Some(bytes.to_vec(alloc)?)),
-            None => Ok(None),
-        }
+        self.troubles.read()?;
+        Ok(self.bytes(alloc, name)?)
     }
 
     fn write(&mut self, name: &str, bytes: &[u8]) -> io::Result<()> {
         if self.broken {
             return Err(io::Error::other("the disk is full"));
         }
-        self.put(name, bytes)?;
+        let is_same = self.holds(name, bytes)?;
+        let passing = self.troubles.write();
+        if is_done(passing, self.pattern) {
+            self.put(name, bytes)?;
+        }
+        passing.ended()?;
         self.writes = self.writes.saturating_add(1);
+        if !is_same {
+            self.replaced = self.replaced.saturating_add(1);
+        }
         Ok(())
+    }
+
+    fn open(&mut self, name: &str) -> io::Result<OpenFile> {
+        self.troubles.write().ended()?;
+        let Some(cells) = self.cells(name)? else {
+            return Err(io::Error::from(io::ErrorKind::NotFound));
+        };
+        Ok(OpenFile {
+            cells,
+            troubles: Arc::try_clone(&self.troubles)?,
+        })
+    }
+
+    fn lock(&mut self, name: &str) -> Result<Option<ShelfLock>, LockFault> {
+        if self.is_busy {
+            return Err(LockFault::Busy);
+        }
+        Ok(self.find(name).map(|_| ShelfLock {}))
+    }
+}
+
+/// Whether a file is there whole, also where the power is cut as it takes the place of the old one.
+fn is_done(passing: Passing, pattern: Pattern) -> bool {
+    match passing {
+        Passing::Passes => true,
+        Passing::Cut => pattern == Pattern::New,
+        Passing::Fails => false,
     }
 }

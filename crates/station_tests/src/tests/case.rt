@@ -101,7 +101,7 @@ fn patch(image: &mut [u8], at: usize, bytes: &[u8]) {
 
 /// A shelf with these files.
 pub fn shelf_with(alloc: Global, files: Files) -> Result<Shelf, AllocError> {
-    let mut shelf = Shelf::new(alloc);
+    let mut shelf = Shelf::new(alloc)?;
     for (name, bytes) in files {
         shelf.put(name, &spell(alloc, *bytes)?)?;
     }
@@ -189,7 +189,7 @@ pub fn differs(
 /// Whether the shelf has these files; what isn't so, empty where it does.
 pub fn leaves(alloc: Global, shelf: &Shelf, left: Files) -> Result<&'static str, AllocError> {
     for (name, bytes) in left {
-        if shelf.bytes(name) != Some(spell(alloc, *bytes)?.as_slice()) {
+        if !shelf.holds(name, &spell(alloc, *bytes)?)? {
             return Ok("a file");
         }
     }

@@ -53,7 +53,7 @@ fn is_file_fault(
         alloc,
         "station alias 1",
         &mut input,
-        &mut Shelf::new(alloc),
+        &mut Shelf::new(alloc)?,
     )?;
     Ok(
         run.status == 3
@@ -93,7 +93,7 @@ fn readers(rt: HostRuntime) -> Result<(), Fail> {
         alloc,
         "station show",
         &mut input,
-        &mut Shelf::new(alloc),
+        &mut Shelf::new(alloc)?,
     )?;
     assert!(rt; run.status == 3 && run.faults.is_empty());
     Ok(())

@@ -1,0 +1,115 @@
+//! The system's files.
+
+use crate::reading::read_to_end;
+use crate::replacing::{holds, replace, sync_folder};
+use crate::store::{LockFault, Store};
+use site_file::RandomAccessFile;
+use std::alloc::Global;
+use std::fs::{File, Files, OpenOptions, TryLockError};
+use std::os::unix::fs::{FileExt, MetadataExt};
+use std::{fs, io};
+
+/// The system's files. A name without a leading slash is relative to the current folder.
+#[derive(Drop)]
+pub struct FileStore<'r, R> {
+    files: &'r R,
+    alloc: Global,
+    /// The files that were put in place of others, locked, so that the lock of a journal that is replaced lasts.
+    replaced: Vec<File>,
+}
+
+/// A file of the system, open for reading and writing.
+#[derive(Drop)]
+pub struct SystemFile {
+    file: File,
+}
+
+/// The lock of a file of the system.
+#[derive(Drop)]
+pub struct SystemLock {
+    _file: File,
+}
+
+impl<'r, R> FileStore<'r, R> {
+    /// The files that are reached by this handle.
+    pub fn new(alloc: Global, files: &'r R) -> Self {
+        FileStore {
+            files,
+            alloc,
+            replaced: Vec::new(alloc),
+        }
+    }
+}
+
+impl<R: Files<File = File>> Store for FileStore<'_, R> {
+    type File = SystemFile;
+
+    type Lock = SystemLock;
+
+    fn read(&mut self, alloc: Global, name: &str) -> io::Result<Option<Vec<u8>>> {
+        match File::open(self.files, name) {
+            Ok(mut file) => read_to_end(alloc, &mut file).map(Some),
+            Err(error) if error.kind() == io::ErrorKind::NotFound => Ok(None),
+            Err(error) => Err(error),
+        }
+    }
+
+    fn write(&mut self, name: &str, bytes: &[u8]) -> io::Result<()> {
+        if let Some(file) = holds(self.files, self.alloc, name, bytes) {
+            return file.sync_all();
+        }
+        let file = replace(self.files, self.alloc, name, bytes)?;
+        self.replaced.push(file)?;
+        Ok(())
+    }
+
+    fn open(&mut self, name: &str) -> io::Result<SystemFile> {
+        let file = OpenOptions::new()
+            .read(true)
+            .write(true)
+            .open(self.files, name)?;
+        file.sync_all()?;
+        Ok(SystemFile { file })
+    }
+
+    fn lock(&mut self, name: &str) -> Result<Option<SystemLock>, LockFault> {
+        let Ok(file) = File::open(self.files, name) else {
+            return Ok(None);
+        };
+        match file.try_lock() {
+            Ok(()) => {}
+            Err(TryLockError::WouldBlock) => return Err(LockFault::Busy),
+            Err(TryLockError::Error(error)) => return Err(LockFault::Io(error)),
+        }
+        if !is_in_place(self.files, &file, name)? {
+            return Err(LockFault::Busy);
+        }
+        sync_folder(self.files, name)?;
+        Ok(Some(SystemLock { _file: file }))
+    }
+}
+
+/// Whether this is still the file of this name: another station may have replaced it since it was opened.
+fn is_in_place<R: Files>(files: &R, file: &File, name: &str) -> io::Result<bool> {
+    let found = fs::metadata(files, name)?;
+    let opened = file.metadata()?;
+    Ok(found.dev() == opened.dev() && found.ino() == opened.ino())
+}
+
+impl RandomAccessFile for SystemFile {
+    fn len(&self) -> io::Result<u64> {
+        Ok(self.file.metadata()?.len())
+    }
+
+    fn read_exact_at(&self, bytes: &mut [u8], at: u64) -> io::Result<()> {
+        self.file.read_exact_at(bytes, at)
+    }
+
+    fn write_all_at(&self, bytes: &[u8], at: u64) -> io::Result<()> {
+        self.file.write_all_at(bytes, at)
+    }
+
+    fn sync_data(&self) -> io::Result<()> {
+        self.file.sync_data()
+    }
+}

@@ -1,0 +1,156 @@
+//! A file in memory that is open: what it holds, and what a power cut leaves of it.
+
+use crate::troubles::{Passing, Troubles};
+use site_file::RandomAccessFile;
+use std::alloc::{AllocError, Global};
+use std::io;
+use std::sync::Arc;
+use std::sync::atomic::Ordering::SeqCst;
+use std::sync::atomic::{AtomicBool, AtomicU8};
+
+/// What a power cut leaves of bytes that were written and not synced.
+#[derive(Clone, Copy, PartialEq, Eq)]
+pub enum Pattern {
+    /// The old bytes.
+    Old,
+    /// The new bytes.
+    New,
+    /// The new bytes at even places, the old ones at odd places: a word is torn.
+    Torn,
+    /// This byte.
+    Fill(u8),
+}
+
+/// A byte of an open file.
+#[derive(Drop)]
+struct Cell {
+    now: AtomicU8,
+    synced: AtomicU8,
+    /// Whether it was written since it was synced.
+    is_written: AtomicBool,
+}
+
+/// The bytes of an open file.
+#[derive(Drop)]
+pub struct Cells {
+    cells: Vec<Cell>,
+}
+
+impl Cell {
+    fn new(byte: u8) -> Cell {
+        Cell {
+            now: AtomicU8::new(byte),
+            synced: AtomicU8::new(byte),
+            is_written: AtomicBool::new(false),
+        }
+    }
+
+    fn now(&self) -> u8 {
+        self.now.load(SeqCst)
+    }
+
+    fn write(&self, byte: u8) {
+        self.now.store(byte, SeqCst);
+        self.is_written.store(true, SeqCst);
+    }
+
+    fn sync(&self) {
+        self.synced.store(self.now(), SeqCst);
+        self.is_written.store(false, SeqCst);
+    }
+
+    /// What a power cut leaves of it.
+    fn left(&self, pattern: Pattern, is_even: bool) -> u8 {
+        match pattern {
+            Pattern::New => self.now(),
+            Pattern::Torn if is_even => self.now(),
+            Pattern::Fill(byte) if self.is_written.load(SeqCst) => byte,
+            _ => self.synced.load(SeqCst),
+        }
+    }
+}
+
+impl Cells {
+    /// Cells of these bytes, all synced.
+    pub fn of_bytes(alloc: Global, bytes: &[u8]) -> Result<Cells, AllocError> {
+        let mut cells = Vec::new(alloc);
+        for byte in bytes {
+            cells.push(Cell::new(*byte))?;
+        }
+        Ok(Cells { cells })
+    }
+
+    /// The bytes that are read.
+    pub fn bytes(&self, alloc: Global) -> Result<Vec<u8>, AllocError> {
+        let mut bytes = Vec::new(alloc);
+        for cell in self.cells.iter() {
+            bytes.push(cell.now())?;
+        }
+        Ok(bytes)
+    }
+
+    /// What a power cut leaves of them.
+    pub fn left(&self, alloc: Global, pattern: Pattern) -> Result<Vec<u8>, AllocError> {
+        let mut bytes = Vec::new(alloc);
+        for (place, cell) in self.cells.iter().enumerate() {
+            bytes.push(cell.left(pattern, place % 2 == 0))?;
+        }
+        Ok(bytes)
+    }
+
+    fn write(&self, bytes: &[u8], at: usize) {
+        for (cell, byte) in self.cells.iter().skip(at).zip(bytes) {
+            cell.write(*byte);
+        }
+    }
+
+    pub fn sync(&self) {
+        for cell in self.cells.iter() {
+            cell.sync();
+        }
+    }
+}
+
+/// A file of a shelf that is open. It doesn't grow.
+#[derive(Drop)]
+pub struct OpenFile {
+    pub cells: Arc<Cells>,
+    pub troubles: Arc<Troubles>,
+}
+
+impl RandomAccessFile for OpenFile {
+    fn len(&self) -> io::Result<u64> {
+        self.troubles.read()?;
+        Ok(self.cells.cells.len() as u64)
+    }
+
+    fn read_exact_at(&self, bytes: &mut [u8], at: u64) -> io::Result<()> {
+        self.troubles.read()?;
+        let mut count = 0usize;
+        let places = self.cells.cells.iter().skip(at as usize);
+        for (byte, cell) in bytes.iter_mut().zip(places) {
+            *byte = cell.now();
+            count = count.saturating_add(1);
+        }
+        if count < bytes.len() {
+            return Err(io::Error::from(io::ErrorKind::UnexpectedEof));
+        }
+        Ok(())
+    }
+
+    fn write_all_at(&self, bytes: &[u8], at: u64) -> io::Result<()> {
+        let passing = self.troubles.write();
+        if passing != Passing::Fails {
+            self.cells.write(bytes, at as usize);
+        }
+        passing.ended()
+    }
+
+    fn sync_data(&self) -> io::Result<()> {
+        let passing = self.troubles.write();
+        if passing == Passing::Passes {
+            self.cells.sync();
+        }
+        passing.ended()
+    }
+}
