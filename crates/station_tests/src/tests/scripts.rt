@@ -278,6 +278,13 @@ const REFUSED: &[Case] = &[
     },
 ];
 
+/// The slaves' files after all three commands of `QUEUED`.
+pub const ALL_SETTLED: Files = &[
+    ("s0.bin", Bytes::Image(128, &[(8, &[9]), (14, &[0x56])])),
+    ("s1.bin", ONE),
+    ("s2.bin", Bytes::Image(128, &[(8, &[7]), (14, &[0xEF])])),
+];
+
 /// Three commands of which the last two change what the first did, all queued in one batch.
 pub const QUEUED: Case = Case {
     words: RUN,
@@ -302,11 +309,7 @@ pub const QUEUED: Case = Case {
 command 1 accepted 1
 command 2 accepted 2
 accepted 3 durable 3 settled 3\n",
-    left: &[
-        ("s0.bin", Bytes::Image(128, &[(8, &[9]), (14, &[0x56])])),
-        ("s1.bin", ONE),
-        ("s2.bin", Bytes::Image(128, &[(8, &[7]), (14, &[0xEF])])),
-    ],
+    left: ALL_SETTLED,
     writes: 4,
     ..ALONE
 };
