@@ -1,7 +1,7 @@
 // The power is cut in each call of the program that writes or syncs, and the disk fails in each.
 
-use super::case::{Files, Printed, leaves, run_words, shelf_with};
-use super::scripts::{ALL_SETTLED, ONE, QUEUED, THREE, ZERO};
+use super::case::{Bytes, Files, Printed, leaves, run_words, shelf_with};
+use super::scripts::{ALL_SETTLED, JOURNAL_OF_THREE, ONE, THREE_COMMANDS, ZERO};
 use crate::cells::Pattern;
 use crate::shelf::Shelf;
 use crate::troubles::Trouble;
@@ -18,6 +18,8 @@ const PATTERNS: &[Pattern] = &[
     Pattern::Fill(0xA5),
 ];
 
+const RUN: &str = "station run line.toml script.toml";
+
 const RECOVER: &str = "station recover line.toml";
 
 const INIT: &str = "station init line.toml";
@@ -28,6 +30,20 @@ const PREFIXES: &[Files] = &[
     &[("s0.bin", ONE), ("s1.bin", ZERO), ("s2.bin", ZERO)],
     &[("s0.bin", ZERO), ("s1.bin", ONE), ("s2.bin", ZERO)],
     ALL_SETTLED,
+];
+
+/// A line of three slaves with the smallest journal.
+const LINE: Bytes = Bytes::Text(
+    "journal = 'j.bin'\narea = 4096\n[[slave]]\nimage = 's0.bin'\n[[slave]]\nimage = 's1.bin'\n[[slave]]\nimage = 's2.bin'\n",
+);
+
+const FILES: Files = &[
+    ("line.toml", LINE),
+    ("j.bin", JOURNAL_OF_THREE),
+    ("s0.bin", ZERO),
+    ("s1.bin", ZERO),
+    ("s2.bin", ZERO),
+    ("script.toml", THREE_COMMANDS),
 ];
 
 /// What a run prints that tells so many commands durable.
@@ -77,19 +93,70 @@ fn is_mended(
     }
 }
 
-/// Whether a recovery mends the line, also behind one in which the power is cut, in each of its calls in turn.
-fn is_mended_through_cuts(
+/// A line that a recovery mends: its files, and how many commands are in it then at least.
+#[derive(Drop)]
+struct Mended {
+    files: Vec<u8>,
+    durable: usize,
+}
+
+/// The lines that were tried, so that none is tried twice.
+#[derive(Drop)]
+struct Tried {
+    /// Those that one recovery mends.
+    once: Vec<Mended>,
+    /// Those that a recovery mends behind one in which the power is cut, in each of its calls.
+    behind_cuts: Vec<Mended>,
+}
+
+const WRITTEN: &[&str] = &["j.bin", "s0.bin", "s1.bin", "s2.bin"];
+
+/// The bytes of all files that the program writes.
+fn written(alloc: Global, shelf: &Shelf) -> Result<Vec<u8>, AllocError> {
+    let mut files = Vec::new(alloc);
+    for name in WRITTEN {
+        if let Some(bytes) = shelf.bytes(alloc, name)? {
+            files.extend_from_slice(&bytes)?;
+        }
+    }
+    Ok(files)
+}
+
+fn is_tried(tried: &[Mended], files: &[u8], durable: usize) -> bool {
+    tried.iter().any(|one| one.durable >= durable && one.files.as_slice() == files)
+}
+
+/// The same as `is_mended`, tried once for each line.
+fn is_mended_once(
+    rt: &(impl Wait + Threads + Sync),
+    alloc: Global,
+    mut shelf: Shelf,
+    durable: usize,
+    tried: &mut Vec<Mended>,
+) -> Result<bool, AllocError> {
+    let files = written(alloc, &shelf)?;
+    if is_tried(tried, &files, durable) {
+        return Ok(true);
+    }
+    let is_mended = is_mended(rt, alloc, &mut shelf, durable)?;
+    tried.push(Mended { files, durable })?;
+    Ok(is_mended)
+}
+
+/// Whether a recovery mends the line behind one in which the power is cut, in each of its calls in turn.
+fn is_mended_behind_cuts(
     rt: &(impl Wait + Threads + Sync),
     alloc: Global,
     shelf: &Shelf,
     pattern: Pattern,
     durable: usize,
+    tried: &mut Vec<Mended>,
 ) -> Result<bool, AllocError> {
     for call in 0..1000u64 {
         let mut cut = shelf.left()?;
         cut.trouble(Trouble::Cut(call), pattern)?;
         let _ = run_on(rt, alloc, RECOVER, &mut cut)?;
-        if !is_mended(rt, alloc, &mut cut.left()?, durable)? {
+        if !is_mended_once(rt, alloc, cut.left()?, durable, tried)? {
             return Ok(false);
         }
         if !cut.troubles.has_come() {
@@ -99,18 +166,40 @@ fn is_mended_through_cuts(
     Ok(false)
 }
 
+/// The same, tried once for each line.
+fn is_mended_through_cuts(
+    rt: &(impl Wait + Threads + Sync),
+    alloc: Global,
+    shelf: Shelf,
+    pattern: Pattern,
+    durable: usize,
+    tried: &mut Tried,
+) -> Result<bool, AllocError> {
+    let files = written(alloc, &shelf)?;
+    if is_tried(&tried.behind_cuts, &files, durable) {
+        return Ok(true);
+    }
+    let is_mended = is_mended_behind_cuts(rt, alloc, &shelf, pattern, durable, &mut tried.once)?;
+    tried.behind_cuts.push(Mended { files, durable })?;
+    Ok(is_mended)
+}
+
 /// Whether the line is mended wherever in a run by threads the power is cut. Without a cut all is synced, in the files themselves.
 fn is_kept(
     rt: &(impl Wait + Threads + Sync),
     alloc: Global,
     pattern: Pattern,
 ) -> Result<bool, AllocError> {
+    let mut tried = Tried {
+        once: Vec::new(alloc),
+        behind_cuts: Vec::new(alloc),
+    };
     for call in 0..1000u64 {
-        let mut shelf = shelf_with(alloc, QUEUED.files)?;
+        let mut shelf = shelf_with(alloc, FILES)?;
         shelf.trouble(Trouble::Cut(call), pattern)?;
-        let run = run_on(rt, alloc, QUEUED.words, &mut shelf)?;
+        let run = run_on(rt, alloc, RUN, &mut shelf)?;
         let durable = durable_of(&run);
-        if !is_mended_through_cuts(rt, alloc, &shelf.left()?, pattern, durable)? {
+        if !is_mended_through_cuts(rt, alloc, shelf.left()?, pattern, durable, &mut tried)? {
             return Ok(false);
         }
         if !shelf.troubles.has_come() {
@@ -121,16 +210,32 @@ fn is_kept(
 }
 
 #[test]
-fn a_cut_at_each_call_of_a_run(rt: HostRuntime) -> Result<(), Fail> {
-    for pattern in PATTERNS {
-        assert!(rt; is_kept(&rt, rt.alloc(), *pattern)?);
-    }
+fn a_cut_of_a_run_that_leaves_old_bytes(rt: HostRuntime) -> Result<(), Fail> {
+    assert!(rt; is_kept(&rt, rt.alloc(), Pattern::Old)?);
+    Ok(())
+}
+
+#[test]
+fn a_cut_of_a_run_that_leaves_new_bytes(rt: HostRuntime) -> Result<(), Fail> {
+    assert!(rt; is_kept(&rt, rt.alloc(), Pattern::New)?);
+    Ok(())
+}
+
+#[test]
+fn a_cut_of_a_run_that_tears_words(rt: HostRuntime) -> Result<(), Fail> {
+    assert!(rt; is_kept(&rt, rt.alloc(), Pattern::Torn)?);
+    Ok(())
+}
+
+#[test]
+fn a_cut_of_a_run_that_leaves_other_bytes(rt: HostRuntime) -> Result<(), Fail> {
+    assert!(rt; is_kept(&rt, rt.alloc(), Pattern::Fill(0xA5))?);
     Ok(())
 }
 
 /// A line of three slaves without a journal.
 const UNFORMATTED: Files = &[
-    ("line.toml", THREE),
+    ("line.toml", LINE),
     ("s0.bin", ZERO),
     ("s1.bin", ZERO),
     ("s2.bin", ZERO),
@@ -205,9 +310,9 @@ fn is_failure_mended(
     pattern: Pattern,
 ) -> Result<bool, AllocError> {
     for call in 0..1000u64 {
-        let mut shelf = shelf_with(alloc, QUEUED.files)?;
+        let mut shelf = shelf_with(alloc, FILES)?;
         shelf.trouble(trouble_at(failing, call), pattern)?;
-        let run = run_on(rt, alloc, QUEUED.words, &mut shelf)?;
+        let run = run_on(rt, alloc, RUN, &mut shelf)?;
         if !shelf.troubles.has_come() {
             return Ok(run.status == 0 && call > 0);
         }
@@ -229,7 +334,7 @@ fn a_disk_that_fails(rt: HostRuntime) -> Result<(), Fail> {
 }
 
 /// What runs where another station works on the journal.
-const BUSY: &[&str] = &["station run line.toml script.toml", RECOVER];
+const BUSY: &[&str] = &[RUN, RECOVER];
 
 /// Whether this is refused where another station works on the journal, and all files stay as they are.
 fn is_busy(
@@ -237,11 +342,11 @@ fn is_busy(
     alloc: Global,
     words: &str,
 ) -> Result<bool, AllocError> {
-    let mut shelf = shelf_with(alloc, QUEUED.files)?;
+    let mut shelf = shelf_with(alloc, FILES)?;
     shelf.is_busy = true;
     let run = run_on(rt, alloc, words, &mut shelf)?;
     let is_told = run.status == 3 && run.faults.as_slice() == "fault 95 Busy\n".as_bytes();
-    let is_same = leaves(alloc, &shelf, QUEUED.files)?.is_empty() && shelf.writes == 0;
+    let is_same = leaves(alloc, &shelf, FILES)?.is_empty() && shelf.writes == 0;
     Ok(is_told && is_same && run.output.is_empty())
 }
 
