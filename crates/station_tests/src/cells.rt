@@ -98,8 +98,13 @@ impl Cells {
         Ok(bytes)
     }
 
-    fn write(&self, bytes: &[u8], at: usize) {
-        for (cell, byte) in self.cells.iter().skip(at).zip(bytes) {
+    /// The cells from a place on.
+    fn from(&self, at: u64) -> &[Cell] {
+        self.cells.get(at as usize..).unwrap_or(&[])
+    }
+
+    fn write(&self, bytes: &[u8], at: u64) {
+        for (cell, byte) in self.from(at).iter().zip(bytes) {
             cell.write(*byte);
         }
     }
@@ -126,14 +131,12 @@ impl RandomAccessFile for OpenFile {
 
     fn read_exact_at(&self, bytes: &mut [u8], at: u64) -> io::Result<()> {
         self.troubles.read()?;
-        let mut count = 0usize;
-        let places = self.cells.cells.iter().skip(at as usize);
-        for (byte, cell) in bytes.iter_mut().zip(places) {
-            *byte = cell.now();
-            count = count.saturating_add(1);
-        }
-        if count < bytes.len() {
+        let cells = self.cells.from(at);
+        if cells.len() < bytes.len() {
             return Err(io::Error::from(io::ErrorKind::UnexpectedEof));
+        }
+        for (byte, cell) in bytes.iter_mut().zip(cells) {
+            *byte = cell.now();
         }
         Ok(())
     }
@@ -141,7 +144,7 @@ impl RandomAccessFile for OpenFile {
     fn write_all_at(&self, bytes: &[u8], at: u64) -> io::Result<()> {
         let passing = self.troubles.write();
         if passing != Passing::Fails {
-            self.cells.write(bytes, at as usize);
+            self.cells.write(bytes, at);
         }
         passing.ended()
     }

@@ -66,7 +66,7 @@ impl Held {
     /// The file that a power cut leaves of it.
     fn left(&self, alloc: Global, pattern: Pattern) -> Result<Held, AllocError> {
         Ok(Held {
-            name: self.name.try_clone()?,
+            name: self.name.clone()?,
             content: Content::Whole(self.content.left(alloc, pattern)?),
         })
     }
@@ -163,6 +163,18 @@ impl Shelf {
     }
 }
 
+impl Shelf {
+    /// The power is cut as a whole file takes the place of the old one: by its pattern the new one is there or not.
+    fn torn(&mut self, name: &str, bytes: &[u8]) -> io::Error
+        ensures others { (other : List ℕ) → other ≢ name.now → known_at self.new.files.items other ≡ known_at self.old.files.items other }
+    {
+        if self.pattern == Pattern::New {
+            let _ = self.put(name, bytes);
+        }
+        io::Error::other("the power is cut")
+    }
+}
+
 fn troubles_of(alloc: Global, trouble: Trouble) -> Result<Arc<Troubles>, AllocError> {
     Ok(Arc::new(alloc, Troubles::new(trouble))?)
 }
@@ -184,15 +196,16 @@ impl Store for Shelf {
             return Err(io::Error::other("the disk is full"));
         }
         let is_same = self.holds(name, bytes)?;
-        let passing = self.troubles.write();
-        if is_done(passing, self.pattern) {
-            self.put(name, bytes)?;
+        match self.troubles.write() {
+            Passing::Passes => {}
+            Passing::Cut => return Err(self.torn(name, bytes)),
+            Passing::Fails => return Err(io::Error::other("the disk is gone")),
         }
-        passing.ended()?;
         self.writes = self.writes.saturating_add(1);
         if !is_same {
             self.replaced = self.replaced.saturating_add(1);
         }
+        self.put(name, bytes)?;
         Ok(())
     }
 
@@ -212,14 +225,5 @@ impl Store for Shelf {
             return Err(LockFault::Busy);
         }
         Ok(self.find(name).map(|_| ShelfLock {}))
-    }
-}
-
-/// Whether a file is there whole, also where the power is cut as it takes the place of the old one.
-fn is_done(passing: Passing, pattern: Pattern) -> bool {
-    match passing {
-        Passing::Passes => true,
-        Passing::Cut => pattern == Pattern::New,
-        Passing::Fails => false,
     }
 }

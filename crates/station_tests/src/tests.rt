@@ -1,6 +1,7 @@
 // What the program prints and leaves.
 
 mod case;
+mod cuts;
 mod images;
 mod journals;
 mod lines;

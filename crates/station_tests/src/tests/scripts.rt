@@ -278,7 +278,23 @@ const REFUSED: &[Case] = &[
     },
 ];
 
-/// Three commands of which the last two change what the first did, all queued in one batch.
+/// Three commands of which the last two change what the first did.
+pub const THREE_COMMANDS: Bytes = Bytes::Text(
+    "command = [
+    { alias = { slave = 0, value = 1 } },
+    { swap = [0, 1] },
+    { group = [{ alias = { slave = 2, value = 7 } }, { alias = { slave = 0, value = 9 } }] },
+    ]",
+);
+
+/// The slaves' files after all three of these commands.
+pub const ALL_SETTLED: Files = &[
+    ("s0.bin", Bytes::Image(128, &[(8, &[9]), (14, &[0x56])])),
+    ("s1.bin", ONE),
+    ("s2.bin", Bytes::Image(128, &[(8, &[7]), (14, &[0xEF])])),
+];
+
+/// These commands, all queued in one batch.
 pub const QUEUED: Case = Case {
     words: RUN,
     files: &[
@@ -287,26 +303,13 @@ pub const QUEUED: Case = Case {
         ("s0.bin", ZERO),
         ("s1.bin", ZERO),
         ("s2.bin", ZERO),
-        (
-            "script.toml",
-            Bytes::Text(
-                "command = [
-                { alias = { slave = 0, value = 1 } },
-                { swap = [0, 1] },
-                { group = [{ alias = { slave = 2, value = 7 } }, { alias = { slave = 0, value = 9 } }] },
-                ]",
-            ),
-        ),
+        ("script.toml", THREE_COMMANDS),
     ],
     output: "command 0 accepted 0
 command 1 accepted 1
 command 2 accepted 2
 accepted 3 durable 3 settled 3\n",
-    left: &[
-        ("s0.bin", Bytes::Image(128, &[(8, &[9]), (14, &[0x56])])),
-        ("s1.bin", ONE),
-        ("s2.bin", Bytes::Image(128, &[(8, &[7]), (14, &[0xEF])])),
-    ],
+    left: ALL_SETTLED,
     writes: 4,
     ..ALONE
 };

@@ -65,7 +65,7 @@ fn answers(
     status: u8,
     shown: &str,
 ) -> Result<bool, AllocError> {
-    let run = run_words(rt, alloc, words, &mut io::empty(), &mut Shelf::new(alloc))?;
+    let run = run_words(rt, alloc, words, &mut io::empty(), &mut Shelf::new(alloc)?)?;
     let text = str::from_utf8(&run.output).unwrap_or("");
     let is_parted = run.output.is_empty() != run.faults.is_empty();
     Ok(run.status == status && is_parted && text.contains(shown))
