@@ -184,19 +184,21 @@ fn is_mended_through_cuts(
     Ok(is_mended)
 }
 
-/// Whether the line is mended wherever in a run by threads the power is cut. Without a cut all is synced, in the files themselves.
+/// Whether the line is mended though the power is cut in a run by threads: in this call, in the second one behind it, and so on to the
+/// run's end. Without a cut all is synced, in the files themselves.
 fn is_kept(
     rt: &(impl Wait + Threads + Sync),
     alloc: Global,
     pattern: Pattern,
+    first: u64,
 ) -> Result<bool, AllocError> {
     let mut tried = Tried {
         once: Vec::new(alloc),
         behind_cuts: Vec::new(alloc),
     };
-    for call in 0..1000u64 {
+    for pair in 0..500u64 {
         let mut shelf = shelf_with(alloc, FILES)?;
-        shelf.trouble(Trouble::Cut(call), pattern)?;
+        shelf.trouble(Trouble::Cut(2 * pair + first % 2), pattern)?;
         let run = run_on(rt, alloc, RUN, &mut shelf)?;
         let durable = durable_of(&run);
         if !is_mended_through_cuts(rt, alloc, shelf.left()?, pattern, durable, &mut tried)? {
@@ -210,26 +212,50 @@ fn is_kept(
 }
 
 #[test]
-fn a_cut_of_a_run_that_leaves_old_bytes(rt: HostRuntime) -> Result<(), Fail> {
-    assert!(rt; is_kept(&rt, rt.alloc(), Pattern::Old)?);
+fn old_bytes_of_a_run_cut_at_even_calls(rt: HostRuntime) -> Result<(), Fail> {
+    assert!(rt; is_kept(&rt, rt.alloc(), Pattern::Old, 0)?);
     Ok(())
 }
 
 #[test]
-fn a_cut_of_a_run_that_leaves_new_bytes(rt: HostRuntime) -> Result<(), Fail> {
-    assert!(rt; is_kept(&rt, rt.alloc(), Pattern::New)?);
+fn old_bytes_of_a_run_cut_at_odd_calls(rt: HostRuntime) -> Result<(), Fail> {
+    assert!(rt; is_kept(&rt, rt.alloc(), Pattern::Old, 1)?);
     Ok(())
 }
 
 #[test]
-fn a_cut_of_a_run_that_tears_words(rt: HostRuntime) -> Result<(), Fail> {
-    assert!(rt; is_kept(&rt, rt.alloc(), Pattern::Torn)?);
+fn new_bytes_of_a_run_cut_at_even_calls(rt: HostRuntime) -> Result<(), Fail> {
+    assert!(rt; is_kept(&rt, rt.alloc(), Pattern::New, 0)?);
     Ok(())
 }
 
 #[test]
-fn a_cut_of_a_run_that_leaves_other_bytes(rt: HostRuntime) -> Result<(), Fail> {
-    assert!(rt; is_kept(&rt, rt.alloc(), Pattern::Fill(0xA5))?);
+fn new_bytes_of_a_run_cut_at_odd_calls(rt: HostRuntime) -> Result<(), Fail> {
+    assert!(rt; is_kept(&rt, rt.alloc(), Pattern::New, 1)?);
+    Ok(())
+}
+
+#[test]
+fn torn_words_of_a_run_cut_at_even_calls(rt: HostRuntime) -> Result<(), Fail> {
+    assert!(rt; is_kept(&rt, rt.alloc(), Pattern::Torn, 0)?);
+    Ok(())
+}
+
+#[test]
+fn torn_words_of_a_run_cut_at_odd_calls(rt: HostRuntime) -> Result<(), Fail> {
+    assert!(rt; is_kept(&rt, rt.alloc(), Pattern::Torn, 1)?);
+    Ok(())
+}
+
+#[test]
+fn other_bytes_of_a_run_cut_at_even_calls(rt: HostRuntime) -> Result<(), Fail> {
+    assert!(rt; is_kept(&rt, rt.alloc(), Pattern::Fill(0xA5), 0)?);
+    Ok(())
+}
+
+#[test]
+fn other_bytes_of_a_run_cut_at_odd_calls(rt: HostRuntime) -> Result<(), Fail> {
+    assert!(rt; is_kept(&rt, rt.alloc(), Pattern::Fill(0xA5), 1)?);
     Ok(())
 }
 
@@ -324,11 +350,21 @@ fn is_failure_mended(
     Ok(false)
 }
 
+/// What is left of bytes that a failing disk didn't sync.
+const UNSYNCED: &[Pattern] = &[Pattern::Old, Pattern::New];
+
 #[test]
-fn a_disk_that_fails(rt: HostRuntime) -> Result<(), Fail> {
-    for pattern in PATTERNS {
-        assert!(rt; is_failure_mended(&rt, rt.alloc(), Failing::ForGood, *pattern)?);
+fn a_disk_that_fails_once(rt: HostRuntime) -> Result<(), Fail> {
+    for pattern in UNSYNCED {
         assert!(rt; is_failure_mended(&rt, rt.alloc(), Failing::Once, *pattern)?);
+    }
+    Ok(())
+}
+
+#[test]
+fn a_disk_that_fails_for_good(rt: HostRuntime) -> Result<(), Fail> {
+    for pattern in UNSYNCED {
+        assert!(rt; is_failure_mended(&rt, rt.alloc(), Failing::ForGood, *pattern)?);
     }
     Ok(())
 }
