@@ -8,7 +8,7 @@ use Rattle.site_core.specs.Disk.{Disk}
 use Rattle.site_core.specs.State.{State, Seen}
 use Rattle.disk_mem.specs.Unsynced.{of_bytes}
 use Rattle.book_model.specs.Book.{Book}
-use Rattle.site_mem.specs.Site.{SiteValue}
+use Rattle.site_shadow.specs.Site.{SiteValue}
 use Rattle.station_desk.specs.Below.{AllEndSo, AllReadAsContents, AreAnswered, Call, Counts, IsJustOpened, IsKeptAs, IsLeft, Numbered, is_served, replayed}
 use Rattle.station_alone.specs.Station.{Station}
 use Rattle.station_desk.specs.Closing.{IsHandedIn}
@@ -161,8 +161,8 @@ module _ (opened : Station) (commands : List Command) (sites : Sites) (ends : En
     kept = λ matched. kept-together opened stops.calls sites ends site apart of_sites together (stops.kept matched);
   }
 
-pub served-at-desk : {E : Type 0} (opened : Station) (commands : List Command) (book : Book) (seen : Seen) (sites : Sites) (at : AtDesk) (result : Result Left E) → book ≡ opened.book → seen ≡ opened.seen → IsApart seen.state sites → AreEndsOf sites at.ends
-    → IfOk result (λ (left : Left). IsTogether at.ends left.site × (left.ending ≡ at.ending)) → EndsSo book commands at.ends at.ending → IfOk result (λ (left : Left). LeavesSo opened commands left.ending left.site)
+pub served-at-desk : {E : Type 0} (opened : Station) (commands : List Command) (book : Book) (seen : Seen) (sites : Sites) (at : AtDesk SiteValue) (result : Result (Left SiteValue) E) → book ≡ opened.book → seen ≡ opened.seen → IsApart seen.state sites → AreEndsOf sites at.ends
+    → IfOk result (λ (left : Left SiteValue). IsTogether at.ends left.site × (left.ending ≡ at.ending)) → EndsSo book commands at.ends at.ending → IfOk result (λ (left : Left SiteValue). LeavesSo opened commands left.ending left.site)
 served-at-desk opened commands book seen sites at (Ok left) of_book of_seen apart of_sites is ends =
     let here : EndsSo opened.book commands at.ends at.ending = subst (λ (b : Book). EndsSo b commands at.ends at.ending) of_book ends in
     let same : EndsSo opened.book commands at.ends left.ending = subst (λ (e : Ending). EndsSo opened.book commands at.ends e) (sym is.1) here in

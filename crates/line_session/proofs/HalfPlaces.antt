@@ -4,10 +4,10 @@ use Rattle.std.specs.Prelude.{slice_get, option_map, IfOk}
 use Rattle.std.proofs.lemmas.List.{length-set, get_or-set_same}
 use Rattle.std.proofs.lemmas.Option.{slice_get-map, slice_get-get_or}
 use Rattle.esc_model.specs.SlaveHalf.{SlaveHalf}
-use Rattle.site_mem.specs.Line.{half_of, halves_of}
-use Rattle.site_mem.specs.Site.{SiteValue}
-use Rattle.site_mem.specs.Parts.{site_of}
-use Rattle.site_mem.specs.declared.site.Parts.{Parts}
+use Rattle.site_shadow.specs.Line.{half_of, halves_of}
+use Rattle.site_shadow.specs.Site.{SiteValue}
+use Rattle.site_shadow.specs.Parts.{site_of}
+use Rattle.site_shadow.specs.declared.site.Parts.{Parts}
 use Rattle.line_session.specs.Parts.{HasHalf}
 
 -- the half at a place

@@ -9,7 +9,7 @@ use Rattle.site_core.specs.State.{State, Pair, Leaves}
 use Rattle.disk_mem.specs.Unsynced.{of_bytes}
 use Rattle.book_model.specs.Book.{Book}
 use Rattle.book_model.specs.Machine.{Machine}
-use Rattle.site_mem.specs.Site.{SiteValue}
+use Rattle.site_shadow.specs.Site.{SiteValue}
 use Rattle.station_jobs.specs.declared.log.SlaveLog.{SlaveLog}
 use Rattle.station_jobs.specs.Ends.{Stay}
 use Rattle.station_threads.specs.Parts.{IsEndOfSlave}

@@ -5,10 +5,10 @@ use Rattle.std.specs.Global.{Vec}
 use Rattle.std.proofs.lemmas.Bool.{false≢true}
 use Rattle.std.proofs.lemmas.List.{length-map, map-append}
 use Rattle.esc_model.specs.SlaveHalf.{SlaveHalf}
-use Rattle.site_mem.specs.Line.{half_of, halves_of}
-use Rattle.site_mem.specs.Site.{SiteValue}
-use Rattle.site_mem.specs.Parts.{bytes_or_none, site_of}
-use Rattle.site_mem.specs.declared.site.Parts.{Parts}
+use Rattle.site_shadow.specs.Line.{half_of, halves_of}
+use Rattle.site_shadow.specs.Site.{SiteValue}
+use Rattle.site_shadow.specs.Parts.{bytes_or_none, site_of}
+use Rattle.site_shadow.specs.declared.site.Parts.{Parts}
 use Rattle.disk_mem.specs.Unsynced.{of_bytes}
 use Rattle.station_desk.specs.declared.closing.Ends.{Ends}
 use Rattle.station_jobs.specs.declared.log.SlaveLog.{SlaveLog}

@@ -4,7 +4,7 @@ use Rattle.std.specs.Prelude.{slice_get}
 use Rattle.std.proofs.lemmas.Option.{slice_get_within}
 use Rattle.esc_model.specs.SlaveHalf.{SlaveHalf}
 use Rattle.site_core.specs.State.{State}
-use Rattle.site_mem.specs.Site.{SiteValue}
+use Rattle.site_shadow.specs.Site.{SiteValue}
 use Rattle.book_model.specs.Book.{Book}
 use Rattle.station_jobs.specs.declared.log.SlaveLog.{SlaveLog}
 use Rattle.station_jobs.specs.Ends.{Stay}

@@ -7,7 +7,7 @@ use Rattle.site_core.specs.State.{State, Seen}
 use Rattle.site_core.specs.Passes.{LeavesOnly}
 use Rattle.book_model.specs.Book.{Book}
 use Rattle.book_model.specs.Machine.{Machine}
-use Rattle.site_mem.specs.Site.{SiteValue}
+use Rattle.site_shadow.specs.Site.{SiteValue}
 use Rattle.station_alone.specs.Station.{Station}
 use Rattle.station_alone.specs.Keeping.{KeptFor}
 use Rattle.station_desk.specs.Below.{

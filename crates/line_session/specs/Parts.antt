@@ -6,7 +6,7 @@ use Rattle.site_core.specs.Line as lines
 use Rattle.site_core.specs.State.{State}
 use Rattle.disk_mem.specs.Unsynced.{of_bytes}
 use Rattle.site_line.specs.Owned.{OwnsAll}
-use Rattle.site_mem.specs.Site.{SiteValue}
+use Rattle.site_shadow.specs.Site.{SiteValue}
 use Rattle.station_jobs.specs.declared.log.SlaveLog.{SlaveLog}
 use Rattle.station_jobs.specs.Ends.{Stay}
 use Rattle.station_threads.specs.declared.parts.Line.{Line}

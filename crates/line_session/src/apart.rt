@@ -1,16 +1,16 @@
-//! A line in memory is taken apart: a site for the disk, one for each slave, and one for the process data.
+//! A line is taken apart: a site for the disk, one for each slave, and one for the process data.
 
 ghost use Rattle.std.specs.Prelude.{◌≡◌, ◌↔◌, ◌+◌, ◌<◌, ◌≤◌, true, length, slice_set, vec_len, is_some, IfOk, IsSomeAnd, IsTrue};
-ghost use Rattle.site_mem.specs.Line.{half_of, halves_of};
-ghost use Rattle.site_mem.specs.Parts.{site_of};
-ghost use Rattle.site_mem.specs.Site.{SiteValue};
+ghost use Rattle.site_shadow.specs.Line.{half_of, halves_of};
+ghost use Rattle.site_shadow.specs.Parts.{site_of};
+ghost use Rattle.site_shadow.specs.Site.{SiteValue};
 ghost use Rattle.line_server.specs.Places.{AllPlaced};
 ghost use Rattle.line_server.specs.Sites.{OwnParts};
 ghost use Rattle.line_session.specs.Parts.{HasDiskOf, HasHalf, IsServable};
 
 use esc_model::{ProcessHalf, RomHalf};
 use line_server::{Sites, own_parts};
-use site_mem::{MemSite, Parts};
+use site_shadow::{Device, Parts, ShadowSite};
 use station_files::Fault;
 use station_threads::Line;
 use std::alloc::{AllocError, Global};
@@ -32,19 +32,23 @@ fn nothing(alloc: Global, sizes: &Vec<u16>) -> Result<Parts, AllocError> {
     })
 }
 
-/// The site of these parts.
+/// The site of these parts, with this device behind it.
 ///
 /// # Errors
 ///
 /// `Unserved` where they aren't whole.
-pub(crate) fn site_of(alloc: Global, parts: Parts) -> Result<MemSite, Fault>
+pub(crate) fn site_of<D: Device + Copy>(
+    alloc: Global,
+    parts: Parts,
+    device: D,
+) -> Result<ShadowSite<D>, Fault>
     ensures made { IfOk result (λ site. site ≡ site_of parts) }
     ensures disk { IfOk result (λ site. HasDiskOf parts.disk site) }
 {
     if !parts.is_whole() {
         return Err(Fault::Unserved);
     }
-    Ok(MemSite::of_parts(alloc, parts))
+    Ok(ShadowSite::of_parts(alloc, parts, device))
 }
 
 /// The parts with this half of a slave.
@@ -58,12 +62,13 @@ fn with_half(parts: Parts, slave: usize, half: Option<RomHalf>) -> Parts
 }
 
 /// A site with this slave's half alone.
-fn slave_site(
+fn slave_site<D: Device + Copy>(
     alloc: Global,
+    device: D,
     sizes: &Vec<u16>,
     slave: usize,
     half: Option<RomHalf>,
-) -> Result<MemSite, Fault>
+) -> Result<ShadowSite<D>, Fault>
     ensures { IfOk result (λ site. HasHalf slave (half_of half) site) }
 {
     let parts = nothing(alloc, sizes)?;
@@ -71,21 +76,22 @@ fn slave_site(
         return Err(Fault::Unserved);
     }
     let parts = with_half(parts, slave, half);
-    site_of(alloc, parts)
+    site_of(alloc, parts, device)
 }
 
 /// A site for each slave.
-fn slave_sites(
+fn slave_sites<D: Device + Copy>(
     alloc: Global,
+    device: D,
     sizes: &Vec<u16>,
     halves: Vec<Option<RomHalf>>,
-) -> Result<Vec<MemSite>, Fault>
+) -> Result<Vec<ShadowSite<D>>, Fault>
     ensures { IfOk result (λ sites. AllPlaced HasHalf 0 (halves_of halves.items) sites.items) }
 {
     let mut sites = Vec::with_capacity(alloc, halves.len())?;
     for half in halves {
         let slave = sites.len();
-        let site = slave_site(alloc, sizes, slave, half)?;
+        let site = slave_site(alloc, device, sizes, slave, half)?;
         sites.push(site)?;
     }
     Ok(sites)
@@ -113,37 +119,44 @@ fn processes(alloc: Global, halves: &[Option<RomHalf>]) -> Result<Vec<ProcessHal
 }
 
 /// A site with this disk alone.
-fn disk_site(alloc: Global, sizes: &Vec<u16>, disk: Option<Vec<u8>>) -> Result<MemSite, Fault>
+fn disk_site<D: Device + Copy>(
+    alloc: Global,
+    device: D,
+    sizes: &Vec<u16>,
+    disk: Option<Vec<u8>>,
+) -> Result<ShadowSite<D>, Fault>
     ensures { IfOk result (λ site. HasDiskOf disk site) }
 {
     let mut parts = nothing(alloc, sizes)?;
     parts.disk = disk;
-    site_of(alloc, parts)
+    site_of(alloc, parts, device)
 }
 
 /// A site with the process data of these slaves alone, just switched on.
-fn cycle_site(
+fn cycle_site<D: Device + Copy>(
     alloc: Global,
+    device: D,
     sizes: &Vec<u16>,
     halves: &[Option<RomHalf>],
-) -> Result<MemSite, Fault> {
+) -> Result<ShadowSite<D>, Fault> {
     let processes = processes(alloc, halves)?;
     let mut parts = nothing(alloc, sizes)?;
     parts.process = Some(processes);
-    site_of(alloc, parts)
+    site_of(alloc, parts, device)
 }
 
 /// A site with this disk alone, and one with the process data of these slaves.
-fn disk_and_cycle(
+fn disk_and_cycle<D: Device + Copy>(
     alloc: Global,
+    device: D,
     sizes: &Vec<u16>,
     disk: Option<Vec<u8>>,
     halves: &[Option<RomHalf>],
-) -> Result<(MemSite, MemSite), Fault>
+) -> Result<(ShadowSite<D>, ShadowSite<D>), Fault>
     ensures { IfOk result (λ sites. HasDiskOf disk sites.0) }
 {
-    let cycle = cycle_site(alloc, sizes, halves)?;
-    match disk_site(alloc, sizes, disk) {
+    let cycle = cycle_site(alloc, device, sizes, halves)?;
+    match disk_site(alloc, device, sizes, disk) {
         Ok(disk) => Ok((disk, cycle)),
         Err(fault) => {
             drop(cycle);
@@ -152,8 +165,12 @@ fn disk_and_cycle(
     }
 }
 
-/// The sites of the line's parts. Its process data are switched on.
-fn sites_of(alloc: Global, line: Parts) -> Result<Sites<MemSite>, Fault>
+/// The sites of the line's parts, each with a copy of its device. Its process data are switched on.
+fn sites_of<D: Device + Copy>(
+    alloc: Global,
+    device: D,
+    line: Parts,
+) -> Result<Sites<ShadowSite<D>>, Fault>
     ensures disk { IfOk result (λ sites. HasDiskOf line.disk sites.disk) }
     ensures slaves { IfOk result (λ sites. AllPlaced HasHalf 0 (halves_of line.halves.items) sites.slaves.items) }
     ensures turning { IfOk result (λ sites. is_some sites.cycle ≡ true) }
@@ -164,8 +181,8 @@ fn sites_of(alloc: Global, line: Parts) -> Result<Sites<MemSite>, Fault>
         halves,
         ..
     } = line;
-    let (disk, cycle) = disk_and_cycle(alloc, &sizes, disk, &halves)?;
-    match slave_sites(alloc, &sizes, halves) {
+    let (disk, cycle) = disk_and_cycle(alloc, device, &sizes, disk, &halves)?;
+    match slave_sites(alloc, device, &sizes, halves) {
         Ok(slaves) => Ok(Line {
             disk,
             slaves,
@@ -190,7 +207,7 @@ fn reaches(parts: &Parts, capacity: u32) -> bool
 }
 
 /// The sites, where each has what it is served for.
-fn whole_sites(sites: Sites<MemSite>) -> Result<Sites<MemSite>, Fault>
+fn whole_sites<D: Device + Copy>(sites: Sites<ShadowSite<D>>) -> Result<Sites<ShadowSite<D>>, Fault>
     ensures { IfOk result (λ same. (same ≡ sites) × OwnParts (λ (s : SiteValue). s.line) same.disk same.slaves.items same.cycle) }
 {
     if own_parts(&sites) {
@@ -201,23 +218,24 @@ fn whole_sites(sites: Sites<MemSite>) -> Result<Sites<MemSite>, Fault>
     }
 }
 
-/// The sites of a line whose disk reaches to the end of a journal's area of so many bytes. Its process data are switched on.
+/// The sites of a line whose disk reaches to the end of a journal's area of so many bytes, each with a copy of its device. Its process
+/// data are switched on.
 ///
 /// # Errors
 ///
 /// `Memory`; or `Unserved` where the site isn't such a line. It is dropped.
-pub(crate) fn take_apart(
+pub(crate) fn take_apart<D: Device + Copy>(
     alloc: Global,
-    site: MemSite,
+    site: ShadowSite<D>,
     capacity: u32,
-) -> Result<Sites<MemSite>, Fault>
+) -> Result<Sites<ShadowSite<D>>, Fault>
     ensures { IfOk result (λ sites. IsServable capacity site.seen.state sites) }
 {
-    let parts = site.into_parts();
+    let (parts, device) = site.into_parts();
     if !reaches(&parts, capacity) {
         drop(parts);
         return Err(Fault::Unserved);
     }
-    let sites = sites_of(alloc, parts)?;
+    let sites = sites_of(alloc, device, parts)?;
     whole_sites(sites)
 }

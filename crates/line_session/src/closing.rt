@@ -8,7 +8,8 @@ ghost use Rattle.line_session.specs.AtDesk.{Closes, EndsSo, IsStopped};
 use crate::answers::print_totals;
 use crate::asked::Asked;
 use crate::submitter::Submitter;
-use site_mem::MemSite;
+use site_core::Site;
+use site_shadow::{Device, ShadowSite};
 use station_desk::{
     CloseFault, Closed, Desk, Ends, NotClosed, Receipt, Refusals, Served, Share, Tickets, close,
 };
@@ -32,18 +33,18 @@ pub struct Ending {
 
 /// What came of a desk.
 #[derive(Drop)]
-pub(crate) struct AtDesk {
-    pub(crate) ends: Ends<MemSite>,
+pub(crate) struct AtDesk<S: Site> {
+    pub(crate) ends: Ends<S>,
     pub(crate) ending: Ending,
 }
 
 /// Closes the desk with what the submitter and the others hand in. Prints the totals, unless a fault came first.
-pub(crate) fn hand_in<T: Tickets, R: Refusals, C: Asked, O: Write>(
+pub(crate) fn hand_in<T: Tickets, R: Refusals, C: Asked, O: Write, D: Device + Copy>(
     desk: Desk<T, R>,
     submitter: Submitter<'_, '_, T, R, C, O>,
     room: Vec<Share<T, R>>,
-    ends: Ends<MemSite>,
-) -> AtDesk
+    ends: Ends<ShadowSite<D>>,
+) -> AtDesk<ShadowSite<D>>
     requires { (room.items ≡ []) × (1 ≤ vec_capacity room) }
     ensures ends { result.ends ≡ ends }
     ensures ending { EndsSo T.opened C.commands ends result.ending }
@@ -104,21 +105,21 @@ fn told_of(asked: Result<(), Fault>, closed: Result<(), Fault>) -> Result<(), Fa
 
 /// What came of closing a desk: the ends come back, with whether what was handed in is what the desk handed out, and why it isn't closed
 /// or told.
-type Told = (Ends<MemSite>, bool, Result<(), Fault>);
+type Told<D> = (Ends<ShadowSite<D>>, bool, Result<(), Fault>);
 
 /// Closes the desk, and prints the totals where that is asked for.
 ///
 /// # Errors
 ///
 /// Why the desk isn't closed: what has closed the book, or `Unserved`. Or why the totals can't be printed.
-fn close_desk<T: Tickets, R: Refusals, O: Write>(
+fn close_desk<T: Tickets, R: Refusals, O: Write, D: Device + Copy>(
     desk: Desk<T, R>,
     shares: Vec<Share<T, R>>,
     receipts: Vec<Receipt>,
-    ends: Ends<MemSite>,
+    ends: Ends<ShadowSite<D>>,
     has_totals: bool,
     output: &mut O,
-) -> Told
+) -> Told<D>
     ensures ends { result.0 ≡ ends }
     ensures closes { MatchResult result.2 (λ done. Closes T.opened shares.items receipts.items ends) (λ fault. IsStopped T.opened result.1 ends) }
 {
@@ -129,11 +130,11 @@ fn close_desk<T: Tickets, R: Refusals, O: Write>(
 }
 
 /// Prints the totals of a desk that is closed, where that is asked for.
-fn tell_closed<T: Tickets, R: Refusals, O: Write>(
-    closed: Closed<T, R, MemSite>,
+fn tell_closed<T: Tickets, R: Refusals, O: Write, D: Device + Copy>(
+    closed: Closed<T, R, ShadowSite<D>>,
     has_totals: bool,
     output: &mut O,
-) -> Told
+) -> Told<D>
     ensures ends { (result.0 ≡ closed.ends) × (result.1 ≡ true) }
     ensures answered { AreAnswered T.opened closed.book.calls }
 {
@@ -144,11 +145,11 @@ fn tell_closed<T: Tickets, R: Refusals, O: Write>(
 }
 
 /// Tells why a desk isn't closed, and prints the totals where that is asked for.
-fn tell_open<T: Tickets, R: Refusals, O: Write>(
-    left: NotClosed<T, R, MemSite>,
+fn tell_open<T: Tickets, R: Refusals, O: Write, D: Device + Copy>(
+    left: NotClosed<T, R, ShadowSite<D>>,
     has_totals: bool,
     output: &mut O,
-) -> Told
+) -> Told<D>
     ensures ends { result.0 ≡ left.ends }
     ensures unserved { result.1 ≡ true → left.fault ≡ CloseFault.Unserved }
     ensures matched { left.fault ≡ CloseFault.Unserved → result.1 ≡ true }

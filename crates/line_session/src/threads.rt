@@ -1,7 +1,7 @@
 //! A line is served by threads.
 
 ghost use Rattle.std.specs.Prelude.{◌≡◌, ◌+◌, ◌≤◌, [], length, vec_capacity, IfOk};
-ghost use Rattle.site_mem.specs.Site.{SiteValue};
+ghost use Rattle.site_shadow.specs.Site.{SiteValue};
 ghost use Rattle.line_server.specs.Sites.{OwnParts};
 ghost use Rattle.line_session.specs.Asking.{no_counts};
 ghost use Rattle.line_session.specs.AtDesk.{EndsSo, LeavesSo};
@@ -16,7 +16,7 @@ use book_core::Core;
 use esc_model::RomHalf;
 use line_server::{Client, Sites, serve_line};
 use sii_edit::Command;
-use site_mem::MemSite;
+use site_shadow::{Device, ShadowSite};
 use station_alone::Alone;
 use station_desk::{Desk, Ends, Parts, Refusals, Share, Tickets};
 use station_files::{Fault, Status};
@@ -29,9 +29,9 @@ use std::thread::Threads;
 
 /// What is left of a line that was served at a desk.
 #[derive(Drop)]
-pub struct Left {
+pub struct Left<S> {
     /// The line, put together again.
-    pub site: MemSite,
+    pub site: S,
     /// How the work ended.
     pub ending: Ending,
 }
@@ -42,14 +42,14 @@ pub struct Left {
 /// # Errors
 ///
 /// `Memory`; or `Unserved` where the station's site, or what is left of it, isn't a line with its disk. The site is dropped.
-pub fn serve_by_threads<O: Write, W: Wait + Threads + Sync>(
+pub fn serve_by_threads<D: Device + Copy + Send, O: Write, W: Wait + Threads + Sync>(
     rt: &W,
     alloc: Global,
-    alone: Alone<MemSite>,
+    alone: Alone<ShadowSite<D>>,
     slaves: usize,
     commands: &[Command],
     output: &mut O,
-) -> Result<Left, Fault>
+) -> Result<Left<ShadowSite<D>>, Fault>
     requires { alone.book.accepted ≡ [] }
     ensures line { IfOk result (λ left. IsLineOf slaves left.site.line) }
     ensures left { IfOk result (λ left. LeavesSo alone commands.now left.ending left.site) }
@@ -62,7 +62,7 @@ pub fn serve_by_threads<O: Write, W: Wait + Threads + Sync>(
             return Err(fault);
         }
     };
-    let at = serve_at_desk::<Brand, Brand, Brand, O, W>(
+    let at = serve_at_desk::<Brand, Brand, Brand, D, O, W>(
         rt,
         alloc,
         core,
@@ -76,12 +76,12 @@ pub fn serve_by_threads<O: Write, W: Wait + Threads + Sync>(
 }
 
 /// The sites of a line, and room for the halves of so many slaves.
-fn prepare(
+fn prepare<D: Device + Copy>(
     alloc: Global,
-    site: MemSite,
+    site: ShadowSite<D>,
     capacity: u32,
     slaves: usize,
-) -> Result<(Sites<MemSite>, Vec<Option<RomHalf>>), Fault>
+) -> Result<(Sites<ShadowSite<D>>, Vec<Option<RomHalf>>), Fault>
     ensures sites { IfOk result (λ prepared. IsServable capacity site.seen.state prepared.0) }
     ensures room { IfOk result (λ prepared. prepared.1.items ≡ []) }
 {
@@ -96,12 +96,12 @@ fn prepare(
 }
 
 /// Puts together what is left of a line of so many slaves.
-fn put_back(
+fn put_back<D: Device + Copy>(
     alloc: Global,
     room: Vec<Option<RomHalf>>,
     slaves: usize,
-    at: AtDesk,
-) -> Result<Left, Fault>
+    at: AtDesk<ShadowSite<D>>,
+) -> Result<Left<ShadowSite<D>>, Fault>
     requires { room.items ≡ [] }
     ensures line { IfOk result (λ left. IsLineOf slaves left.site.line) }
     ensures left { IfOk result (λ left. IsTogether at.ends left.site × (left.ending ≡ at.ending)) }
@@ -118,6 +118,7 @@ fn serve_at_desk<
     T: Tickets + Send + Sync,
     R: Refusals + Send + Sync,
     C: Asked,
+    D: Device + Copy + Send,
     O: Write,
     W: Wait + Threads + Sync,
 >(
@@ -126,10 +127,10 @@ fn serve_at_desk<
     core: Core,
     tickets: Parts,
     refusals: Parts,
-    sites: Sites<MemSite>,
+    sites: Sites<ShadowSite<D>>,
     commands: &'c [Command],
     output: &'o mut O,
-) -> Result<AtDesk, Fault>
+) -> Result<AtDesk<ShadowSite<D>>, Fault>
     requires core { core ≡ T.opened }
     requires none { core.accepted ≡ [] }
     requires tickets { (tickets.name ≡ T.name) × (tickets.count ≡ T.parts) }
@@ -141,7 +142,7 @@ fn serve_at_desk<
     ensures ending { IfOk result (λ at. EndsSo T.opened C.commands at.ends at.ending) }
 {
     match open_desk::<T, R, W>(rt, alloc, core, tickets, refusals) {
-        Ok(opened) => serve_opened::<T, R, C, O, W>(rt, alloc, opened, sites, commands, output),
+        Ok(opened) => serve_opened::<T, R, C, D, O, W>(rt, alloc, opened, sites, commands, output),
         Err(fault) => {
             drop(sites);
             Err(fault)
@@ -156,16 +157,17 @@ fn serve_opened<
     T: Tickets + Send + Sync,
     R: Refusals + Send + Sync,
     C: Asked,
+    D: Device + Copy + Send,
     O: Write,
     W: Wait + Threads + Sync,
 >(
     rt: &W,
     alloc: Global,
     opened: Opened<T, R>,
-    sites: Sites<MemSite>,
+    sites: Sites<ShadowSite<D>>,
     commands: &'c [Command],
     output: &'o mut O,
-) -> Result<AtDesk, Fault>
+) -> Result<AtDesk<ShadowSite<D>>, Fault>
     requires room { (opened.room.items ≡ []) × (1 ≤ vec_capacity opened.room) }
     requires share { opened.share ≡ no_counts }
     requires commands { commands.now ≡ C.commands }
@@ -192,6 +194,7 @@ fn serve_submitter<
     T: Tickets + Send + Sync,
     R: Refusals + Send + Sync,
     C: Asked,
+    D: Device + Copy + Send,
     O: Write,
     W: Wait + Threads + Sync,
 >(
@@ -200,8 +203,8 @@ fn serve_submitter<
     desk: Desk<T, R>,
     submitter: Submitter<'_, '_, T, R, C, O>,
     room: Vec<Share<T, R>>,
-    sites: Sites<MemSite>,
-) -> Result<AtDesk, Fault>
+    sites: Sites<ShadowSite<D>>,
+) -> Result<AtDesk<ShadowSite<D>>, Fault>
     requires room { (room.items ≡ []) × (1 ≤ vec_capacity room) }
     requires owned { OwnParts (λ (s : SiteValue). s.line) sites.disk sites.slaves.items sites.cycle }
     requires long { desk.limit ≤ length sites.disk.seen.state.disk.bytes }
@@ -270,16 +273,17 @@ fn share_of<T: Tickets, R: Refusals, W: Wait>(
 fn serve_sites<
     T: Tickets + Send + Sync,
     R: Refusals + Send + Sync,
+    D: Device + Copy + Send,
     K: Client<T, R>,
     W: Wait + Threads + Sync,
 >(
     rt: &W,
     alloc: Global,
     desk: &Desk<T, R>,
-    sites: Sites<MemSite>,
+    sites: Sites<ShadowSite<D>>,
     gate: &NoGate,
     client: &mut K,
-) -> Result<Ends<MemSite>, Sites<MemSite>>
+) -> Result<Ends<ShadowSite<D>>, Sites<ShadowSite<D>>>
     requires owned { OwnParts (λ (s : SiteValue). s.line) sites.disk sites.slaves.items sites.cycle }
     requires long { desk.now.limit ≤ length sites.disk.seen.state.disk.bytes }
     ensures { IfOk result (λ ends. AreEndsOf sites ends) }

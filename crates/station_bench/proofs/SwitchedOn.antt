@@ -7,8 +7,8 @@ use Rattle.sii_words.specs.Words.{bytes_of, IsDeviceSize}
 use Rattle.esc_model.specs.SlaveHalf.{SlaveHalf, powered_up}
 use Rattle.site_core.specs.State.{Seen, word_counts}
 use Rattle.site_line.specs.Owned.{OwnsAll}
-use Rattle.site_mem.specs.Line.{half_of, halves_of, owned}
-use Rattle.site_mem.specs.Site.{IsWhole, SiteValue, value_of}
+use Rattle.site_shadow.specs.Line.{half_of, halves_of, owned}
+use Rattle.site_shadow.specs.Site.{IsWhole, SiteValue, value_of}
 use Rattle.disk_mem.specs.Unsynced.{of_bytes}
 use Rattle.station_bench.specs.Site.{powered_up_from, IsSiteOf}
 

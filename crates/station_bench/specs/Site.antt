@@ -3,7 +3,7 @@ use Rattle.std.specs.Prelude.{◌≡◌, ℕ, ◌+◌, List, [], ◌∷◌, leng
 use Rattle.sii_words.specs.Words.{bytes_of}
 use Rattle.esc_model.specs.SlaveHalf.{SlaveHalf, powered_up}
 use Rattle.site_core.specs.State.{State, Seen}
-use Rattle.site_mem.specs.Site.{SiteValue}
+use Rattle.site_shadow.specs.Site.{SiteValue}
 use Rattle.disk_mem.specs.Unsynced.{of_bytes}
 use Rattle.site_line.specs.Owned.{OwnsAll}
 use Rattle.station_text.specs.declared.line_file.LineFile.{LineFile}

@@ -9,6 +9,7 @@ use crate::faults::of_device;
 use crate::site::{save_site, site_of};
 use sii_words::Words;
 use site_journal::format;
+use site_mem::FaultPlan;
 use station_files::{Fault, Store, load_line, load_slaves};
 use station_text::LineFile;
 use std::alloc::Global;
@@ -78,7 +79,7 @@ fn format_line<S: Store>(
     ensures others { ChangesAmong (S.files store.old) (S.files store.new) (files_of line.now) }
     ensures failed { IfErr result IsOfFormatting }
 {
-    let mut site = site_of(alloc, slaves, Vec::new(alloc))?;
+    let mut site = site_of(alloc, slaves, Vec::new(alloc), FaultPlan::none())?;
     let formatted = format(&mut site, line.area);
     let saved = save_site(alloc, line, site, store);
     match formatted {

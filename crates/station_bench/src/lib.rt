@@ -1,10 +1,12 @@
-//! A line in memory, on which the program works: made of files, and saved to them.
+//! A line on which the program works: made of files, and saved to them.
 #![tactic(auto)]
 
 mod faults;
 mod init;
+mod opening;
 mod site;
 
 pub use faults::of_device;
 pub use init::init_line;
+pub use opening::open_files;
 pub use site::{save_site, site_of};

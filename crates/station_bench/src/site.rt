@@ -1,8 +1,8 @@
-//! The line in memory: made of the words and the bytes that its files hold, and saved to them.
+//! A line made of the words and the bytes that its files hold, and saved to them.
 ghost use Rattle.std.specs.Prelude.{◌≡◌, ◌∷◌, ◌≤◌, length, map, string_bytes, IfErr, IfOk, IsTrue, OnOk};
 ghost use Rattle.std.specs.List.{AllByRecursion};
 ghost use Rattle.sii_words.specs.Words.{bytes_of, IsDeviceSize};
-ghost use Rattle.site_mem.specs.Line.{half_of, halves_of};
+ghost use Rattle.site_shadow.specs.Line.{half_of, halves_of};
 ghost use Rattle.station_files.specs.Faults.{IsOfStream};
 ghost use Rattle.station_files.specs.Files.{ChangesAmong, HoldsAll};
 ghost use Rattle.station_bench.specs.Site.{IsSiteOf, powered_up_from, files_of, HoldsSite};
@@ -10,7 +10,7 @@ ghost use Rattle.station_bench.specs.Site.{IsSiteOf, powered_up_from, files_of, 
 use esc_model::RomHalf;
 use sii_words::Words;
 use site_core::Site;
-use site_mem::{MemSite, Parts};
+use site_shadow::{Device, Parts, ShadowSite};
 use station_files::{Fault, Store, write_files};
 use station_text::LineFile;
 use std::alloc::{AllocError, Global};
@@ -22,8 +22,13 @@ const FIRST_STATION: u16 = 0x1001;
 /// For how many datagrams a slave stays busy with a command.
 const DELAY: u32 = 1;
 
-/// A line in memory, just switched on, whose slaves have these words and whose disk has these bytes.
-pub fn site_of(alloc: Global, slaves: &[Words], disk: Vec<u8>) -> Result<MemSite, AllocError>
+/// A line, just switched on, whose slaves have these words and whose disk has these bytes, with this device behind it.
+pub fn site_of<D: Device + Drop>(
+    alloc: Global,
+    slaves: &[Words],
+    disk: Vec<u8>,
+    device: D,
+) -> Result<ShadowSite<D>, AllocError>
     requires some { 1 ≤ length slaves.now }
     requires most { length slaves.now ≤ 64 }
     ensures { IfOk result (λ site. IsSiteOf slaves.now disk.items site) }
@@ -36,7 +41,7 @@ pub fn site_of(alloc: Global, slaves: &[Words], disk: Vec<u8>) -> Result<MemSite
         halves,
         process: None,
     };
-    Ok(MemSite::of_parts(alloc, parts))
+    Ok(ShadowSite::of_parts(alloc, parts, device))
 }
 
 /// How many words each slave has.
@@ -66,10 +71,10 @@ fn power_up(alloc: Global, slaves: &[Words]) -> Result<Vec<Option<RomHalf>>, All
 
 /// Writes the journal, and each slave's words, to their files. A word in flight is saved as it was before. All memory is taken
 /// before the first file is written.
-pub fn save_site<S: Store>(
+pub fn save_site<S: Store, D: Device + Drop>(
     alloc: Global,
     line: &LineFile,
-    site: MemSite,
+    site: ShadowSite<D>,
     store: &mut S,
 ) -> Result<(), Fault>
     requires disk { IsTrue site.line.has_disk }
@@ -79,12 +84,13 @@ pub fn save_site<S: Store>(
     ensures failed { IfErr result IsOfStream }
 {
     let _count = site.slaves();
+    let (parts, _device) = site.into_parts();
     let Parts {
         sizes: _,
         disk,
         halves,
         process: _,
-    } = site.into_parts();
+    } = parts;
     let journal = disk.unwrap();
     save_parts(alloc, line, &journal, &halves, store)
 }

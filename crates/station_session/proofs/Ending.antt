@@ -6,7 +6,7 @@ use Rattle.sii_edit.specs.declared.command.Command.{Command}
 use Rattle.site_core.specs.Line.{Line}
 use Rattle.site_core.specs.State.{State, Seen}
 use Rattle.site_line.specs.Owned.{OwnsAll}
-use Rattle.site_mem.specs.Site.{SiteValue}
+use Rattle.site_shadow.specs.Site.{SiteValue}
 use Rattle.book_model.specs.Book.{Book}
 use Rattle.station_alone.specs.Station.{Station}
 use Rattle.station_recovery.specs.Recovery.{IsRecovered, BeginsRecovered}
@@ -20,7 +20,7 @@ use Rattle.station_files.specs.declared.faults.Status.{Status}
 use Rattle.station_files.specs.declared.faults.Status.TheVariants.{Done}
 use Rattle.station_bench.specs.Site.{IsSiteOf, files_of, HoldsSite}
 use Rattle.station_rounds.specs.Rounds.{ServesSo}
-use Rattle.station_session.specs.Session.{is_old, EndsRecovery, EndsRun, EndsStation, IsOpened, Loads, Recovers, Runs, SavesServed, StartsFrom}
+use Rattle.station_session.specs.Session.{is_old, EndsRecovery, EndsRun, EndsStation, IsOpened, Loads, Recovers, Runs, SavesRecovered, SavesRun, SavesServed, StartsFrom}
 
 -- ---- what was read
 
@@ -84,16 +84,23 @@ ends-station old new line commands opened left served saved state status one oth
       saves-by new line commands opened left served saved state status one other final so is held no_fault no_other both.0 both.1 (λ done. (done_too done).0);
 }
 
+-- it was served, and no fault was told
+pub ends-alone : (old new : Known) (line : LineFile) (commands : List Command) (opened left : Station) (served saved : Result (Unit {0}) Fault) (state : State) (status other final : Status) → served ≡ Ok tt → ServesSo commands served Done status opened left
+    → state ≡ left.seen.state → OnOk saved (HoldsSite new line state) → ChangesAmong old new (files_of line) → OnErr saved (¬ IsFaultless other) → (final ≡ Done → (status ≡ Done) × (other ≡ Done)) → (IsFaultless final → IsFaultless status × IsFaultless other)
+    → EndsStation true old new line opened commands final
+ends-alone old new line commands opened left served saved state status other final told so is held others no_other done_too faultless_too = record {
+  others = others;
+  saved = λ good.
+      let served_so = subst (λ (r : Result (Unit {0}) Fault). ServesSo commands r Done status opened left) told so in
+      saves-by new line commands opened left (Ok tt) saved state status Done other final served_so is held tt no_other tt (faultless_too good).1 (λ done. (done_too done).0);
+}
+
 pub ends-opened : (is_cut : Bool) (old new : Known) (line : LineFile) (site : SiteValue) (was_old : Bool) (opened : Station) (commands : List Command) (status : Status) → was_old ≡ is_old site.seen.state.disk.bytes → StartsFrom was_old site opened
     → EndsStation is_cut old new line opened commands status → EndsRun is_cut old new line site commands status
 ends-opened is_cut old new line site was_old opened commands status by_version starts ends = record {
   others = ends.others;
   saved = λ good. record { opened = opened; starts = subst (λ (b : Bool). StartsFrom b site opened) by_version starts; serves = ends.saved good };
 }
-
--- the other way of serving isn't taken
-pub ends-cut : (is_cut way : Bool) (old new : Known) (line : LineFile) (opened : Station) (commands : List Command) (status : Status) → is_cut ≡ way → EndsStation way old new line opened commands status → EndsStation is_cut old new line opened commands status
-ends-cut is_cut way old new line opened commands status is ends = subst (λ (b : Bool). EndsStation b old new line opened commands status) (sym is) ends
 
 -- it was opened on what a recovery left
 pub starts-behind : (was_old : Bool) (site : SiteValue) (its : Line) (left : Seen) (r s : Station) → was_old ≡ true → IsRecovered r → BeginsRecovered site.seen r → its ≡ r.line → left ≡ r.seen → IsOpened its left s → StartsFrom was_old site s
@@ -107,6 +114,30 @@ starts-behind was_old site its left r s old is_recovered begins same is opens = 
 -- of which version the journal is
 pub old-by : (slaves : List (List ℕ)) (bytes : List ℕ) (site : SiteValue) (was_old : Bool) → IsSiteOf slaves bytes site → was_old ≡ is_old bytes → was_old ≡ is_old site.seen.state.disk.bytes
 old-by slaves bytes site was_old made is = is ∙ ap (λ (seen : Seen). is_old seen.state.disk.bytes) (sym made.seen)
+
+-- ---- on files that were opened
+
+-- the same after the line's files were opened, and the device behind the site was another
+pub ends-run-opened : (old mid new : Known) (line : LineFile) (site on_files : SiteValue) (commands : List Command) (status : Status) → ChangesAmong old mid (files_of line) → on_files ≡ site
+    → EndsRun false mid new line on_files commands status → EndsRun false old new line site commands status
+ends-run-opened old mid new line site on_files commands status opened same ends = record {
+  others = λ other out. ends.others other out ∙ opened other out;
+  saved = λ good. subst (λ (s : SiteValue). SavesRun false new line s commands status) same (ends.saved good);
+}
+
+pub ends-recovery-opened : (old mid new : Known) (line : LineFile) (site on_files : SiteValue) (status : Status) → ChangesAmong old mid (files_of line) → on_files ≡ site → EndsRecovery mid new line on_files.seen status → EndsRecovery old new line site.seen status
+ends-recovery-opened old mid new line site on_files status opened same ends = record {
+  others = λ other out. ends.others other out ∙ opened other out;
+  saved = λ done. subst (λ (s : SiteValue). SavesRecovered new line s.seen) same (ends.saved done);
+}
+
+-- what holds of a site holds of it with another device
+pub of-site : (P : SiteValue → Type 0) (site on_files : SiteValue) → on_files ≡ site → P site → P on_files
+of-site P site on_files same holds = subst P (sym same) holds
+
+-- the other way of running isn't taken
+pub run-cut : (is_cut way : Bool) (old new : Known) (line : LineFile) (site : SiteValue) (commands : List Command) (status : Status) → is_cut ≡ way → EndsRun way old new line site commands status → EndsRun is_cut old new line site commands status
+run-cut is_cut way old new line site commands status is ends = subst (λ (b : Bool). EndsRun b old new line site commands status) (sym is) ends
 
 -- ---- one that was given up
 

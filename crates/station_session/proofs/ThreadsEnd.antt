@@ -4,7 +4,7 @@ use Rattle.std.specs.Prelude.{MatchResult, OnErr, OnOk}
 use Rattle.sii_edit.specs.declared.command.Command.{Command}
 use Rattle.site_core.specs.Line.{Line}
 use Rattle.site_core.specs.State.{State, Seen}
-use Rattle.site_mem.specs.Site.{SiteValue}
+use Rattle.site_shadow.specs.Site.{SiteValue}
 use Rattle.station_alone.specs.Station.{Station}
 use Rattle.station_recovery.specs.Recovery.{IsRecovered, BeginsRecovered}
 use Rattle.station_text.specs.declared.line_file.LineFile.{LineFile}
@@ -23,16 +23,16 @@ use Rattle.station_session.proofs.Ending.{saved-still}
 pub line-of : (line : Line) (slaves count : ℕ) → slaves ≡ count → IsLineOf slaves line → IsLineOf count line
 line-of line slaves count same is = subst (λ (n : ℕ). IsLineOf n line) same is
 
--- nothing was served, and nothing is written
-pub ends-unserved : (files : Known) (line : LineFile) (opened : Station) (commands : List Command) (status : Status) → ¬ IsFaultless status → EndsStation false files files line opened commands status
-ends-unserved files line opened commands status bad = record { others = λ other out. refl; saved = λ good. absurd (bad good) }
+-- nothing was served, and nothing is saved
+pub ends-unserved : (is_cut : Bool) (files : Known) (line : LineFile) (opened : Station) (commands : List Command) (status : Status) → ¬ IsFaultless status → EndsStation is_cut files files line opened commands status
+ends-unserved is_cut files line opened commands status bad = record { others = λ other out. refl; saved = λ good. absurd (bad good) }
 
 served-of : (opened : Station) (commands : List Command) (is_driven is_matched : Bool) (status : Status) (site : SiteValue) (ended : Result (Unit {0}) Fault) → ended ≡ Ok tt
     → MatchResult ended (λ done. IsServedAtDesk opened commands is_driven status site) (λ fault. IsStoppedAtDesk opened is_matched site) → IsServedAtDesk opened commands is_driven status site
 served-of opened commands is_driven is_matched status site (Ok done) is served = served
 served-of opened commands is_driven is_matched status site (Err fault) is served = absurd cc
 
-pub ends-left : (old new : Known) (line : LineFile) (opened : Station) (commands : List Command) (left : Left) (status : Status) → LeavesSo opened commands left.ending left.site → ChangesAmong old new (files_of line)
+pub ends-left : (old new : Known) (line : LineFile) (opened : Station) (commands : List Command) (left : Left SiteValue) (status : Status) → LeavesSo opened commands left.ending left.site → ChangesAmong old new (files_of line)
     → (IsFaultless status → SavesLeft new line left commands status) → EndsStation false old new line opened commands status
 ends-left old new line opened commands left status served others saved = record {
   others = others;
@@ -56,7 +56,7 @@ holds-worse true files line r commands one final done_too holds = holds
 holds-worse false files line r commands one final done_too holds = serves-worse files line r commands one final done_too holds
 
 -- the answers were no worse than the whole
-pub saves-left : (files : Known) (line : LineFile) (left : Left) (commands : List Command) (saved final : Status) → left.ending.ended ≡ Ok tt → (final ≡ Done → (left.ending.status ≡ Done) × (saved ≡ Done)) → SavesBehind files line left.site.seen left.ending.is_driven commands saved
+pub saves-left : (files : Known) (line : LineFile) (left : Left SiteValue) (commands : List Command) (saved final : Status) → left.ending.ended ≡ Ok tt → (final ≡ Done → (left.ending.status ≡ Done) × (saved ≡ Done)) → SavesBehind files line left.site.seen left.ending.is_driven commands saved
     → SavesLeft files line left commands final
 saves-left files line left commands saved final ended done_too behind = record {
   worst = λ done. (done_too done).0;

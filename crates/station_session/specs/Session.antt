@@ -3,7 +3,7 @@ use Rattle.std.specs.Prelude.{◌≡◌, ◌⊎◌, Ok, ◌==◌, ◌&&◌, Bool
 use Rattle.sii_edit.specs.declared.command.Command.{Command}
 use Rattle.site_core.specs.Line.{Line}
 use Rattle.site_core.specs.State.{Seen}
-use Rattle.site_mem.specs.Site.{SiteValue}
+use Rattle.site_shadow.specs.Site.{SiteValue}
 use Rattle.site_journal.specs.declared.fault.ReadFault.TheVariants as read
 use Rattle.station_alone.specs.declared.fault.OpenFault.{OpenFault}
 use Rattle.station_alone.specs.declared.fault.OpenFault.TheVariants as why
@@ -117,7 +117,7 @@ pub record SavesBehind (files : Known) (line : LineFile) (before : Seen) (is_dri
   pub holds : HoldsBehind is_driven files line r commands status
 
 -- No fault ended the work at the desk, and the files hold what is left behind it.
-pub record SavesLeft (files : Known) (line : LineFile) (left : Left) (commands : List Command) (status : Status) : Type 0 where
+pub record SavesLeft (files : Known) (line : LineFile) (left : Left SiteValue) (commands : List Command) (status : Status) : Type 0 where
   pub worst : status ≡ Done → left.ending.status ≡ Done
   pub ended : left.ending.ended ≡ Ok tt
   pub behind : SavesBehind files line left.site.seen left.ending.is_driven commands status

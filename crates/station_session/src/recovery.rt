@@ -8,17 +8,19 @@ ghost use Rattle.station_recovery.specs.Recovery.{BeginsRecovered, IsRecovered};
 ghost use Rattle.station_bench.specs.Site.{files_of, HoldsSite};
 ghost use Rattle.station_session.specs.Session.{Recovers, EndsRecovery};
 
-use crate::session::{Session, give_up, load_session};
-use site_mem::MemSite;
-use station_bench::save_site;
+use crate::faults::of_open;
+use crate::session::{Session, load_session};
+use site_file::FileDevice;
+use site_shadow::{Device, ShadowSite};
+use station_bench::{open_files, save_site};
 use station_files::{Fault, Status, Store, report_fault, status_of, worse};
 use station_recovery::{Recovered, recover};
 use station_text::LineFile;
 use std::alloc::Global;
 use std::io::Write;
 
-/// Reads a line with its slaves and its journal, recovers it, and saves what it holds. Nothing is written where something couldn't
-/// be read, or the journal is refused.
+/// Reads a line with its slaves and its journal, and recovers it on its files. Nothing is written where something couldn't be read, or
+/// the journal is refused. After a fault the files have what was done on them, and a further recovery completes it.
 pub fn recover_line<S: Store, W: Write, E: Write>(
     alloc: Global,
     name: &str,
@@ -29,23 +31,47 @@ pub fn recover_line<S: Store, W: Write, E: Write>(
     ensures { Recovers (S.files store.old) (S.files store.new) name.now result }
 {
     match load_session(alloc, name, store) {
-        Ok(session) => {
-            let Session {
-                line,
-                site,
-                is_old: _,
-            } = session;
-            recover_site(alloc, &line, site, store, output, faults)
-        }
+        Ok(session) => recover_session(alloc, session, store, output, faults),
         Err(fault) => report_fault(fault, faults),
     }
 }
 
-/// Recovers a line in memory, and saves what it holds.
-fn recover_site<S: Store, W: Write, E: Write>(
+/// Opens the files of a line that was read, and recovers it on them.
+fn recover_session<S: Store, W: Write, E: Write>(
+    alloc: Global,
+    session: Session<S::Lock>,
+    store: &mut S,
+    output: &mut W,
+    faults: &mut E,
+) -> Status
+    requires disk { IsTrue session.site.line.has_disk }
+    requires owned { OwnsAll session.site.line }
+    requires slaves { length session.site.line.sizes ≡ length session.line.images.items }
+    ensures { EndsRecovery (S.files store.old) (S.files store.new) session.line session.site.seen result }
+{
+    let Session {
+        line,
+        site,
+        is_old: _,
+        lock: _lock,
+    } = session;
+    match open_files(alloc, &line, store) {
+        Ok(files) => {
+            let site = site.with_device(FileDevice::new(&files));
+            recover_site(alloc, &line, site, store, output, faults)
+        }
+        Err(fault) => {
+            drop(site);
+            report_fault(fault, faults)
+        }
+    }
+}
+
+/// Recovers a line on its files, and sees to it that they hold what it leaves.
+fn recover_site<D: Device + Drop, S: Store, W: Write, E: Write>(
     alloc: Global,
     line: &LineFile,
-    site: MemSite,
+    site: ShadowSite<D>,
     store: &mut S,
     output: &mut W,
     faults: &mut E,
@@ -62,7 +88,10 @@ fn recover_site<S: Store, W: Write, E: Write>(
             let saved = status_of(save_site(alloc, line, left, store), faults);
             worse(saved, print_recovered(recovered, output, faults))
         }
-        Err((left, fault)) => give_up(alloc, line, left, fault, store, faults),
+        Err((left, fault)) => {
+            drop(left);
+            report_fault(of_open(fault), faults)
+        }
     }
 }
 

@@ -1,15 +1,18 @@
 //! The subcommand `run`.
-ghost use Rattle.std.specs.Prelude.{◌≡◌, length, is_some, true, IfOk, IsTrue, MatchResult};
+ghost use Rattle.std.specs.Prelude.{◌≡◌, length, is_some, false, true, IfOk, IsTrue, MatchResult};
 ghost use Rattle.site_line.specs.Owned.{OwnsAll};
 ghost use Rattle.station_files.specs.ScriptFiles.{SpellsCommands};
 ghost use Rattle.station_session.specs.Session.{is_old, EndsRun, EndsStation, IsOpened, Loads, Runs, StartsFrom};
 
+use crate::faults::of_open;
 use crate::session::{Session, give_up, load_session};
 use crate::threads::run_threads;
 use sii_edit::Command;
-use site_mem::{MemSite, Pattern};
+use site_file::FileDevice;
+use site_mem::{FaultPlan, Pattern};
+use site_shadow::{Device, ShadowSite};
 use station_alone::{Alone, OpenFault};
-use station_bench::save_site;
+use station_bench::{open_files, save_site};
 use station_files::{Fault, Status, Store, load_script, report_fault, status_of, worse};
 use station_recovery::recover;
 use station_rounds::serve_commands;
@@ -30,13 +33,16 @@ pub struct Fuse {
 
 /// What a run begins with.
 #[derive(Drop)]
-struct Given {
-    session: Session,
+struct Given<L> {
+    session: Session<L>,
     commands: Vec<Command>,
 }
 
-/// Reads a line with its slaves, its journal and a script, submits the script's commands in order, serves them, and saves what the
-/// line holds. Nothing is written where something couldn't be read, or the journal is refused.
+/// Reads a line with its slaves, its journal and a script, submits the script's commands in order, and serves them by threads on the
+/// line's files. Nothing is written where something couldn't be read, or the journal is refused. After a fault the files have what was
+/// done on them, and a recovery completes it.
+///
+/// Where a stop is to come, the commands are served on one thread on the line in memory, and what it leaves is saved.
 pub fn run_script<S: Store, W: Write, E: Write, R: Wait + Threads + Sync>(
     rt: &R,
     alloc: Global,
@@ -55,11 +61,11 @@ pub fn run_script<S: Store, W: Write, E: Write, R: Wait + Threads + Sync>(
     }
 }
 
-/// Opens the station, serves the commands, by threads unless a stop is to come, and saves what the line holds.
+/// Serves the commands on the line's files, or in memory where a stop is to come.
 fn run_given<S: Store, W: Write, E: Write, R: Wait + Threads + Sync>(
     rt: &R,
     alloc: Global,
-    given: Given,
+    given: Given<S::Lock>,
     fuse: Option<Fuse>,
     store: &mut S,
     output: &mut W,
@@ -72,18 +78,111 @@ fn run_given<S: Store, W: Write, E: Write, R: Wait + Threads + Sync>(
     ensures { EndsRun (is_some fuse) (S.files store.old) (S.files store.new) given.session.line given.session.site given.commands.items result }
 {
     let Given { session, commands } = given;
-    let Session { line, site, is_old } = session;
-    match open_station(alloc, site, is_old, fuse) {
-        Ok(alone) => match fuse {
-            Some(_) => run_station(alloc, &line, alone, &commands, store, output, faults),
-            None => run_threads(rt, alloc, &line, alone, &commands, store, output, faults),
-        },
+    match fuse {
+        Some(fuse) => run_fused(alloc, session, fuse, &commands, store, output, faults),
+        None => run_on_files(rt, alloc, session, &commands, store, output, faults),
+    }
+}
+
+/// Opens the station on the line in memory, serves the commands up to the stop, and saves what the line holds.
+fn run_fused<S: Store, W: Write, E: Write>(
+    alloc: Global,
+    session: Session<S::Lock>,
+    fuse: Fuse,
+    commands: &[Command],
+    store: &mut S,
+    output: &mut W,
+    faults: &mut E,
+) -> Status
+    requires disk { IsTrue session.site.line.has_disk }
+    requires owned { OwnsAll session.site.line }
+    requires slaves { length session.site.line.sizes ≡ length session.line.images.items }
+    requires old { session.is_old ≡ is_old session.site.seen.state.disk.bytes }
+    ensures { EndsRun true (S.files store.old) (S.files store.new) session.line session.site commands.now result }
+{
+    let Session {
+        line,
+        site,
+        is_old,
+        lock: _lock,
+    } = session;
+    // The sync with which the station opens is a device write too.
+    let plan = FaultPlan::fused(u64::from(fuse.writes) + 1, Pattern::Fill(fuse.left));
+    match open_station(alloc, site, is_old, Some(plan)) {
+        Ok(alone) => run_station(alloc, &line, alone, commands, store, output, faults),
         Err((left, fault)) => give_up(alloc, &line, left, fault, store, faults),
     }
 }
 
+/// Opens the files of a line that was read, and serves the commands on them.
+fn run_on_files<S: Store, W: Write, E: Write, R: Wait + Threads + Sync>(
+    rt: &R,
+    alloc: Global,
+    session: Session<S::Lock>,
+    commands: &[Command],
+    store: &mut S,
+    output: &mut W,
+    faults: &mut E,
+) -> Status
+    requires disk { IsTrue session.site.line.has_disk }
+    requires owned { OwnsAll session.site.line }
+    requires slaves { length session.site.line.sizes ≡ length session.line.images.items }
+    requires old { session.is_old ≡ is_old session.site.seen.state.disk.bytes }
+    ensures { EndsRun false (S.files store.old) (S.files store.new) session.line session.site commands.now result }
+{
+    let Session {
+        line,
+        site,
+        is_old,
+        lock: _lock,
+    } = session;
+    match open_files(alloc, &line, store) {
+        Ok(files) => {
+            let site = site.with_device(FileDevice::new(&files));
+            run_site(
+                rt, alloc, &line, site, is_old, commands, store, output, faults,
+            )
+        }
+        Err(fault) => {
+            drop(site);
+            report_fault(fault, faults)
+        }
+    }
+}
+
+/// Opens the station on this line, and serves the commands by threads.
+fn run_site<D: Device + Copy + Send, S: Store, W: Write, E: Write, R: Wait + Threads + Sync>(
+    rt: &R,
+    alloc: Global,
+    line: &LineFile,
+    site: ShadowSite<D>,
+    was_old: bool,
+    commands: &[Command],
+    store: &mut S,
+    output: &mut W,
+    faults: &mut E,
+) -> Status
+    requires disk { IsTrue site.line.has_disk }
+    requires owned { OwnsAll site.line }
+    requires old { was_old ≡ is_old site.seen.state.disk.bytes }
+    ensures { EndsRun false (S.files store.old) (S.files store.new) line.now site commands.now result }
+{
+    match open_station(alloc, site, was_old, None) {
+        Ok(alone) => run_threads(rt, alloc, line, alone, commands, store, output, faults),
+        Err((left, fault)) => {
+            drop(left);
+            report_fault(of_open(fault), faults)
+        }
+    }
+}
+
 /// Reads the files in order: line, slaves, journal, script, its images.
-fn load<S: Store>(alloc: Global, name: &str, script: &str, store: &mut S) -> Result<Given, Fault>
+fn load<S: Store>(
+    alloc: Global,
+    name: &str,
+    script: &str,
+    store: &mut S,
+) -> Result<Given<S::Lock>, Fault>
     ensures loaded { IfOk result (λ given. Loads (S.files store.old) name.now given.session.line given.session.site) }
     ensures old { IfOk result (λ given. given.session.is_old ≡ is_old given.session.site.seen.state.disk.bytes) }
     ensures spelt { IfOk result (λ given. SpellsCommands (S.files store.old) script.now given.commands.items) }
@@ -99,13 +198,13 @@ fn load<S: Store>(alloc: Global, name: &str, script: &str, store: &mut S) -> Res
     }
 }
 
-/// Opens the station. An old journal is recovered first, and then the fuse is set.
-fn open_station(
+/// Opens the station. An old journal is recovered first, and then the device is replaced where there is another.
+fn open_station<D: Device + Drop>(
     alloc: Global,
-    site: MemSite,
+    site: ShadowSite<D>,
     is_old: bool,
-    fuse: Option<Fuse>,
-) -> Result<Alone<MemSite>, (MemSite, OpenFault)>
+    device: Option<D>,
+) -> Result<Alone<ShadowSite<D>>, (ShadowSite<D>, OpenFault)>
     requires disk { IsTrue site.line.has_disk }
     requires owned { OwnsAll site.line }
     ensures line { MatchResult result (λ alone. alone.line ≡ site.line) (λ back. back.0.line ≡ site.line) }
@@ -115,34 +214,33 @@ fn open_station(
         let (alone, _recovered) = recover(alloc, site)?;
         let (core, left) = alone.into_parts();
         drop(core);
-        return open_fused(alloc, left, fuse);
+        return open_upon(alloc, left, device);
     }
-    open_fused(alloc, site, fuse)
+    open_upon(alloc, site, device)
 }
 
-/// Opens the station on a journal of version 2, with the fuse set.
-fn open_fused(
+/// Opens the station on a journal of version 2, upon this device where there is one.
+fn open_upon<D: Device + Drop>(
     alloc: Global,
-    mut site: MemSite,
-    fuse: Option<Fuse>,
-) -> Result<Alone<MemSite>, (MemSite, OpenFault)>
+    mut site: ShadowSite<D>,
+    device: Option<D>,
+) -> Result<Alone<ShadowSite<D>>, (ShadowSite<D>, OpenFault)>
     requires disk { IsTrue site.line.has_disk }
     requires owned { OwnsAll site.line }
     ensures line { MatchResult result (λ alone. alone.line ≡ site.line) (λ back. back.0.line ≡ site.line) }
     ensures opened { IfOk result (λ alone. IsOpened site.line site.seen alone) }
 {
-    if let Some(fuse) = fuse {
-        // The sync with which the station opens is a device write too.
-        site.fuse(u64::from(fuse.writes) + 1, Pattern::Fill(fuse.left));
+    if let Some(device) = device {
+        let _before = site.replace_device(device);
     }
     Alone::open(alloc, site)
 }
 
-/// Serves the commands on an open station, and saves what its line holds.
-pub(crate) fn run_station<S: Store, W: Write, E: Write>(
+/// Serves the commands on an open station in memory, and saves what its line holds, also after a fault.
+fn run_station<S: Store, W: Write, E: Write>(
     alloc: Global,
     line: &LineFile,
-    mut alone: Alone<MemSite>,
+    mut alone: Alone<ShadowSite<FaultPlan>>,
     commands: &[Command],
     store: &mut S,
     output: &mut W,

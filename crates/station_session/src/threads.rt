@@ -1,20 +1,20 @@
-//! A run by threads.
-ghost use Rattle.std.specs.Prelude.{◌≡◌, [], false, length, IsTrue, Ok};
+//! A run by threads, on the files of a line.
+ghost use Rattle.std.specs.Prelude.{◌≡◌, [], false, true, length, IsTrue, Ok};
 ghost use Rattle.station_files.specs.Faults.{IsFaultless};
 ghost use Rattle.station_files.specs.Files.{ChangesAmong};
 ghost use Rattle.station_bench.specs.Site.{files_of};
 ghost use Rattle.line_session.specs.Parts.{IsLineOf};
 ghost use Rattle.station_session.specs.Session.{EndsStation, HoldsBehind, SavesBehind, SavesLeft};
 
-use crate::run::run_station;
-use crate::session::give_up;
+use crate::faults::of_open;
 use line_session::{Ending, Left, serve_by_threads};
 use sii_edit::Command;
-use site_mem::MemSite;
+use site_shadow::{Device, ShadowSite};
 use station_alone::Alone;
 use station_bench::save_site;
 use station_files::{Status, Store, report_fault, status_of, worse};
 use station_recovery::recover;
+use station_rounds::serve_commands;
 use station_text::LineFile;
 use std::alloc::Global;
 use std::io::Write;
@@ -22,11 +22,17 @@ use std::sync::Wait;
 use std::thread::Threads;
 
 /// Serves the commands by threads, recovers the line so that nothing is live, and saves what it holds.
-pub(crate) fn run_threads<S: Store, W: Write, E: Write, R: Wait + Threads + Sync>(
+pub(crate) fn run_threads<
+    D: Device + Copy + Send,
+    S: Store,
+    W: Write,
+    E: Write,
+    R: Wait + Threads + Sync,
+>(
     rt: &R,
     alloc: Global,
     line: &LineFile,
-    alone: Alone<MemSite>,
+    alone: Alone<ShadowSite<D>>,
     commands: &[Command],
     store: &mut S,
     output: &mut W,
@@ -41,17 +47,17 @@ pub(crate) fn run_threads<S: Store, W: Write, E: Write, R: Wait + Threads + Sync
     }
 }
 
-/// Recovers and saves what is left of the line. After a fault it is saved as it is.
-fn end_threads<S: Store, W: Write, E: Write>(
+/// Recovers and saves what is left of the line. After a fault its files are left as they are.
+fn end_threads<D: Device + Copy, S: Store, W: Write, E: Write>(
     alloc: Global,
     line: &LineFile,
-    left: Left,
+    left: Left<ShadowSite<D>>,
     commands: &[Command],
     store: &mut S,
     output: &mut W,
     faults: &mut E,
 ) -> Status
-    requires { IsLineOf (length line.now.images.items) left.site.line }
+    requires line { IsLineOf (length line.now.images.items) left.site.line }
     ensures others { ChangesAmong (S.files store.old) (S.files store.new) (files_of line.now) }
     ensures saved { IsFaultless result → SavesLeft (S.files store.new) line.now left commands.now result }
 {
@@ -70,25 +76,25 @@ fn end_threads<S: Store, W: Write, E: Write>(
             worse(status, saved)
         }
         Err(fault) => {
+            drop(site);
             let told = report_fault(fault, faults);
-            let saved = status_of(save_site(alloc, line, site, store), faults);
-            worse(status, worse(told, saved))
+            worse(status, told)
         }
     }
 }
 
 /// Recovers the line, and saves what it holds. Where the commands weren't submitted yet, they are served before.
-fn save_behind<S: Store, W: Write, E: Write>(
+fn save_behind<D: Device + Copy, S: Store, W: Write, E: Write>(
     alloc: Global,
     line: &LineFile,
-    site: MemSite,
+    site: ShadowSite<D>,
     is_driven: bool,
     commands: &[Command],
     store: &mut S,
     output: &mut W,
     faults: &mut E,
 ) -> Status
-    requires { IsLineOf (length line.now.images.items) site.line }
+    requires line { IsLineOf (length line.now.images.items) site.line }
     ensures others { ChangesAmong (S.files store.old) (S.files store.new) (files_of line.now) }
     ensures saved { IsFaultless result → SavesBehind (S.files store.new) line.now site.seen is_driven commands.now result }
 {
@@ -98,15 +104,18 @@ fn save_behind<S: Store, W: Write, E: Write>(
                 alloc, line, alone, is_driven, commands, store, output, faults,
             )
         }
-        Err((left, fault)) => give_up(alloc, line, left, fault, store, faults),
+        Err((left, fault)) => {
+            drop(left);
+            report_fault(of_open(fault), faults)
+        }
     }
 }
 
 /// Saves what a recovery left. Where the commands weren't submitted yet, they are served before.
-fn save_recovered<S: Store, W: Write, E: Write>(
+fn save_recovered<D: Device + Copy, S: Store, W: Write, E: Write>(
     alloc: Global,
     line: &LineFile,
-    alone: Alone<MemSite>,
+    alone: Alone<ShadowSite<D>>,
     is_driven: bool,
     commands: &[Command],
     store: &mut S,
@@ -119,10 +128,40 @@ fn save_recovered<S: Store, W: Write, E: Write>(
     ensures saved { IsFaultless result → HoldsBehind is_driven (S.files store.new) line.now alone commands.now result }
 {
     if !is_driven {
-        return run_station(alloc, line, alone, commands, store, output, faults);
+        return run_alone(alloc, line, alone, commands, store, output, faults);
     }
     let (core, site) = alone.into_parts();
     drop(core);
     let saved = save_site(alloc, line, site, store);
     status_of(saved, faults)
+}
+
+/// Serves the commands on an open station on this thread, and saves what its line holds. After a fault its files are left as they are.
+fn run_alone<D: Device + Copy, S: Store, W: Write, E: Write>(
+    alloc: Global,
+    line: &LineFile,
+    mut alone: Alone<ShadowSite<D>>,
+    commands: &[Command],
+    store: &mut S,
+    output: &mut W,
+    faults: &mut E,
+) -> Status
+    requires disk { IsTrue alone.line.has_disk }
+    requires slaves { length alone.line.sizes ≡ length line.now.images.items }
+    ensures { EndsStation true (S.files store.old) (S.files store.new) line.now alone commands.now result }
+{
+    let mut status = Status::Done;
+    let slaves = line.images.len() as u16;
+    match serve_commands(&mut alone, slaves, commands, output, &mut status) {
+        Ok(()) => {
+            let (core, site) = alone.into_parts();
+            drop(core);
+            let saved = save_site(alloc, line, site, store);
+            worse(status, status_of(saved, faults))
+        }
+        Err(fault) => {
+            drop(alone);
+            worse(status, report_fault(fault, faults))
+        }
+    }
 }

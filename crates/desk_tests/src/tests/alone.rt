@@ -2,7 +2,7 @@
 
 ghost use Rattle.std.specs.Prelude.{◌≤◌, length};
 ghost use Rattle.line_server.specs.Sites.{OwnParts};
-ghost use Rattle.site_mem.specs.Site.{SiteValue};
+ghost use Rattle.site_shadow.specs.Site.{SiteValue};
 
 use crate::tests::memory::put;
 use crate::tests::sites::number_of;

@@ -2,8 +2,8 @@
 
 ghost use Rattle.std.specs.Prelude.{◌≡◌, ◌+◌, length};
 ghost use Rattle.line_server.specs.Sites.{OwnParts};
-ghost use Rattle.site_mem.specs.Parts.{site_of as made_of};
-ghost use Rattle.site_mem.specs.Site.{SiteValue};
+ghost use Rattle.site_shadow.specs.Parts.{site_of as made_of};
+ghost use Rattle.site_shadow.specs.Site.{SiteValue};
 
 use crate::tests::line::{Plan, patch, words_of};
 use crate::tests::memory::{put, zeros};

@@ -4,7 +4,7 @@ use Rattle.line_session.proofs.PartLaws.{sites-more}
 use Rattle.line_session.proofs.apart.slave_sites.Goals as goal
 
 pub loop-half-preserved : goal.loop-half-preserved
-loop-half-preserved c =
+loop-half-preserved g c =
     let at = c.loop-half in
     let half = c.in-Some.half in
     let steps : into_iter_items at.half-iterator ≡ half ∷ into_iter_items c.next.new.self = c.in-Some.ensures.steps.0 in (

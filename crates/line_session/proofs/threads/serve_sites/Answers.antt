@@ -1,5 +1,5 @@
 use denote.Param.Send.{sendable}
-use Rattle.site_mem.proofs.Sent.{site-send}
+use Rattle.site_shadow.proofs.Sent.{site-send}
 use Rattle.line_session.proofs.threads.serve_sites.Goals as goal
 
 pub serve_line-requires-send-S : goal.serve_line-requires-send-S

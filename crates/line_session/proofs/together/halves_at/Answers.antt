@@ -4,7 +4,7 @@ use Rattle.line_session.proofs.PartLaws.{halves-more}
 use Rattle.line_session.proofs.together.halves_at.Goals as goal
 
 pub loop-end-preserved : goal.loop-end-preserved
-loop-end-preserved c =
+loop-end-preserved g c =
     let at = c.loop-end in
     let end = c.in-Some.end in
     let steps : into_iter_items at.end-iterator ≡ end ∷ into_iter_items c.next.new.self = c.in-Some.ensures.steps.0 in (

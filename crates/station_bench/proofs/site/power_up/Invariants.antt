@@ -1,5 +1,5 @@
 use Rattle.std.proofs.Common.{◌≡◌, take}
-use Rattle.site_mem.specs.Line.{halves_of}
+use Rattle.site_shadow.specs.Line.{halves_of}
 use Rattle.station_bench.specs.Site.{powered_up_from}
 use Rattle.station_bench.proofs.site.power_up.Given as goal
 

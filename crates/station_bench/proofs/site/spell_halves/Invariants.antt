@@ -1,6 +1,6 @@
 use Rattle.std.proofs.Common.{◌≡◌, map, take}
 use Rattle.sii_words.specs.Words.{bytes_of}
-use Rattle.site_mem.specs.Line.{halves_of}
+use Rattle.site_shadow.specs.Line.{halves_of}
 use Rattle.station_bench.proofs.site.spell_halves.Given as goal
 
 abbrev pub invariant-loop-half : goal.invariant-loop-half

@@ -1,9 +1,9 @@
-use Rattle.std.proofs.Common.{length, arith}
+use Rattle.std.proofs.Common.{false, length, arith}
 use Rattle.station_session.proofs.ThreadsEnd.{ends-left, ends-unserved, line-of}
 use Rattle.station_session.proofs.threads.run_threads.Goals as goal
 
-pub end_threads-requires : goal.end_threads-requires
-end_threads-requires g c = line-of c.in-Ok.left.site.line c.len.result (length c.args.line.now.images.items) (omega (arith, c.len.ensures, c.args.line.now.images.ok.0)) c.in-Ok.ensures.line
+pub end_threads-requires-clause-line : goal.end_threads-requires-clause-line
+end_threads-requires-clause-line g c κs lives = line-of c.in-Ok.left.site.line c.len.result (length c.args.line.now.images.items) (omega (arith, c.len.ensures, c.args.line.now.images.ok.0)) c.in-Ok.ensures.line
 
 pub returns-in-Ok : goal.returns-in-Ok
 returns-in-Ok g c =
@@ -11,4 +11,4 @@ returns-in-Ok g c =
     c.in-Ok.ensures.left c.end_threads.ensures.others c.end_threads.ensures.saved
 
 pub returns-in-Err : goal.returns-in-Err
-returns-in-Err g c = ends-unserved (g.S.Store.files c.args.store.now) c.args.line.now c.args.alone c.args.commands.now c.report_fault.result c.report_fault.ensures.fault
+returns-in-Err g c = ends-unserved false (g.S.Store.files c.args.store.now) c.args.line.now c.args.alone c.args.commands.now c.report_fault.result c.report_fault.ensures.fault

@@ -5,7 +5,7 @@ use Rattle.station_session.proofs.threads.save_recovered.Goals as goal
 
 pub returns-then-not-is_driven-clause-saved : goal.returns-then-not-is_driven-clause-saved
 returns-then-not-is_driven-clause-saved g c good =
-    holds-undriven c.args.is_driven (g.S.Store.files c.run_station.new.store) c.args.line.now c.args.alone c.args.commands.now c.run_station.result c.if-not-is_driven.true (c.run_station.ensures.saved good)
+    holds-undriven c.args.is_driven (g.S.Store.files c.run_alone.new.store) c.args.line.now c.args.alone c.args.commands.now c.run_alone.result c.if-not-is_driven.true (c.run_alone.ensures.saved good)
 
 pub returns-clause-saved : goal.returns-clause-saved
 returns-clause-saved g c good =

@@ -1,0 +1,11 @@
+use Rattle.station_session.proofs.Ending.{ends-recovery-opened, ends-unrecovered}
+use Rattle.station_session.proofs.recovery.recover_session.Goals as goal
+
+pub returns-in-Ok : goal.returns-in-Ok
+returns-in-Ok g c =
+    ends-recovery-opened (g.S.Store.files c.args.store.now) (g.S.Store.files c.open_files.new.store) (g.S.Store.files c.recover_site.new.store) c.args.session.line c.args.session.site c.with_device-site.result c.recover_site.result
+    c.open_files.ensures.others c.with_device-site.ensures c.recover_site.ensures
+
+pub returns : goal.returns
+returns g c =
+    ends-unrecovered (g.S.Store.files c.args.store.now) (g.S.Store.files c.open_files.new.store) c.args.session.line c.args.session.site.seen c.report_fault.result c.open_files.ensures.others c.report_fault.ensures.fault
