@@ -1,4 +1,4 @@
-//! Commands, as a table holds them.
+//! Commands as rows of a table.
 
 use sii_edit::{Command, Edit, EditList};
 use sii_words::ImageFile;
@@ -12,7 +12,7 @@ pub(crate) enum Ask {
     Swap(u16, u16),
     /// Slave and alias of each edit of a group.
     Group(&'static [(u16, u16)]),
-    /// An image of slave 0 with this alias and check byte and an end mark in word 64, behind which so many words have this in both
+    /// An image of slave 0 with this alias and check byte and an end mark in word 64. Behind it this number of words have this in both
     /// bytes.
     Image((u8, u8), u16, u8),
 }
@@ -41,7 +41,7 @@ fn image(alloc: Global, name: (u8, u8), count: u16, fill: u8) -> Option<Command>
     Some(Command::One(Edit::Image { slave: 0, image }))
 }
 
-/// The command. None where there is no memory for it.
+/// The command. None: memory was refused.
 pub(crate) fn command(alloc: Global, ask: &Ask) -> Option<Command> {
     match *ask {
         Ask::Alias(slave, value) => Some(Command::One(Edit::Alias { slave, value })),

@@ -12,9 +12,9 @@ use std::alloc::Global;
 enum Failure {
     /// The station isn't opened.
     Unopened,
-    /// The disk failed, which closed the book; and a recovery finds the aliases as they may be.
+    /// The disk failed, which closed the book, and a recovery finds aliases that are kept.
     Closed,
-    /// A frame was lost, and all commands are served all the same.
+    /// A frame was lost, and all commands were still served.
     Served,
     /// The run has fewer calls.
     Over,
@@ -52,7 +52,7 @@ fn failure_of(alloc: Global, parts: Parts, end: &End, is_over: bool) -> Failure 
     Failure::Wrong
 }
 
-/// What the failure does to a run behind so many calls.
+/// What the failure does that comes after this number of device calls of a run.
 fn failing(alloc: Global, calls: u64) -> Option<Failure> {
     let (site, end) = ended(alloc, Way::OneByOne, &Trouble::Call(calls))?;
     let mut site = site;
@@ -60,7 +60,7 @@ fn failing(alloc: Global, calls: u64) -> Option<Failure> {
     Some(failure_of(alloc, site.into_parts(), &end, is_over))
 }
 
-/// How many calls there are that fail in each of the first three ways.
+/// The number of device calls whose failure has each of the first three effects.
 fn failures(alloc: Global) -> Option<[u64; 3]> {
     let mut counts = [0u64; 3];
     for calls in 0..1000 {

@@ -1,6 +1,6 @@
-//! Want of memory: a growth that is refused loses nothing, wherever it is. The gate runs this with memory; `rt try --test
-//! --fail-alloc N` has the Nth growth refused. Then one call answers want of memory, or the disk's fault where the disk wanted it,
-//! and does the same as ever when it is made again.
+//! Refused memory: an allocation that is refused loses nothing, wherever it is. The gate runs this with memory; `rt try --test
+//! --fail-alloc N` refuses the Nth allocation. Then one call answers that memory was refused, or with the disk's fault if the disk
+//! needed it, and does the same as ever when it is made again.
 
 use crate::asks::Ask;
 use crate::line::{THREE, parts_of};
@@ -16,7 +16,7 @@ use site_mem::{MemSite, Parts};
 use station_alone::{Alone, Answer, Choice, OpenFault};
 use std::alloc::Global;
 
-/// What is done with three commands that were queued.
+/// What is done with three queued commands.
 #[derive(Clone, Copy, PartialEq)]
 enum Work {
     /// They are served.
@@ -25,7 +25,7 @@ enum Work {
     Append,
 }
 
-/// Whether a station isn't opened for want of memory, its own or the disk's.
+/// Whether a station wasn't opened because it or the disk was refused memory.
 fn is_memory(fault: OpenFault) -> bool {
     matches!(
         fault,
@@ -37,7 +37,7 @@ fn is_memory(fault: OpenFault) -> bool {
     )
 }
 
-/// A station is opened, at the second try where the first is refused memory.
+/// Opens a station, at the second try if the first is refused memory.
 fn opened(alloc: Global, site: MemSite) -> Result<Alone<MemSite>, (MemSite, OpenFault)> {
     match open(alloc, site) {
         Ok(station) => Ok(station),
@@ -46,7 +46,7 @@ fn opened(alloc: Global, site: MemSite) -> Result<Alone<MemSite>, (MemSite, Open
     }
 }
 
-/// Whether a command is accepted, at the second try where the first is refused memory, which changes nothing.
+/// Whether a command is accepted, at the second try if the first is refused memory, which must change nothing.
 fn is_accepted(alloc: Global, station: &mut Alone<MemSite>, ask: &Ask) -> bool {
     let before = status_of(station);
     let mut answer = submit(alloc, station, ask);
@@ -65,8 +65,8 @@ fn are_accepted(alloc: Global, station: &mut Alone<MemSite>) -> bool {
     true
 }
 
-/// Whether an action of the disk is done, at the second try where the first is refused memory, which changes nothing; or the disk was
-/// refused memory, which closes the book.
+/// Whether an action of the disk is carried out, at the second try if the first is refused memory, which must change nothing; or the
+/// disk was refused memory, which closes the book.
 fn is_written(station: &mut Alone<MemSite>) -> bool {
     let before = status_of(station);
     let mut answer = station.act(&Choice::Disk);
@@ -76,7 +76,7 @@ fn is_written(station: &mut Alone<MemSite>) -> bool {
     answer == Answer::Did || answer == Answer::Failed(Fault::Disk)
 }
 
-/// Whether the four actions are done so that append a batch.
+/// Whether the four actions that append a batch are carried out.
 fn is_appended(station: &mut Alone<MemSite>) -> bool {
     for _action in 0..4u8 {
         if fault_of(station).is_none() && !is_written(station) {
@@ -86,14 +86,14 @@ fn is_appended(station: &mut Alone<MemSite>) -> bool {
     true
 }
 
-/// Whether steps in a row are answered, at the second try where the first is refused memory, which changes nothing.
+/// Whether steps in a row are answered, at the second try if the first is refused memory, which must change nothing.
 fn is_run(station: &mut Alone<MemSite>) -> bool {
     let choices = [Choice::Disk, Choice::Rom(0), Choice::Rom(1), Choice::Rom(2)];
     let before = status_of(station);
     station.run(&choices).is_ok() || (status_of(station) == before && station.run(&choices).is_ok())
 }
 
-/// Whether the work goes well. Rounds end where an action of the disk is refused memory, and go on with the same action.
+/// Whether the work succeeds. Rounds end when an action of the disk is refused memory, and begin again with the same action.
 fn goes_well(alloc: Global, station: &mut Alone<MemSite>, work: Work) -> bool {
     if !are_accepted(alloc, station) || !is_appended(station) {
         return false;
@@ -114,7 +114,7 @@ fn worked(alloc: Global, station: Alone<MemSite>, work: Work) -> (MemSite, Optio
     (off(station), if is_well { Some(end) } else { None })
 }
 
-/// How the work ends, where it goes well.
+/// How the work ends; None if it fails.
 fn ended(alloc: Global, site: MemSite, work: Work) -> (MemSite, Option<End>) {
     match opened(alloc, site) {
         Ok(station) => worked(alloc, station, work),
@@ -122,7 +122,7 @@ fn ended(alloc: Global, site: MemSite, work: Work) -> (MemSite, Option<End>) {
     }
 }
 
-/// Whether a recovery completes, at the second try where the first is refused memory, and finds these aliases.
+/// Whether a recovery completes, at the second try if the first is refused memory, and finds some of these aliases.
 fn recovers_at_last(alloc: Global, parts: Parts, kept: &[[u16; 3]]) -> bool {
     let Some(site) = site_of(alloc, parts, &Trouble::Nothing) else {
         return false;
@@ -139,7 +139,7 @@ fn recovers_at_last(alloc: Global, parts: Parts, kept: &[[u16; 3]]) -> bool {
     }
 }
 
-/// Whether nothing is lost behind an end.
+/// Whether nothing is lost after the work has ended.
 fn is_kept(alloc: Global, parts: Parts, work: Work, end: &End) -> bool {
     if work == Work::Serve && end.fault.is_none() {
         let aliases = aliases_of(&parts);
@@ -150,7 +150,7 @@ fn is_kept(alloc: Global, parts: Parts, work: Work, end: &End) -> bool {
     recovers_at_last(alloc, parts, kept_by(Way::Queued, end.status[1])) && is_disk
 }
 
-/// Whether the work goes well, and nothing is lost. None where there is no memory for the line.
+/// Whether the work succeeds, and nothing is lost. None: memory was refused for the line.
 fn loses_nothing(alloc: Global, work: Work) -> Option<bool> {
     let site = site_of(alloc, parts_of(alloc, &THREE)?, &Trouble::Nothing)?;
     let (site, end) = ended(alloc, site, work);
@@ -160,7 +160,7 @@ fn loses_nothing(alloc: Global, work: Work) -> Option<bool> {
     }
 }
 
-/// The same, on a second line where there is no memory for the first.
+/// Like `loses_nothing`, on a second line if memory was refused for the first.
 fn loses_nothing_at_last(alloc: Global, work: Work) -> bool {
     match loses_nothing(alloc, work) {
         Some(is_well) => is_well,

@@ -14,7 +14,7 @@ const LONG: Line = Line {
     ..ALONE
 };
 
-/// Words 0 to 64 of the slave, and words behind them: so many that the batch has 2,047 bytes with its closing gate, and one more.
+/// Images of words 0 to 64 and as many behind them as make a batch of 2,047 bytes with its closing gate. One more is too many.
 const FULL: &[Chapter] = &[
     Session(
         Nothing,

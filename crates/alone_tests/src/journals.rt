@@ -18,7 +18,7 @@ use station_alone::Answer::Refused;
 use station_alone::OpenFault;
 use std::alloc::Global;
 
-/// Lines whose disk holds no journal of theirs, and why not.
+/// Lines whose disk holds no journal of this line, and the fault of each.
 const REFUSED: &[(Line, JournalFault)] = &[
     // A batch of 2,042 bytes would not find room for its closing gate.
     (
@@ -72,13 +72,13 @@ const OF_2: &[u8] = &[
     0x01, 0x00, 0x00, 0x00, 0x04, 0x00, 0x01, 0x00, 0x02, 0x00,
 ];
 
-/// Why a recovery is refused. Some: three calls of the disk are made, and no frame is sent.
+/// The fault of a recovery. Some: three calls of the disk were made, and no frame was sent.
 fn refusal_on(alloc: Global, site: MemSite) -> Option<OpenFault> {
     let (mut site, came) = recovered(alloc, site);
     if fails(&mut site) { came.err() } else { None }
 }
 
-/// Whether a recovery of the line is refused so.
+/// Whether a recovery of the line fails with this fault.
 fn is_refused(alloc: Global, line: &Line, why: JournalFault) -> Option<bool> {
     let site = site_of(alloc, parts_of(alloc, line)?, &Call(3))?;
     Some(refusal_on(alloc, site) == Some(OpenFault::Journal(ReadFault::Journal(why))))
@@ -145,7 +145,7 @@ const UNMIGRATED: &[Chapter] = &[Session(
     &[Submit(Alias(0, 1), Refused(SubmitRefusal::OldJournal))],
 )];
 
-/// The version byte is torn: it is neither, and it is the new one.
+/// The version byte is torn: it is neither version, or it is the new one.
 const TORN_VERSION: &[Chapter] = &[
     Recovery(Fuse(8, Fill(0x0077)), Err(STOPPED)),
     Bytes(0, &[0xa5, 0x77, 0x01]),
@@ -184,7 +184,7 @@ fn an_old_journal_is_migrated(rt: HostRuntime) {
     all_told(&rt, rt.alloc(), MIGRATIONS);
 }
 
-/// How many writes the recovery of the old journal makes, where a second one mends it wherever the pattern stops it.
+/// The number of writes of a recovery of the old journal. Cut by the pattern at any of them, a second recovery completes it.
 fn writes_of_a_migration(alloc: Global, pattern: Pattern) -> Option<u64> {
     let site = site_of(alloc, parts_of(alloc, &OLD)?, &Nothing)?;
     let writes = writes_mended(alloc, &site, &[[1, 0, 0]], pattern);

@@ -1,4 +1,4 @@
-//! Tests of a station on one thread and of its recovery, over lines in memory that fail and stop. By public calls alone.
+//! Tests of a station on one thread and of its recovery, through public calls, on lines in memory that fail or lose power.
 #![tactic(auto)]
 
 #[cfg(test)]

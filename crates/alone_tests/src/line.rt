@@ -1,11 +1,11 @@
-//! Lines in memory, as a table holds them.
+//! Lines in memory as rows of a table.
 
 use esc_model::RomHalf;
 use sii_words::Words;
 use site_mem::Parts;
 use std::alloc::Global;
 
-/// A slave whose words are 0, but for its check byte and what is said.
+/// A slave whose words are 0, except for its check byte and what its variant says.
 #[derive(Clone, Copy)]
 pub(crate) enum Slave {
     /// 64 words.
@@ -16,8 +16,7 @@ pub(crate) enum Slave {
     Long,
 }
 
-/// The slaves, and what the disk holds: a header, what stands in front of each half of 2,048 bytes, and how many bytes there are,
-/// 4,104 at most.
+/// The slaves, and the disk: a header, the first bytes of each half of 2,048 bytes, and the number of bytes, 4,104 at most.
 #[derive(Clone, Copy)]
 pub(crate) struct Line {
     pub slaves: &'static [Slave],
@@ -67,7 +66,7 @@ fn words(alloc: Global, slave: Slave) -> Option<Words> {
     Words::from_bytes(alloc, &bytes).ok()
 }
 
-/// The halves that serve the EEPROMs, each just switched on at its station.
+/// The EEPROM halves, each just powered up with its station address.
 fn halves(alloc: Global, slaves: &[Slave]) -> Option<Vec<Option<RomHalf>>> {
     let mut halves = Vec::new(alloc);
     for (slave, station) in slaves.iter().zip(0x1001u16..0x1041) {
@@ -99,7 +98,7 @@ fn disk(alloc: Global, line: &Line) -> Option<Vec<u8>> {
     Some(bytes)
 }
 
-/// What the line is made of. None where there is no memory for it.
+/// The parts of the line. None: memory was refused.
 pub(crate) fn parts_of(alloc: Global, line: &Line) -> Option<Parts> {
     let sizes = sizes(alloc, line.slaves)?;
     let disk = disk(alloc, line)?;

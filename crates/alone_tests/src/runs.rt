@@ -15,12 +15,13 @@ pub(crate) const ASKS: &[Ask] = &[
     Ask::Group(&[(2, 7), (0, 9)]),
 ];
 
-/// The aliases behind each batch, where each command is one, and where all are one.
+/// The aliases after each batch, with one batch for each command.
 const ONE_BY_ONE: &[[u16; 3]] = &[[0, 0, 0], [1, 0, 0], [0, 1, 0], [9, 1, 7]];
 
+/// The aliases after each batch, with one batch for all commands.
 const QUEUED: &[[u16; 3]] = &[[0, 0, 0], [9, 1, 7]];
 
-/// How they are asked.
+/// How the commands are submitted.
 #[derive(Clone, Copy, PartialEq)]
 pub(crate) enum Way {
     /// Each command is served before the next is submitted.
@@ -37,13 +38,13 @@ pub(crate) struct End {
     pub fault: Option<Fault>,
 }
 
-/// How a run ends that nothing happens to.
+/// How a run without failures ends.
 pub(crate) const SERVED: End = End {
     status: [3, 3, 3, 0],
     fault: None,
 };
 
-/// Where no station was opened.
+/// The end of a run whose station wasn't opened.
 pub(crate) const UNOPENED: End = End {
     status: [0; 4],
     fault: None,
@@ -59,7 +60,7 @@ fn run(alloc: Global, station: &mut Alone<MemSite>, way: Way) {
     serve(station);
 }
 
-/// How far a station is.
+/// The counts of a station, and its fault.
 pub(crate) fn end_of(station: &Alone<MemSite>) -> End {
     End {
         status: status_of(station),
@@ -74,7 +75,7 @@ fn ran(alloc: Global, station: Alone<MemSite>, way: Way) -> (MemSite, End) {
     (off(station), end)
 }
 
-/// The line behind a run that meets this trouble, and how it ended. None where there is no memory for the line.
+/// The line after a run that meets this trouble, and how the run ended. None: memory was refused for the line.
 pub(crate) fn ended(alloc: Global, way: Way, trouble: &Trouble) -> Option<(MemSite, End)> {
     let site = site_of(alloc, parts_of(alloc, &THREE)?, trouble)?;
     match open(alloc, site) {
@@ -83,7 +84,7 @@ pub(crate) fn ended(alloc: Global, way: Way, trouble: &Trouble) -> Option<(MemSi
     }
 }
 
-/// The aliases that a recovery may find where so many commands were acknowledged.
+/// The aliases that a recovery may find with `acknowledged` commands acknowledged.
 pub(crate) fn kept_by(way: Way, acknowledged: u64) -> &'static [[u16; 3]] {
     match way {
         Way::OneByOne => ONE_BY_ONE.get(acknowledged as usize..).unwrap_or(&[]),
@@ -105,12 +106,12 @@ fn is_empty_journal(parts: &Parts) -> bool {
     holds(parts, 0, &[0xa5, 0x02]) && !holds(parts, 8, &[0xa5]) && !holds(parts, 2056, &[0xa5])
 }
 
-/// Whether nothing is live any more, and the aliases are among these.
+/// Whether nothing is live, and the aliases are one of these rows.
 pub(crate) fn is_found(parts: &Parts, kept: &[[u16; 3]]) -> bool {
     is_empty_journal(parts) && is_one_of(aliases_of(parts), kept)
 }
 
-/// Whether a recovery completes, leaves nothing live, and finds aliases that are among these.
+/// Whether a recovery completes, leaves nothing live, and the aliases are one of these rows.
 pub(crate) fn recovers(alloc: Global, parts: Parts, kept: &[[u16; 3]]) -> bool {
     let Some(site) = site_of(alloc, parts, &Trouble::Nothing) else {
         return false;

@@ -1,4 +1,4 @@
-//! What a station answers step by step, and what a recovery finds of it.
+//! What a station answers step by step, and what a recovery finds afterwards.
 
 use crate::asks::Ask::{Alias, Group, Swap};
 use crate::line::{ALONE, THREE, TWO};
@@ -11,8 +11,8 @@ use sii_edit::{Cause, Refusal};
 use site_mem::Pattern::{Fill, Old};
 use station_alone::Answer::{Accepted, Did, Ended, Failed, Idle, Refused};
 
-/// Two aliases change places: durable with the fourth action of the disk, and settled with four words. Each write passes: the one of
-/// opening, four and two of the disk, and four words.
+/// Two aliases change places: durable with the fourth action of the disk, and settled with four words. All writes pass: one of the
+/// open, four and two of the disk, and four words.
 const SWAPPED: &[Chapter] = &[
     Session(
         Fuse(11, Old),
@@ -40,7 +40,7 @@ const SWAPPED_BUT_LIVE: &[Chapter] = &[Session(
     ],
 )];
 
-/// How its batch begins.
+/// The first bytes of its batch.
 const SPELT: &[Chapter] = &[
     Session(Nothing, &[Submit(Swap(0, 1), Accepted(0)), Disk(4, Did)]),
     Bytes(8, &[0xa5, 0x00, 0x2c, 0x00, 0x00, 0x00]),
@@ -91,7 +91,7 @@ const TORN_CLOSED: &[Chapter] = &[
     Aliases([0, 0, 0]),
 ];
 
-/// A word is torn, and torn again by a stop of the recovery, in which the other slave has taken its first word.
+/// A word is torn, and torn again by a power cut in the recovery, in which the other slave has taken its first word.
 const TORN_TWICE: &[Chapter] = &[
     Session(
         Fuse(5, Fill(0xdead)),
@@ -130,7 +130,7 @@ const LEFT_CLOSED: &[Chapter] = &[
     Aliases([1, 0, 0]),
 ];
 
-/// The first word ends in error once: three issues, and a settle behind each.
+/// The first word ends in error once: three issues, each with a settle.
 const AGAIN: &[Chapter] = &[
     Session(
         Words(1),

@@ -1,22 +1,21 @@
-//! Sites in memory: what goes wrong on them, how they come under a station and off it, and what they hold.
+//! Sites in memory: what goes wrong on them, how a station takes them and gives them back, and what they hold.
 
 use esc_model::RomHalf;
+use esc_rom::owns_all;
 use site_core::Site;
-use site_line::owns_all;
 use site_mem::{MemSite, Parts, Pattern};
-use station_alone::{Alone, OpenFault};
-use station_recovery::recover;
+use station_alone::{Alone, OpenFault, recover};
 use std::alloc::Global;
 
-/// What is to go wrong, counted from now on.
+/// What goes wrong, counted from now on.
 #[derive(Clone, Copy)]
 pub(crate) enum Trouble {
     Nothing,
-    /// So many device writes pass, and the next is torn by the pattern. To open a station takes one.
+    /// This number of device writes pass, and the next is torn by the pattern. Opening a station takes one write.
     Fuse(u64, Pattern),
-    /// So many device calls pass, and the next fails.
+    /// This number of device calls pass, and the next fails.
     Call(u64),
-    /// So many words of slave 0 end in error.
+    /// This number of words of slave 0 end in error.
     Words(u32),
 }
 
@@ -29,7 +28,7 @@ fn set(site: &mut MemSite, trouble: &Trouble) {
     }
 }
 
-/// The site of these parts, where they are whole, on which this is to go wrong.
+/// The site of these parts, on which this goes wrong. None if a part is missing.
 pub(crate) fn site_of(alloc: Global, parts: Parts, trouble: &Trouble) -> Option<MemSite> {
     if !parts.is_whole() {
         drop(parts);
@@ -40,7 +39,7 @@ pub(crate) fn site_of(alloc: Global, parts: Parts, trouble: &Trouble) -> Option<
     Some(site)
 }
 
-/// The site, off its station.
+/// Takes the site out of its station.
 pub(crate) fn off(station: Alone<MemSite>) -> MemSite {
     let (core, site) = station.into_parts();
     drop(core);
@@ -55,7 +54,7 @@ pub(crate) fn open(alloc: Global, site: MemSite) -> Result<Alone<MemSite>, (MemS
     Alone::open(alloc, site)
 }
 
-/// Recovers the site, and gives how many batches and commands were found, and how many words were issued.
+/// Recovers the site. Returns the numbers of batches and commands found, and of issues.
 pub(crate) fn recovered(alloc: Global, site: MemSite) -> (MemSite, Result<[u64; 3], OpenFault>) {
     if !site.has_disk() || !owns_all(&site) {
         return (site, Err(OpenFault::Memory));
@@ -76,7 +75,7 @@ fn alias_of(halves: &[Option<RomHalf>], slave: usize) -> u16 {
     }
 }
 
-/// The aliases of the first three slaves, 0 where there is none.
+/// The aliases of the first three slaves, 0 for one that is missing.
 pub(crate) fn aliases_of(parts: &Parts) -> [u16; 3] {
     let halves = parts.halves.as_slice();
     [
@@ -86,7 +85,7 @@ pub(crate) fn aliases_of(parts: &Parts) -> [u16; 3] {
     ]
 }
 
-/// Whether the disk holds these bytes from a place on.
+/// Whether the disk holds these bytes from byte `at` on.
 pub(crate) fn holds(parts: &Parts, at: usize, bytes: &[u8]) -> bool {
     match &parts.disk {
         Some(disk) => disk.get(at..at.saturating_add(bytes.len())) == Some(bytes),

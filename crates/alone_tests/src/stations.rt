@@ -1,4 +1,4 @@
-//! What is done with a station, and what is to come of it, as a table holds it.
+//! Calls of a station and what they must give, as rows of a table.
 
 use crate::asks::{Ask, command};
 use book_model::Fault;
@@ -6,23 +6,23 @@ use site_mem::MemSite;
 use station_alone::{Alone, Answer, Choice};
 use std::alloc::Global;
 
-/// What is done with a station, or seen of it, and what is to come of it.
+/// Calls of a station, and what they must give.
 #[derive(Clone, Copy)]
 pub(crate) enum Event {
     Submit(Ask, Answer),
-    /// So many actions of the disk, and the last answer.
+    /// A number of steps of the disk, and the last answer.
     Disk(u16, Answer),
-    /// Slave, so many steps, and the last answer.
+    /// Slave, number of its steps, and the last answer.
     Rom(u16, u16, Answer),
-    /// Rounds as long as something is done, and the last answer.
+    /// Rounds until nothing is done any more, and the last answer.
     Serve(Answer),
     /// The answers to steps in a row: of slave 0, of the disk, a migration, and of slave 1.
     Run(&'static [Answer]),
-    /// How many commands are accepted, durable and settled, and how many bytes are live.
+    /// The numbers of accepted, durable and settled commands, and of live bytes.
     Status([u64; 4]),
 }
 
-/// How many commands are accepted, durable and settled, and how many bytes are live.
+/// The numbers of accepted, durable and settled commands, and of live bytes.
 pub(crate) fn status_of(station: &Alone<MemSite>) -> [u64; 4] {
     let status = station.core().status();
     [
@@ -46,7 +46,7 @@ pub(crate) fn submit(alloc: Global, station: &mut Alone<MemSite>, ask: &Ask) -> 
     }
 }
 
-/// The same step so many times. Gives the last answer.
+/// Makes the same step `times` times. Returns the last answer.
 pub(crate) fn steps(station: &mut Alone<MemSite>, choice: &Choice, times: u16) -> Answer {
     let mut answer = Answer::Idle;
     for _step in 0..times {
@@ -55,7 +55,7 @@ pub(crate) fn steps(station: &mut Alone<MemSite>, choice: &Choice, times: u16) -
     answer
 }
 
-/// What is done where an action of the disk, or one of one of three slaves, is, or the failure that one meets.
+/// A round of the disk and three slaves. Returns the last answer `Did` or `Failed` of a slave, else that of the disk.
 fn round(station: &mut Alone<MemSite>) -> Answer {
     let mut answer = station.act(&Choice::Disk);
     for slave in 0..3u16 {
@@ -67,7 +67,7 @@ fn round(station: &mut Alone<MemSite>) -> Answer {
     answer
 }
 
-/// Rounds, as long as something is done. Gives the last answer of the disk, or the failure that they meet.
+/// Makes rounds until one doesn't answer `Did`, and returns that answer.
 pub(crate) fn serve(station: &mut Alone<MemSite>) -> Answer {
     for _round in 0..10_000u16 {
         let answer = round(station);
@@ -78,7 +78,7 @@ pub(crate) fn serve(station: &mut Alone<MemSite>) -> Answer {
     Answer::Did
 }
 
-/// Whether steps in a row are answered so.
+/// Whether steps in a row give these answers.
 fn is_run(station: &mut Alone<MemSite>, wanted: &[Answer]) -> bool {
     let choices = [
         Choice::Rom(0),
@@ -92,7 +92,7 @@ fn is_run(station: &mut Alone<MemSite>, wanted: &[Answer]) -> bool {
     }
 }
 
-/// Whether it comes as the event says.
+/// Whether the calls give what they must.
 fn comes(alloc: Global, station: &mut Alone<MemSite>, event: &Event) -> bool {
     match event {
         Event::Submit(ask, wanted) => submit(alloc, station, ask) == *wanted,
@@ -104,7 +104,7 @@ fn comes(alloc: Global, station: &mut Alone<MemSite>, event: &Event) -> bool {
     }
 }
 
-/// Whether all events come as they are told.
+/// Whether all calls give what they must.
 pub(crate) fn all_come(alloc: Global, station: &mut Alone<MemSite>, events: &[Event]) -> bool {
     for event in events {
         if !comes(alloc, station, event) {

@@ -1,4 +1,4 @@
-//! A stop at each device write of a run, and at each of the recovery behind it.
+//! A power cut at each device write of a run, and at each write of the recovery after it.
 
 use crate::runs::{End, SERVED, Way, ended, kept_by, recovers};
 use crate::sites::{Trouble, recovered, site_of};
@@ -14,8 +14,8 @@ pub(crate) const PATTERNS: [Pattern; 4] = [
     Pattern::Fill(0x5a5a),
 ];
 
-/// Whether a recovery of what a stop leaves of the site now is stopped by the pattern behind so many writes. None where it fails
-/// otherwise, or a second one doesn't complete it.
+/// Whether a recovery of what a power cut leaves of the site now is itself cut by the pattern after this number of writes. None if it
+/// fails otherwise, or a second one doesn't complete it.
 fn is_cut_off(
     alloc: Global,
     site: &MemSite,
@@ -36,7 +36,8 @@ fn is_cut_off(
     }
 }
 
-/// How many writes a recovery of what a stop leaves of the site now makes, where a second one mends it wherever the pattern stops it.
+/// The number of writes of a recovery of what a power cut leaves of the site now. Cut by the pattern at any of them, a second recovery
+/// completes it; None if not.
 pub(crate) fn writes_mended(
     alloc: Global,
     site: &MemSite,
@@ -51,7 +52,7 @@ pub(crate) fn writes_mended(
     None
 }
 
-/// Whether a run that ended so was stopped. None where it is neither stopped nor served.
+/// Whether a run with this end was cut. None if it was neither cut nor served.
 fn ends_stopped(end: &End) -> Option<bool> {
     if end.fault == Some(Fault::Stopped) {
         return Some(true);
@@ -59,8 +60,8 @@ fn ends_stopped(end: &End) -> Option<bool> {
     if *end == SERVED { Some(false) } else { None }
 }
 
-/// Whether a run is stopped by the pattern behind so many writes, the one of opening aside. None where it ends otherwise, or
-/// isn't mended wherever its recovery is stopped.
+/// Whether a run is cut by the pattern after this number of writes, not counting the one of the open. None if it ends otherwise, or if
+/// its recovery, cut at some write, isn't completed by a second one.
 fn is_stopped(alloc: Global, way: Way, writes: u64, pattern: Pattern) -> Option<bool> {
     let trouble = Trouble::Fuse(writes.saturating_add(1), pattern);
     let (site, end) = ended(alloc, way, &trouble)?;
@@ -69,7 +70,7 @@ fn is_stopped(alloc: Global, way: Way, writes: u64, pattern: Pattern) -> Option<
     mended.and(ends_stopped(&end))
 }
 
-/// How many writes a run makes, where a recovery mends it wherever the pattern stops either.
+/// The number of writes of a run. Cut by the pattern at any of them, a recovery completes it, even if that is cut too; None if not.
 fn writes_survived(alloc: Global, way: Way, pattern: Pattern) -> Option<u64> {
     for writes in 0..100 {
         if !is_stopped(alloc, way, writes, pattern)? {

@@ -1,4 +1,4 @@
-//! Stories of a line: sessions, recoveries, and what is found behind them.
+//! Stories of a line: sessions, recoveries, and what is found after them.
 
 use crate::line::{Line, parts_of};
 use crate::sites::{Trouble, aliases_of, holds, off, open, recovered, site_of};
@@ -10,23 +10,23 @@ use station_alone::{Alone, OpenFault};
 use std::alloc::Global;
 use std::process::Abort;
 
-/// What a recovery answers where the site stops.
+/// The fault of a recovery in which the site stops.
 pub(crate) const STOPPED: OpenFault = OpenFault::Journal(ReadFault::Device(DeviceFault::Stopped));
 
-/// A chapter of a story. Before each the line is put together anew, and nothing of what went wrong before goes on.
+/// A chapter of a story. Each begins with a new site of the line's parts, on which earlier trouble is over.
 #[derive(Clone, Copy)]
 pub(crate) enum Chapter {
-    /// A station is opened, and all comes as it is told.
+    /// A station is opened, and its calls give what they must.
     Session(Trouble, &'static [Event]),
-    /// How many batches and commands are found, and how many words are issued; or why it fails.
+    /// A recovery gives the numbers of batches and commands found and of issues, or its fault.
     Recovery(Trouble, Result<[u64; 3], OpenFault>),
-    /// The aliases of three slaves, 0 where there is none.
+    /// The aliases of three slaves, 0 for one that is missing.
     Aliases([u16; 3]),
-    /// What the disk holds from a place on.
+    /// The disk holds these bytes from this place on.
     Bytes(usize, &'static [u8]),
 }
 
-/// A line, and what comes of it.
+/// A line, and its chapters.
 pub(crate) type Story = (Line, &'static [Chapter]);
 
 fn served(alloc: Global, station: Alone<MemSite>, events: &[Event]) -> (MemSite, bool) {
@@ -42,7 +42,7 @@ fn session(alloc: Global, site: MemSite, events: &[Event]) -> (MemSite, bool) {
     }
 }
 
-/// What is left behind the chapter, and whether it comes as it is told.
+/// The parts after the chapter, and whether it gave what it must. None: memory was refused, or a part is missing.
 fn comes(alloc: Global, parts: Parts, chapter: &Chapter) -> Option<(Parts, bool)> {
     let (site, is_told) = match *chapter {
         Chapter::Aliases(aliases) => {
@@ -64,7 +64,7 @@ fn comes(alloc: Global, parts: Parts, chapter: &Chapter) -> Option<(Parts, bool)
     Some((site.into_parts(), is_told))
 }
 
-/// How many chapters come as they are told, before one that doesn't.
+/// How many chapters give what they must, before the first that doesn't.
 fn told(alloc: Global, line: &Line, chapters: &[Chapter]) -> Option<usize> {
     let mut parts = parts_of(alloc, line)?;
     for count in 0..chapters.len() {
@@ -78,7 +78,7 @@ fn told(alloc: Global, line: &Line, chapters: &[Chapter]) -> Option<usize> {
     Some(chapters.len())
 }
 
-/// Checks that all comes as each story tells it.
+/// Checks that each story's chapters give what they must.
 pub(crate) fn all_told(rt: &impl Abort, alloc: Global, stories: &[Story]) {
     for (line, chapters) in stories {
         assert_eq!(rt; told(alloc, line, chapters), Some(chapters.len()));

@@ -1,4 +1,4 @@
--- A core stands on once one command more is accepted.
+-- The book's invariant holds again once one more command is accepted.
 use Rattle.std.proofs.Common.{◌≡◌, ◌∙◌, ℕ, ◌+◌, ◌-◌, ◌≤◌, Bool, true, false, List, [], ◌∷◌, ◌++◌, length, take, drop, Option, refl, sym, ap, subst, arith, length-append, length-drop}
 use Rattle.std.specs.Prelude.{map}
 use Rattle.std.proofs.lemmas.List.{take-append-le, drop-append-le}
@@ -8,18 +8,18 @@ use Rattle.jrn_format.specs.declared.journal.Entry.{Entry}
 use Rattle.jrn_format.specs.declared.journal.Form.{Form}
 use Rattle.jrn_format.specs.declared.journal.Form.TheVariants.{Two}
 use Rattle.jrn_format.specs.Batch.{PayloadFits}
-use Rattle.jrn_laws.specs.Halves.{Place, fits, batches_in}
+use Rattle.jrn_format.specs.Halves.{Place, fits, batches_in}
 use Rattle.book_model.specs.declared.fault.Fault.{Fault}
 use Rattle.book_model.specs.Entries.{runs_of}
 use Rattle.book_model.specs.Book.{Book, all_cells, is_version_2}
 use Rattle.book_model.specs.Reading.{settled_prefix}
 use Rattle.book_model.specs.Submit as submit
 use Rattle.book_laws.proofs.CommandLaws.{entries-push, entry_after, length-entries}
-use Rattle.book_slaves.specs.Line.{Line, HasRoom}
-use Rattle.book_room.specs.Room.{Room, half_room}
-use Rattle.book_room.specs.Spot.{as_place}
-use Rattle.book_ledger.specs.Ledger.{Ledger, own, appended, with_command}
-use Rattle.book_ledger.specs.Shown.{Shown, IsAfter}
+use Rattle.book_parts.specs.Line.{LineState, HasRoom}
+use Rattle.book_parts.specs.Room.{Room, half_room}
+use Rattle.book_parts.specs.Spot.{as_place}
+use Rattle.book_parts.specs.Ledger.{Ledger, own, appended, with_command}
+use Rattle.book_parts.specs.Shown.{Shown, IsAfter}
 use Rattle.book_core.specs.declared.step.Step.{Step}
 use Rattle.book_core.specs.declared.step.Step.TheVariants.{Resting, Payload, PayloadSync, OpenGate, OpenSync, CloseGate, CloseSync, FarGate, Mark, MarkSync, Version, VersionSync}
 use Rattle.book_core.specs.Parts.{doing_of, book_of}
@@ -45,7 +45,7 @@ appended-kept ledger command few =
 
 -- ---- the step
 
-appending-kept : (place : Place) (area : Room) (ledger new : Ledger) (work : Line) → appended new ≡ appended ledger → IsAppending place area ledger work → IsAppending place area new work
+appending-kept : (place : Place) (area : Room) (ledger new : Ledger) (work : LineState) → appended new ≡ appended ledger → IsAppending place area ledger work → IsAppending place area new work
 appending-kept place area ledger new work same stands = record {
   version_2 = stands.version_2;
   in_older = stands.in_older;
@@ -54,7 +54,7 @@ appending-kept place area ledger new work same stands = record {
   room = subst (λ (l : List Entry). HasRoom work (runs_of l)) (sym same) stands.room;
 }
 
-step-kept : (step : Step) (area : Room) (ledger new : Ledger) (work : Line) → appended new ≡ appended ledger → new.begun ≡ ledger.begun → StepStands step area ledger work → StepStands step area new work
+step-kept : (step : Step) (area : Room) (ledger new : Ledger) (work : LineState) → appended new ≡ appended ledger → new.begun ≡ ledger.begun → StepStands step area ledger work → StepStands step area new work
 step-kept Resting area ledger new work same begun stands = begun ∙ stands
 step-kept (Payload spot) area ledger new work same begun stands = appending-kept (as_place spot) area ledger new work same stands
 step-kept (PayloadSync spot) area ledger new work same begun stands = appending-kept (as_place spot) area ledger new work same stands
@@ -70,7 +70,7 @@ step-kept VersionSync area ledger new work same begun stands = record { no_appen
 
 -- ---- what is shown
 
-shown-kept : (found : List Entry) (ledger : Ledger) (work : Line) (shown : Shown) (command : Command) → ledger.durable ≤ length ledger.accepted → IsShown found ledger work shown → IsShown found (with_command ledger command) work shown
+shown-kept : (found : List Entry) (ledger : Ledger) (work : LineState) (shown : Shown) (command : Command) → ledger.durable ≤ length ledger.accepted → IsShown found ledger work shown → IsShown found (with_command ledger command) work shown
 shown-kept found ledger work shown command few stands =
     let count : shown.count ≤ length ledger.accepted = omega (arith, stands.few, applied-few found ledger work, few) in
     let live = front-kept ledger command ledger.durable few in

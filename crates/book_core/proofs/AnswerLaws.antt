@@ -1,8 +1,8 @@
--- What submitting a command answers, once it is judged.
+-- The answer to a submitted command, once it is judged.
 use Rattle.std.proofs.Common.{◌≡◌, ◌∙◌, ◌⊎◌, inl, inr, ℕ, Bool, true, false, List, [], ◌∷◌, length, Result, Ok, Err, refl, sym, ap, subst}
 use Rattle.std.specs.Prelude.{IsErrAnd, is_some, if◌then◌else◌}
-use Rattle.sii_runs.specs.declared.run.Run.{Run}
-use Rattle.sii_runs.specs.Redo.{redone}
+use Rattle.sii_words.specs.declared.run.Run.{Run}
+use Rattle.sii_words.specs.Redo.{redone}
 use Rattle.sii_edit.specs.declared.command.Command.{Command}
 use Rattle.sii_edit.specs.declared.applying.Change.{Change}
 use Rattle.sii_edit.specs.declared.refusal.Refusal.{Refusal}
@@ -14,7 +14,7 @@ use Rattle.book_model.specs.declared.refusal.SubmitRefusal.TheVariants as refusa
 use Rattle.book_model.specs.Memory.{OutOfMemory}
 use Rattle.book_model.specs.Book.{Book, contents_of, is_closed, is_version_2}
 use Rattle.book_model.specs.Submit.{submit, sized, is_too_large, is_full, IsSubmitted, answered, out_of_memory}
-use Rattle.book_ledger.specs.Change.{IsChangeOf}
+use Rattle.book_parts.specs.Change.{IsChangeOf}
 use Rattle.book_core.specs.declared.book.Core.TheInside.{Inside}
 use Rattle.book_core.specs.Parts.{book_of}
 use Rattle.book_core.specs.Submit.{room_for}

@@ -6,14 +6,14 @@ use Rattle.jrn_format.specs.declared.journal.Entry.{Entry}
 use Rattle.jrn_format.specs.declared.journal.Batch.{Batch}
 use Rattle.jrn_format.specs.declared.journal.Form.TheVariants.{Two}
 use Rattle.jrn_format.specs.Batch.{PayloadFits}
-use Rattle.jrn_laws.specs.Halves.{Halves, Place, InOlder, InNewer, batches_in, fits, place_in, place_of}
+use Rattle.jrn_format.specs.Halves.{Halves, Place, InOlder, InNewer, batches_in, fits, place_in, place_of}
 use Rattle.book_model.specs.Entries.{runs_of}
 use Rattle.book_laws.proofs.CommandLaws.{length-entries}
-use Rattle.book_slaves.specs.Line.{Line, HasRoom, SameButRooms}
-use Rattle.book_room.specs.declared.spot.Spot.{Spot}
-use Rattle.book_room.specs.Room.{half_room}
-use Rattle.book_room.specs.Spot.{as_place}
-use Rattle.book_ledger.specs.Ledger.{Ledger, own, appended, queued, all_begun}
+use Rattle.book_parts.specs.Line.{LineState, HasRoom, SameButRooms}
+use Rattle.book_parts.specs.declared.spot.Spot.{Spot}
+use Rattle.book_parts.specs.Room.{half_room}
+use Rattle.book_parts.specs.Spot.{as_place}
+use Rattle.book_parts.specs.Ledger.{Ledger, own, appended, queued, all_begun}
 use Rattle.book_core.specs.declared.step.Step.TheVariants.{Resting, Payload}
 use Rattle.book_core.specs.declared.book.Core.TheInside.{Inside}
 use Rattle.book_core.specs.Stands.{StepStands, PartsStand, Stands, IsAppending}
@@ -52,7 +52,7 @@ begun-all ledger none =
     let here : queued ledger ≡ drop ledger.durable (own ledger) = ap (λ (n : ℕ). drop n (own ledger)) (let z : ledger.durable + ledger.begun ≡ ledger.durable = omega (arith, none) in z) in
     take_all (length (queued ledger)) (drop ledger.durable (own ledger)) (omega (arith, ap length here)) ∙ sym here
 
-appending : (core : Inside) (spot : Spot) (work : Line) → core.ledger.begun ≡ 0 → core.area.form ≡ Two → place_of (half_room core.area) core.area.halves (queued core.ledger) ≡ Some (as_place spot)
+appending : (core : Inside) (spot : Spot) (work : LineState) → core.ledger.begun ≡ 0 → core.area.form ≡ Two → place_of (half_room core.area) core.area.halves (queued core.ledger) ≡ Some (as_place spot)
     → PayloadFits (queued core.ledger) → HasRoom work (runs_of (queued core.ledger)) → IsAppending (as_place spot) core.area (all_begun core.ledger) work
 appending core spot work none two place payload room =
     let has = has-place (half_room core.area) core.area.halves (queued core.ledger) (as_place spot) place in
@@ -66,7 +66,7 @@ appending core spot work none two place payload room =
     }
 
 -- the line with other rooms, while nothing is being done with the disk
-pub append-stands : (core : Inside) (spot : Spot) (work : Line) → core.step ≡ Resting → core.area.form ≡ Two → place_of (half_room core.area) core.area.halves (queued core.ledger) ≡ Some (as_place spot)
+pub append-stands : (core : Inside) (spot : Spot) (work : LineState) → core.step ≡ Resting → core.area.form ≡ Two → place_of (half_room core.area) core.area.halves (queued core.ledger) ≡ Some (as_place spot)
     → PayloadFits (queued core.ledger) → HasRoom work (runs_of (queued core.ledger)) → SameButRooms core.work work → Stands core
     → PartsStand core.words.value core.found core.area (Payload spot) (all_begun core.ledger) work core.shown core.fault
 append-stands core spot work rests two place payload room same stands =

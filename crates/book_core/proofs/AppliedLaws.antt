@@ -1,23 +1,23 @@
--- How many commands are settled in a row, read off the first live entry that isn't.
+-- How many commands are settled without a gap: those before the first live entry that isn't.
 use Rattle.std.proofs.Common.{◌≡◌, ℕ, zero, suc, ◌+◌, ◌-◌, ◌≤◌, Bool, true, false, List, [], ◌∷◌, ◌++◌, length, take, map, refl, sym, ◌∙◌, ap, subst, arith, Option, Some, None, zero-add, suc-add}
 use Rattle.std.specs.Prelude.{nat_le, slice_get, if◌then◌else◌}
 use Rattle.std.proofs.lemmas.List.{length-append, length-map, map-append}
 use Rattle.std.proofs.lemmas.Bool.Decides.{nat_tests}
-use Rattle.sii_runs.specs.declared.run.Run.{Run}
-use Rattle.sii_runs.specs.Redo.{redone}
+use Rattle.sii_words.specs.declared.run.Run.{Run}
+use Rattle.sii_words.specs.Redo.{redone}
 use Rattle.sii_edit.specs.declared.command.Command.{Command}
 use Rattle.sii_edit.specs.Fold.{after}
 use Rattle.jrn_format.specs.declared.journal.Entry.{Entry}
-use Rattle.slave_queue.specs.Cells.{Cell, cell_of}
-use Rattle.slave_queue.specs.Pending.{values_of, namings_settled}
-use Rattle.slave_queue.proofs.SettledLaws.{settled-all}
+use Rattle.book_model.specs.Cells.{Cell, cell_of}
+use Rattle.book_model.specs.Pending.{values_of, namings_settled}
+use Rattle.book_model.proofs.SettledLaws.{settled-all}
 use Rattle.book_model.specs.Entries.{runs_of, namings, values, entries_from}
 use Rattle.book_model.specs.Book.{all_cells, cell_at}
 use Rattle.book_model.specs.Reading.{settled_from, runs_settled, settled_prefix}
 use Rattle.book_laws.proofs.CellLaws.{values-append}
 use Rattle.book_laws.proofs.FitLaws.{runs_of-append}
-use Rattle.book_slaves.specs.Line.{Line, first_unsettled, OweNoMore}
-use Rattle.book_ledger.specs.Ledger.{Ledger, own}
+use Rattle.book_parts.specs.Line.{LineState, first_unsettled, OweNoMore}
+use Rattle.book_parts.specs.Ledger.{Ledger, own}
 use Rattle.book_core.specs.Stands.{as_found, AreLatest, applied_of}
 
 -- ---- the first entry that isn't settled is the one behind the prefix
@@ -111,7 +111,7 @@ length-own first zero base commands le = refl
 length-own first (suc count) base [] le = absurd (omega arith)
 length-own first (suc count) base (c ∷ cs) le = ap suc (length-own (suc first) count (after base c) cs (omega arith))
 
-pub applied-is : (found : List Entry) (ledger : Ledger) (work : Line) → AreLatest found ledger work → OweNoMore work.slaves (work.older ++ work.newer) → ledger.durable ≤ length ledger.accepted
+pub applied-is : (found : List Entry) (ledger : Ledger) (work : LineState) → AreLatest found ledger work → OweNoMore work.slaves (work.older ++ work.newer) → ledger.durable ≤ length ledger.accepted
     → number_or (first_unsettled (all_cells work.slaves) (work.older ++ work.newer)) ledger.durable ≡ applied_of found ledger work
 applied-is found ledger work latest few durable =
     let cells = all_cells work.slaves in
@@ -134,7 +134,7 @@ applied-is found ledger work latest few durable =
     ∙ ap (λ (n : ℕ). n - length found) (prefix-found cells found done)
 
 -- as the book says it
-pub applied-book : (words : List (List ℕ)) (found : List Entry) (ledger : Ledger) (work : Line) → ledger.base ≡ redone words (runs_of found) → AreLatest found ledger work → OweNoMore work.slaves (work.older ++ work.newer)
+pub applied-book : (words : List (List ℕ)) (found : List Entry) (ledger : Ledger) (work : LineState) → ledger.base ≡ redone words (runs_of found) → AreLatest found ledger work → OweNoMore work.slaves (work.older ++ work.newer)
     → ledger.durable ≤ length ledger.accepted → (unsettled : Option ℕ) → unsettled ≡ first_unsettled (all_cells work.slaves) (work.older ++ work.newer)
     → number_or unsettled ledger.durable ≡ settled_prefix (all_cells work.slaves) (found ++ take ledger.durable (entries_from 0 (redone words (runs_of found)) ledger.accepted)) - length found
 applied-book words found ledger work base latest few durable unsettled is =

@@ -1,22 +1,22 @@
 -- Which step is to be handed out.
 use Rattle.std.proofs.Common.{◌≡◌, ◌∙◌, Bool, true, false, List, [], ◌∷◌, Option, Some, None, refl, sym, ap, subst}
 use Rattle.std.specs.Prelude.{◌&&◌, not, if◌then◌else◌}
-use Rattle.sii_runs.specs.declared.run.Run.{Run}
+use Rattle.sii_words.specs.declared.run.Run.{Run}
 use Rattle.jrn_format.specs.declared.journal.Entry.{Entry}
 use Rattle.jrn_format.specs.declared.journal.Batch.{Batch}
-use Rattle.jrn_laws.specs.Halves.{Place, live, place_of}
-use Rattle.jrn_laws.specs.Halves as halves
-use Rattle.slave_queue.specs.Cells.{is_any}
+use Rattle.jrn_format.specs.Halves.{Place, live, place_of}
+use Rattle.jrn_format.specs.Halves as halves
+use Rattle.book_model.specs.Cells.{is_any}
 use Rattle.book_model.specs.Entries.{runs_of, entries_of}
 use Rattle.book_model.specs.Book.{Book, Doing, all_cells}
 use Rattle.book_model.specs.Book as book
 use Rattle.book_model.specs.DiskSteps.{begun, can_retire, can_migrate, doing_next}
 use Rattle.book_model.specs.Reading.{runs_settled}
-use Rattle.book_slaves.specs.Line.{is_settled}
-use Rattle.book_room.specs.declared.spot.Spot.{Spot}
-use Rattle.book_room.specs.declared.spot.Spot.TheVariants as spots
-use Rattle.book_room.specs.Spot.{as_place}
-use Rattle.book_ledger.specs.Ledger.{appended}
+use Rattle.book_parts.specs.Line.{is_settled}
+use Rattle.book_parts.specs.declared.spot.Spot.{Spot}
+use Rattle.book_parts.specs.declared.spot.Spot.TheVariants as spots
+use Rattle.book_parts.specs.Spot.{as_place}
+use Rattle.book_parts.specs.Ledger.{appended}
 use Rattle.book_core.specs.declared.step.Step.{Step}
 use Rattle.book_core.specs.declared.step.Step.TheVariants.{Resting, Payload, PayloadSync, OpenGate, OpenSync, CloseGate, CloseSync, FarGate, Mark, MarkSync, Version, VersionSync}
 use Rattle.book_core.specs.declared.book.Core.TheInside.{Inside}

@@ -1,12 +1,12 @@
--- A step came back well, as the book says it.
+-- A step that succeeded leaves the book as `disk_done` says.
 use Rattle.std.proofs.Common.{◌≡◌, ℕ, ◌+◌, false, List, length, refl, sym, ◌∙◌, ap}
 use Rattle.jrn_format.specs.declared.journal.Entry.{Entry}
 use Rattle.book_model.specs.Entries.{runs_of}
 use Rattle.book_model.specs.Book.{Book, Slave}
 use Rattle.book_model.specs.DiskSteps.{went_on, went_live}
-use Rattle.book_room.specs.declared.spot.Spot.{Spot}
-use Rattle.book_room.specs.Spot.{as_place}
-use Rattle.book_ledger.specs.Ledger.{appended, gone_durable}
+use Rattle.book_parts.specs.declared.spot.Spot.{Spot}
+use Rattle.book_parts.specs.Spot.{as_place}
+use Rattle.book_parts.specs.Ledger.{appended, gone_durable}
 use Rattle.book_core.specs.declared.step.Step.TheVariants.{Resting, OpenSync}
 use Rattle.book_core.specs.declared.book.Core.TheInside.{Inside}
 use Rattle.book_core.specs.Parts.{doing_of, book_of}

@@ -1,30 +1,30 @@
--- What is live in a journal is taken up, batch by batch.
+-- The open takes in the live batches one by one.
 use Rattle.std.proofs.Common.{◌≡◌, ℕ, zero, suc, ◌+◌, ◌-◌, ◌<◌, ◌≤◌, Bool, true, false, List, [], ◌∷◌, ◌++◌, length, get_or, take, drop, set, map, refl, sym, ◌∙◌, ap, subst, arith, append_assoc}
 use Rattle.std.specs.Prelude.{if◌then◌else◌, ◌==◌}
 use Rattle.std.specs.List.{All, AllByRecursion, filter}
 use Rattle.std.proofs.lemmas.List.{append-nil, take_more, take_all, map-append, length-map, length-set, drop-set-lt, drop_more, take_at, drop_at}
 use Rattle.std.proofs.lemmas.List.Elements.{All-append, All-map, All-cons, All-nil, filter-append}
 use Rattle.std.proofs.lemmas.Grind.{flat_map-append}
-use Rattle.sii_runs.specs.declared.run.Run.{Run}
-use Rattle.sii_runs.specs.Redo.{redone, LiesInside}
-use Rattle.sii_runs.proofs.RedoLaws.{redone-append}
+use Rattle.sii_words.specs.declared.run.Run.{Run}
+use Rattle.sii_words.specs.Redo.{redone, LiesInside}
+use Rattle.sii_words.proofs.RedoLaws.{redone-append}
 use Rattle.jrn_format.specs.declared.journal.Entry.{Entry}
 use Rattle.jrn_format.specs.declared.journal.Batch.{Batch}
 use Rattle.jrn_format.specs.Batch.{LiesWithin, LieWithin, IsWithin}
 use Rattle.jrn_format.proofs.Within.{inside_plant}
-use Rattle.jrn_laws.specs.Halves.{live}
-use Rattle.jrn_laws.specs.Halves as places
-use Rattle.jrn_laws.specs.Live.{halves_in}
+use Rattle.jrn_format.specs.Halves.{live}
+use Rattle.jrn_format.specs.Halves as places
+use Rattle.jrn_format.specs.Live.{halves_in}
 use Rattle.book_model.specs.Entries.{runs_of, entries_of, live_runs, sizes_of}
 use Rattle.book_model.specs.Book.{Slave}
 use Rattle.book_model.specs.Open.{owing_words, owing_slaves}
 use Rattle.book_laws.proofs.FitLaws.{runs_of-append, live_runs-append}
-use Rattle.slave_queue.specs.Cells.{Cell}
-use Rattle.book_slaves.specs.Line.{Line, AreOfLine, NeverFall, SameButRooms}
-use Rattle.book_slaves.proofs.OwingLaws.{owing_slaves-append, sizes-owing}
-use Rattle.book_room.specs.declared.spot.Spot.{Spot}
-use Rattle.book_room.specs.declared.spot.Spot.TheVariants.{InOlder, InNewer}
-use Rattle.book_room.specs.Spot.{as_place}
+use Rattle.book_model.specs.Cells.{Cell}
+use Rattle.book_parts.specs.Line.{LineState, AreOfLine, NeverFall, SameButRooms}
+use Rattle.book_parts.proofs.OwingLaws.{owing_slaves-append, sizes-owing}
+use Rattle.book_parts.specs.declared.spot.Spot.{Spot}
+use Rattle.book_parts.specs.declared.spot.Spot.TheVariants.{InOlder, InNewer}
+use Rattle.book_parts.specs.Spot.{as_place}
 use Rattle.book_core.specs.Stands.{as_found, cell_counts}
 use Rattle.book_core.specs.Found.{AreFound, older_part, newer_part, Joined, TakenUp}
 use Rattle.book_core.proofs.InsideLaws.{entries-inside, sizes-redone}
@@ -84,7 +84,7 @@ never-fall entries all = λ i j d le lt. omega (arith, all i d (omega arith), al
 pub all-found : (entries : List Entry) → All (λ (e : Entry). e.number ≡ 0) (map as_found entries)
 all-found entries = All-map (λ (e : Entry). e.number ≡ 0) as_found entries (λ k d lt. refl)
 
-pub found-order : (line : Line) (entries : List Entry) → AreFound line → NeverFall ((line.older ++ line.newer) ++ map as_found entries)
+pub found-order : (line : LineState) (entries : List Entry) → AreFound line → NeverFall ((line.older ++ line.newer) ++ map as_found entries)
 found-order line entries found =
     never-fall ((line.older ++ line.newer) ++ map as_found entries)
     (All-append (λ (e : Entry). e.number ≡ 0) (line.older ++ line.newer) (map as_found entries) (All-append (λ (e : Entry). e.number ≡ 0) line.older line.newer found.older found.newer) (all-found entries))
@@ -118,28 +118,28 @@ newer-both : (spot : Spot) (xs ys : List Entry) → newer_part spot (xs ++ ys) �
 newer-both InOlder xs ys = refl
 newer-both InNewer xs ys = refl
 
-pub joined-none : (spot : Spot) (line : Line) → Joined spot [] line line
+pub joined-none : (spot : Spot) (line : LineState) → Joined spot [] line line
 joined-none spot line = record {
   slaves = sym (owing_slaves-none 0 line.slaves);
   older = sym (append-nil line.older) ∙ ap (λ (l : List Entry). line.older ++ l) (sym (older-none spot));
   newer = sym (append-nil line.newer) ∙ ap (λ (l : List Entry). line.newer ++ l) (sym (newer-none spot));
 }
 
-pub joined-more : (spot : Spot) (xs ys : List Entry) (old mid new : Line) → Joined spot xs old mid → Joined spot ys mid new → Joined spot (xs ++ ys) old new
+pub joined-more : (spot : Spot) (xs ys : List Entry) (old mid new : LineState) → Joined spot xs old mid → Joined spot ys mid new → Joined spot (xs ++ ys) old new
 joined-more spot xs ys old mid new one two = record {
   slaves = two.slaves ∙ ap (owing_slaves (runs_of ys) 0) one.slaves ∙ sym (owing_slaves-append (runs_of xs) (runs_of ys) 0 old.slaves) ∙ ap (λ (l : List Run). owing_slaves l 0 old.slaves) (sym (runs_of-append xs ys));
   older = two.older ∙ ap (λ (l : List Entry). l ++ older_part spot ys) one.older ∙ append_assoc old.older (older_part spot xs) (older_part spot ys) ∙ ap (λ (l : List Entry). old.older ++ l) (sym (older-both spot xs ys));
   newer = two.newer ∙ ap (λ (l : List Entry). l ++ newer_part spot ys) one.newer ∙ append_assoc old.newer (newer_part spot xs) (newer_part spot ys) ∙ ap (λ (l : List Entry). old.newer ++ l) (sym (newer-both spot xs ys));
 }
 
-pub joined-older : (old mid : Line) (entries : List Entry) (new : Line) → SameButRooms old mid → new.slaves ≡ owing_slaves (runs_of entries) 0 mid.slaves → new.older ≡ mid.older ++ entries → new.newer ≡ mid.newer → Joined InOlder entries old new
+pub joined-older : (old mid : LineState) (entries : List Entry) (new : LineState) → SameButRooms old mid → new.slaves ≡ owing_slaves (runs_of entries) 0 mid.slaves → new.older ≡ mid.older ++ entries → new.newer ≡ mid.newer → Joined InOlder entries old new
 joined-older old mid entries new kept slaves older newer = record {
   slaves = slaves ∙ ap (owing_slaves (runs_of entries) 0) kept.slaves;
   older = older ∙ ap (λ (l : List Entry). l ++ entries) kept.older;
   newer = newer ∙ kept.newer ∙ sym (append-nil old.newer);
 }
 
-pub joined-newer : (old mid : Line) (entries : List Entry) (new : Line) → SameButRooms old mid → new.slaves ≡ owing_slaves (runs_of entries) 0 mid.slaves → new.older ≡ mid.older → new.newer ≡ mid.newer ++ entries → Joined InNewer entries old new
+pub joined-newer : (old mid : LineState) (entries : List Entry) (new : LineState) → SameButRooms old mid → new.slaves ≡ owing_slaves (runs_of entries) 0 mid.slaves → new.older ≡ mid.older → new.newer ≡ mid.newer ++ entries → Joined InNewer entries old new
 joined-newer old mid entries new kept slaves older newer = record {
   slaves = slaves ∙ ap (owing_slaves (runs_of entries) 0) kept.slaves;
   older = older ∙ kept.older ∙ sym (append-nil old.older);
@@ -148,11 +148,11 @@ joined-newer old mid entries new kept slaves older newer = record {
 
 -- ---- what holds of the line again
 
-pub still-alone : (spot : Spot) (entries : List Entry) (old new : Line) → Joined spot entries old new → (as_place spot ≡ places.InOlder → old.newer ≡ []) → as_place spot ≡ places.InOlder → new.newer ≡ []
+pub still-alone : (spot : Spot) (entries : List Entry) (old new : LineState) → Joined spot entries old new → (as_place spot ≡ places.InOlder → old.newer ≡ []) → as_place spot ≡ places.InOlder → new.newer ≡ []
 still-alone InOlder entries old new joined alone is = joined.newer ∙ append-nil old.newer ∙ alone is
 still-alone InNewer entries old new joined alone is = absurd (cc is)
 
-pub still-found : (spot : Spot) (entries : List Entry) (old new : Line) → AreFound old → Joined spot (map as_found entries) old new → AreFound new
+pub still-found : (spot : Spot) (entries : List Entry) (old new : LineState) → AreFound old → Joined spot (map as_found entries) old new → AreFound new
 still-found InOlder entries old new found joined = record {
   older = subst (All (λ (e : Entry). e.number ≡ 0)) (sym joined.older) (All-append (λ (e : Entry). e.number ≡ 0) old.older (map as_found entries) found.older (all-found entries));
   newer = subst (All (λ (e : Entry). e.number ≡ 0)) (sym (joined.newer ∙ append-nil old.newer)) found.newer;
@@ -163,7 +163,7 @@ still-found InNewer entries old new found joined = record {
 }
 
 -- the counts of cells stay, so the next batch names words of the line
-pub still-inside : (spot : Spot) (xs entries : List Entry) (old new : Line) → Joined spot xs old new → AllByRecursion (LieWithin (cell_counts old.slaves)) entries → AreOfLine new.slaves (runs_of (map as_found entries))
+pub still-inside : (spot : Spot) (xs entries : List Entry) (old new : LineState) → Joined spot xs old new → AllByRecursion (LieWithin (cell_counts old.slaves)) entries → AreOfLine new.slaves (runs_of (map as_found entries))
 still-inside spot xs entries old new joined within =
     subst (AreOfLine new.slaves) (sym (found-runs entries))
     (entries-inside new.slaves (cell_counts old.slaves) entries (ap cell_counts joined.slaves ∙ sizes-owing (runs_of xs) 0 old.slaves) within)
@@ -171,7 +171,7 @@ still-inside spot xs entries old new joined within =
 -- ---- the batches one by one
 
 -- the batches from a place on are as they were
-pub record IsAhead (spot : Spot) (batches now : List Batch) (old new : Line) (at : ℕ) : Type 0 where
+pub record IsAhead (spot : Spot) (batches now : List Batch) (old new : LineState) (at : ℕ) : Type 0 where
   pub same : length now ≡ length batches
   pub rest : drop at now ≡ drop at batches
   pub joined : Joined spot (map as_found (entries_of (take at batches))) old new
@@ -182,10 +182,10 @@ ahead-both batches now at d same rest within =
     let one : get_or now at d ∷ drop (at + 1) now ≡ get_or batches at d ∷ drop (at + 1) batches = sym (drop_more now at d (omega (arith, same))) ∙ rest ∙ drop_more batches at d within in
     (cc, cc)
 
-pub ahead-batch : (spot : Spot) (batches now : List Batch) (old new : Line) (at : ℕ) (d : Batch) → IsAhead spot batches now old new at → at < length batches → get_or now at d ≡ get_or batches at d
+pub ahead-batch : (spot : Spot) (batches now : List Batch) (old new : LineState) (at : ℕ) (d : Batch) → IsAhead spot batches now old new at → at < length batches → get_or now at d ≡ get_or batches at d
 ahead-batch spot batches now old new at d ahead within = (ahead-both batches now at d ahead.same ahead.rest within).0
 
-pub ahead-more : (spot : Spot) (batches now : List Batch) (old mid new : Line) (at : ℕ) (d left : Batch) (entries : List Entry) → IsAhead spot batches now old mid at → at < length batches
+pub ahead-more : (spot : Spot) (batches now : List Batch) (old mid new : LineState) (at : ℕ) (d left : Batch) (entries : List Entry) → IsAhead spot batches now old mid at → at < length batches
     → entries ≡ map as_found (get_or batches at d).entries → Joined spot entries mid new → IsAhead spot batches (set now at left) old new (at + 1)
 ahead-more spot batches now old mid new at d left entries ahead within is joined = record {
   same = length-set now at left ∙ ahead.same;
@@ -203,16 +203,16 @@ older-first batches count all is = ap (take count) (sym all) ∙ take_at (halves
 pub newer-behind : (batches : List Batch) (count : ℕ) → live (halves_in batches) ≡ batches → count ≡ length (halves_in batches).older → drop count batches ≡ (halves_in batches).newer
 newer-behind batches count all is = ap (drop count) (sym all) ∙ drop_at (halves_in batches).older (halves_in batches).newer count (sym is)
 
-pub none-found : (line : Line) → line.older ≡ [] → line.newer ≡ [] → AreFound line
+pub none-found : (line : LineState) → line.older ≡ [] → line.newer ≡ [] → AreFound line
 none-found line older newer = record {
   older = subst (All (λ (e : Entry). e.number ≡ 0)) (sym older) (All-nil (λ (e : Entry). e.number ≡ 0));
   newer = subst (All (λ (e : Entry). e.number ≡ 0)) (sym newer) (All-nil (λ (e : Entry). e.number ≡ 0));
 }
 
-pub counts-stay : (spot : Spot) (entries : List Entry) (old new : Line) → Joined spot entries old new → cell_counts new.slaves ≡ cell_counts old.slaves
+pub counts-stay : (spot : Spot) (entries : List Entry) (old new : LineState) → Joined spot entries old new → cell_counts new.slaves ≡ cell_counts old.slaves
 counts-stay spot entries old new joined = ap cell_counts joined.slaves ∙ sizes-owing (runs_of entries) 0 old.slaves
 
-pub taken-up : (batches xs ys : List Batch) (old mid new : Line) → xs ≡ (halves_in batches).older → ys ≡ (halves_in batches).newer → live (halves_in batches) ≡ batches
+pub taken-up : (batches xs ys : List Batch) (old mid new : LineState) → xs ≡ (halves_in batches).older → ys ≡ (halves_in batches).newer → live (halves_in batches) ≡ batches
     → Joined InOlder (map as_found (entries_of xs)) old mid → Joined InNewer (map as_found (entries_of ys)) mid new → TakenUp batches old new
 taken-up batches xs ys old mid new xs_is ys_is all one two = record {
   slaves = two.slaves ∙ ap (owing_slaves (runs_of (map as_found (entries_of ys))) 0) one.slaves

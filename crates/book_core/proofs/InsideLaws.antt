@@ -3,13 +3,13 @@ use Rattle.std.proofs.Common.{◌≡◌, ℕ, zero, suc, ◌+◌, ◌<◌, ◌�
 use Rattle.std.specs.Prelude.{slice_index}
 use Rattle.std.specs.List.{AllByRecursion}
 use Rattle.std.proofs.lemmas.List.{length-map}
-use Rattle.sii_runs.specs.declared.run.Run.{Run}
-use Rattle.sii_runs.specs.Redo.{redone, redone_from, redone_words}
+use Rattle.sii_words.specs.declared.run.Run.{Run}
+use Rattle.sii_words.specs.Redo.{redone, redone_from, redone_words}
 use Rattle.jrn_format.specs.declared.journal.Entry.{Entry}
 use Rattle.jrn_format.specs.Batch.{LiesWithin, LieWithin}
 use Rattle.book_model.specs.Entries.{runs_of, sizes_of}
 use Rattle.book_model.specs.Book.{Slave, nobody}
-use Rattle.book_slaves.specs.Line.{IsOfLine, AreOfLine}
+use Rattle.book_parts.specs.Line.{IsOfLine, AreOfLine}
 use Rattle.book_core.specs.Stands.{cell_counts}
 
 count-at : (slaves : List Slave) (k : ℕ) → get_or (cell_counts slaves) k 0 ≡ length (get_or slaves k nobody).cells

@@ -5,10 +5,10 @@ use Rattle.book_model.specs.declared.fault.Fault.{Fault}
 use Rattle.book_model.specs.Book.{Book, being_appended}
 use Rattle.book_model.specs.Book as book
 use Rattle.book_laws.proofs.CommandLaws.{length-entries}
-use Rattle.book_slaves.specs.Line.{Line}
-use Rattle.book_room.specs.Room.{Room}
-use Rattle.book_ledger.specs.Ledger.{Ledger, contents_of, own, appended, queued}
-use Rattle.book_ledger.specs.Shown.{Shown}
+use Rattle.book_parts.specs.Line.{LineState}
+use Rattle.book_parts.specs.Room.{Room}
+use Rattle.book_parts.specs.Ledger.{Ledger, contents_of, own, appended, queued}
+use Rattle.book_parts.specs.Shown.{Shown}
 use Rattle.book_core.specs.declared.step.Step.{Step}
 use Rattle.book_core.specs.declared.step.Step.TheVariants.{Resting, Payload, PayloadSync, OpenGate, OpenSync, CloseGate, CloseSync, FarGate, Mark, MarkSync, Version, VersionSync}
 use Rattle.book_core.specs.Parts.{doing_of, book_of}
@@ -27,7 +27,7 @@ pub length-appended : (ledger : Ledger) → ledger.durable + ledger.begun ≤ le
 length-appended ledger few =
     length-take-le ledger.begun (drop ledger.durable (own ledger)) (omega (arith, few, length-drop ledger.durable (own ledger), length-entries 0 ledger.base ledger.accepted))
 
-being-appended : (step : Step) (area : Room) (ledger : Ledger) (work : Line) → StepStands step area ledger work → length (appended ledger) ≡ ledger.begun
+being-appended : (step : Step) (area : Room) (ledger : Ledger) (work : LineState) → StepStands step area ledger work → length (appended ledger) ≡ ledger.begun
     → length (being_appended (book.appended (doing_of (appended ledger) step))) ≡ ledger.begun
 being-appended Resting area ledger work stands is = sym stands
 being-appended (Payload spot) area ledger work stands is = is

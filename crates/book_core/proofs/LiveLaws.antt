@@ -1,39 +1,39 @@
--- A batch goes live, the older half is retired, a migration ends: what ties the parts of a core holds again.
+-- The book's invariant holds again once a batch goes live, the older half is retired, or a migration ends.
 use Rattle.std.proofs.Common.{◌≡◌, ℕ, zero, suc, ◌+◌, ◌-◌, ◌<◌, ◌≤◌, false, List, [], ◌∷◌, ◌++◌, length, get_or, map, take, drop, Option, Some, refl, sym, ◌∙◌, ap, subst, arith, append_assoc, add-zero, suc-add, add-suc}
 use Rattle.std.specs.Prelude.{is_some}
 use Rattle.std.proofs.Math.Seq.{take-add}
 use Rattle.std.proofs.lemmas.List.{append-nil, length-map, map-append}
 use Rattle.std.proofs.lemmas.List.Concat.{flat_map-append}
-use Rattle.sii_runs.specs.declared.run.Run.{Run}
+use Rattle.sii_words.specs.declared.run.Run.{Run}
 use Rattle.jrn_format.specs.declared.journal.Entry.{Entry}
 use Rattle.jrn_format.specs.declared.journal.Batch.{Batch}
 use Rattle.jrn_format.specs.declared.journal.Form.{Form}
 use Rattle.jrn_format.specs.declared.journal.Form.TheVariants.{Two}
-use Rattle.jrn_laws.specs.Halves.{Halves, Place, InOlder, InNewer, with_batch, batch_in, live, left_of}
-use Rattle.jrn_laws.specs.Halves as halves
-use Rattle.slave_queue.specs.Cells.{Cell, since, cell_of}
+use Rattle.jrn_format.specs.Halves.{Halves, Place, InOlder, InNewer, with_batch, batch_in, live, left_of}
+use Rattle.jrn_format.specs.Halves as halves
+use Rattle.book_model.specs.Cells.{Cell, since, cell_of}
 use Rattle.book_model.specs.declared.fault.Fault.{Fault}
 use Rattle.book_model.specs.Entries.{runs_of, entries_of, values}
-use Rattle.book_model.specs.Book.{Slave, Errand, nobody, all_cells, cell_at}
+use Rattle.book_model.specs.Book.{Slave, Errand, nobody, all_cells, cell_at, IsAbout}
 use Rattle.book_model.specs.Open.{owing_words, owing_slaves}
 use Rattle.book_model.specs.Reading.{settled_prefix}
 use Rattle.book_laws.specs.Fits.{OwesNoMore}
 use Rattle.book_laws.proofs.BookLaws.{length-all_cells}
 use Rattle.book_laws.proofs.CellLaws.{length-all_named}
 use Rattle.book_laws.proofs.SettledLaws.{prefix-stays}
-use Rattle.book_slaves.specs.Line.{Line, slave_at, retired}
-use Rattle.book_slaves.proofs.OwingLaws.{SameButOwed, owing-keeps, sizes-owing, length-owing_slaves}
-use Rattle.book_room.specs.Room.{Room}
-use Rattle.book_ledger.specs.Ledger.{Ledger, own, appended, gone_durable}
-use Rattle.book_ledger.specs.Shown.{Shown}
+use Rattle.book_parts.specs.Line.{LineState, slave_at, retired}
+use Rattle.book_parts.proofs.OwingLaws.{SameButOwed, owing-keeps, sizes-owing, length-owing_slaves}
+use Rattle.book_parts.specs.Room.{Room}
+use Rattle.book_parts.specs.Ledger.{Ledger, own, appended, gone_durable}
+use Rattle.book_parts.specs.Shown.{Shown}
 use Rattle.book_core.specs.declared.step.Step.{Step}
 use Rattle.book_core.specs.declared.step.Step.TheVariants.{Resting}
-use Rattle.book_core.specs.Stands.{as_found, IsAbout, ErrandStands, ErrandsStand, runs_each, HasLive, AreLatest, IsAppending, IsRetiring, IsMigrating, applied_of, IsShown, PartsStand}
+use Rattle.book_core.specs.Stands.{as_found, ErrandStands, ErrandsStand, runs_each, HasLive, AreLatest, IsAppending, IsRetiring, IsMigrating, applied_of, IsShown, PartsStand}
 use Rattle.book_core.specs.Live.{joined, with_live}
 
 -- ---- the slaves
 
-pub joined-slaves : (place : Place) (line : Line) (entries : List Entry) → (joined place line entries).slaves ≡ owing_slaves (runs_of entries) 0 line.slaves
+pub joined-slaves : (place : Place) (line : LineState) (entries : List Entry) → (joined place line entries).slaves ≡ owing_slaves (runs_of entries) 0 line.slaves
 joined-slaves InOlder line entries = refl
 joined-slaves InNewer line entries = refl
 
@@ -50,13 +50,13 @@ errands-owed fault runs slaves later is stand i inside =
     rw is (errand-owed fault (get_or slaves i nobody) (get_or (owing_slaves runs 0 slaves) i nobody) (owing-keeps runs 0 slaves i)
     (stand i (omega (arith, ap length is, length-owing_slaves runs 0 slaves))))
 
-owes-word : (runs : List Run) (slave first : ℕ) (cells : List Cell) (k : ℕ)
+pub owes-word : (runs : List Run) (slave first : ℕ) (cells : List Cell) (k : ℕ)
     → length (cell_of (owing_words runs slave first cells) k).owed ≤ length (cell_of cells k).owed + length (values runs slave (first + k))
 owes-word runs slave first [] k = omega arith
 owes-word runs slave first (c ∷ cs) zero = rw add-zero (length-all_named c.known c.owed (values runs slave first))
 owes-word runs slave first (c ∷ cs) (suc k) = rw (add-suc first k, ← suc-add first k) (owes-word runs slave (suc first) cs k)
 
-owes-slave : (runs : List Run) (first : ℕ) (slaves : List Slave) (k at : ℕ)
+pub owes-slave : (runs : List Run) (first : ℕ) (slaves : List Slave) (k at : ℕ)
     → length (cell_at (all_cells (owing_slaves runs first slaves)) k at).owed ≤ length (cell_at (all_cells slaves) k at).owed + length (values runs (first + k) at)
 owes-slave runs first [] k at = omega arith
 owes-slave runs first (s ∷ ss) zero at =
@@ -77,7 +77,7 @@ each-more entries more batches batch is same =
     ∙ ap (λ (l : List Entry). runs_each (entries_of batches ++ l)) (sym (append-nil batch.entries))
     ∙ ap runs_each (sym (flat_map-append (λ (b : Batch). b.entries) batches (batch ∷ [])))
 
-live-joined : (place : Place) (halves : Halves) (work : Line) (entries : List Entry) → HasLive halves work → HasLive (with_batch halves place (batch_in halves place entries)) (joined place work entries)
+live-joined : (place : Place) (halves : Halves) (work : LineState) (entries : List Entry) → HasLive halves work → HasLive (with_batch halves place (batch_in halves place entries)) (joined place work entries)
 live-joined InOlder halves work entries has = record { older = each-more work.older entries halves.older (batch_in halves InOlder entries) refl has.older; newer = has.newer }
 live-joined InNewer halves work entries has = record { older = has.older; newer = each-more work.newer entries halves.newer (batch_in halves InNewer entries) refl has.newer }
 
@@ -86,17 +86,17 @@ no-entries [] is = refl
 no-entries (e ∷ es) is = absurd (cc is)
 
 -- while nothing is live in the newer half
-pub none-newer : (halves : Halves) (work : Line) → HasLive halves work → halves.newer ≡ [] → work.newer ≡ []
+pub none-newer : (halves : Halves) (work : LineState) → HasLive halves work → halves.newer ≡ [] → work.newer ≡ []
 none-newer halves work has none = no-entries work.newer (has.newer ∙ ap (λ (l : List Batch). runs_each (entries_of l)) none)
 
-behind-all : (place : Place) (work : Line) (entries : List Entry) → (place ≡ InOlder → work.newer ≡ []) → (joined place work entries).older ++ (joined place work entries).newer ≡ (work.older ++ work.newer) ++ entries
+behind-all : (place : Place) (work : LineState) (entries : List Entry) → (place ≡ InOlder → work.newer ≡ []) → (joined place work entries).older ++ (joined place work entries).newer ≡ (work.older ++ work.newer) ++ entries
 behind-all InOlder work entries alone =
     let none = alone refl in
     ap (λ (l : List Entry). (work.older ++ entries) ++ l) none ∙ append-nil (work.older ++ entries)
     ∙ ap (λ (l : List Entry). l ++ entries) (sym (append-nil work.older) ∙ ap (λ (l : List Entry). work.older ++ l) (sym none))
 behind-all InNewer work entries alone = sym (append_assoc work.older work.newer entries)
 
-latest-joined : (place : Place) (found : List Entry) (ledger : Ledger) (work : Line) → (place ≡ InOlder → work.newer ≡ []) → AreLatest found ledger work → AreLatest found (gone_durable ledger) (joined place work (appended ledger))
+latest-joined : (place : Place) (found : List Entry) (ledger : Ledger) (work : LineState) → (place ≡ InOlder → work.newer ≡ []) → AreLatest found ledger work → AreLatest found (gone_durable ledger) (joined place work (appended ledger))
 latest-joined place found ledger work alone latest = record {
   gone = latest.gone;
   all = ap (λ (l : List Entry). latest.gone ++ l) (behind-all place work (appended ledger) alone) ∙ sym (append_assoc latest.gone (work.older ++ work.newer) (appended ledger))
@@ -104,7 +104,7 @@ latest-joined place found ledger work alone latest = record {
       ∙ ap (λ (l : List Entry). map as_found found ++ l) (sym (take-add ledger.durable ledger.begun (own ledger)));
 }
 
-applied-joined : (place : Place) (found : List Entry) (ledger : Ledger) (work : Line) → applied_of found ledger work ≤ applied_of found (gone_durable ledger) (joined place work (appended ledger))
+applied-joined : (place : Place) (found : List Entry) (ledger : Ledger) (work : LineState) → applied_of found ledger work ≤ applied_of found (gone_durable ledger) (joined place work (appended ledger))
 applied-joined place found ledger work =
     let runs = runs_of (appended ledger) in
     let cells = all_cells work.slaves in
@@ -118,7 +118,7 @@ applied-joined place found ledger work =
     rw (joined-slaves place work (appended ledger), ← all) le in
     omega (arith, up)
 
-pub live-stands : (words : List (List ℕ)) (found : List Entry) (area : Room) (step : Step) (ledger : Ledger) (work : Line) (shown : Shown) (fault : Option Fault) (place : Place)
+pub live-stands : (words : List (List ℕ)) (found : List Entry) (area : Room) (step : Step) (ledger : Ledger) (work : LineState) (shown : Shown) (fault : Option Fault) (place : Place)
     → (place ≡ InOlder → work.newer ≡ []) → PartsStand words found area step ledger work shown fault
     → PartsStand words found (with_live place area (appended ledger)) Resting (gone_durable ledger) (joined place work (appended ledger)) shown fault
 live-stands words found area step ledger work shown fault place alone stands = record {
@@ -135,11 +135,11 @@ live-stands words found area step ledger work shown fault place alone stands = r
 
 -- ---- the older half is retired
 
-live-left : (halves : Halves) (newer : List Batch) (work : Line) → runs_each work.newer ≡ runs_each (entries_of newer) → HasLive (left_of halves newer) (retired work)
+live-left : (halves : Halves) (newer : List Batch) (work : LineState) → runs_each work.newer ≡ runs_each (entries_of newer) → HasLive (left_of halves newer) (retired work)
 live-left halves [] work same = record { older = same; newer = refl }
 live-left halves (b ∷ newer) work same = record { older = same; newer = refl }
 
-pub retired-stands : (words : List (List ℕ)) (found : List Entry) (area : Room) (step : Step) (ledger : Ledger) (work : Line) (shown : Shown) (fault : Option Fault)
+pub retired-stands : (words : List (List ℕ)) (found : List Entry) (area : Room) (step : Step) (ledger : Ledger) (work : LineState) (shown : Shown) (fault : Option Fault)
     → ledger.begun ≡ 0 → PartsStand words found area step ledger work shown fault
     → PartsStand words found (record area { halves = halves.retired area.halves }) Resting ledger (retired work) shown fault
 retired-stands words found area step ledger work shown fault none stands = record {
@@ -159,7 +159,7 @@ retired-stands words found area step ledger work shown fault none stands = recor
 
 -- ---- a migration ends
 
-pub migrated-stands : (words : List (List ℕ)) (found : List Entry) (area : Room) (step : Step) (ledger : Ledger) (work : Line) (shown : Shown) (fault : Option Fault)
+pub migrated-stands : (words : List (List ℕ)) (found : List Entry) (area : Room) (step : Step) (ledger : Ledger) (work : LineState) (shown : Shown) (fault : Option Fault)
     → ledger.begun ≡ 0 → PartsStand words found area step ledger work shown fault
     → PartsStand words found (record area { form = Two }) Resting ledger work shown fault
 migrated-stands words found area step ledger work shown fault none stands = record {
@@ -176,7 +176,7 @@ migrated-stands words found area step ledger work shown fault none stands = reco
 
 -- ---- a fault
 
-pub failed-stands : (words : List (List ℕ)) (found : List Entry) (area : Room) (step : Step) (ledger : Ledger) (work : Line) (shown : Shown) (fault : Option Fault) (first : Fault)
+pub failed-stands : (words : List (List ℕ)) (found : List Entry) (area : Room) (step : Step) (ledger : Ledger) (work : LineState) (shown : Shown) (fault : Option Fault) (first : Fault)
     → PartsStand words found area step ledger work shown fault → PartsStand words found area step ledger work shown (Some first)
 failed-stands words found area step ledger work shown fault first stands = record {
   base = stands.base;

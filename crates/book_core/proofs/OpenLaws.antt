@@ -1,12 +1,12 @@
--- A book as it is opened.
+-- The invariant of a book that was just opened.
 use Rattle.std.proofs.Common.{◌≡◌, ℕ, zero, suc, ◌+◌, ◌<◌, ◌≤◌, false, List, [], ◌∷◌, ◌++◌, length, get_or, take, map, Option, None, refl, sym, ◌∙◌, ap, subst, arith}
 use Rattle.std.specs.List.{AllByRecursion, filter}
 use Rattle.std.specs.Prelude.{◌==◌, not, true}
 use Rattle.std.proofs.lemmas.List.{append-nil, map-append}
 use Rattle.std.proofs.lemmas.Grind.{flat_map-append}
 use Rattle.std.proofs.lemmas.Bool.Decides.{nat_tests}
-use Rattle.sii_runs.specs.declared.run.Run.{Run}
-use Rattle.sii_runs.specs.Redo.{redone}
+use Rattle.sii_words.specs.declared.run.Run.{Run}
+use Rattle.sii_words.specs.Redo.{redone}
 use Rattle.jrn_format.specs.declared.journal.Entry.{Entry}
 use Rattle.jrn_format.specs.declared.journal.Batch.{Batch}
 use Rattle.jrn_format.specs.declared.journal.Form.{Form}
@@ -14,21 +14,21 @@ use Rattle.jrn_format.specs.declared.journal.Form.TheVariants.{One, Two, Moving}
 use Rattle.jrn_format.specs.declared.journal.Journal.{Journal}
 use Rattle.jrn_format.specs.declared.journal.Spelling.TheVariants.{Plain}
 use Rattle.jrn_format.specs.Batch.{CanStand}
-use Rattle.jrn_laws.specs.Halves.{live}
-use Rattle.jrn_laws.specs.Live.{halves_in, FitForm}
-use Rattle.slave_queue.specs.Cells.{Cell, since, cell_of, opened}
+use Rattle.jrn_format.specs.Halves.{live}
+use Rattle.jrn_format.specs.Live.{halves_in, FitForm}
+use Rattle.book_model.specs.Cells.{Cell, since, cell_of, opened}
 use Rattle.book_model.specs.declared.fault.Fault.{Fault}
 use Rattle.book_model.specs.Entries.{runs_of, entries_of, live_runs, sizes_of}
-use Rattle.book_model.specs.Book.{Book, Slave, Errand, Free, Resting, nobody}
+use Rattle.book_model.specs.Book.{Book, Slave, Errand, Free, Resting, nobody, IsAbout}
 use Rattle.book_model.specs.Open.{opened_slave, owing_slaves, open_book}
-use Rattle.book_slaves.specs.Line.{Line}
-use Rattle.book_slaves.proofs.OwingLaws.{owing-keeps, sizes-owing}
-use Rattle.book_room.specs.Room.{Room}
-use Rattle.book_ledger.specs.Ledger.{Ledger}
-use Rattle.book_ledger.specs.Ledger as ledgers
-use Rattle.book_ledger.specs.Shown.{Shown}
+use Rattle.book_parts.specs.Line.{LineState}
+use Rattle.book_parts.proofs.OwingLaws.{owing-keeps, sizes-owing}
+use Rattle.book_parts.specs.Room.{Room}
+use Rattle.book_parts.specs.Ledger.{Ledger}
+use Rattle.book_parts.specs.Ledger as ledgers
+use Rattle.book_parts.specs.Shown.{Shown}
 use Rattle.book_core.specs.declared.step.Step.TheVariants as steps
-use Rattle.book_core.specs.Stands.{as_found, cell_counts, runs_each, IsAbout, ErrandStands, PartsStand}
+use Rattle.book_core.specs.Stands.{as_found, cell_counts, runs_each, ErrandStands, PartsStand}
 use Rattle.book_core.specs.Found.{TakenUp, IsTaken}
 
 -- ---- the batches stand in their halves
@@ -69,7 +69,7 @@ counts-opened (w ∷ ws) = ap (λ (n : ℕ). n ∷ cell_counts (map opened_slave
     length-opened [] = refl
     length-opened (v ∷ vs) = ap suc (length-opened vs)
 
-pub opened-counts : (line : Line) (words : List (List ℕ)) → line.slaves ≡ map opened_slave words → cell_counts line.slaves ≡ sizes_of words
+pub opened-counts : (line : LineState) (words : List (List ℕ)) → line.slaves ≡ map opened_slave words → cell_counts line.slaves ≡ sizes_of words
 opened-counts line words is = ap cell_counts is ∙ counts-opened words
 
 opened-free : (words : List (List ℕ)) (i : ℕ) → (get_or (map opened_slave words) i nobody).errand ≡ Free
@@ -104,14 +104,14 @@ each-found : (entries : List Entry) → runs_each (map as_found entries) ≡ run
 each-found [] = refl
 each-found (e ∷ es) = ap (λ (l : List (List Run)). e.runs ∷ l) (each-found es)
 
-pub is-taken : (words : List (List ℕ)) (batches : List Batch) (line work : Line) → line.slaves ≡ map opened_slave words → line.older ≡ [] → line.newer ≡ [] → TakenUp batches line work → IsTaken words batches work
+pub is-taken : (words : List (List ℕ)) (batches : List Batch) (line work : LineState) → line.slaves ≡ map opened_slave words → line.older ≡ [] → line.newer ≡ [] → TakenUp batches line work → IsTaken words batches work
 is-taken words batches line work slaves older newer taken = record {
   slaves = taken.slaves ∙ ap (owing_slaves (live_runs batches) 0) slaves;
   older = taken.older ∙ ap (λ (l : List Entry). l ++ map as_found (entries_of (halves_in batches).older)) older;
   newer = taken.newer ∙ ap (λ (l : List Entry). l ++ map as_found (entries_of (halves_in batches).newer)) newer;
 }
 
-all-found : (batches : List Batch) (work : Line) (words : List (List ℕ)) → live (halves_in batches) ≡ batches → IsTaken words batches work → work.older ++ work.newer ≡ map as_found (entries_of batches) ++ []
+all-found : (batches : List Batch) (work : LineState) (words : List (List ℕ)) → live (halves_in batches) ≡ batches → IsTaken words batches work → work.older ++ work.newer ≡ map as_found (entries_of batches) ++ []
 all-found batches work words all taken =
     ap (λ (l : List Entry). l ++ work.newer) taken.older
     ∙ ap (λ (l : List Entry). map as_found (entries_of (halves_in batches).older) ++ l) taken.newer
@@ -120,7 +120,7 @@ all-found batches work words all taken =
     ∙ ap (λ (l : List Batch). map as_found (entries_of l)) all
     ∙ sym (append-nil (map as_found (entries_of batches)))
 
-first-stands : (words : List (List ℕ)) (form : Form) (capacity : ℕ) (batches : List Batch) (work : Line) → live (halves_in batches) ≡ batches → IsTaken words batches work
+first-stands : (words : List (List ℕ)) (form : Form) (capacity : ℕ) (batches : List Batch) (work : LineState) → live (halves_in batches) ≡ batches → IsTaken words batches work
     → PartsStand words (entries_of batches) (record { form = form; capacity = capacity; halves = halves_in batches }) steps.Resting (ledgers.opened (redone words (live_runs batches))) work
     (record { contents = redone words (live_runs batches); count = 0 }) None
 first-stands words form capacity batches work all taken = record {
@@ -138,7 +138,7 @@ first-stands words form capacity batches work all taken = record {
   is_shown = record { contents = refl; few = omega arith };
 }
 
-pub opened-stands : (words : List (List ℕ)) (form : Form) (capacity : ℕ) (batches : List Batch) (found : List Entry) (area : Room) (ledger : Ledger) (work : Line) (shown : Shown)
+pub opened-stands : (words : List (List ℕ)) (form : Form) (capacity : ℕ) (batches : List Batch) (found : List Entry) (area : Room) (ledger : Ledger) (work : LineState) (shown : Shown)
     → live (halves_in batches) ≡ batches → IsTaken words batches work → found ≡ entries_of batches → area ≡ record { form = form; capacity = capacity; halves = halves_in batches }
     → ledger ≡ ledgers.opened (redone words (live_runs batches)) → shown ≡ record { contents = redone words (live_runs batches); count = 0 }
     → PartsStand words found area steps.Resting ledger work shown None

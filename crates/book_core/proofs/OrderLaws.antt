@@ -6,12 +6,12 @@ use Rattle.std.proofs.lemmas.List.Sorted.{IsNonDecreasingBy-drop}
 use Rattle.std.proofs.lemmas.Bool.{cases_lt}
 use Rattle.sii_edit.specs.declared.command.Command.{Command}
 use Rattle.sii_edit.specs.Fold.{after}
-use Rattle.sii_runs.specs.Run.{runs_between}
+use Rattle.sii_words.specs.Run.{runs_between}
 use Rattle.jrn_format.specs.declared.journal.Entry.{Entry}
 use Rattle.book_model.specs.Entries.{entries_from}
 use Rattle.book_laws.proofs.CommandLaws.{length-entries}
-use Rattle.book_slaves.specs.Line.{Line, NeverFall}
-use Rattle.book_ledger.specs.Ledger.{Ledger, own, appended}
+use Rattle.book_parts.specs.Line.{LineState, NeverFall}
+use Rattle.book_parts.specs.Ledger.{Ledger, own, appended}
 use Rattle.book_core.specs.Stands.{as_found, AreLatest}
 
 number-at : (number : ℕ) (base : List (List ℕ)) (commands : List Command) (i : ℕ) (d : Entry) → i < length commands → (get_or (entries_from number base commands) i d).number ≡ number + i
@@ -47,7 +47,7 @@ all-order found base commands = λ i j d le within. one i j d le within (cases_l
     one i j d le within (inr late) = omega (arith, behind i d late (omega arith), behind j d (omega arith) within)
 
 -- once the next commands are live too
-pub order-next : (found : List Entry) (ledger : Ledger) (work : Line) → AreLatest found ledger work → NeverFall ((work.older ++ work.newer) ++ appended ledger)
+pub order-next : (found : List Entry) (ledger : Ledger) (work : LineState) → AreLatest found ledger work → NeverFall ((work.older ++ work.newer) ++ appended ledger)
 order-next found ledger work latest =
     let live : List Entry = work.older ++ work.newer in
     let all : latest.gone ++ (live ++ appended ledger) ≡ map as_found found ++ entries_from 0 ledger.base (take (ledger.durable + ledger.begun) ledger.accepted) =

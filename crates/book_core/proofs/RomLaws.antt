@@ -1,27 +1,27 @@
--- What a worker is told, as the book says it.
+-- What is handed out for a slave is what `rom_next` says.
 use Rattle.std.proofs.Common.{◌≡◌, ℕ, zero, suc, ◌<◌, Bool, true, false, List, [], ◌∷◌, ◌++◌, length, Some, None, refl, sym, ◌∙◌, ap, subst, arith}
 use Rattle.std.specs.Prelude.{is_some, nat_lt, filter, if◌then◌else◌}
 use Rattle.std.specs.List.{flat_map}
 use Rattle.std.proofs.lemmas.Bool.Decides.{nat_tests}
-use Rattle.sii_runs.specs.declared.run.Run.{Run}
+use Rattle.sii_words.specs.declared.run.Run.{Run}
 use Rattle.jrn_format.specs.declared.journal.Entry.{Entry}
-use Rattle.jrn_laws.specs.Halves.{Halves, live}
-use Rattle.slave_queue.specs.Cells.{Cell, cell_of, is_any}
-use Rattle.slave_queue.specs.Pending.{first, last_of}
-use Rattle.slave_queue.specs.Pending as pending
+use Rattle.jrn_format.specs.Halves.{Halves, live}
+use Rattle.book_model.specs.Cells.{Cell, cell_of, is_any}
+use Rattle.book_model.specs.Pending.{first, last_of}
+use Rattle.book_model.specs.Pending as pending
 use Rattle.book_model.specs.declared.next.RomNext.TheVariants as next
 use Rattle.book_model.specs.Entries.{runs_of, entries_of, live_runs, namings}
 use Rattle.book_model.specs.Book.{Book, Slave, Free, slave_at}
 use Rattle.book_model.specs.RomSteps.{rom_next, to_do, with_issue, without_work}
 use Rattle.book_laws.proofs.FitLaws.{runs_of-append, live_runs-append}
-use Rattle.book_slaves.specs.Line.{Line}
-use Rattle.book_slaves.specs.Line as line
+use Rattle.book_parts.specs.Line.{LineState}
+use Rattle.book_parts.specs.Line as line
 use Rattle.book_core.specs.Stands.{HasLive}
 use Rattle.book_core.proofs.RunLaws.{live-runs}
 
 -- ---- the same words are to be written
 
-pub same-to_do : (book : Book) (work : Line) (i : ℕ) → book.slaves ≡ work.slaves → HasLive book.halves work → to_do book i ≡ line.to_do work i
+pub same-to_do : (book : Book) (work : LineState) (i : ℕ) → book.slaves ≡ work.slaves → HasLive book.halves work → to_do book i ≡ line.to_do work i
 same-to_do book work i slaves has =
     ap (λ (l : List Run). pending.to_do (slave_at book i).cells (namings l i)) (sym (live-runs book.halves work has))
     ∙ ap (λ (s : List Slave). pending.to_do (line.slave_at (record work { slaves = s }) i).cells (namings (runs_of (work.older ++ work.newer)) i)) slaves

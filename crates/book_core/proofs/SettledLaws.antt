@@ -1,16 +1,16 @@
--- All is settled where no live entry is found that isn't.
+-- If no live entry is unsettled, everything is settled.
 use Rattle.std.proofs.Common.{◌≡◌, ℕ, suc, ◌+◌, ◌≤◌, ◌<◌, Bool, true, false, List, [], ◌∷◌, ◌++◌, length, take, map, refl, sym, ◌∙◌, ap, arith, Option, Some, None}
 use Rattle.std.specs.Prelude.{◌==◌, is_none, is_some, not, if◌then◌else◌}
 use Rattle.std.proofs.lemmas.List.{length-append, length-map}
 use Rattle.std.proofs.lemmas.Bool.Decides.{nat_tests}
-use Rattle.sii_runs.specs.Redo.{redone}
+use Rattle.sii_words.specs.Redo.{redone}
 use Rattle.jrn_format.specs.declared.journal.Entry.{Entry}
-use Rattle.slave_queue.specs.Cells.{Cell}
+use Rattle.book_model.specs.Cells.{Cell}
 use Rattle.book_model.specs.Entries.{runs_of, entries_from}
 use Rattle.book_model.specs.Book.{all_cells}
 use Rattle.book_model.specs.Reading.{runs_settled, settled_prefix}
-use Rattle.book_slaves.specs.Line.{Line, first_unsettled, OweNoMore}
-use Rattle.book_ledger.specs.Ledger.{Ledger, own}
+use Rattle.book_parts.specs.Line.{LineState, first_unsettled, OweNoMore}
+use Rattle.book_parts.specs.Ledger.{Ledger, own}
 use Rattle.book_core.specs.Stands.{as_found, AreLatest}
 use Rattle.book_core.proofs.AppliedLaws.{prefix-few, prefix-found, prefix-gone}
 
@@ -37,7 +37,7 @@ tells : (o : Option ℕ) (prefix all : ℕ) → Whole o prefix all → is_none o
 tells None prefix all same = grind (arith, nat_tests)
 tells (Some number) prefix all less = grind (arith, nat_tests)
 
-pub settled-book : (words : List (List ℕ)) (found : List Entry) (ledger : Ledger) (work : Line) → ledger.base ≡ redone words (runs_of found) → AreLatest found ledger work → OweNoMore work.slaves (work.older ++ work.newer)
+pub settled-book : (words : List (List ℕ)) (found : List Entry) (ledger : Ledger) (work : LineState) → ledger.base ≡ redone words (runs_of found) → AreLatest found ledger work → OweNoMore work.slaves (work.older ++ work.newer)
     → (unsettled : Option ℕ) → unsettled ≡ first_unsettled (all_cells work.slaves) (work.older ++ work.newer)
     → is_none unsettled
     ≡ (settled_prefix (all_cells work.slaves) (found ++ take ledger.durable (entries_from 0 (redone words (runs_of found)) ledger.accepted))

@@ -3,15 +3,15 @@ use Rattle.std.proofs.Common.{◌+◌, ◌-◌, ◌≤◌, List, ◌++◌, lengt
 use Rattle.jrn_format.specs.declared.journal.Entry.{Entry}
 use Rattle.book_model.specs.Book.{all_cells}
 use Rattle.book_model.specs.Reading.{settled_prefix, applied}
-use Rattle.book_slaves.specs.Line.{Line}
-use Rattle.book_ledger.specs.Ledger.{Ledger, own}
+use Rattle.book_parts.specs.Line.{LineState}
+use Rattle.book_parts.specs.Ledger.{Ledger, own}
 use Rattle.book_core.specs.declared.book.Core.TheInside.{Inside}
 use Rattle.book_core.specs.Parts.{book_of}
 use Rattle.book_core.specs.Stands.{Stands, applied_of}
 use Rattle.book_core.proofs.AppliedLaws.{prefix-few}
 use Rattle.book_core.proofs.LedgerLaws.{own-is}
 
-pub applied-few : (found : List Entry) (ledger : Ledger) (work : Line) → applied_of found ledger work ≤ ledger.durable
+pub applied-few : (found : List Entry) (ledger : Ledger) (work : LineState) → applied_of found ledger work ≤ ledger.durable
 applied-few found ledger work =
     let live = take ledger.durable (own ledger) in
     omega (arith, prefix-few (all_cells work.slaves) (found ++ live), length-append found live, length-take ledger.durable (own ledger))

@@ -1,16 +1,16 @@
--- One slave of the line goes on.
+-- A change of one slave keeps what holds of each slave.
 use Rattle.std.proofs.Common.{◌≡◌, ◌≢◌, ◌⊎◌, inl, inr, ℕ, zero, suc, ◌+◌, ◌<◌, ◌≤◌, false, List, [], ◌∷◌, length, get_or, set, Option, Some, refl, sym, ◌∙◌, ap, subst, arith}
 use Rattle.std.specs.Prelude.{is_some}
 use Rattle.std.proofs.lemmas.List.{length-set, get_or-set_same, get_or-set_other}
 use Rattle.std.proofs.lemmas.Bool.{cases_eq}
-use Rattle.slave_queue.specs.Cells.{Cell, Known, Holds, Unsure, nothing, cell_of, since, next_issue, asked, written}
+use Rattle.book_model.specs.Cells.{Cell, Known, Holds, Unsure, nothing, cell_of, since, next_issue, asked, written}
 use Rattle.book_model.specs.declared.fault.Fault.{Fault}
-use Rattle.book_model.specs.Book.{Slave, Errand, Free, Issuing, Unsettled, Settling, nobody, all_cells, cell_at}
+use Rattle.book_model.specs.Book.{Slave, Errand, Free, Issuing, Unsettled, Settling, nobody, all_cells, cell_at, IsAbout}
 use Rattle.book_laws.specs.Fits.{OwesNoMore}
 use Rattle.book_laws.proofs.BookLaws.{cells_of}
 use Rattle.book_laws.proofs.CellLaws.{length-all_named}
-use Rattle.book_slaves.specs.Line.{Line, slave_at, with_slave}
-use Rattle.book_core.specs.Stands.{cell_counts, IsAbout, ErrandStands, ErrandsStand}
+use Rattle.book_parts.specs.Line.{LineState, slave_at, with_slave}
+use Rattle.book_core.specs.Stands.{cell_counts, ErrandStands, ErrandsStand}
 
 -- What a slave does leaves the number of its words, and is owed no more.
 pub record GoesOn (old new : Slave) : Type 0 where
@@ -42,7 +42,7 @@ owes-set slaves i s within goes = λ slave at. one slave at (cases_eq slave i)
 -- ---- the errands
 
 -- with a fault nothing more is said, and nothing more is wanted
-pub errands-set : (fault later : Option Fault) (line : Line) (i : ℕ) (s : Slave) → (is_some later ≡ false → is_some fault ≡ false) → i < length line.slaves
+pub errands-set : (fault later : Option Fault) (line : LineState) (i : ℕ) (s : Slave) → (is_some later ≡ false → is_some fault ≡ false) → i < length line.slaves
     → ErrandsStand fault line → ErrandStands later s → ErrandsStand later (with_slave line i s)
 errands-set fault later line i s same within stand here = λ k inside. one k (omega (arith, length-set line.slaves i s)) (cases_eq k i)
   where

@@ -4,21 +4,21 @@ use Rattle.std.specs.Prelude.{nat_le, nat_lt, not, is_none, is_some, ◌||◌, i
 use Rattle.std.proofs.lemmas.Bool.{or_parts, ltb-false, leb-false}
 use Rattle.std.proofs.lemmas.Bool.Decides.{nat_tests}
 use Rattle.std.specs.Option.{option_map}
-use Rattle.sii_runs.specs.declared.run.Run.{Run}
+use Rattle.sii_words.specs.declared.run.Run.{Run}
 use Rattle.jrn_format.specs.declared.journal.Entry.{Entry}
 use Rattle.jrn_format.specs.Batch.{entry_size}
-use Rattle.jrn_laws.specs.Halves.{Place, Halves, entries_size, place_of, with_batch, batch_in}
-use Rattle.jrn_laws.proofs.SizeLaws.{payload_size, payload_one_more}
+use Rattle.jrn_format.specs.Halves.{Place, Halves, entries_size, place_of, with_batch, batch_in}
+use Rattle.jrn_format.proofs.SizeLaws.{payload_size, payload_one_more}
 use Rattle.book_model.specs.declared.refusal.TheConstants.{QUEUE}
 use Rattle.book_model.specs.declared.refusal.SubmitRefusal.{SubmitRefusal}
 use Rattle.book_model.specs.declared.refusal.SubmitRefusal.TheVariants.{TooLarge, Full}
 use Rattle.book_model.specs.Book.{Book, Doing}
 use Rattle.book_model.specs.Book as book
 use Rattle.book_model.specs.Submit.{entry_for, with_appended, is_full, is_too_large}
-use Rattle.book_room.specs.Room.{half_room}
-use Rattle.book_room.specs.Spot.{as_place}
-use Rattle.book_room.specs.declared.spot.Spot.{Spot}
-use Rattle.book_ledger.specs.Ledger.{Ledger, own, appended, queued}
+use Rattle.book_parts.specs.Room.{half_room}
+use Rattle.book_parts.specs.Spot.{as_place}
+use Rattle.book_parts.specs.declared.spot.Spot.{Spot}
+use Rattle.book_parts.specs.Ledger.{Ledger, own, appended, queued}
 use Rattle.book_core.specs.declared.step.Step.{Step}
 use Rattle.book_core.specs.declared.step.Step.TheVariants.{Resting, Payload, PayloadSync, OpenGate, OpenSync, CloseGate, CloseSync, FarGate, Mark, MarkSync, Version, VersionSync}
 use Rattle.book_core.specs.Parts.{doing_of, book_of}

@@ -1,38 +1,38 @@
--- The slaves go on, and all else of a core stays.
+-- A change of the slaves alone keeps the book's invariant.
 use Rattle.std.proofs.Common.{◌≡◌, ℕ, suc, ◌<◌, ◌≤◌, Bool, true, false, List, [], ◌∷◌, ◌++◌, length, take, Option, Some, None, refl, sym, ◌∙◌, ap, subst, arith}
 use Rattle.std.specs.Prelude.{is_some, if◌then◌else◌}
 use Rattle.std.proofs.lemmas.List.{append-nil, length-map}
-use Rattle.sii_runs.specs.declared.run.Run.{Run}
+use Rattle.sii_words.specs.declared.run.Run.{Run}
 use Rattle.jrn_format.specs.declared.journal.Entry.{Entry}
-use Rattle.jrn_laws.specs.Halves.{Place}
-use Rattle.slave_queue.specs.Cells.{Cell}
+use Rattle.jrn_format.specs.Halves.{Place}
+use Rattle.book_model.specs.Cells.{Cell}
 use Rattle.book_model.specs.declared.fault.Fault.{Fault}
 use Rattle.book_model.specs.Entries.{runs_of, namings}
-use Rattle.slave_queue.specs.Pending.{first}
-use Rattle.book_model.specs.Book.{Slave, Errand, Free, all_cells}
+use Rattle.book_model.specs.Pending.{first}
+use Rattle.book_model.specs.Book.{Slave, Errand, Free, all_cells, IsAbout}
 use Rattle.book_model.specs.Reading.{runs_settled, settled_prefix}
 use Rattle.book_laws.specs.Fits.{OwesNoMore}
 use Rattle.book_laws.proofs.BookLaws.{length-all_cells}
 use Rattle.book_laws.proofs.SettledLaws.{prefix-stays}
-use Rattle.book_slaves.specs.Line.{Line, slave_at, with_slave, to_do, with_issue, with_written}
-use Rattle.book_room.specs.Room.{Room}
-use Rattle.book_ledger.specs.Ledger.{Ledger, own}
-use Rattle.book_ledger.specs.Shown.{Shown}
+use Rattle.book_parts.specs.Line.{LineState, slave_at, with_slave, to_do, with_issue, with_written}
+use Rattle.book_parts.specs.Room.{Room}
+use Rattle.book_parts.specs.Ledger.{Ledger, own}
+use Rattle.book_parts.specs.Shown.{Shown}
 use Rattle.book_core.specs.declared.step.Step.{Step}
 use Rattle.book_core.specs.declared.step.Step.TheVariants.{Resting, Payload, PayloadSync, OpenGate, OpenSync, CloseGate, CloseSync, FarGate, Mark, MarkSync, Version, VersionSync}
-use Rattle.book_core.specs.Stands.{cell_counts, runs_each, IsAbout, ErrandStands, ErrandsStand, IsAppending, IsRetiring, StepStands, applied_of, PartsStand}
+use Rattle.book_core.specs.Stands.{cell_counts, runs_each, ErrandStands, ErrandsStand, IsAppending, IsRetiring, StepStands, applied_of, PartsStand}
 use Rattle.book_core.proofs.SlaveLaws.{GoesOn, counts-set, owes-set, errands-set, issued_slave, issued-goes, errand-issued, written_slave, written-goes, errand-written}
 use Rattle.book_core.proofs.RomLaws.{to_do-inside}
 
 -- The live entries and their room stay, as do the numbers of words, and nothing more is owed.
-pub record Moves (old new : Line) : Type 0 where
+pub record Moves (old new : LineState) : Type 0 where
   pub older : new.older ≡ old.older
   pub newer : new.newer ≡ old.newer
   pub rooms : new.rooms ≡ old.rooms
   pub counts : cell_counts new.slaves ≡ cell_counts old.slaves
   pub owed : OwesNoMore (all_cells old.slaves) (all_cells new.slaves) []
 
-pub moves-one : (line : Line) (i : ℕ) (s : Slave) → i < length line.slaves → GoesOn (slave_at line i) s → Moves line (with_slave line i s)
+pub moves-one : (line : LineState) (i : ℕ) (s : Slave) → i < length line.slaves → GoesOn (slave_at line i) s → Moves line (with_slave line i s)
 moves-one line i s within goes = record {
   older = refl;
   newer = refl;
@@ -41,11 +41,11 @@ moves-one line i s within goes = record {
   owed = owes-set line.slaves i s within goes;
 }
 
-same-slaves : (old new : Line) → Moves old new → length new.slaves ≡ length old.slaves
+same-slaves : (old new : LineState) → Moves old new → length new.slaves ≡ length old.slaves
 same-slaves old new moves =
     sym (length-map new.slaves (λ (s : Slave). length s.cells)) ∙ ap length moves.counts ∙ length-map old.slaves (λ (s : Slave). length s.cells)
 
-same-cells : (old new : Line) → Moves old new → length (all_cells new.slaves) ≡ length (all_cells old.slaves)
+same-cells : (old new : LineState) → Moves old new → length (all_cells new.slaves) ≡ length (all_cells old.slaves)
 same-cells old new moves = length-all_cells new.slaves ∙ same-slaves old new moves ∙ sym (length-all_cells old.slaves)
 
 -- ---- what is settled stays so
@@ -63,7 +63,7 @@ settled-later cells later behind runs same owes is =
     was-yes (runs_settled later (runs_of behind) runs) (settled_prefix cells behind) (settled_prefix later behind)
     (subst (λ (b : Bool). (if b then suc (settled_prefix cells behind) else 0) ≤ settled_prefix later (first ∷ behind)) is all)
 
-pub applied-later : (found : List Entry) (ledger : Ledger) (old new : Line) → Moves old new → applied_of found ledger old ≤ applied_of found ledger new
+pub applied-later : (found : List Entry) (ledger : Ledger) (old new : LineState) → Moves old new → applied_of found ledger old ≤ applied_of found ledger new
 applied-later found ledger old new moves =
     let entries : List Entry = found ++ take ledger.durable (own ledger) in
     let le : settled_prefix (all_cells old.slaves) entries ≤ settled_prefix (all_cells new.slaves) (entries ++ []) = prefix-stays (all_cells old.slaves) (all_cells new.slaves) entries [] (same-cells old new moves) moves.owed in
@@ -72,7 +72,7 @@ applied-later found ledger old new moves =
 
 -- ---- the step
 
-appending-later : (place : Place) (area : Room) (ledger : Ledger) (old new : Line) → Moves old new → IsAppending place area ledger old → IsAppending place area ledger new
+appending-later : (place : Place) (area : Room) (ledger : Ledger) (old new : LineState) → Moves old new → IsAppending place area ledger old → IsAppending place area ledger new
 appending-later place area ledger old new moves is = record {
   version_2 = is.version_2;
   in_older = is.in_older;
@@ -81,13 +81,13 @@ appending-later place area ledger old new moves is = record {
   room = λ i inside. rw moves.rooms (is.room i (omega (arith, same-slaves old new moves)));
 }
 
-retiring-later : (ledger : Ledger) (old new : Line) → Moves old new → IsRetiring ledger old → IsRetiring ledger new
+retiring-later : (ledger : Ledger) (old new : LineState) → Moves old new → IsRetiring ledger old → IsRetiring ledger new
 retiring-later ledger old new moves is = record {
   no_append = is.no_append;
   settled = rw (moves.older, moves.newer) (settled-later (all_cells old.slaves) (all_cells new.slaves) old.newer (runs_of old.older) (same-cells old new moves) moves.owed is.settled);
 }
 
-step-later : (step : Step) (area : Room) (ledger : Ledger) (old new : Line) → Moves old new → StepStands step area ledger old → StepStands step area ledger new
+step-later : (step : Step) (area : Room) (ledger : Ledger) (old new : LineState) → Moves old new → StepStands step area ledger old → StepStands step area ledger new
 step-later Resting area ledger old new moves is = is
 step-later (Payload spot) area ledger old new moves is = appending-later _ area ledger old new moves is
 step-later (PayloadSync spot) area ledger old new moves is = appending-later _ area ledger old new moves is
@@ -103,7 +103,7 @@ step-later VersionSync area ledger old new moves is = is
 
 -- ---- all of it
 
-pub moved-stands : (words : List (List ℕ)) (found : List Entry) (area : Room) (step : Step) (ledger : Ledger) (old new : Line) (shown : Shown) (fault later : Option Fault)
+pub moved-stands : (words : List (List ℕ)) (found : List Entry) (area : Room) (step : Step) (ledger : Ledger) (old new : LineState) (shown : Shown) (fault later : Option Fault)
     → Moves old new → ErrandsStand later new → PartsStand words found area step ledger old shown fault → PartsStand words found area step ledger new shown later
 moved-stands words found area step ledger old new shown fault later moves errands stands = record {
   base = stands.base;
@@ -118,21 +118,21 @@ moved-stands words found area step ledger old new shown fault later moves errand
 }
 
 -- one slave goes on
-pub slave-stands : (words : List (List ℕ)) (found : List Entry) (area : Room) (step : Step) (ledger : Ledger) (work : Line) (shown : Shown) (fault later : Option Fault) (i : ℕ) (s : Slave)
+pub slave-stands : (words : List (List ℕ)) (found : List Entry) (area : Room) (step : Step) (ledger : Ledger) (work : LineState) (shown : Shown) (fault later : Option Fault) (i : ℕ) (s : Slave)
     → (is_some later ≡ false → is_some fault ≡ false) → i < length work.slaves → GoesOn (slave_at work i) s → ErrandStands later s
     → PartsStand words found area step ledger work shown fault → PartsStand words found area step ledger (with_slave work i s) shown later
 slave-stands words found area step ledger work shown fault later i s same within goes errand stands =
     moved-stands words found area step ledger work (with_slave work i s) shown fault later (moves-one work i s within goes) (errands-set fault later work i s same within stands.errands errand) stands
 
 -- another errand of a slave
-pub errand-stands : (words : List (List ℕ)) (found : List Entry) (area : Room) (step : Step) (ledger : Ledger) (work : Line) (shown : Shown) (fault later : Option Fault) (i : ℕ) (errand : Errand)
+pub errand-stands : (words : List (List ℕ)) (found : List Entry) (area : Room) (step : Step) (ledger : Ledger) (work : LineState) (shown : Shown) (fault later : Option Fault) (i : ℕ) (errand : Errand)
     → (is_some later ≡ false → is_some fault ≡ false) → i < length work.slaves → ErrandStands later (record (slave_at work i) { errand = errand })
     → PartsStand words found area step ledger work shown fault → PartsStand words found area step ledger (with_slave work i (record (slave_at work i) { errand = errand })) shown later
 errand-stands words found area step ledger work shown fault later i errand same within here stands =
     slave-stands words found area step ledger work shown fault later i (record (slave_at work i) { errand = errand }) same within (record { words = refl; owed = λ at. omega arith }) here stands
 
 -- a free slave's next word is handed out to be issued
-pub issue-stands : (words : List (List ℕ)) (found : List Entry) (area : Room) (step : Step) (ledger : Ledger) (work : Line) (shown : Shown) (fault : Option Fault) (i : ℕ) (o : Option (ℕ × ℕ))
+pub issue-stands : (words : List (List ℕ)) (found : List Entry) (area : Room) (step : Step) (ledger : Ledger) (work : LineState) (shown : Shown) (fault : Option Fault) (i : ℕ) (o : Option (ℕ × ℕ))
     → o ≡ first (to_do work i) → i < length work.slaves → (slave_at work i).errand ≡ Free
     → PartsStand words found area step ledger work shown fault → PartsStand words found area step ledger (with_issue work i o) shown fault
 issue-stands words found area step ledger work shown fault i None is within free stands = stands
@@ -142,7 +142,7 @@ issue-stands words found area step ledger work shown fault i (Some w) is within 
     (errand-issued fault (slave_at work i) w.0 w.1 free inside (stands.errands i within)) stands
 
 -- the errand's word is written
-pub write-stands : (words : List (List ℕ)) (found : List Entry) (area : Room) (step : Step) (ledger : Ledger) (work : Line) (shown : Shown) (fault : Option Fault) (i word value : ℕ)
+pub write-stands : (words : List (List ℕ)) (found : List Entry) (area : Room) (step : Step) (ledger : Ledger) (work : LineState) (shown : Shown) (fault : Option Fault) (i word value : ℕ)
     → i < length work.slaves → IsAbout (slave_at work i).errand word
     → PartsStand words found area step ledger work shown fault → PartsStand words found area step ledger (with_written work i word value) shown fault
 write-stands words found area step ledger work shown fault i word value within about stands =

@@ -1,4 +1,4 @@
--- A step of the disk is handed out.
+-- The next step of the disk is handed out.
 use Rattle.std.specs.Prelude.{◌≡◌, false, is_some, IsSome, Result, IfOk, OnOk, OnErr}
 use Rattle.jrn_format.specs.declared.journal.Form.TheVariants.{Two}
 use Rattle.book_model.specs.declared.next.DiskNext.{DiskNext}
@@ -10,20 +10,20 @@ use Rattle.book_core.specs.declared.step.Step.TheVariants.{Resting, Payload}
 use Rattle.book_core.specs.Parts.{doing_of, next_entries}
 use Rattle.book_core.specs.Steps.{place_appended}
 
--- The step is to be handed out now.
+-- This step is to be handed out now: nothing is handed out, there is no fault, and the book's next step is this one.
 pub record IsNext (book : Book) (step : Step) : Type 0 where
   pub idle : book.is_handed_out ≡ false
   pub no_fault : is_some book.fault ≡ false
   pub doing : doing_of (next_entries book) step ≡ doing_next book book.doing
   pub version_2 : IsSome (place_appended step) → book.form ≡ Two
 
--- What is answered and what becomes of the book. Without memory it stays.
+-- The answer and the book are those of `disk_next`; if memory was refused, the book stays as it is.
 pub record HandsOut (old new : Book) (result : Result DiskNext CoreFault) : Type 0 where
   pub answer : IfOk result (λ next. next ≡ (disk_next old).0)
   pub book : OnOk result (new ≡ (disk_next old).1)
   pub refused : OnErr result (new ≡ old)
 
--- neither rest nor the write of a batch
+-- The step is neither rest nor the write of a batch.
 abbrev pub IsOther : Step → Type 0
 IsOther Resting = ⊥
 IsOther (Payload spot) = ⊥

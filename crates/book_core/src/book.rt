@@ -1,26 +1,26 @@
 ghost use Rattle.std.specs.Prelude.{◌≡◌};
 
 use crate::step::Step;
-use book_ledger::{Ledger, Shown};
 use book_model::Fault;
-use book_room::Area;
-use book_slaves::LineWork;
-use history::History;
+use book_parts::{Area, Ledger, LineWork, Shown};
 use jrn_format::{Entry, Form};
+use lists::History;
 use sii_edit::Command;
 use sii_words::Plant;
 use std::alloc::Global;
 use std::marker::Model;
 use std::snapshot::Snapshot;
 
-/// A book of commands on a journal, over the contents of a line. Contracts see the book as it is defined, with all that was
-/// accepted; memory holds what isn't durable yet, and the words that aren't settled.
+/// The book of a line: it accepts commands, and decides what is appended to the journal, written to the slaves and retired.
+///
+/// Contracts see it as a `Book`. In memory it keeps the accepted commands, the contents after them, the entries that aren't durable
+/// yet, and the words that live batches name.
 #[derive(Drop)]
 pub struct Core {
     pub(crate) alloc: Global,
-    /// The words as they were read at the open.
+    /// The words as they were read at the open, for contracts alone.
     pub(crate) words: Snapshot<Plant>,
-    /// The entries that were live then.
+    /// The entries that were live at the open, for contracts alone.
     pub(crate) found: History<Entry>,
     pub(crate) area: Area,
     pub(crate) step: Step,
@@ -53,15 +53,16 @@ impl Core {
     ghost use Rattle.book_model.specs.Open.{finish, migrate};
     ghost use Rattle.book_model.specs.Reading.{applied, live_bytes, status};
 
-    /// Closes the book for commands: from now on each is refused. What was accepted still becomes durable.
+    /// Closes the book: every further command is refused as `Closed`. Accepted commands are still appended and written.
     pub fn finish(&mut self)
         ensures { self.new ≡ finish self.old }
     {
         self.is_finished = true;
     }
 
-    /// Asks for a migration of an old journal to version 2, once nothing is live. False, and nothing is asked for, where the book is
-    /// closed or the journal is of version 2.
+    /// Asks for the migration of an old journal to version 2, which begins once nothing is live.
+    ///
+    /// Returns false and changes nothing if the book is finished, has a fault, or is on a journal of version 2 already.
     pub fn migrate(&mut self) -> bool
         ensures answer { result ≡ (migrate self.old).0 }
         ensures book { self.new ≡ (migrate self.old).1 }
@@ -73,7 +74,7 @@ impl Core {
         true
     }
 
-    /// The accepted commands, in order: none of them is refused on the contents that it comes to.
+    /// The commands accepted since the open, in order. Each is valid on the contents after those before it.
     pub fn accepted(&self) -> &[Command]
         ensures commands { result.now ≡ self.now.accepted }
         ensures each { AreAccepted (base_of self.now) self.now.accepted }
@@ -88,14 +89,14 @@ impl Core {
         self.ledger.contents()
     }
 
-    /// What has closed the book for good, beside `finish`.
+    /// The first fault of the book, which has closed it for good; `None` without a fault.
     pub fn fault(&self) -> Option<Fault>
         ensures { result ≡ self.now.fault }
     {
         self.fault
     }
 
-    /// How many bytes of the journal are live.
+    /// How many bytes the live batches take in the journal, each with its open gate.
     pub fn live_bytes(&self) -> u64
         ensures { result ≡ live_bytes self.now }
     {

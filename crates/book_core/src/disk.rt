@@ -4,20 +4,21 @@ ghost use Rattle.book_model.specs.declared.next.DiskNext.{DiskNext};
 use crate::book::Core;
 use crate::step::Step;
 use book_model::{CoreFault, DiskNext};
-use book_room::Spot;
-use item_list::ItemList;
+use book_parts::Spot;
 use jrn_format::encode_batch;
+use lists::ItemList;
 use std::alloc::{AllocError, Global};
 
-/// Where the version stands in a journal's header.
+/// The byte of the journal's file that holds its version.
 const VERSION_AT: usize = 1;
 
-/// The mark of a migration, and where it stands: behind the first gate.
+/// The mark of a migration.
 const MARK: [u8; 4] = *b"MIG2";
 
+/// The byte of the journal's file at which the mark begins, behind the first gate.
 const MARK_AT: usize = 9;
 
-/// A write of a few bytes.
+/// A write of these bytes, from byte `at` of the journal's file on.
 fn write(alloc: Global, at: usize, bytes: &[u8]) -> Result<DiskNext, AllocError>
     ensures { IfOk result (λ next. next ≡ DiskNext.Write at bytes.now) }
 {
@@ -32,20 +33,22 @@ fn write(alloc: Global, at: usize, bytes: &[u8]) -> Result<DiskNext, AllocError>
 impl Core {
     ghost use Rattle.std.specs.Option.{option_map};
     ghost use Rattle.jrn_format.specs.declared.journal.Form.{Form};
-    ghost use Rattle.jrn_laws.specs.Halves.{Place, place_of, entries_size};
-    ghost use Rattle.slave_queue.specs.Cells.{is_any};
+    ghost use Rattle.jrn_format.specs.Halves.{Place, place_of, entries_size};
+    ghost use Rattle.book_model.specs.Cells.{is_any};
     ghost use Rattle.book_model.specs.Book as book;
     ghost use Rattle.book_model.specs.DiskSteps.{disk_next, disk_room, can_retire, can_migrate, doing_next, action_of};
-    ghost use Rattle.book_room.specs.Spot.{as_place};
+    ghost use Rattle.book_parts.specs.Spot.{as_place};
     ghost use Rattle.book_core.specs.Parts.{doing_of, next_entries, next_place};
     ghost use Rattle.book_core.specs.Steps.{place_appended};
     ghost use Rattle.book_core.specs.Handing.{IsNext, IsOther, HandsOut};
 
-    /// What is to be done next with the disk. A step that is handed out waits for its `disk_done`.
+    /// Hands out the next action for the disk. `disk_done` reports its outcome; until then the answer is `Idle`.
+    ///
+    /// The answer is `Stop` once the book has a fault, and in a finished book that has no action for the disk.
     ///
     /// # Errors
     ///
-    /// `Memory`; the book stays as it is.
+    /// `Memory`: memory was refused for the bytes of a write or for the words of a new batch. The book stays as it is.
     pub fn disk_next(&mut self) -> Result<DiskNext, CoreFault>
         ensures { HandsOut self.old self.new result }
     {
@@ -65,7 +68,7 @@ impl Core {
         self.hand_out(step)
     }
 
-    /// What is heard of a book that rests.
+    /// The answer of a book that has no action for the disk.
     fn without_step(&self) -> DiskNext
         requires { IsNext self.now Step.Resting }
         ensures { disk_next self.now ≡ (result, self.now) }
@@ -77,7 +80,7 @@ impl Core {
         }
     }
 
-    /// How many bytes the write has that `disk_next` would give now; 0 where it would give none.
+    /// How many bytes the `Write` has that `disk_next` would give now; 0 if it would give none.
     pub fn disk_room(&self) -> usize
         ensures { result ≡ disk_room self.now }
     {
@@ -92,8 +95,8 @@ impl Core {
         }
     }
 
-    /// The step that is to be handed out now. Where the book rests: an append where commands wait, else a retire, else a migration
-    /// that was asked for.
+    /// The step to hand out now. In a resting book: an append if a half has room for the queue, else a retire, else a migration that was
+    /// asked for.
     fn next_step(&self) -> Step
         ensures doing { doing_of (next_entries self.now) result ≡ doing_next self.now self.now.doing }
         ensures version_2 { IsSome (place_appended result) → self.now.form ≡ Form.Two }
@@ -126,7 +129,7 @@ impl Core {
         self.is_migrating && !self.area.is_any()
     }
 
-    /// Where the queue goes, as one batch. Only in version 2 are there commands that wait.
+    /// Where the queue goes as one batch; `None` if it is empty, or no half has room. Only in version 2 are commands queued.
     fn next_spot(&self) -> Option<Spot>
         ensures place { option_map as_place result ≡ next_place self.now }
         ensures version_2 { IsSome result → self.now.form ≡ Form.Two }
@@ -137,7 +140,7 @@ impl Core {
         self.area.place_of(self.ledger.queued_bytes())
     }
 
-    /// How many bytes the payload has, with its sizes in front and the closed gate behind it.
+    /// How many bytes the write of a batch has: all that follows its gate, and the closed gate at its end.
     fn payload_size(&self) -> usize
         requires { (place : Place) × (doing_next self.now self.now.doing ≡ book.Payload place (next_entries self.now)) }
         ensures { result ≡ entries_size (next_entries self.now) }
@@ -148,7 +151,7 @@ impl Core {
         }
     }
 
-    /// A batch is written behind its gate: where nothing is being appended, one of all that waits.
+    /// Hands out the write of a batch behind its gate: the batch that is being appended, else one of the whole queue.
     fn write_payload(&mut self, spot: Spot) -> Result<DiskNext, CoreFault>
         requires { IsNext self.old (Step.Payload spot) }
         ensures { HandsOut self.old self.new result }
@@ -159,7 +162,7 @@ impl Core {
         self.write_again(spot)
     }
 
-    /// All that waits is written as one batch.
+    /// Hands out the write of the whole queue as one batch.
     fn write_queue(&mut self, spot: Spot) -> Result<DiskNext, CoreFault>
         requires next { IsNext self.old (Step.Payload spot) }
         requires resting { self.old.doing ≡ book.Resting }
@@ -178,7 +181,7 @@ impl Core {
         })
     }
 
-    /// The batch that is being appended is written.
+    /// Hands out the write of the batch that is being appended.
     fn write_again(&mut self, spot: Spot) -> Result<DiskNext, CoreFault>
         requires next { IsNext self.old (Step.Payload spot) }
         requires begun { self.old.doing ≡ book.Payload (as_place spot) (next_entries self.old) }
@@ -194,7 +197,7 @@ impl Core {
         })
     }
 
-    /// Any other step.
+    /// Hands out a step other than rest and the write of a batch.
     fn hand_out(&mut self, step: Step) -> Result<DiskNext, CoreFault>
         requires next { IsNext self.old step }
         requires other { IsOther step }
@@ -206,7 +209,7 @@ impl Core {
         Ok(action)
     }
 
-    /// What such a step asks of the disk.
+    /// The action that such a step asks of the disk.
     fn action(&self, step: Step) -> Result<DiskNext, AllocError>
         requires other { IsOther step }
         requires version_2 { IsSome (place_appended step) → self.now.form ≡ Form.Two }

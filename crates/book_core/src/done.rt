@@ -1,23 +1,21 @@
 ghost use Rattle.std.specs.Prelude.{◌≡◌, ◌++◌, [], false, true};
-ghost use Rattle.jrn_laws.specs.Halves.{InOlder};
+ghost use Rattle.jrn_format.specs.Halves.{InOlder};
 ghost use Rattle.book_model.specs.Entries.{sizes_of};
-ghost use Rattle.book_slaves.specs.Line.{NeverFall};
-ghost use Rattle.book_room.specs.Spot.{as_place};
-ghost use Rattle.book_ledger.specs.Ledger.{appended, gone_durable};
+ghost use Rattle.book_parts.specs.Line.{NeverFall};
+ghost use Rattle.book_parts.specs.Spot.{as_place};
+ghost use Rattle.book_parts.specs.Ledger.{appended, gone_durable};
 ghost use Rattle.book_core.specs.Stands.{IsAppending, cell_counts};
 ghost use Rattle.book_core.specs.Live.{joined, with_live};
 
 use crate::book::Core;
 use crate::step::Step;
-use book_ledger::Ledger;
 use book_model::Fault;
-use book_room::{Area, Spot};
-use book_slaves::LineWork;
-use item_list::ItemList;
+use book_parts::{Area, Ledger, LineWork, Spot};
 use jrn_format::Batch;
+use lists::ItemList;
 use site_core::DeviceFault;
 
-/// The batch that is being appended is live: its commands are durable, and the slaves owe its words.
+/// The appended batch goes live: its commands are durable, and its words are to be written to the slaves.
 fn go_live(area: &mut Area, ledger: &mut Ledger, work: &mut LineWork, spot: Spot)
     requires cells { cell_counts work.old.slaves ≡ sizes_of ledger.old.base }
     requires appending { IsAppending (as_place spot) area.old ledger.old work.old }
@@ -44,7 +42,10 @@ impl Core {
     ghost use Rattle.book_model.specs.Book.{with_fault};
     ghost use Rattle.book_model.specs.DiskSteps.{disk_done, went_on};
 
-    /// What came of the step that was handed out. With nothing handed out nothing changes.
+    /// Reports the outcome of the action that `disk_next` handed out.
+    ///
+    /// `Disk` and `Stopped` become the book's fault if it has none yet. Nothing changes on `Lost`, which no disk answers, or with
+    /// nothing handed out.
     pub fn disk_done(&mut self, outcome: Result<(), DeviceFault>)
         ensures { self.new ≡ disk_done self.old outcome }
     {
@@ -59,7 +60,7 @@ impl Core {
         }
     }
 
-    /// The step failed.
+    /// The action failed: the book has a fault.
     fn fail(&mut self, fault: Fault)
         ensures { self.new ≡ with_fault (record self.old { is_handed_out = false }) fault }
     {
@@ -67,7 +68,7 @@ impl Core {
         self.fault = Some(self.fault.unwrap_or(fault));
     }
 
-    /// The step came back well.
+    /// The action succeeded: the book goes on to the next step.
     fn go_on(&mut self)
         ensures { self.new ≡ went_on (record self.old { is_handed_out = false }) self.old.doing }
     {

@@ -1,5 +1,5 @@
-//! The book of commands on a journal: what is accepted, appended to the journal, written to the slaves and retired, one step at a
-//! time. Who calls it carries the steps out.
+//! The book as running code: it accepts commands, and decides what is appended to the journal, written to the slaves and retired.
+//! It calls no device: its caller carries out each action that it hands out, and reports the outcome.
 #![tactic(auto)]
 
 mod book;

@@ -1,38 +1,36 @@
 ghost use Rattle.std.specs.Prelude.{◌≡◌, ◌≤◌, vec_len, IfOk};
 ghost use Rattle.std.specs.List.{AllByRecursion};
-ghost use Rattle.sii_runs.specs.Redo.{redone};
+ghost use Rattle.sii_words.specs.Redo.{redone};
 ghost use Rattle.jrn_format.specs.Batch.{IsWithin};
-ghost use Rattle.jrn_laws.specs.Halves.{live};
-ghost use Rattle.jrn_laws.specs.Live.{halves_in};
+ghost use Rattle.jrn_format.specs.Halves.{live};
+ghost use Rattle.jrn_format.specs.Live.{halves_in};
 ghost use Rattle.book_model.specs.Entries.{entries_of, live_runs, sizes_of};
-ghost use Rattle.book_ledger.specs.Ledger.{opened};
+ghost use Rattle.book_parts.specs.Ledger.{opened};
 ghost use Rattle.book_core.specs.Found.{IsTaken};
 
 use crate::book::Core;
 use crate::step::Step;
 use crate::taking::{note_batches, take_up};
-use book_ledger::{Ledger, Shown};
 use book_model::CoreFault;
-use book_room::Area;
-use book_slaves::LineWork;
-use history::History;
+use book_parts::{Area, Ledger, LineWork, Shown};
 use jrn_format::{Batch, Entry, Journal};
+use lists::History;
 use sii_words::{Plant, Words};
 use std::alloc::{AllocError, Global};
 use std::snapshot::Snapshot;
 
-/// What a line and its journal hold at the open.
+/// What the open makes of a line's words and its journal.
 #[derive(Drop)]
 struct Restored {
     /// The entries of the live batches.
     found: History<Entry>,
-    /// The words with the batches redone.
+    /// The words after redo of the live batches.
     contents: Plant,
-    /// What the words are owed.
+    /// What remains to be written to each slave.
     work: LineWork,
 }
 
-/// What the live batches make of the words as they were read.
+/// Redoes the live batches over the words as they were read.
 fn restore(alloc: Global, words: Plant, batches: Vec<Batch>) -> Result<Restored, AllocError>
     requires within { AllByRecursion (IsWithin (sizes_of words)) batches.items }
     requires halves { live (halves_in batches.items) ≡ batches.items }
@@ -52,7 +50,7 @@ fn restore(alloc: Global, words: Plant, batches: Vec<Batch>) -> Result<Restored,
     })
 }
 
-/// What is shown of these contents, and a ledger over them.
+/// A ledger over these contents, and the copy of them from which plans are made.
 fn shown_and_ledger(alloc: Global, contents: Plant) -> Result<(Shown, Ledger), AllocError>
     ensures shown { IfOk result (λ both. both.0 ≡ record { contents = contents; count = 0 }) }
     ensures ledger { IfOk result (λ both. both.1 ≡ opened contents) }
@@ -63,15 +61,17 @@ fn shown_and_ledger(alloc: Global, contents: Plant) -> Result<(Shown, Ledger), A
 }
 
 impl Core {
-    ghost use Rattle.jrn_laws.specs.Live.{CanBeLive};
+    ghost use Rattle.jrn_format.specs.Live.{CanBeLive};
     ghost use Rattle.book_model.specs.Open.{open_book};
 
-    /// A book over the words as they were read, 1 to 64 slaves, on a journal with an area of `capacity` bytes: one that `scan` gives
-    /// for slaves with so many words. Its contents are these words with the live batches redone.
+    /// Opens a book on a journal, over the words that were read from 1 to 64 slaves. Its contents are these words after redo of the
+    /// live batches.
+    ///
+    /// The journal must be one that `scan` gives for slaves with these numbers of words, and `capacity` the length of its area in bytes.
     ///
     /// # Errors
     ///
-    /// `Memory`; the words and the journal are then dropped.
+    /// `Memory`: memory was refused. The words and the journal are dropped.
     pub fn open(
         alloc: Global,
         slaves: Vec<Words>,

@@ -6,12 +6,13 @@ use sii_image::{ImageFault, Plan};
 impl Core {
     ghost use Rattle.book_core.specs.Plan.{IsPlan};
 
-    /// What a cyclic exchange works by: the process image of the contents after the commands that are settled in a row, and how many
-    /// these are. The book stays as it is.
+    /// The plan of the cyclic exchange: the process image of the contents after the settled commands, and how many these are (see
+    /// `applied`). To contracts the book stays as it is.
     ///
     /// # Errors
     ///
-    /// `Memory`, or `ImageOverLimit` where these contents have no process image.
+    /// `ImageOverLimit`: these contents have no process image, since it would exceed 1,486 bytes, or 8 segments in a slave. `Memory`
+    /// may come in place of any answer.
     pub fn plan(&mut self) -> Result<Plan, ImageFault>
         ensures plan { IsPlan self.old result }
         ensures same { self.new ≡ self.old }

@@ -7,7 +7,7 @@ impl Core {
     ghost use Rattle.book_model.specs.Reading.{applied, status};
     ghost use Rattle.book_core.specs.Settled.{is_settled};
 
-    /// How many accepted commands are settled in a row, once all that was found at the open is.
+    /// How many accepted commands are settled, from the first on without a gap; 0 until all entries found at the open are settled.
     pub fn applied(&self) -> u64
         ensures { result ≡ applied self.now }
     {
@@ -17,21 +17,21 @@ impl Core {
         }
     }
 
-    /// Whether all that was found at the open, and all that has become durable since, is settled.
+    /// Whether everything is settled that was live at the open or has become durable since.
     pub fn is_settled(&self) -> bool
         ensures { result ≡ is_settled self.now }
     {
         self.work.unsettled().is_none()
     }
 
-    /// How many bytes the journal's area has.
+    /// The length of the journal's area in bytes.
     pub fn capacity(&self) -> u32
         ensures { result ≡ self.now.capacity }
     {
         self.area.capacity()
     }
 
-    /// How far the book is.
+    /// How many commands are accepted, durable and settled, and how many bytes are live.
     pub fn status(&self) -> Status
         ensures { result ≡ status self.now }
     {

@@ -2,19 +2,21 @@ ghost use Rattle.std.specs.Prelude.{◌≡◌, ◌<◌, Bool, length, true, fals
 
 use crate::book::Core;
 use book_model::{Fault, RomNext, RomOutcome};
-use book_slaves::Errand;
+use book_parts::Errand;
 use site_core::{Issued, Settled};
 
-/// After so many issues a word that isn't written is given up.
+/// How often a word is issued at most before its slave is given up.
 const MOST_ISSUES: u8 = 3;
 
 impl Core {
     ghost use Rattle.book_model.specs.Book as book;
-    ghost use Rattle.book_model.specs.Book.{slave_at, with_fault};
+    ghost use Rattle.book_model.specs.Book.{slave_at, with_fault, IsAbout};
     ghost use Rattle.book_model.specs.RomSteps.{rom_next, rom_done, without_work, with_errand, with_written, with_again};
-    ghost use Rattle.book_core.specs.Stands.{IsAbout};
 
-    /// What is to be done next with the slave. A word that is handed out waits for its `rom_done`.
+    /// Hands out the next action for the slave, numbered from 0. `rom_done` reports its outcome; until then the answer is `Idle`.
+    ///
+    /// The answer is `Stop` if there is no such slave, once the book has a fault, and for a slave with nothing to write in a finished
+    /// book whose commands are all durable.
     pub fn rom_next(&mut self, slave: u16) -> RomNext
         ensures answer { result ≡ (rom_next self.old slave).0 }
         ensures book { self.new ≡ (rom_next self.old slave).1 }
@@ -30,7 +32,7 @@ impl Core {
         }
     }
 
-    /// A slave with nothing to do takes its next word.
+    /// Hands out the next word of an idle slave.
     fn issue(&mut self, slave: usize) -> RomNext
         requires slave { slave < length self.old.slaves }
         requires free { (slave_at self.old slave).errand ≡ book.Free }
@@ -46,7 +48,7 @@ impl Core {
         }
     }
 
-    /// The word that was issued is settled.
+    /// Hands out the settle of the word that was issued.
     fn settle(&mut self, slave: usize, word: u16, value: u16, taken: bool) -> RomNext
         requires slave { slave < length self.old.slaves }
         requires unsettled { (slave_at self.old slave).errand ≡ book.Unsettled word value taken }
@@ -61,7 +63,7 @@ impl Core {
         RomNext::Settle { taken }
     }
 
-    /// What a worker hears where no word is to be written.
+    /// The answer for a slave with no word to write.
     fn without_work(&self) -> RomNext
         ensures { result ≡ without_work self.now }
     {
@@ -72,7 +74,8 @@ impl Core {
         }
     }
 
-    /// What came of the word that was handed out. With nothing handed out, or an outcome of another kind, nothing changes.
+    /// Reports the outcome of the issue or settle that `rom_next` handed out. With nothing handed out, no such slave, or an outcome of
+    /// the other kind, nothing changes.
     pub fn rom_done(&mut self, slave: u16, outcome: RomOutcome)
         ensures { self.new ≡ rom_done self.old slave outcome }
     {
@@ -86,7 +89,7 @@ impl Core {
         }
     }
 
-    /// What came of an issue.
+    /// Takes in the outcome of an issue.
     fn issued(&mut self, slave: u16, word: u16, value: u16, outcome: RomOutcome)
         requires slave { slave < length self.old.slaves }
         requires issuing { (slave_at self.old slave).errand ≡ book.Issuing word value }
@@ -103,7 +106,7 @@ impl Core {
         }
     }
 
-    /// What came of a settle.
+    /// Takes in the outcome of a settle.
     fn settled(&mut self, slave: u16, word: u16, value: u16, outcome: RomOutcome)
         requires slave { slave < length self.old.slaves }
         requires settling { (taken : Bool) × ((slave_at self.old slave).errand ≡ book.Settling word value taken) }
@@ -120,7 +123,7 @@ impl Core {
         }
     }
 
-    /// The word is to be issued again, unless it had its issues.
+    /// The word must be issued again; a slave is given up if its word has had all its issues.
     fn again(&mut self, slave: u16, word: u16)
         requires slave { slave < length self.old.slaves }
         requires about { IsAbout (slave_at self.old slave).errand word }
@@ -133,7 +136,7 @@ impl Core {
         }
     }
 
-    /// Nothing more is done with the slave, and the book has a fault.
+    /// Ends what is being done with the slave; the book has a fault.
     fn give_up(&mut self, slave: u16, fault: Fault)
         requires { slave < length self.old.slaves }
         ensures { self.new ≡ with_fault (with_errand self.old slave book.Free) fault }

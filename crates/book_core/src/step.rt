@@ -1,36 +1,43 @@
 ghost use Rattle.std.specs.Prelude.{◌≡◌};
 
-use book_room::Spot;
+use book_parts::Spot;
 use jrn_format::Form;
 
-/// What a book is doing with the disk: the step that is to be handed out next, or the one that is.
+/// What a book is doing with the disk: the step that is handed out, or will be next.
 #[derive(Clone, Copy, Drop)]
 pub(crate) enum Step {
-    /// Nothing.
+    /// No step.
     Resting,
-    /// An append: a batch is written behind its gate, with the closed gate behind it.
+    /// Append: the batch is written behind its gate, with a closed gate at its end.
     Payload(Spot),
+    /// Append: the batch is synced.
     PayloadSync(Spot),
-    /// Its gate is opened.
+    /// Append: the gate before the batch is opened.
     OpenGate(Spot),
+    /// Append: the gate is synced, and the batch is live then.
     OpenSync(Spot),
-    /// A retire: the first gate of the older half is closed.
+    /// Retire: the first gate of the older half is closed.
     CloseGate,
+    /// Retire: the gate is synced.
     CloseSync,
-    /// A migration: the first gate of the second half is closed, the mark is written, and then the version.
+    /// Migration: the first gate of half 1 is closed.
     FarGate,
+    /// Migration: the mark is written, unless a migration that was cut has left it.
     Mark,
+    /// Migration: gate and mark are synced.
     MarkSync,
+    /// Migration: the version byte becomes 2.
     Version,
+    /// Migration: the version byte is synced.
     VersionSync,
 }
 
 impl Step {
     ghost use Rattle.std.specs.Option.{option_map};
-    ghost use Rattle.book_room.specs.Spot.{as_place};
+    ghost use Rattle.book_parts.specs.Spot.{as_place};
     ghost use Rattle.book_core.specs.Steps.{place_appended, step_behind};
 
-    /// Where a batch is being appended.
+    /// Where the batch goes that is being appended; `None` if none is.
     pub(crate) fn spot(self) -> Option<Spot>
         ensures { option_map as_place result ≡ place_appended self }
     {
@@ -43,7 +50,7 @@ impl Step {
         }
     }
 
-    /// The step behind this one in a journal of this form. The mark of a migration that was stopped is there already.
+    /// The step after this one, in a journal of this form.
     pub(crate) fn behind(self, form: Form) -> Step
         ensures { result ≡ step_behind form self }
     {

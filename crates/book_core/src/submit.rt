@@ -1,33 +1,37 @@
 ghost use Rattle.std.specs.Prelude.{◌≡◌, ◌≤◌, ◌<◌, ◌^◌, ◌+◌, Ok, List, length, All, true, nat_lt, IfOk, OnOk, OnErr};
 
 use crate::book::Core;
-use book_ledger::entry_bytes;
 use book_model::{QUEUE, SubmitRefusal};
+use book_parts::entry_bytes;
 use jrn_format::Form;
 use sii_edit::{Change, Command};
 use std::alloc::AllocError;
 
-/// How many runs a command has at most.
+/// How many runs a command has at most: its count has 16 bits.
 const MOST_RUNS: usize = 65_535;
 
-/// How many bytes a batch of one command has beside the command's own, with the closed gate behind it.
+/// How many bytes a batch of one command has around the command's own, with the closed gate at its end.
 const AROUND: u64 = 9;
 
 impl Core {
-    ghost use Rattle.sii_runs.specs.declared.run.Run.{Run};
+    ghost use Rattle.sii_words.specs.declared.run.Run.{Run};
     ghost use Rattle.jrn_format.specs.Batch.{entry_size};
     ghost use Rattle.book_model.specs.Book.{contents_of};
     ghost use Rattle.book_model.specs.Submit.{IsSubmitted, is_full, with_command};
-    ghost use Rattle.book_ledger.specs.Change.{IsChangeOf, IsShort};
+    ghost use Rattle.book_parts.specs.Change.{IsChangeOf, IsShort};
     ghost use Rattle.book_core.specs.Submit.{room_for};
 
-    /// Accepts the command, and answers its number, counted from 0. It copies and reads the words of the slaves alone that the
-    /// command is about.
+    /// Accepts the command and queues it. Returns its number, counted from 0.
+    ///
+    /// Only the words of the slaves that the command names are read and copied.
     ///
     /// # Errors
     ///
-    /// `Closed`; then `OldJournal`; then what speaks against the command on the contents as they are; then `TooLarge`; then `Full`.
-    /// Want of memory may be answered in place of any of these but the first two, and of a number. The book stays as it is.
+    /// In this order: `Closed` if the book is finished or has a fault; `OldJournal` if the journal isn't of version 2; `Command` if the
+    /// command is refused on the contents after all accepted ones; `TooLarge` if it has more than 65,535 runs, or an empty half can't
+    /// hold it; `Full` if 1,024 commands are queued, 2⁶⁴ - 1 were accepted, or no half has room for the queue and this command.
+    ///
+    /// Out of memory is a `Command` refusal too. It may come in place of any answer but the first two. The book stays as it is.
     pub fn submit(&mut self, command: &Command) -> Result<u64, SubmitRefusal>
         ensures answer { IsSubmitted self.old command.now result }
         ensures accepted { OnOk result (self.new ≡ with_command self.old command.now) }
@@ -68,7 +72,7 @@ impl Core {
         Ok(())
     }
 
-    /// Whether there is no room for a command of so many bytes behind the queue. A batch that is being appended counts as live.
+    /// Whether there is no room for a command of `bytes` bytes behind the queue. A batch that is being appended counts as live.
     fn is_full(&self, bytes: u64) -> bool
         requires form { self.now.form ≡ Form.Two }
         requires few { bytes < 2 ^ 32 }

@@ -1,28 +1,25 @@
-//! What is live in a journal is taken up.
+//! The open takes in the live batches of the journal.
 
 ghost use Rattle.std.specs.Prelude.{◌≡◌, ◌++◌, [], length, map, OnOk};
 ghost use Rattle.std.specs.List.{AllByRecursion};
-ghost use Rattle.sii_runs.specs.Redo.{redone};
+ghost use Rattle.sii_words.specs.Redo.{redone};
 ghost use Rattle.jrn_format.specs.Batch.{LieWithin, IsWithin};
-ghost use Rattle.jrn_laws.specs.Halves.{InOlder, live};
-ghost use Rattle.jrn_laws.specs.Live.{halves_in};
+ghost use Rattle.jrn_format.specs.Halves.{InOlder, live};
+ghost use Rattle.jrn_format.specs.Live.{halves_in};
 ghost use Rattle.book_model.specs.Entries.{runs_of, entries_of, live_runs, sizes_of};
-ghost use Rattle.book_slaves.specs.Line.{AreOfLine, NeverFall};
-ghost use Rattle.book_room.specs.Spot.{as_place};
+ghost use Rattle.book_parts.specs.Line.{AreOfLine, NeverFall};
+ghost use Rattle.book_parts.specs.Spot.{as_place};
 ghost use Rattle.book_core.specs.Stands.{as_found, cell_counts};
 ghost use Rattle.book_core.specs.Found.{AreFound, Joined, TakenUp};
 
-use book_room::Spot;
-use book_slaves::LineWork;
-use history::History;
-use item_list::ItemList;
+use book_parts::{LineWork, Spot};
 use jrn_format::{Batch, Entry};
-use sii_runs::redo;
-use sii_words::Plant;
+use lists::{History, ItemList};
+use sii_words::{Plant, redo};
 use std::alloc::{AllocError, Global};
 use std::mem::replace;
 
-/// The entries are noted, and the words that they name have their values.
+/// Notes the entries, and redoes their runs in the contents.
 fn note_entries(found: &mut History<Entry>, contents: &mut Plant, entries: &[Entry])
     requires { AllByRecursion (LieWithin (sizes_of contents.old)) entries.now }
     ensures found { found.new ≡ found.old ++ entries.now }
@@ -34,7 +31,7 @@ fn note_entries(found: &mut History<Entry>, contents: &mut Plant, entries: &[Ent
     }
 }
 
-/// The entries of the batches are noted, and the words that they name have their values.
+/// Notes the entries of the batches, and redoes their runs in the contents.
 pub(crate) fn note_batches(found: &mut History<Entry>, contents: &mut Plant, batches: &[Batch])
     requires { AllByRecursion (IsWithin (sizes_of contents.old)) batches.now }
     ensures found { found.new ≡ found.old ++ entries_of batches.now }
@@ -45,7 +42,7 @@ pub(crate) fn note_batches(found: &mut History<Entry>, contents: &mut Plant, bat
     }
 }
 
-/// Entries that were found at the open count as ones of number 0.
+/// Gives entries found at the open the number 0.
 fn renumber(entries: &mut [Entry])
     ensures { entries.new ≡ map as_found entries.old }
 {
@@ -54,7 +51,7 @@ fn renumber(entries: &mut [Entry])
     }
 }
 
-/// The entries of a batch, each as one of number 0. The batch is left without any.
+/// Takes the entries out of a batch, each with the number 0.
 fn take_entries(alloc: Global, batch: &mut Batch) -> Vec<Entry>
     ensures { result.items ≡ map as_found batch.old.entries }
 {
@@ -64,7 +61,7 @@ fn take_entries(alloc: Global, batch: &mut Batch) -> Vec<Entry>
     entries
 }
 
-/// The entries go live in one of the halves, with room for their words.
+/// The entries go live in one of the halves. Memory for their words is reserved first.
 fn join(work: &mut LineWork, entries: &[Entry], spot: Spot) -> Result<(), AllocError>
     requires inside { AreOfLine work.old.slaves (runs_of entries.now) }
     requires alone { as_place spot ≡ InOlder → work.old.newer ≡ [] }
@@ -79,7 +76,7 @@ fn join(work: &mut LineWork, entries: &[Entry], spot: Spot) -> Result<(), AllocE
     Ok(())
 }
 
-/// The batches go live in one of the halves, each entry as one of number 0. They are left without entries.
+/// The batches go live in one of the halves, each entry with the number 0. They are left without entries.
 fn join_half(
     alloc: Global,
     work: &mut LineWork,
@@ -98,7 +95,7 @@ fn join_half(
     Ok(())
 }
 
-/// How many of the batches stand in the half of the first.
+/// How many of the batches stand in the same half as the first.
 fn older_count(batches: &[Batch]) -> usize
     ensures { result ≡ length (halves_in batches.now).older }
 {
@@ -115,7 +112,7 @@ fn older_count(batches: &[Batch]) -> usize
     count
 }
 
-/// The batches go live in their halves.
+/// The batches go live, each in the half in which it stands.
 pub(crate) fn take_up(
     alloc: Global,
     work: &mut LineWork,

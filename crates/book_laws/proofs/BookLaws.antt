@@ -1,9 +1,9 @@
--- The book's calls keep what holds of the words.
+-- The book's calls keep BookFits true.
 use Rattle.std.proofs.Common.{◌≡◌, ℕ, zero, suc, ◌+◌, ◌<◌, ◌≤◌, true, List, [], ◌∷◌, ◌++◌, length, get_or, set, take, drop, refl, sym, ◌∙◌, ap, subst, arith}
-use Rattle.sii_runs.specs.declared.run.Run.{Run}
+use Rattle.sii_words.specs.declared.run.Run.{Run}
 use Rattle.jrn_format.specs.declared.journal.Entry.{Entry}
-use Rattle.book_model.specs.Below.{Place, InOlder, live, with_batch, batch_in}
-use Rattle.slave_queue.specs.Cells.{Cell, asked, written, nothing, cell_of}
+use Rattle.jrn_format.specs.Halves.{Place, InOlder, live, with_batch, batch_in}
+use Rattle.book_model.specs.Cells.{Cell, asked, written, nothing, cell_of}
 use Rattle.book_model.specs.Entries.{runs_of, live_runs}
 use Rattle.book_model.specs.Book.{Book, Slave, Errand, Free, Issuing, OpenSync, CloseSync, base_of, own, all_cells, nobody, slave_at, with_slave}
 use Rattle.book_model.specs.Open.{owing_words, owing_slaves}
@@ -38,7 +38,7 @@ close-sync-fits book gone fits same settled =
     step-retired book.words (base_of book) (own book) book.durable book.halves (all_cells book.slaves) gone fits
     (retire-settled book.words gone (live_runs book.halves.older) (live_runs book.halves.newer) (all_cells book.slaves) same (subst (λ (l : List Run). AllFit book.words gone l (all_cells book.slaves)) split fits.fit) settled)
 
--- ONE SLAVE GOES ON
+-- ONE SLAVE CHANGES
 
 pub all_cells-set : (slaves : List Slave) (i : ℕ) (s : Slave) → all_cells (set slaves i s) ≡ set (all_cells slaves) i s.cells
 all_cells-set [] i s = refl
@@ -54,7 +54,7 @@ pub length-all_cells : (slaves : List Slave) → length (all_cells slaves) ≡ l
 length-all_cells [] = refl
 length-all_cells (t ∷ slaves) = omega (arith, length-all_cells slaves)
 
--- a word's cell goes on
+-- a word's cell changes
 word-fits : (book : Book) (gone : List Run) (i word : ℕ) (cell : Cell) (errand : Errand) (issues : ℕ) → BookFits book gone → i < length book.slaves → word < length (slave_at book i).cells
     → ((target : ℕ) → CellFits (live_runs (live book.halves)) i word target (cell_of (slave_at book i).cells word) → CellFits (live_runs (live book.halves)) i word target cell)
     → BookFits (with_slave book i (record { cells = set (slave_at book i).cells word cell; errand = errand; issues = issues })) gone

@@ -1,15 +1,15 @@
--- What each step of a cell keeps.
+-- The steps of a cell keep CellFits true.
 use Rattle.std.proofs.Common.{◌≡◌, ◌⊎◌, inl, inr, ℕ, suc, ◌+◌, ◌<◌, ◌≤◌, true, false, List, [], ◌∷◌, ◌++◌, length, refl, sym, ◌∙◌, ap, subst, arith, length-append, Option, Some, None, unwrap_or}
 use Rattle.std.specs.Prelude.{if◌then◌else◌, ◌==◌, ◌-◌, nat_le, slice_get}
 use Rattle.std.proofs.lemmas.List.Concat.{flat_map-append}
 use Rattle.std.specs.Option.{option_or}
 use Rattle.std.proofs.lemmas.Bool.Decides.{nat_tests}
 use Rattle.std.proofs.lemmas.Bool.{cases_eq, cases_lt}
-use Rattle.sii_runs.specs.declared.run.Run.{Run}
-use Rattle.sii_runs.specs.Redo.{given_by, last_given}
-use Rattle.slave_queue.specs.Cells.{Known, Holds, Unsure, Cell, named, all_named, owing, asked, written, opened}
-use Rattle.slave_queue.specs.Pending.{values_of}
-use Rattle.slave_queue.proofs.EndLaws as queue
+use Rattle.sii_words.specs.declared.run.Run.{Run}
+use Rattle.sii_words.specs.Redo.{given_by, last_given}
+use Rattle.book_model.specs.Cells.{Known, Holds, Unsure, Cell, named, all_named, owing, asked, written, opened}
+use Rattle.book_model.specs.Pending.{values_of}
+use Rattle.book_model.proofs.EndLaws as queue
 use Rattle.book_model.specs.Entries.{named_from, named_by, namings, values}
 use Rattle.book_laws.specs.Owed.{MayBe, due, redone_word, CellFits}
 
@@ -53,7 +53,7 @@ abbrev some_value : Option ℕ → List ℕ
 some_value None = []
 some_value (Some v) = v ∷ []
 
--- neighbouring words that stand from a place on
+-- neighbouring words from a place on
 named-from : (first : ℕ) (words : List ℕ) (at : ℕ) → values_of at (named_from first words) ≡ some_value (if nat_le first at then slice_get words (at - first) else None)
 named-from first [] at = elim (cases_lt at first) [
   | inl below ↦ let t : nat_le first at ≡ false = grind (arith, nat_tests) in rw t refl
@@ -106,7 +106,7 @@ redone-due (run ∷ runs) slave at word =
 pub opened-fits : (slave at word : ℕ) → CellFits [] slave at word (opened word)
 opened-fits slave at word = record { leads = λ w may. may; owed = omega arith }
 
--- a batch goes live
+-- a batch becomes live
 pub owing-fits : (live runs : List Run) (slave at target : ℕ) (cell : Cell) → CellFits live slave at target cell
     → CellFits (live ++ runs) slave at (redone_word runs slave at target) (owing cell (values runs slave at))
 owing-fits live runs slave at target cell fits = record {
@@ -119,7 +119,7 @@ due-some : (a b : ℕ) (owed : List ℕ) → 0 < length owed → due a owed ≡ 
 due-some a b [] some = absurd (omega arith)
 due-some a b (v ∷ vs) some = refl
 
-held : (known : Known) → (word : ℕ) × MayBe known word
+pub held : (known : Known) → (word : ℕ) × MayBe known word
 held (Holds value) = (value, refl)
 held (Unsure issues) = (0, tt)
 
@@ -136,11 +136,11 @@ written-fits live slave at target value issues cell unsure fits = record {
   owed = omega (arith, fits.owed, length-all_named (Holds value) [] cell.owed);
 }
 
--- the older half is retired: what is owed is named behind it
+-- the older half is retired: what is owed is named by later runs
 pub retired-fits : (older newer : List Run) (slave at target : ℕ) (cell : Cell) → length cell.owed ≤ length (values newer slave at) → CellFits (older ++ newer) slave at target cell → CellFits newer slave at target cell
 retired-fits older newer slave at target cell settled fits = record { leads = fits.leads; owed = settled }
 
--- WHAT A STOP LEAVES
+-- WHAT A POWER CUT LEAVES
 
 named_or : (vs : List ℕ) → ((a b : ℕ) → due a vs ≡ due b vs) ⊎ (vs ≡ [])
 named_or [] = inr refl

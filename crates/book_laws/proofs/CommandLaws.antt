@@ -1,11 +1,12 @@
 -- The accepted commands as entries lead to the contents after them.
 use Rattle.std.proofs.Common.{◌≡◌, ℕ, zero, suc, ◌+◌, List, [], ◌∷◌, ◌++◌, length, take, refl, ◌∙◌, ap, arith, add-zero}
-use Rattle.sii_runs.specs.Redo.{SameShape, redone}
-use Rattle.sii_runs.specs.Run.{runs_between}
-use Rattle.sii_runs.proofs.RedoLaws.{redone-append, redone-nil}
-use Rattle.sii_runs.proofs.RunLaws.{redone-runs_between}
-use Rattle.book_model.specs.Below.{Command, after, contents, contents_after}
-use Rattle.book_model.proofs.Below.{SameShape-contents}
+use Rattle.sii_words.specs.Redo.{SameShape, redone}
+use Rattle.sii_words.specs.Run.{runs_between}
+use Rattle.sii_words.proofs.RedoLaws.{redone-append, redone-nil}
+use Rattle.sii_words.proofs.RunLaws.{redone-runs_between}
+use Rattle.sii_edit.specs.declared.command.Command.{Command}
+use Rattle.sii_edit.specs.Fold.{after, contents, contents_after}
+use Rattle.sii_edit.proofs.FoldLaws.{SameShape-contents}
 use Rattle.jrn_format.specs.declared.journal.Entry.{Entry}
 use Rattle.book_model.specs.Entries.{runs_of, entries_from}
 use Rattle.book_laws.specs.Fits.{after_entries}

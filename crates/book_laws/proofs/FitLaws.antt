@@ -1,24 +1,24 @@
--- What a stop leaves is kept, and what the steps of the book keep.
+-- Redo of what a power cut leaves gives the contents, and the steps of the book keep Fits true.
 use Rattle.std.proofs.Common.{◌≡◌, ◌≢◌, ◌⊎◌, inl, inr, ℕ, zero, suc, ◌+◌, ◌<◌, ◌≤◌, List, [], ◌∷◌, ◌++◌, length, get_or, set, take, drop, refl, sym, ◌∙◌, ap, subst, arith, append_assoc, add-zero, zero-add, add-suc, suc-add}
 use Rattle.std.proofs.lemmas.List.{append-nil, get_or-set_same, get_or-set_other}
 use Rattle.std.proofs.lemmas.List.Concat.{flat_map-append}
 use Rattle.std.proofs.lemmas.Bool.{cases_eq}
-use Rattle.sii_runs.specs.declared.run.Run.{Run}
-use Rattle.sii_runs.specs.Redo.{redone}
+use Rattle.sii_words.specs.declared.run.Run.{Run}
+use Rattle.sii_words.specs.Redo.{redone}
 use Rattle.jrn_format.specs.declared.journal.Entry.{Entry}
 use Rattle.jrn_format.specs.declared.journal.Batch.{Batch}
-use Rattle.slave_queue.specs.Cells.{Cell, owing, opened, nothing}
+use Rattle.book_model.specs.Cells.{Cell, owing, opened, nothing}
 use Rattle.book_model.specs.Entries.{runs_of, entries_of, live_runs, values}
 use Rattle.book_model.specs.Book.{cell_at}
 use Rattle.book_model.specs.Open.{owing_words}
 use Rattle.book_laws.specs.Owed.{redone_word, CellFits, due}
 use Rattle.book_laws.specs.Plants.{word_at, EachWord, MayHoldAll, AllFit, AllSettled}
-use Rattle.book_model.specs.Below.{Halves, Place, InOlder, InNewer, live, with_batch, batch_in, retired, left_of}
+use Rattle.jrn_format.specs.Halves.{Halves, Place, InOlder, InNewer, live, with_batch, batch_in, retired, left_of}
 use Rattle.book_laws.specs.Fits.{after_entries, owing_from, owing_all, with_cell, Fits, SameCells}
-use Rattle.sii_runs.proofs.RedoLaws.{redone-append, redone-nil}
+use Rattle.sii_words.proofs.RedoLaws.{redone-append, redone-nil}
 use Rattle.book_laws.proofs.CellLaws.{redone-due, values-append, due-append, owing-fits, opened-fits}
 use Rattle.book_laws.proofs.PlantLaws.{plant-leads, plant-leads-retired, all-fit-retired}
-use Rattle.book_model.proofs.Below.{with_batch-live}
+use Rattle.jrn_format.proofs.HalvesLaws.{with_batch-live}
 
 pub runs_of-append : (xs ys : List Entry) → runs_of (xs ++ ys) ≡ runs_of xs ++ runs_of ys
 runs_of-append xs ys = flat_map-append (λ (e : Entry). e.runs) xs ys
@@ -84,7 +84,7 @@ module _ (plant base : List (List ℕ)) (own : List Entry) (durable : ℕ) (halv
       left-live [] = refl
       left-live (b ∷ newer) = append-nil (b ∷ newer)
 
--- A BATCH GOES LIVE
+-- A BATCH BECOMES LIVE
 
 owing_word_at : (runs : List Run) (slave at : ℕ) (cells : List Cell) (k : ℕ) → k < length cells → get_or (owing_words runs slave at cells) k nothing ≡ owing (get_or cells k nothing) (values runs slave (at + k))
 owing_word_at runs slave at [] k within = absurd (omega arith)

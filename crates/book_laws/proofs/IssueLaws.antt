@@ -1,10 +1,10 @@
--- What an issue asks for.
+-- The value that an issue sends is among those that its word is owed.
 use Rattle.std.proofs.Common.{◌≡◌, inl, inr, ℕ, ◌<◌, List, [], ◌∷◌, ◌++◌, length, refl, sym, ◌∙◌, ap, subst, arith}
-use Rattle.sii_runs.specs.declared.run.Run.{Run}
-use Rattle.slave_queue.specs.Cells.{Cell, Known, Holds, Unsure}
+use Rattle.sii_words.specs.declared.run.Run.{Run}
+use Rattle.book_model.specs.Cells.{Cell, Known, Holds, Unsure}
 use Rattle.book_model.specs.Entries.{values}
 use Rattle.book_laws.specs.Owed.{MayBe, due, IsAmong, redone_word, CellFits}
-use Rattle.book_laws.proofs.CellLaws.{values-append, redone-due, due-append}
+use Rattle.book_laws.proofs.CellLaws.{values-append, redone-due, due-append, held}
 
 among-due : (word v : ℕ) (vs : List ℕ) → IsAmong (due word (v ∷ vs)) (v ∷ vs)
 among-due word v [] = inl refl
@@ -17,10 +17,6 @@ due-last a b (v ∷ vs) some = refl
 among : (word : ℕ) (owed : List ℕ) → 0 < length owed → IsAmong (due word owed) owed
 among word [] some = absurd (omega arith)
 among word (v ∷ vs) some = among-due word v vs
-
-held : (known : Known) → (word : ℕ) × MayBe known word
-held (Holds value) = (value, refl)
-held (Unsure issues) = (0, tt)
 
 -- a word that is owed something is owed the value that the live runs name last
 pub issue-among : (gone lives : List Run) (slave at own word : ℕ) (cell : Cell) → CellFits lives slave at (redone_word (gone ++ lives) slave at own) cell → 0 < length cell.owed

@@ -1,16 +1,16 @@
--- What a stop leaves of the slaves leads to the contents.
+-- What a power cut leaves of the slaves leads to the contents.
 use Rattle.std.proofs.Common.{◌≡◌, ℕ, ◌<◌, List, ◌++◌, length, get_or, sym, ◌∙◌, ap, subst, arith, append_assoc}
-use Rattle.sii_runs.specs.declared.run.Run.{Run}
+use Rattle.sii_words.specs.declared.run.Run.{Run}
 use Rattle.sii_words.specs.Plant.{words_of}
-use Rattle.sii_runs.specs.Redo.{redone}
-use Rattle.slave_queue.specs.Cells.{Cell}
+use Rattle.sii_words.specs.Redo.{redone}
+use Rattle.book_model.specs.Cells.{Cell}
 use Rattle.book_model.specs.Book.{cell_at}
 use Rattle.book_laws.specs.Owed.{CellFits, redone_word}
 use Rattle.book_laws.specs.Plants.{word_at, MayHoldAll, AllFit, AllSettled}
-use Rattle.sii_runs.proofs.RedoLaws.{same_plants, word-redone, length-redone, length-words_of-redone, redone-append}
+use Rattle.sii_words.proofs.RedoLaws.{same_plants, word-redone, length-redone, length-words_of-redone, redone-append}
 use Rattle.book_laws.proofs.CellLaws.{stop-leads, retired-fits}
 
--- whatever a stop leaves of the words, redo of the live runs gives the contents
+-- whatever a power cut leaves of the words, redo of the live runs gives the contents
 pub plant-leads : (plant : List (List ℕ)) (retired live : List Run) (cells : List (List Cell)) (left : List (List ℕ)) → AllFit plant retired live cells → MayHoldAll plant cells left
     → redone left live ≡ redone plant (retired ++ live)
 plant-leads plant retired live cells left fit may =

@@ -1,14 +1,14 @@
--- The test before a retire, and that the settled prefix never falls.
+-- The test before a retire, and that the settled prefix never gets shorter.
 use Rattle.std.proofs.Common.{◌≡◌, ◌⊎◌, inl, inr, ℕ, zero, suc, ◌+◌, ◌<◌, ◌≤◌, Bool, true, false, List, [], ◌∷◌, ◌++◌, length, get_or, refl, ◌∙◌, ap, subst, arith, length-append, add-zero, add-suc, suc-add}
 use Rattle.std.specs.Prelude.{nat_le, ◌&&◌, ◌==◌, if◌then◌else◌}
 use Rattle.std.proofs.lemmas.Bool.{cases_eq}
 use Rattle.std.proofs.lemmas.Bool.Decides.{nat_tests}
-use Rattle.sii_runs.specs.declared.run.Run.{Run}
+use Rattle.sii_words.specs.declared.run.Run.{Run}
 use Rattle.jrn_format.specs.declared.journal.Entry.{Entry}
-use Rattle.slave_queue.specs.Cells.{Cell, cell_of}
-use Rattle.slave_queue.specs.Pending.{values_of, namings_settled}
-use Rattle.slave_queue.proofs.SettledLaws.{word-settled}
-use Rattle.slave_queue.proofs.EndLaws as queue
+use Rattle.book_model.specs.Cells.{Cell, cell_of}
+use Rattle.book_model.specs.Pending.{values_of, namings_settled}
+use Rattle.book_model.proofs.SettledLaws.{word-settled}
+use Rattle.book_model.proofs.EndLaws as queue
 use Rattle.book_model.specs.Entries.{runs_of, namings, values}
 use Rattle.book_model.specs.Book.{cell_at}
 use Rattle.book_model.specs.Reading.{settled_from, runs_settled, settled_prefix}
@@ -16,17 +16,7 @@ use Rattle.book_laws.specs.Plants.{AllFit, AllSettled}
 use Rattle.book_laws.specs.Fits.{SameCells, OwesNoMore}
 use Rattle.book_laws.proofs.CellLaws.{namings-append, values-append}
 use Rattle.book_laws.proofs.FitLaws.{runs_of-append}
-
-and-first : (a b : Bool) → (a && b) ≡ true → a ≡ true
-and-first true b is = refl
-and-first false b is = is
-
-and-second : (a b : Bool) → (a && b) ≡ true → b ≡ true
-and-second true b is = is
-and-second false b is = absurd cc
-
-le-of : (n m : ℕ) → nat_le n m ≡ true → n ≤ m
-le-of n m is = grind (arith, nat_tests)
+use Rattle.book_laws.proofs.BeginLaws.{and-first, and-second, le-of}
 
 -- ---- what the test says
 

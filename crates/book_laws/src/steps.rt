@@ -1,10 +1,10 @@
-//! What the book's calls keep of the words.
+//! Laws of the book's calls: `BookFits` stays true, so that redo still gives the contents.
 
 ghost use Rattle.std.specs.Prelude.{◌≡◌, ◌≤◌, ◌<◌, ◌+◌, ℕ, true, List, [], ◌++◌, length, take, drop};
-ghost use Rattle.sii_runs.specs.declared.run.Run.{Run};
+ghost use Rattle.sii_words.specs.declared.run.Run.{Run};
 ghost use Rattle.jrn_format.specs.declared.journal.Entry.{Entry};
-ghost use Rattle.book_model.specs.Below.{Place, InOlder};
-ghost use Rattle.slave_queue.specs.Cells.{cell_of};
+ghost use Rattle.jrn_format.specs.Halves.{Place, InOlder};
+ghost use Rattle.book_model.specs.Cells.{cell_of};
 ghost use Rattle.book_model.specs.Entries.{live_runs};
 ghost use Rattle.book_model.specs.Book.{Book, OpenSync, CloseSync, own, all_cells, slave_at};
 ghost use Rattle.book_model.specs.DiskSteps.{went_on};
@@ -13,28 +13,32 @@ ghost use Rattle.book_model.specs.Reading.{runs_settled};
 ghost use Rattle.book_laws.specs.Owed.{IsUnsure};
 ghost use Rattle.book_laws.specs.Fits.{BookFits, SameCells};
 
-/// The second sync of an append.
+/// `BookFits` stays true when the second sync of an append makes its batch live.
 pub fn going_live()
-    ensures { (book : Book) (gone : List Run) (place : Place) (entries : List Entry) → BookFits book gone → SameCells book.words (all_cells book.slaves)
-        → (place ≡ InOlder → book.halves.newer ≡ []) → take (length entries) (drop book.durable (own book)) ≡ entries → book.durable + length entries ≤ length (own book)
+    ensures { (book : Book) (gone : List Run) (place : Place) (entries : List Entry) → BookFits book gone
+        → SameCells book.words (all_cells book.slaves)
+        → (place ≡ InOlder → book.halves.newer ≡ []) → take (length entries) (drop book.durable (own book)) ≡ entries
+        → book.durable + length entries ≤ length (own book)
         → BookFits (went_on book (OpenSync place entries)) gone }
 {}
 
-/// The sync of a retire, where the test held.
+/// `BookFits` stays true when the sync of a retire succeeds, if the test before it held.
 pub fn retiring()
     ensures { (book : Book) (gone : List Run) → BookFits book gone → SameCells book.words (all_cells book.slaves)
         → runs_settled (all_cells book.slaves) (live_runs book.halves.newer) (live_runs book.halves.older) ≡ true
         → BookFits (went_on book CloseSync) (gone ++ live_runs book.halves.older) }
 {}
 
-/// An issue of a word that is owed something.
+/// `BookFits` stays true when a word that is owed something is issued.
 pub fn issuing()
-    ensures { (book : Book) (gone : List Run) (i : ℕ) (w : ℕ × ℕ) → BookFits book gone → i < length book.slaves → w.0 < length (slave_at book i).cells
+    ensures { (book : Book) (gone : List Run) (i : ℕ) (w : ℕ × ℕ) → BookFits book gone → i < length book.slaves
+        → w.0 < length (slave_at book i).cells
         → 0 < length (cell_of (slave_at book i).cells w.0).owed → BookFits (with_issue book i w) gone }
 {}
 
-/// A word that was asked for is written.
+/// `BookFits` stays true when an issued word is known to be written.
 pub fn writing()
-    ensures { (book : Book) (gone : List Run) (i word value : ℕ) → BookFits book gone → i < length book.slaves → word < length (slave_at book i).cells
+    ensures { (book : Book) (gone : List Run) (i word value : ℕ) → BookFits book gone → i < length book.slaves
+        → word < length (slave_at book i).cells
         → IsUnsure (cell_of (slave_at book i).cells word).known → BookFits (with_written book i word value) gone }
 {}

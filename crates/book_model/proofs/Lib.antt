@@ -1,1 +1,8 @@
-pub mod Below
+pub mod EndLaws
+pub mod TodoLaws
+pub mod QueueLaws
+pub mod WrittenLaws
+pub mod NameLaws
+pub mod DownLaws
+pub mod SettledLaws
+pub mod OpenLaws

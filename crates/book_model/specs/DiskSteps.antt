@@ -1,4 +1,4 @@
--- What is to be done with the disk, and what becomes of the book once it is done.
+-- The book's next action on the disk, and the book after its outcome.
 use Rattle.std.specs.Prelude.{ℕ, ◌+◌, Bool, true, false, not, ◌&&◌, ◌||◌, List, [], ◌∷◌, ◌++◌, length, Option, Some, None, is_some, Result, Ok, Err, if◌then◌else◌}
 use Rattle.jrn_format.specs.declared.journal.Entry.{Entry}
 use Rattle.jrn_format.specs.declared.journal.Form.{Form}
@@ -10,23 +10,24 @@ use Rattle.site_core.specs.declared.fault.DeviceFault.TheVariants as device
 use Rattle.book_model.specs.declared.next.DiskNext.{DiskNext}
 use Rattle.book_model.specs.declared.next.DiskNext.TheVariants as next
 use Rattle.book_model.specs.declared.fault.Fault.TheVariants as faults
-use Rattle.slave_queue.specs.Cells.{is_any}
+use Rattle.book_model.specs.Cells.{is_any}
 use Rattle.book_model.specs.Entries.{runs_of, live_runs}
-use Rattle.jrn_laws.specs.Halves.{Place, InOlder, InNewer, other, live, batch_in, with_batch, size, place_of, retired}
+use Rattle.jrn_format.specs.Halves.{Place, InOlder, InNewer, other, live, batch_in, with_batch, size, place_of, retired}
 use Rattle.book_model.specs.Book.{Book, Doing, Resting, Payload, PayloadSync, OpenGate, OpenSync, CloseGate, CloseSync, FarGate, Mark, MarkSync, Version, VersionSync, queued, room, half_at, all_cells, with_fault}
 use Rattle.book_model.specs.Open.{owing_slaves}
 use Rattle.book_model.specs.Reading.{runs_settled}
 
--- ---- what is begun
+-- ---- the next step
 
--- something is live, and all words of the older half are settled
+-- A retire may begin: something is live, and the older half is settled.
 abbrev pub can_retire : Book → Bool
 can_retire book = is_any (live book.halves) && runs_settled (all_cells book.slaves) (live_runs book.halves.newer) (live_runs book.halves.older)
 
+-- A migration may begin: it was asked for, and nothing is live.
 abbrev pub can_migrate : Book → Bool
 can_migrate book = book.is_migrating && not (is_any (live book.halves))
 
--- an append where commands are queued, else a retire, else a migration that was asked for
+-- What a resting book begins: an append of the whole queue if a half has room for it, else a retire, else a migration.
 abbrev pub begun : Book → Doing
 begun book = append (if is_any (queued book) then place_of (room book) book.halves (queued book) else None)
   where
@@ -34,22 +35,23 @@ begun book = append (if is_any (queued book) then place_of (room book) book.halv
     append (Some place) = Payload place (queued book)
     append None = if can_retire book then CloseGate else if can_migrate book then FarGate else Resting
 
+-- The step that is handed out next.
 abbrev pub doing_next : Book → Doing → Doing
 doing_next book Resting = begun book
 doing_next book doing = doing
 
--- ---- the device's part
+-- ---- the action on the disk
 
--- the byte of the gate in front of the next batch there
+-- The file offset of the gate before the next batch at this place.
 abbrev pub place_at : Book → Place → ℕ
 place_at book InOlder = half_at book book.halves.at + size book.halves.older
 place_at book InNewer = half_at book (other book.halves.at) + size book.halves.newer
 
--- a batch behind its gate, with the closed gate behind it
+-- The bytes of a batch after its gate, followed by a closed gate.
 abbrev pub payload_bytes : Book → Place → List Entry → List ℕ
 payload_bytes book place entries = spelt_behind WithGeneration (batch_in book.halves place entries).generation entries ++ 0 ∷ []
 
--- what a step asks of the disk; None where the book rests
+-- The action of a step; None at rest.
 abbrev pub action_of : Book → Doing → Option DiskNext
 action_of book Resting = None
 action_of book (Payload place entries) = Some (next.Write (place_at book place + 1) (payload_bytes book place entries))
@@ -60,14 +62,19 @@ action_of book Mark = Some (next.Write 9 (0x4d ∷ 0x49 ∷ 0x47 ∷ 0x32 ∷ []
 action_of book Version = Some (next.Write 1 (2 ∷ []))
 action_of book sync = Some next.Sync
 
+-- The next action, and the book once it is handed out. Idle while an action is handed out; Stop after a fault, or at rest after a
+-- finish.
 abbrev pub disk_next : Book → DiskNext × Book
-disk_next book = if book.is_handed_out then (next.Idle, book) else if is_some book.fault then (next.Stop, book) else handed_out (action_of book (doing_next book book.doing))
+disk_next book =
+    if book.is_handed_out then (next.Idle, book)
+    else if is_some book.fault then (next.Stop, book)
+    else handed_out (action_of book (doing_next book book.doing))
   where
     handed_out : Option DiskNext → DiskNext × Book
     handed_out None = (if book.is_finished then next.Stop else next.Idle, book)
     handed_out (Some action) = (action, record book { doing = doing_next book book.doing; is_handed_out = true })
 
--- how many bytes the write has that would be given now
+-- The length of the write that would be handed out now, in bytes.
 abbrev pub disk_room : Book → ℕ
 disk_room book = written_by (disk_next book).0
   where
@@ -75,19 +82,24 @@ disk_room book = written_by (disk_next book).0
     written_by (next.Write at bytes) = length bytes
     written_by other_action = 0
 
--- ---- what becomes of the book
+-- ---- the book after an outcome
 
--- a batch is live: its commands are durable, and the slaves owe its words
+-- The batch is live and synced: its commands are durable, and its words are owed.
 abbrev pub went_live : Book → Place → List Entry → Book
 went_live book place entries =
-    record book { doing = Resting; halves = with_batch book.halves place (batch_in book.halves place entries); durable = book.durable + length entries; slaves = owing_slaves (runs_of entries) 0 book.slaves }
+    record book {
+      doing = Resting;
+      halves = with_batch book.halves place (batch_in book.halves place entries);
+      durable = book.durable + length entries;
+      slaves = owing_slaves (runs_of entries) 0 book.slaves;
+    }
 
--- a migration that was stopped has its mark
+-- The step after the far gate: an interrupted migration already has its mark.
 abbrev pub behind_far_gate : Form → Doing
 behind_far_gate Moving = MarkSync
 behind_far_gate form = Mark
 
--- a step came back well: the step behind it
+-- The book after a step that succeeded.
 abbrev pub went_on : Book → Doing → Book
 went_on book Resting = book
 went_on book (Payload place entries) = record book { doing = PayloadSync place entries }
@@ -102,7 +114,8 @@ went_on book MarkSync = record book { doing = Version }
 went_on book Version = record book { doing = VersionSync }
 went_on book VersionSync = record book { doing = Resting; form = Two; is_migrating = false }
 
--- A done with nothing handed out, or with a lost frame, which no disk has, changes nothing.
+-- The book after the outcome of the action that is handed out. An outcome with nothing handed out changes nothing; nor does Lost,
+-- which no disk reports.
 abbrev pub disk_done : Book → Result (Unit {0}) DeviceFault → Book
 disk_done book result = if book.is_handed_out then back (record book { is_handed_out = false }) result else book
   where

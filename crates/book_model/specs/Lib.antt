@@ -1,3 +1,6 @@
+pub mod Cells
+pub mod Pending
+pub mod Queue
 pub mod Memory
 pub mod Entries
 pub mod Book
@@ -8,4 +11,3 @@ pub mod RomSteps
 pub mod Reading
 pub mod Machine
 pub mod Kept
-pub mod Below

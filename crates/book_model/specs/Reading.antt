@@ -1,6 +1,6 @@
--- What is read of a book: which commands are settled, and how many bytes are live.
+-- What a book reports: its settled commands, the bytes that are live, and its status.
 use Rattle.std.specs.Prelude.{ℕ, suc, ◌+◌, ◌-◌, Bool, true, false, ◌&&◌, List, [], ◌∷◌, ◌++◌, length, take, if◌then◌else◌}
-use Rattle.sii_runs.specs.declared.run.Run.{Run}
+use Rattle.sii_words.specs.declared.run.Run.{Run}
 use Rattle.sii_edit.specs.Fold.{contents_after}
 use Rattle.jrn_format.specs.declared.journal.Entry.{Entry}
 use Rattle.jrn_format.specs.declared.journal.Form.{Form}
@@ -9,45 +9,49 @@ use Rattle.jrn_format.specs.declared.journal.Spelling.{Spelling}
 use Rattle.jrn_format.specs.declared.journal.Spelling.TheVariants.{Plain, WithGeneration}
 use Rattle.jrn_format.specs.Area.{spelt_batches}
 use Rattle.book_model.specs.declared.status.Status.{Status}
-use Rattle.slave_queue.specs.Cells.{Cell}
-use Rattle.slave_queue.specs.Pending.{namings_settled}
-use Rattle.jrn_laws.specs.Halves.{live}
+use Rattle.book_model.specs.Cells.{Cell}
+use Rattle.book_model.specs.Pending.{namings_settled}
+use Rattle.jrn_format.specs.Halves.{live}
 use Rattle.book_model.specs.Entries.{runs_of, namings}
 use Rattle.book_model.specs.Book.{Book, base_of, own, all_cells}
 
--- the slaves from a number on
+-- The runs are settled for the slaves from number `slave` on.
 abbrev pub settled_from : ℕ → List (List Cell) → (behind runs : List Run) → Bool
 settled_from slave [] behind runs = true
-settled_from slave (cells ∷ others) behind runs = namings_settled cells (namings behind slave) (namings runs slave) && settled_from (suc slave) others behind runs
+settled_from slave (cells ∷ others) behind runs =
+    namings_settled cells (namings behind slave) (namings runs slave) && settled_from (suc slave) others behind runs
 
--- the runs are settled, where these stand behind them
+-- The runs are settled: each of their words is owed no more values than the later runs `behind` give it.
 abbrev pub runs_settled : List (List Cell) → (behind runs : List Run) → Bool
 runs_settled cells behind runs = settled_from 0 cells behind runs
 
--- how many of the entries are settled in a row
+-- The length of the longest settled prefix of entries.
 abbrev pub settled_prefix : List (List Cell) → List Entry → ℕ
 settled_prefix cells [] = 0
 settled_prefix cells (e ∷ es) = if runs_settled cells (runs_of es) e.runs then suc (settled_prefix cells es) else 0
 
--- all entries that have been live since the open
+-- All entries that were live at the open or have become live since.
 abbrev pub all_entries : Book → List Entry
 all_entries book = book.found ++ take book.durable (own book)
 
--- how many accepted commands are settled in a row, once all that was found is
+-- The length of the longest settled prefix of the accepted commands; 0 until all entries found at the open are settled.
 abbrev pub applied : Book → ℕ
 applied book = settled_prefix (all_cells book.slaves) (all_entries book) - length book.found
 
--- the contents whose process image is the plan
+-- The contents after that prefix. The plan is their process image.
 abbrev pub planned : Book → List (List ℕ)
 planned book = contents_after (base_of book) book.accepted (applied book)
 
+-- The encoding of the batches of a journal of this form.
 abbrev pub spelling_of : Form → Spelling
 spelling_of One = Plain
 spelling_of Two = WithGeneration
 spelling_of Moving = WithGeneration
 
+-- The length of the live batches, in bytes.
 abbrev pub live_bytes : Book → ℕ
 live_bytes book = length (spelt_batches (spelling_of book.form) (live book.halves))
 
+-- The status that a book reports.
 abbrev pub status : Book → Status
 status book = record { accepted = length book.accepted; durable = book.durable; settled = applied book; live_bytes = live_bytes book }

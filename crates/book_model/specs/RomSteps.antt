@@ -1,4 +1,4 @@
--- What is to be done with a slave, and what becomes of the book once it is done.
+-- The book's next action on a slave, and the book after its outcome.
 use Rattle.std.specs.Prelude.{ℕ, suc, ◌+◌, ◌==◌, Bool, true, false, ◌&&◌, nat_le, nat_lt, List, [], ◌∷◌, ◌++◌, length, filter, slice_set, Option, is_none, is_some, if◌then◌else◌}
 use Rattle.site_core.specs.declared.answers.Issued.{Issued}
 use Rattle.site_core.specs.declared.answers.Issued.TheVariants as issued
@@ -8,30 +8,37 @@ use Rattle.book_model.specs.declared.next.RomNext.TheVariants as next
 use Rattle.book_model.specs.declared.next.RomOutcome.{RomOutcome}
 use Rattle.book_model.specs.declared.next.RomOutcome.TheVariants as outcomes
 use Rattle.book_model.specs.declared.fault.Fault.TheVariants as faults
-use Rattle.slave_queue.specs.Cells.{Known, Holds, Unsure, asked, written, cell_of}
-use Rattle.slave_queue.specs.Pending as pending
+use Rattle.book_model.specs.Cells.{Known, Holds, Unsure, asked, written, cell_of}
+use Rattle.book_model.specs.Pending as pending
 use Rattle.book_model.specs.Entries.{live_runs, namings}
-use Rattle.jrn_laws.specs.Halves.{live}
+use Rattle.jrn_format.specs.Halves.{live}
 use Rattle.book_model.specs.Book.{Book, Errand, Free, Issuing, Unsettled, Settling, slave_at, with_slave, with_fault}
 
--- the words of a slave that are to be written, in order, with their values
+-- The words of a slave that remain to be written, in order, with their values.
 abbrev pub to_do : Book → ℕ → List (ℕ × ℕ)
 to_do book slave = pending.to_do (slave_at book slave).cells (namings (live_runs (live book.halves)) slave)
 
--- ---- what is handed out
+-- ---- the next action
 
+-- The book with another action on slave i.
 abbrev pub with_errand : Book → ℕ → Errand → Book
 with_errand book i errand = with_slave book i (record (slave_at book i) { errand = errand })
 
--- a word is asked for
+-- The book after the issue of a word and value is handed out.
 abbrev pub with_issue : Book → ℕ → (ℕ × ℕ) → Book
 with_issue book i w =
-    with_slave book i (record { cells = slice_set (slave_at book i).cells w.0 (asked (cell_of (slave_at book i).cells w.0)); errand = Issuing w.0 w.1; issues = (slave_at book i).issues + 1 })
+    with_slave book i (record {
+      cells = slice_set (slave_at book i).cells w.0 (asked (cell_of (slave_at book i).cells w.0));
+      errand = Issuing w.0 w.1;
+      issues = (slave_at book i).issues + 1;
+    })
 
--- the workers stop once the book is finished and all accepted commands are durable
+-- The answer if no word remains to be written: Stop once the book is finished and all accepted commands are durable, else Idle.
 abbrev pub without_work : Book → RomNext
 without_work book = if book.is_finished && nat_le (length book.accepted) book.durable then next.Stop else next.Idle
 
+-- The next action on slave i, and the book once it is handed out. Idle while an action is handed out; Stop after a fault, or if the
+-- line has no such slave.
 abbrev pub rom_next : Book → ℕ → RomNext × Book
 rom_next book i = if nat_lt i (length book.slaves) then going (slave_at book i).errand else (next.Stop, book)
   where
@@ -42,32 +49,39 @@ rom_next book i = if nat_lt i (length book.slaves) then going (slave_at book i).
     going : Errand → RomNext × Book
     going Free = if is_some book.fault then (next.Stop, book) else issue (to_do book i)
     going (Issuing word value) = (next.Idle, book)
-    going (Unsettled word value taken) = if is_some book.fault then (next.Stop, book) else (next.Settle taken, with_errand book i (Settling word value taken))
+    going (Unsettled word value taken) =
+        if is_some book.fault then (next.Stop, book)
+        else (next.Settle taken, with_errand book i (Settling word value taken))
     going (Settling word value taken) = (next.Idle, book)
 
--- ---- what becomes of the book
+-- ---- the book after an outcome
 
+-- The slave is known to have taken the datagram of an issue.
 abbrev pub was_taken : Issued → Bool
 was_taken issued.Taken = true
 was_taken issued.NotTaken = false
 was_taken issued.Lost = false
 
--- after three issues a word that isn't written is given up
+-- The third issue in a row of a word is its last.
 abbrev pub is_last : Known → Bool
 is_last (Holds value) = false
 is_last (Unsure issues) = nat_le 3 issues
 
--- the word holds the value
+-- The book once the word is known to hold the value.
 abbrev pub with_written : Book → ℕ → (word value : ℕ) → Book
 with_written book i word value =
-    with_slave book i (record (slave_at book i) { cells = slice_set (slave_at book i).cells word (written (cell_of (slave_at book i).cells word) value); errand = Free })
+    with_slave book i (record (slave_at book i) {
+      cells = slice_set (slave_at book i).cells word (written (cell_of (slave_at book i).cells word) value);
+      errand = Free;
+    })
 
--- the word wants to be issued again
+-- The book after a word has to be issued again: a fault if this was its third issue in a row.
 abbrev pub with_again : Book → ℕ → ℕ → Book
 with_again book i word =
-    if is_last (cell_of (slave_at book i).cells word).known then with_fault (with_errand book i Free) (faults.SlaveDead i) else with_errand book i Free
+    if is_last (cell_of (slave_at book i).cells word).known then with_fault (with_errand book i Free) (faults.SlaveDead i)
+    else with_errand book i Free
 
--- A done with nothing handed out, or with an outcome of another kind, changes nothing.
+-- The book after the outcome of the action that is handed out. Any other outcome changes nothing.
 abbrev pub rom_done : Book → ℕ → RomOutcome → Book
 rom_done book i outcome = back (slave_at book i).errand outcome
   where

@@ -4,20 +4,21 @@ ghost use Rattle.book_model.specs.declared.fault.CoreFault.TheVariants as faults
 use std::alloc::{AllocError, AllocFailed};
 use thiserror::Error;
 
-/// What has closed a book for good. The first one stays.
+/// The fault that closed a book until the next open. A book keeps its first fault.
 #[derive(Clone, Copy, Debug, PartialEq, Eq)]
 pub enum Fault {
-    /// The disk failed.
+    /// A write or a sync of the disk failed.
     Disk,
-    /// The site has stopped.
+    /// The site stopped, as by a power cut.
     Stopped,
-    /// A slave didn't take a word in three issues, or it didn't come to rest.
+    /// The slave with the number `slave` didn't write a word in three issues, or didn't become idle.
     SlaveDead { slave: u16 },
 }
 
-/// Why a call of a book fails that takes memory and has no other refusal.
+/// The fault of the book's calls that allocate memory and can't fail otherwise.
 #[derive(Clone, Copy, Debug, PartialEq, Eq, Error)]
 pub enum CoreFault {
+    /// Memory was refused.
     #[error("out of memory")]
     Memory,
 }

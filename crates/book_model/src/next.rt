@@ -1,39 +1,41 @@
-use item_list::ItemList;
+use lists::ItemList;
 use site_core::{Issued, Settled};
 
-/// What is to be done next with the disk.
+/// The next action for the disk. Offsets are in bytes from the start of the journal file.
 #[derive(Drop)]
 pub enum DiskNext {
-    /// These bytes are to be written from this byte of the file on.
+    /// Write `bytes` at file offset `at`.
     Write { at: usize, bytes: ItemList<u8> },
-    /// The gate at this byte of the file is to be closed, or opened.
+    /// Write the gate (commit byte) at file offset `at`: 0x00 if `closed`, else 0xA5.
     Gate { at: usize, closed: bool },
-    /// What was written is to be synced.
+    /// Sync all that was written.
     Sync,
-    /// Nothing now.
+    /// Nothing to do now.
     Idle,
-    /// Nothing, for good.
+    /// The book has a fault; or it is finished, and the disk has nothing to do now.
     Stop,
 }
 
-/// What is to be done next with a slave.
+/// The next action for a slave.
 #[derive(Clone, Copy, Debug, PartialEq, Eq)]
 pub enum RomNext {
-    /// The value is to be written to the word.
+    /// Send the command that writes `value` to the EEPROM word at address `word`.
     Issue { word: u16, value: u16 },
-    /// The word that was issued is to be settled; `taken` says whether the slave took its datagram.
+    /// Poll the slave until it is idle. `taken` says whether it is known to have taken the datagram of the last issue.
     Settle { taken: bool },
-    /// Nothing now.
+    /// Nothing to do now.
     Idle,
-    /// Nothing, for good.
+    /// Nothing to do until the next open.
     Stop,
 }
 
-/// What came of it.
+/// The outcome of an action for a slave.
 #[derive(Clone, Copy, Debug, PartialEq, Eq)]
 pub enum RomOutcome {
+    /// The outcome of `RomNext::Issue`.
     Issued(Issued),
+    /// The outcome of `RomNext::Settle`.
     Settled(Settled),
-    /// The site has stopped.
+    /// The site stopped, as by a power cut.
     Stopped,
 }

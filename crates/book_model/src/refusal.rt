@@ -6,30 +6,31 @@ use sii_edit::{Cause, Refusal};
 use std::alloc::{AllocError, AllocFailed};
 use thiserror::Error;
 
-/// How many commands wait at most.
+/// The maximum number of queued commands: accepted, and not yet part of a batch.
 pub const QUEUE: usize = 1024;
 
-/// Why a command isn't accepted.
+/// Why a command is refused. A refusal leaves the book unchanged.
 #[derive(Clone, Copy, Debug, PartialEq, Eq, Error)]
 pub enum SubmitRefusal {
-    /// The book was finished, or it has a fault.
+    /// The book was finished, or has a fault.
     #[error("the book is closed")]
     Closed,
-    /// The journal isn't of version 2.
+    /// The journal isn't of version 2, and has to be migrated first.
     #[error("the journal is of an old version")]
     OldJournal,
-    /// The command is refused on the contents as they are, or there was no memory for it.
+    /// The command is refused on the contents after all accepted commands, or memory was refused.
     #[error("{0}")]
     Command(Refusal),
-    /// The command has more than 65,535 runs, or an empty half can't hold it.
+    /// The command has more than 65,535 runs, or doesn't fit into an empty half of the journal.
     #[error("the command is too large")]
     TooLarge,
-    /// As many commands are queued, or were accepted, as there is room for, or no half can hold the queue and this command.
+    /// The queue holds `QUEUE` commands, 2^64 - 1 commands were accepted, or no half of the journal has room for the queue and
+    /// this command.
     #[error("the queue is full")]
     Full,
 }
 
-/// There was no memory for a command.
+/// Memory was refused.
 const OUT_OF_MEMORY: SubmitRefusal = SubmitRefusal::Command(Refusal {
     cause: Cause::Memory,
     position: None,

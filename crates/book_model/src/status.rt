@@ -1,12 +1,12 @@
-/// How far a book is.
+/// The progress of a book since it was opened.
 #[derive(Clone, Copy, Debug, PartialEq, Eq)]
 pub struct Status {
-    /// How many commands were accepted.
+    /// The number of accepted commands.
     pub accepted: u64,
-    /// How many of these are on the disk for good.
+    /// How many of these are durable: their batches are live and synced.
     pub durable: u64,
-    /// How many of these are settled in every slave: the longest prefix.
+    /// The length of their longest settled prefix: no word remains to be written for these commands.
     pub settled: u64,
-    /// How many bytes of the journal are live.
+    /// The length of the live batches in the journal, in bytes.
     pub live_bytes: u64,
 }

@@ -1,4 +1,4 @@
-//! Commands, as a table holds them.
+//! Commands as rows of a table.
 
 use book_core::Core;
 use book_model::SubmitRefusal;
@@ -14,7 +14,7 @@ pub(crate) enum Ask {
     Swap(u16, u16),
     /// Slave and alias of each edit of a group.
     Group(&'static [(u16, u16)]),
-    /// An image of slave 0 with this alias and check byte and an end mark in word 64, behind which so many words have this value.
+    /// An image of slave 0 with this alias and check byte and an end mark in word 64. Behind it this number of words have this value.
     Image((u8, u8), usize, u16),
     /// Slave, and the words of its TxPDO category.
     Inputs(u16, &'static [u16]),
@@ -75,7 +75,7 @@ fn is_out_of_memory(answer: &Result<u64, SubmitRefusal>) -> bool {
     }
 }
 
-/// What a book answers to a command. None: a growth was refused.
+/// What a book answers to a command. None: memory was refused.
 pub(crate) fn submit(
     alloc: Global,
     core: &mut Core,

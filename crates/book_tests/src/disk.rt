@@ -1,32 +1,33 @@
-//! What a book asks of the disk.
+//! Actions that a book hands out for the disk.
 
 use book_core::Core;
 use book_model::DiskNext;
 use site_core::DeviceFault;
 
-/// A step of the disk.
+/// An action for the disk.
 #[derive(Clone, Copy, PartialEq)]
 pub(crate) enum Step {
-    /// Where, how many bytes, and the first of them.
+    /// The first byte's place, the number of bytes, and the first byte.
     Write(usize, usize, u8),
-    /// The gate there.
+    /// The gate at this place is opened.
     Open(usize),
+    /// The gate at this place is closed.
     Close(usize),
     Sync,
     Idle,
     Stop,
 }
 
-/// Steps of the disk, and what is to come of them.
+/// Calls of the book for the disk, and what they must give.
 #[derive(Clone, Copy)]
 pub(crate) enum Disk {
-    /// A batch is appended behind the gate there: so many bytes behind the gate, and the generation.
+    /// A batch is appended behind the gate at this place: the number of bytes behind the gate, and the generation.
     Append(u16, usize, u8),
-    /// The half with the first gate there is retired.
+    /// The half whose first gate is at this place is retired.
     Retire(u16),
-    /// A step that is done.
+    /// This action is handed out, and succeeds.
     Did(Step),
-    /// A step that isn't done yet.
+    /// This action is handed out, and its outcome isn't reported yet.
     Waits(Step),
     Done(Result<(), DeviceFault>),
 }
@@ -50,7 +51,7 @@ fn is_next(core: &mut Core, wanted: Step) -> Option<bool> {
     Some(step_of(&next) == wanted)
 }
 
-/// Whether these steps come, each of which is done.
+/// Whether these actions are handed out in turn; each of them succeeds.
 fn are_done(core: &mut Core, wanted: &[Step]) -> Option<bool> {
     for step in wanted {
         if !is_next(core, *step)? {
@@ -70,7 +71,7 @@ fn is_retired(core: &mut Core, gate: usize) -> Option<bool> {
     are_done(core, &[Step::Close(gate), Step::Sync])
 }
 
-/// Whether the disk's steps come so. None: a growth was refused, before any of these steps.
+/// Whether the calls give what they must. None: memory was refused before any of them changed the book.
 pub(crate) fn disk_comes(core: &mut Core, disk: &Disk) -> Option<bool> {
     match *disk {
         Disk::Append(gate, count, first) => is_appended(core, usize::from(gate), count, first),

@@ -1,4 +1,4 @@
-//! What is done with a book, and what is to come of it, as a table holds it.
+//! Calls of a book and what they must give, as rows of a table.
 
 use crate::asks::{Ask, submit};
 use crate::disk::{Disk, disk_comes};
@@ -7,11 +7,11 @@ use book_core::Core;
 use book_model::{Fault, Status, SubmitRefusal};
 use std::alloc::Global;
 
-/// What is done with a book, or seen of it, and what is to come of it.
+/// A call of a book, and what it must give.
 #[derive(Clone, Copy)]
 pub(crate) enum Event {
     Submit(Ask, Result<u64, SubmitRefusal>),
-    /// The command is submitted to an empty book until it is refused: how often it is accepted.
+    /// The command is submitted to an empty book until it is refused, after this number of times.
     Fill(Ask, u64),
     Disk(Disk),
     Rom(u16, Rom),
@@ -21,11 +21,11 @@ pub(crate) enum Event {
 #[derive(Clone, Copy)]
 pub(crate) enum Call {
     Finish,
-    /// A migration is asked for.
+    /// A migration is asked for, with this answer.
     Migrate(bool),
-    /// How many commands are accepted, durable and settled, and how many bytes are live.
+    /// The numbers of accepted, durable and settled commands, and of live bytes.
     Status(u64, u64, u64, u64),
-    /// How many commands the process image is after, and how many bytes its outputs and inputs have.
+    /// The plan: its number of commands, and the bytes of its outputs and inputs.
     Plan(u64, usize, usize),
     Fault(Option<Fault>),
 }
@@ -70,7 +70,7 @@ fn fill(alloc: Global, core: &mut Core, ask: &Ask) -> Option<u64> {
     Some(2000)
 }
 
-/// Whether it comes as the event says. None: a growth was refused.
+/// Whether the call gives what it must. None: memory was refused.
 pub(crate) fn comes(alloc: Global, core: &mut Core, event: &Event) -> Option<bool> {
     match event {
         Event::Submit(ask, wanted) => Some(submit(alloc, core, ask)? == *wanted),
@@ -81,7 +81,7 @@ pub(crate) fn comes(alloc: Global, core: &mut Core, event: &Event) -> Option<boo
     }
 }
 
-/// How many events come as they are told, before one that doesn't.
+/// How many of the calls give what they must, before the first that doesn't.
 pub(crate) fn told(alloc: Global, core: &mut Core, events: &[Event]) -> Option<usize> {
     for count in 0..events.len() {
         if !comes(alloc, core, &events[count])? {

@@ -1,6 +1,5 @@
-//! Want of memory: a call for which a growth is refused leaves the book as it was, and is answered as with memory when it is made
-//! again. The gate runs this with memory; `rt try --test --fail-alloc N` has the Nth growth refused, and whichever that is, all
-//! comes as it is told.
+//! Refused memory: a call that is refused memory leaves the book as it was, and when it is made again it is answered as ever. The gate
+//! runs this with memory; `rt try --test --fail-alloc N` refuses the Nth allocation, and for each N all calls give what they must.
 
 use crate::events::{Event, comes};
 use crate::line::{Line, book};
@@ -9,7 +8,7 @@ use book_core::Core;
 use std::alloc::Global;
 use std::process::Abort;
 
-/// The book of such a line, at the second try where a growth was refused at the first.
+/// The book of such a line, at the second try if the first is refused memory.
 fn book_at_last(rt: &impl Abort, alloc: Global, line: &Line) -> Option<Core> {
     match book(rt, alloc, line) {
         Some(core) => Some(core),
@@ -17,7 +16,7 @@ fn book_at_last(rt: &impl Abort, alloc: Global, line: &Line) -> Option<Core> {
     }
 }
 
-/// Whether it comes as the event says, at the second try where a growth was refused at the first.
+/// Whether the call gives what it must, at the second try if the first is refused memory, which must change nothing.
 fn comes_at_last(alloc: Global, core: &mut Core, event: &Event) -> Option<bool> {
     let before = core.status();
     if let Some(is_told) = comes(alloc, core, event) {
@@ -29,7 +28,7 @@ fn comes_at_last(alloc: Global, core: &mut Core, event: &Event) -> Option<bool> 
     comes(alloc, core, event)
 }
 
-/// How many events come as they are told, before one that doesn't.
+/// How many of the calls give what they must, before the first that doesn't.
 fn told_at_last(alloc: Global, core: &mut Core, events: &[Event]) -> Option<usize> {
     for count in 0..events.len() {
         if !comes_at_last(alloc, core, &events[count])? {
@@ -39,7 +38,7 @@ fn told_at_last(alloc: Global, core: &mut Core, events: &[Event]) -> Option<usiz
     Some(events.len())
 }
 
-/// The same, of a book over this line.
+/// Like `told_at_last`, for a book on this line.
 fn told_of(rt: &impl Abort, alloc: Global, line: &Line, events: &[Event]) -> Option<usize> {
     let mut core = book_at_last(rt, alloc, line)?;
     let count = told_at_last(alloc, &mut core, events);
@@ -47,7 +46,7 @@ fn told_of(rt: &impl Abort, alloc: Global, line: &Line, events: &[Event]) -> Opt
     count
 }
 
-/// All comes as each case tells it.
+/// Checks that in each case all calls give what they must.
 fn all_come_at_last(rt: &impl Abort, alloc: Global, cases: &[Case]) {
     for (line, events) in cases {
         let count = told_of(rt, alloc, line, events);

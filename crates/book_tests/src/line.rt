@@ -1,4 +1,4 @@
-//! Books over lines of slaves, on journals as their bytes are.
+//! Books on lines of slaves and on journals that are given as bytes.
 
 ghost use Rattle.std.specs.Prelude.{◌≡◌, IfOk};
 ghost use Rattle.book_model.specs.Entries.{sizes_of};
@@ -10,10 +10,10 @@ use sii_words::Words;
 use std::alloc::{AllocError, Global};
 use std::process::Abort;
 
-/// A slave of so many bytes, all 0 but for the check byte 0x30 and for these from these places on.
+/// A slave: its number of bytes, and those that differ from 0, each group with its place. The check byte is 0x30 unless it is given.
 pub(crate) type Slave = (usize, &'static [(usize, &'static [u8])]);
 
-/// The slaves of a line, and its journal: the header, how many bytes a half has, and those in front of each half.
+/// The slaves of a line, and its journal: the header, the length of a half in bytes, and the first bytes of each half.
 #[derive(Clone, Copy)]
 pub(crate) struct Line {
     pub slaves: &'static [Slave],
@@ -57,7 +57,7 @@ fn file(alloc: Global, line: &Line) -> Result<Vec<u8>, AllocError> {
     Ok(file)
 }
 
-/// How many words each slave has.
+/// The number of words of each slave.
 fn sizes(alloc: Global, slaves: &[Words]) -> Result<Vec<u16>, AllocError>
     ensures { IfOk result (λ sizes. sizes.items ≡ sizes_of slaves.now) }
 {
@@ -84,7 +84,7 @@ fn open(
     }
 }
 
-/// The book of such a line. None: a growth was refused, or the line has no book.
+/// The book of such a line. None: memory was refused, or the line has no book.
 pub(crate) fn book(rt: &impl Abort, alloc: Global, line: &Line) -> Option<Core> {
     let file = file(alloc, line).ok()?;
     open(rt, alloc, slaves(alloc, line)?, &file).ok()

@@ -1,21 +1,21 @@
-//! What a book asks of a slave.
+//! Actions that a book hands out for a slave.
 
 use book_core::Core;
 use book_model::{RomNext, RomOutcome};
 use site_core::{Issued, Settled};
 
-/// Steps of a slave, and what is to come of them.
+/// Calls of the book for a slave, and what they must give.
 #[derive(Clone, Copy)]
 pub(crate) enum Rom {
     Next(RomNext),
     Outcome(RomOutcome),
-    /// Word and value: the next word, which is written.
+    /// This word is handed out with this value, and is written.
     Writes(u16, u16),
-    /// So many words are written until there is none, and word 4 is given this value last.
+    /// Words are written until none is left: their number, and the last value that word 4 gets.
     Serves(usize, u16),
 }
 
-/// Whether the word that was handed out is settled and written.
+/// Whether the word that was handed out is then handed out to be settled. It is written.
 fn is_settled(core: &mut Core, slave: u16) -> bool {
     core.rom_done(slave, RomOutcome::Issued(Issued::Taken));
     let is_wanted = core.rom_next(slave) == RomNext::Settle { taken: true };
@@ -35,7 +35,7 @@ fn issue(core: &mut Core, slave: u16) -> Option<(u16, u16)> {
     }
 }
 
-/// How many words of the slave are written until none is handed out, and the last value of word 4 among them.
+/// Writes words of the slave until none is handed out. Returns their number, and the last value of word 4.
 fn served(core: &mut Core, slave: u16) -> (usize, u16) {
     let mut alias = 0;
     for count in 0..10_000usize {
@@ -52,7 +52,7 @@ fn served(core: &mut Core, slave: u16) -> (usize, u16) {
     (10_000, alias)
 }
 
-/// Whether the slave's steps come so.
+/// Whether the calls give what they must.
 pub(crate) fn rom_comes(core: &mut Core, slave: u16, rom: &Rom) -> bool {
     match *rom {
         Rom::Next(wanted) => core.rom_next(slave) == wanted,

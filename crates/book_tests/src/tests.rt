@@ -1,4 +1,4 @@
-//! Books from their opening on: what they answer, call by call.
+//! What books answer from their opening on, call by call.
 
 use crate::asks::Ask::{Alias, Group, Image, Inputs, Swap};
 use crate::disk::Disk::{Append, Did, Done, Retire, Waits};
@@ -14,10 +14,10 @@ use site_core::{DeviceFault, Issued, Settled};
 use std::alloc::Global;
 use std::process::Abort;
 
-/// A line, and what comes of its book.
+/// A line, and the calls of its book.
 pub(crate) type Case = (Line, &'static [Event]);
 
-/// How many events come as they are told, before one that doesn't.
+/// How many of the calls give what they must, before the first that doesn't.
 fn told_of(rt: &impl Abort, alloc: Global, line: &Line, events: &[Event]) -> Option<usize> {
     let mut core = book(rt, alloc, line)?;
     let count = told(alloc, &mut core, events);
@@ -25,7 +25,7 @@ fn told_of(rt: &impl Abort, alloc: Global, line: &Line, events: &[Event]) -> Opt
     count
 }
 
-/// All comes as each case tells it.
+/// Checks that in each case all calls give what they must.
 fn all_come(rt: &impl Abort, alloc: Global, cases: &[Case]) {
     for (line, events) in cases {
         let count = told_of(rt, alloc, line, events);
@@ -71,7 +71,7 @@ const NO_SLAVE: SubmitRefusal = SubmitRefusal::Command(Refusal {
     position: None,
 });
 
-/// What comes of a word.
+/// The outcomes of a word.
 const TAKEN: RomOutcome = RomOutcome::Issued(Issued::Taken);
 
 const AGAIN: RomOutcome = RomOutcome::Settled(Settled::Again);
@@ -104,7 +104,7 @@ const SWAPPED: &[Event] = &[
     Submit(Alias(0, 7), Err(SubmitRefusal::Closed)),
 ];
 
-/// Outcomes that nothing waits for, or that are of another kind.
+/// Outcomes with nothing handed out, or of the other kind.
 const OUT_OF_ORDER: &[Event] = &[
     Disk(Done(Err(DeviceFault::Disk))),
     Rom(0, Outcome(RomOutcome::Stopped)),
@@ -194,7 +194,7 @@ const ONCE: &[Event] = &[
     Call(Status(3, 3, 3, 118)),
 ];
 
-/// Lines with an empty journal, and what comes of their books.
+/// Lines with an empty journal, and the calls of their books.
 pub(crate) const SERVED: &[Case] = &[
     (
         Line {
@@ -272,7 +272,7 @@ const OVERWRITTEN: &[Event] = &[
     Disk(Retire(2056)),
 ];
 
-/// Generation 0 behind generation 255: found in the second half, found in the first, and come to.
+/// Generation 0 follows generation 255: found in half 1, found in half 0, and reached by appending.
 const NEWER_SECOND: &[Event] = &[
     Call(Status(0, 0, 0, 36)),
     Submit(Alias(0, 1), Ok(0)),
@@ -296,7 +296,7 @@ const COME_TO: &[Event] = &[
     Disk(Waits(Idle)),
 ];
 
-/// Journals with something live in them or a large area to fill, and what comes of their books.
+/// Journals with something live in them, or with a large area to fill, and the calls of their books.
 pub(crate) const HALVES: &[Case] = &[
     (LONG_ALONE, FILLED),
     (
@@ -369,7 +369,7 @@ const MIGRATED: &[Event] = &[
     Call(Status(1, 1, 1, 34)),
 ];
 
-/// A migration that was stopped goes on without its mark.
+/// A migration that was cut runs again without writing the mark.
 const MIGRATED_ON: &[Event] = &[
     Submit(Alias(0, 1), Err(SubmitRefusal::OldJournal)),
     Disk(Waits(Idle)),
@@ -381,7 +381,7 @@ const MIGRATED_ON: &[Event] = &[
     Submit(Alias(0, 1), Ok(0)),
 ];
 
-/// Old journals, and what comes of their books.
+/// Old journals, and the calls of their books.
 pub(crate) const OLD: &[Case] = &[
     (
         Line {
@@ -446,7 +446,7 @@ const SENSOR: Slave = (
     ],
 );
 
-/// The process image follows the commands that are settled, one after the other: the sensor's input grows to 20 bits.
+/// The process image follows the settled commands one by one: the sensor's input grows to 20 bits.
 const PLANNED: &[Event] = &[
     Call(Plan(0, 1, 6)),
     Submit(Inputs(1, &[0x1a00, 1, 0, 0, 0x6000, 1, 0x1400, 0]), Ok(0)),

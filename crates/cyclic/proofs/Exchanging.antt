@@ -1,4 +1,4 @@
--- What came of one frame.
+-- The outcome of one frame.
 use Rattle.std.proofs.Common.{◌≡◌, ◌≢◌, ℕ, ◌==◌, Bool, true, false, List, [], ◌∷◌, length, cond, slice_get, Some, Result, Ok, Err, refl, sym, ap, subst, ◌∙◌, eq-eqb, arith}
 use Rattle.std.proofs.lemmas.Bool.{ne_eqb}
 use Rattle.ecat_frame.specs.Frame.{Pdu}

@@ -1,4 +1,4 @@
--- The lists of datagrams, by what stands before a place and behind it.
+-- The lists of datagrams of a configuration, split at a place.
 use Rattle.std.proofs.Common.{◌≡◌, ◌≢◌, ℕ, zero, suc, ◌+◌, ◌-◌, ◌<◌, ◌≤◌, Bool, true, false, cond, not, List, [], ◌∷◌, ◌++◌, length, take, drop, get_or, sym, ap, ◌∙◌, length-append, add-zero, zero-add, eq-eqb, arith}
 use Rattle.std.specs.List.{enumerate_from, filter, flat_map, range_with_len}
 use Rattle.std.proofs.lemmas.List.{append-nil, take-append-drop, take_more, take_all, length-take}

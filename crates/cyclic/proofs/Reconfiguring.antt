@@ -1,4 +1,4 @@
--- What a configuration of a whole line makes of one half: what the datagrams for its own slave make of it.
+-- What configuring a whole line does to one process half: what the datagrams for its own slave do to it.
 use Rattle.std.proofs.Common.{◌≡◌, ◌≢◌, ◌⊎◌, ℕ, zero, suc, ◌+◌, ◌-◌, ◌<◌, ◌≤◌, Bool, true, false, not, cond, List, [], ◌∷◌, ◌++◌, take, refl, sym, ap, ◌∙◌, inl, inr, add-one, arith}
 use Rattle.std.specs.Bool.{beq}
 use Rattle.std.specs.List.{AllByRecursion, enumerate_from, flat_map}

@@ -2,7 +2,7 @@
 use Rattle.std.proofs.Common.{◌≡◌, ℕ, ◌+◌, List, [], ◌∷◌, ◌++◌, length, Result, Ok, Err, IsErrAnd, refl, sym, ap, subst, ◌∙◌, append_assoc, length-append}
 use Rattle.std.proofs.lemmas.List.{append-nil}
 use Rattle.ecat_frame.specs.Frame.{Pdu}
-use Rattle.site_core.specs.State.{State, Leaves, Moment, Seen, Turn}
+use Rattle.site_core.specs.State.{State, Leaves, Moment, Seen, CycleTurn}
 use Rattle.site_core.specs.Passes.{Passes, LeavesOnly, AddsNothing}
 use Rattle.site_core.proofs.Runs.{Passes-none, Passes-then, Passes-stays}
 use Rattle.cyclic.specs.declared.fault.CycleFault.{CycleFault}
@@ -47,13 +47,13 @@ leaves_then m n k sum a b c result first second = record {
 
 -- ---- The frames.
 
-taken_then : (a : List Pdu) (ts : List Turn) (b : List Pdu) (us : List Turn) → AreTaken a ts → AreTaken b us → AreTaken (a ++ b) (ts ++ us)
+taken_then : (a : List Pdu) (ts : List CycleTurn) (b : List Pdu) (us : List CycleTurn) → AreTaken a ts → AreTaken b us → AreTaken (a ++ b) (ts ++ us)
 taken_then [] [] b us first second = second
 taken_then [] (t ∷ ts) b us first second = absurd first
 taken_then (o ∷ a) [] b us first second = absurd first
 taken_then (o ∷ a) (t ∷ ts) b us first second = (first.0, taken_then a ts b us first.1 second)
 
-sent_then : (a : List Pdu) (ts : List Turn) (b : List Pdu) (us : List Turn) (result : Result (Unit {0}) CycleFault) → AreTaken a ts → AreSent b us result → AreSent (a ++ b) (ts ++ us) result
+sent_then : (a : List Pdu) (ts : List CycleTurn) (b : List Pdu) (us : List CycleTurn) (result : Result (Unit {0}) CycleFault) → AreTaken a ts → AreSent b us result → AreSent (a ++ b) (ts ++ us) result
 sent_then a ts b us (Ok done) first second = taken_then a ts b us first second
 sent_then a ts b us (Err fault) first second = record {
   first = a ++ second.first;
@@ -62,12 +62,12 @@ sent_then a ts b us (Err fault) first second = record {
   orders_are = ap (λ (p : List Pdu). a ++ p) second.orders_are ∙ sym (append_assoc a second.first (second.next ∷ second.rest));
   taken = ts ++ second.taken;
   last = second.last;
-  turns_are = ap (λ (p : List Turn). ts ++ p) second.turns_are ∙ sym (append_assoc ts second.taken (second.last ∷ []));
+  turns_are = ap (λ (p : List CycleTurn). ts ++ p) second.turns_are ∙ sym (append_assoc ts second.taken (second.last ∷ []));
   are_taken = taken_then a ts second.first second.taken first second.are_taken;
   meets = second.meets;
 }
 
-broken_off : (a b : List Pdu) (turns : List Turn) (fault : CycleFault) → BreaksOff a turns fault → BreaksOff (a ++ b) turns fault
+broken_off : (a b : List Pdu) (turns : List CycleTurn) (fault : CycleFault) → BreaksOff a turns fault → BreaksOff (a ++ b) turns fault
 broken_off a b turns fault off = record {
   first = off.first;
   next = off.next;
@@ -80,7 +80,7 @@ broken_off a b turns fault off = record {
   meets = off.meets;
 }
 
-one_sent : (order : Pdu) (turn : Turn) (result : Result (Unit {0}) CycleFault) → IsSent order turn result → AreSent (order ∷ []) (turn ∷ []) result
+one_sent : (order : Pdu) (turn : CycleTurn) (result : Result (Unit {0}) CycleFault) → IsSent order turn result → AreSent (order ∷ []) (turn ∷ []) result
 one_sent order turn (Ok done) is = (is, tt)
 one_sent order turn (Err fault) is = record {
   first = [];
@@ -114,7 +114,7 @@ pub sends_then : (a b : List Pdu) (old mid new : Seen) (result : Result (Unit {0
     → SendsInOrder (a ++ b) old result new
 sends_then a b old mid new result first second = record {
   turns = first.turns ++ second.turns;
-  added = second.added ∙ ap (λ (p : List Turn). p ++ second.turns) first.added ∙ append_assoc old.turns first.turns second.turns;
+  added = second.added ∙ ap (λ (p : List CycleTurn). p ++ second.turns) first.added ∙ append_assoc old.turns first.turns second.turns;
   are_sent = sent_then a first.turns b second.turns result first.are_sent second.are_sent;
   leaves = leaves_then (length first.turns) (length second.turns) _ (length-append first.turns second.turns) old mid new result first.leaves second.leaves;
 }

@@ -1,4 +1,4 @@
--- What came of the frame of a turn.
+-- The outcome of the frame of a turn.
 use Rattle.std.proofs.Common.{◌≡◌, ℕ, ◌+◌, ◌-◌, ◌≤◌, Bool, true, false, cond, List, [], ◌∷◌, ◌++◌, length, take, drop, replicate, slice_get, Some, Result, Ok, Err, refl, sym, ap, subst, ◌∙◌, length-append, length-drop, inl, inr, arith}
 use Rattle.std.proofs.lemmas.Bool.Decides.{eqb_tells}
 use Rattle.std.proofs.lemmas.List.{length-replicate, drop-replicate, take-replicate, take_all}
@@ -54,7 +54,7 @@ turn_fails image (Err device.Disk) inputs fault gives = absurd gives
 turn_fails image (Err device.Lost) inputs fault gives = let is : fault ≡ cycle.Lost = cc in ap (λ (f : CycleFault). record { result = Err f; inputs = inputs }) is
 turn_fails image (Err device.Stopped) inputs fault gives = let is : fault ≡ cycle.Stopped = cc in ap (λ (f : CycleFault). record { result = Err f; inputs = inputs }) is
 
--- the result of a call as another one tells it
+-- the result of a call, as another call returns it
 leaves_told : (count : ℕ) (old : Seen) (fault : CycleFault) (new : Seen) → LeavesAll {T = Unit {0}} count old (Err fault) new → LeavesAll {T = ℕ} count old (Err fault) new
 leaves_told count old fault new leaves = record {
   calls = leaves.calls;

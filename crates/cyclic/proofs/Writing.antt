@@ -1,4 +1,4 @@
--- Datagrams that write to the registers of one slave, and what they make of a half.
+-- Datagrams that write to the registers of one slave, and what they do to a process half.
 use Rattle.std.proofs.Common.{◌≡◌, ◌≢◌, ◌⊎◌, ℕ, ◌+◌, ◌-◌, ◌*◌, ◌<◌, ◌≤◌, ◌==◌, Bool, true, false, ◌&&◌, cond, List, [], ◌∷◌, ◌++◌, length, take, drop, get_or, refl, sym, ap, subst, ◌∙◌, inl, inr, arith, length-append, length-drop}
 use Rattle.std.specs.List.{AllByRecursion, enumerate_from, flat_map}
 use Rattle.std.proofs.lemmas.List.{length-take, get_or-take, get_or-drop, get_or-append_right, get_or_append_left}

@@ -1,4 +1,4 @@
--- What the datagrams of a configuration make of a slave's process half.
+-- A law about what the datagrams of a configuration do to the process half of a slave.
 use Rattle.std.specs.Prelude.{◌≡◌, ℕ, ◌≤◌, List, length, fold}
 use Rattle.ecat_frame.specs.Frame.{Pdu}
 use Rattle.ecat_frame.specs.Command.{command_of}
@@ -14,7 +14,7 @@ after_one half order = (processed half (command_of order.command) order.address 
 abbrev pub after : ProcessMemory → List Pdu → ProcessMemory
 after half orders = fold after_one half orders
 
--- Any half that was configured for the old segments is, reconfigured, what it would be if it were configured for the new ones.
+-- After a configuration for the old segments, reconfiguring leaves each process half as configuring for the new segments would.
 abbrev pub ReconfiguresAsConfigured : Type 0
 ReconfiguresAsConfigured = (slaves : ℕ) (old new : List Segment) (half : ProcessMemory) → slaves ≤ 64 → length half.bytes ≡ 65536
     → let configured = after half (configuring slaves old) in

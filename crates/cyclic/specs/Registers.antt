@@ -1,4 +1,4 @@
--- The registers of a slave for its process data (ETG.1000.4: sync managers, FMMUs). Numbers have their low byte first.
+-- The bytes of a slave's registers for process data (ETG.1000.4: sync managers, FMMUs). Numbers have their low byte first.
 use Rattle.std.specs.Prelude.{ℕ, List, [], ◌∷◌, ◌++◌, if◌then◌else◌}
 use Rattle.std.specs.Int.{w16, w32, to_le_bytes}
 use Rattle.sii_image.specs.declared.process_image.Segment.{Segment}
@@ -7,7 +7,7 @@ use Rattle.sii_image.specs.declared.process_image.Segment.{Segment}
 abbrev pub manager_bytes : Segment → List ℕ
 manager_bytes segment = to_le_bytes w16 segment.start ++ to_le_bytes w16 segment.size ++ segment.control ∷ 0 ∷ 1 ∷ 0 ∷ []
 
--- an FMMU reads inputs (1) or writes outputs (2)
+-- the type of an FMMU: 1 for inputs, which it reads, 2 for outputs, which it writes
 abbrev pub type_of : Segment → ℕ
 type_of segment = if segment.output then 2 else 1
 

@@ -6,7 +6,7 @@ ghost use Rattle.cyclic.specs.Configuration.{segments_of, is_same};
 
 use sii_image::Segment;
 
-/// The first segment of this slave, and those behind it.
+/// The first segment of a slave, and all segments behind it. None if the slave has none.
 fn first_of(slave: u16, segments: &[Segment]) -> Option<(&Segment, &[Segment])>
     ensures some { IfSome result (λ first. segments_of slave segments.now ≡ first.0.now ∷ segments_of slave first.1.now) }
     ensures shorter { IfSome result (λ first. length first.1.now < length segments.now) }
@@ -22,7 +22,7 @@ fn first_of(slave: u16, segments: &[Segment]) -> Option<(&Segment, &[Segment])>
     None
 }
 
-/// Whether it has the same segments in both, in the same order.
+/// Whether a slave has the same segments in both lists, in the same order.
 pub(crate) fn has_same_segments(slave: u16, old: &[Segment], new: &[Segment]) -> bool
     ensures { result ≡ pointwise is_same (segments_of slave old.now) (segments_of slave new.now) }
 {

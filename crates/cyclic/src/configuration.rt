@@ -1,4 +1,4 @@
-//! Setting the FMMUs and sync managers of a line for a process image.
+//! Configuring the FMMUs and sync managers of a line for a process image.
 
 ghost use Rattle.std.specs.Prelude.{◌≡◌, ◌∷◌, ◌+◌, ◌<◌, ◌≤◌, [], length, IsTrue};
 ghost use Rattle.cyclic.specs.Configuration.{write_to, no_fmmus, segment_orders, slave_orders, configuring, reconfiguring};
@@ -13,7 +13,7 @@ use esc_model::station_address;
 use sii_image::{Plan, Segment};
 use site_core::Site;
 
-/// Writes to the registers of a slave from this one on.
+/// Writes bytes to the registers of a slave from `register` on, by one FPWR.
 fn write<S: Site>(site: &mut S, slave: u16, register: u16, bytes: &[u8]) -> Result<(), CycleFault>
     requires process { IsTrue (S.line site.old).has_process }
     requires slave { slave < 64 }
@@ -45,7 +45,7 @@ fn clear_fmmus<S: Site>(site: &mut S, slave: u16) -> Result<(), CycleFault>
     write(site, slave, FMMUS, &[0u8; 128])
 }
 
-/// Sets the sync manager of a segment, and this FMMU for it.
+/// Sets the sync manager of a segment, and the FMMU `unit` for it.
 fn configure_segment<S: Site>(
     site: &mut S,
     slave: u16,
@@ -85,13 +85,16 @@ fn configure_slave<S: Site>(
     Ok(())
 }
 
-/// Sets the FMMUs and sync managers (ETG.1000.4) of all slaves for the image of a plan: for each slave, 128 zero bytes over its
-/// FMMUs, and then for each of its segments a sync manager and an FMMU. One datagram goes in one frame.
+/// Configures the FMMUs and sync managers (ETG.1000.4) of all slaves for the process image of a plan: for each slave it clears all FMMUs
+/// (128 zero bytes), and then sets a sync manager and an FMMU for each of its first eight segments. Each datagram goes in a frame of its
+/// own.
+///
+/// The site must own the process halves.
 ///
 /// # Errors
 ///
-/// `WrongCounter`, where a datagram doesn't come back with a working counter of 1; `Lost`, where its frame is lost; and
-/// `Stopped`. Nothing more is sent then.
+/// The first fault ends the call, and nothing more is sent: `Stopped` if the site has stopped, or stops in this call; `Lost` if a frame
+/// is lost; `WrongCounter` if a datagram doesn't come back with a working counter of 1.
 pub fn configure<S: Site>(site: &mut S, plan: &Plan) -> Result<(), CycleFault>
     requires { IsTrue (S.line site.old).has_process }
     ensures sends { SendsInOrder (configuring (length (S.line site.old).sizes) plan.now.image.segments) (S.seen site.old) result (S.seen site.new) }
@@ -103,15 +106,18 @@ pub fn configure<S: Site>(site: &mut S, plan: &Plan) -> Result<(), CycleFault>
     Ok(())
 }
 
-/// Brings a line that is configured for the old plan to the new one (ETG.1000.4: FMMUs, sync managers): does what `configure`
-/// does for the slaves whose segments differ, and nothing for the others. A slave that has no segment any more is cleared.
+/// Changes a line that is configured for the old plan to the new one (ETG.1000.4: FMMUs, sync managers): does what `configure` does for
+/// the slaves whose segments differ, and sends nothing to the others. If a slave has no segment any more, its FMMUs are cleared.
+///
+/// The site must own the process halves.
 ///
 /// # Errors
 ///
 /// As for `configure`.
 pub fn reconfigure<S: Site>(site: &mut S, old: &Plan, new: &Plan) -> Result<(), CycleFault>
     requires { IsTrue (S.line site.old).has_process }
-    ensures sends { SendsInOrder (reconfiguring (length (S.line site.old).sizes) old.now.image.segments new.now.image.segments) (S.seen site.old) result (S.seen site.new) }
+    ensures sends { SendsInOrder (reconfiguring (length (S.line site.old).sizes) old.now.image.segments new.now.image.segments)
+        (S.seen site.old) result (S.seen site.new) }
     ensures line { S.line site.new ≡ S.line site.old }
 {
     for slave in 0..site.slaves() {

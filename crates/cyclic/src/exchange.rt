@@ -7,7 +7,7 @@ use crate::fault::CycleFault;
 use ecat_frame::Frame;
 use site_core::{DeviceFault, Site};
 
-/// Sends the frame of one datagram, and compares the working counter that comes back.
+/// Sends a frame of one datagram, and compares the working counter that comes back with the expected one.
 pub(crate) fn exchange<S: Site>(
     site: &mut S,
     frame: &mut Frame,

@@ -1,17 +1,17 @@
-//! Why process data wasn't exchanged.
+//! Why a line was not configured, or process data was not exchanged.
 
 use thiserror::Error;
 
-/// Why a line wasn't configured, or process data wasn't exchanged.
+/// Why a line was not configured, or process data was not exchanged.
 #[derive(Clone, Copy, Debug, PartialEq, Eq, Error)]
 pub enum CycleFault {
-    /// Not every slave took part: the working counter came back as `seen`, and `expected` is that of all slaves.
+    /// Not every slave took part: the working counter came back as `seen`, and would be `expected` if all had.
     #[error("the working counter is {seen} in place of {expected}")]
     WrongCounter { seen: u16, expected: u16 },
-    /// The frame was lost, and a slave may have taken it or not.
+    /// The frame was lost. A slave may have taken it or not.
     #[error("the frame was lost")]
     Lost,
-    /// The site has stopped, and answers nothing else from then on.
+    /// The site has stopped, as at a power cut. Every later call that sends a frame returns this too.
     #[error("the site has stopped")]
     Stopped,
 }

@@ -1,8 +1,8 @@
-//! What holds of the datagrams of a configuration, apart from any code. A function here does nothing: its contract is the law.
+//! Laws about the datagrams that configure a line. The functions here do nothing: the contract of each is the law.
 
 ghost use Rattle.cyclic.specs.Laws.{ReconfiguresAsConfigured};
 
-/// Behind a `configure` for the old plan, `reconfigure` leaves in each slave what `configure` for the new plan would leave.
+/// After a `configure` for the old plan, `reconfigure` leaves each slave as another `configure`, for the new plan, would leave it.
 pub fn reconfigures_as_configured()
     ensures { ReconfiguresAsConfigured }
 {}

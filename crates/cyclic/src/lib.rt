@@ -1,5 +1,5 @@
-//! The process data of a line of slaves (ETG.1000.4): how their FMMUs and sync managers are set for a process image, and the
-//! frame of one turn, which takes the outputs to all slaves and brings their inputs back.
+//! The cyclic process data of a line of slaves (ETG.1000.4): configuring their FMMUs and sync managers for a process image, and
+//! exchanging outputs and inputs with all slaves by one frame.
 //!
 //! No call here takes memory.
 #![tactic(auto)]
@@ -14,4 +14,4 @@ mod registers;
 
 pub use configuration::{configure, reconfigure};
 pub use fault::CycleFault;
-pub use process_data::turn;
+pub use process_data::{IMAGE_BYTES, turn};

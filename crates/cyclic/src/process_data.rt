@@ -9,10 +9,10 @@ use ecat_frame::{Command, Frame};
 use sii_image::{Plan, ProcessImage};
 use site_core::Site;
 
-/// The most bytes of a process image.
-const MOST_BYTES: usize = 1486;
+/// The greatest size of a process image, in bytes.
+pub const IMAGE_BYTES: usize = 1486;
 
-/// Lays the outputs over the front of the content.
+/// Copies the outputs to the front of the content.
 fn lay(content: &mut [u8], outputs: &[u8])
     requires { length outputs.now ≤ length content.old }
     ensures { content.new ≡ outputs.now ++ drop (length outputs.now) content.old }
@@ -20,13 +20,13 @@ fn lay(content: &mut [u8], outputs: &[u8])
     content[..outputs.len()].copy_from_slice(outputs);
 }
 
-/// The frame of one turn: the outputs, and a zero for each input.
+/// The frame of one exchange: the outputs, and a zero byte for each byte of inputs.
 fn turn_frame(image: &ProcessImage, outputs: &[u8]) -> Frame
     requires { length outputs.now ≡ image.now.outputs }
     ensures { result ≡ turn_order image.now outputs.now ∷ [] }
 {
     let count = image.outputs() + image.inputs();
-    let mut content = [0u8; MOST_BYTES];
+    let mut content = [0u8; IMAGE_BYTES];
     lay(&mut content, outputs);
     let mut frame = Frame::new();
     match frame.push(Command::Lrw, 0, 0, &content[..count]) {
@@ -36,13 +36,16 @@ fn turn_frame(image: &ProcessImage, outputs: &[u8]) -> Frame
     frame
 }
 
-/// Takes the outputs to all slaves and brings their inputs back, by one LRW (ETG.1000.4) at logical address 0 over the outputs and a zero
-/// for each input. Answers the working counter. An image without bytes sends nothing, and answers 0.
+/// Exchanges all process data once: sends the outputs to all slaves, fills `inputs` with what comes back, and returns the working counter.
+///
+/// It sends one LRW (ETG.1000.4) at logical address 0, over the outputs and a zero byte for each byte of inputs. For a process image
+/// without bytes it sends nothing, and returns 0. The site must own the process halves, and `outputs` and `inputs` must have the sizes
+/// of the plan's process image.
 ///
 /// # Errors
 ///
-/// `WrongCounter`, where the counter isn't that of all slaves; `Lost`, where the frame is lost; and `Stopped`. The inputs are
-/// unchanged then.
+/// `Stopped` if the site has stopped, or stops in this call; `Lost` if the frame is lost; `WrongCounter` if the working counter isn't
+/// that of all slaves. `inputs` is unchanged then.
 pub fn turn<S: Site>(
     site: &mut S,
     plan: &Plan,
@@ -53,7 +56,8 @@ pub fn turn<S: Site>(
     requires outputs { length outputs.now ≡ plan.now.image.outputs }
     requires inputs { length inputs.old ≡ plan.now.image.inputs }
     ensures nothing { plan.now.image.outputs + plan.now.image.inputs ≡ 0 → (result ≡ Ok 0) × (S.seen site.new ≡ S.seen site.old) }
-    ensures turn { 0 < plan.now.image.outputs + plan.now.image.inputs → TakesTurn plan.now.image outputs.now inputs.old (S.seen site.old) result inputs.new (S.seen site.new) }
+    ensures turn { 0 < plan.now.image.outputs + plan.now.image.inputs
+        → TakesTurn plan.now.image outputs.now inputs.old (S.seen site.old) result inputs.new (S.seen site.new) }
     ensures line { S.line site.new ≡ S.line site.old }
 {
     if plan.image.outputs() + plan.image.inputs() == 0 {

@@ -1,26 +1,26 @@
-//! Where a slave's registers for its process data lie, and their bytes (ETG.1000.4).
+//! The addresses and the bytes of a slave's registers for process data (ETG.1000.4).
 
 ghost use Rattle.std.specs.Prelude.{◌≡◌};
 ghost use Rattle.cyclic.specs.Registers.{manager_bytes, fmmu_bytes};
 
 use sii_image::Segment;
 
-/// The first of the FMMUs (ETG.1000.4), which have 16 bytes each.
+/// The address of the first FMMU (ETG.1000.4). Each has 16 bytes.
 pub const FMMUS: u16 = 0x0600;
 
-/// The first of the sync managers (ETG.1000.4), which have 8 bytes each.
+/// The address of the first sync manager (ETG.1000.4). Each has 8 bytes.
 pub const SYNC_MANAGERS: u16 = 0x0800;
 
-/// How many FMMUs a slave has.
+/// The number of FMMUs of a slave.
 pub const FMMU_COUNT: u16 = 8;
 
-/// An FMMU that maps the inputs of the master.
+/// The type of an FMMU for inputs of the master.
 const READS: u8 = 1;
 
-/// An FMMU that maps its outputs.
+/// The type of an FMMU for outputs of the master.
 const WRITES: u8 = 2;
 
-/// The sync manager of a segment: it is enabled, with the start, size and control that the EEPROM states.
+/// The sync manager of a segment: its start address, size and control byte, and enabled.
 pub(crate) fn manager_bytes(segment: &Segment) -> [u8; 8]
     ensures { result ≡ manager_bytes segment.now }
 {
@@ -38,7 +38,7 @@ pub(crate) fn manager_bytes(segment: &Segment) -> [u8; 8]
     ]
 }
 
-/// The FMMU of a segment: it maps whole bytes from the segment's place in the image to the start of its sync manager.
+/// The FMMU of a segment: it maps the segment's bytes, at its offset in the process image, to the start of its sync manager.
 pub(crate) fn fmmu_bytes(segment: &Segment) -> [u8; 16]
     ensures { result ≡ fmmu_bytes segment.now }
 {

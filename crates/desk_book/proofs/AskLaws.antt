@@ -1,8 +1,8 @@
--- What a submit's answer says of the number of the commands.
+-- How many commands are accepted, by what a submit answers.
 use Rattle.std.proofs.Common.{◌≡◌, ℕ, ◌+◌, ◌-◌, ◌<◌, ◌^◌, Bool, true, false, List, length, refl, sym, subst, arith, Result, Ok, Err}
 use Rattle.std.specs.Prelude.{nat_le, ◌||◌}
 use Rattle.std.proofs.lemmas.Bool.Decides.{nat_tests}
-use Rattle.sii_runs.specs.Run.{runs_between}
+use Rattle.sii_words.specs.Run.{runs_between}
 use Rattle.sii_edit.specs.declared.command.Command.{Command}
 use Rattle.sii_edit.specs.declared.refusal.Refusal.{Refusal}
 use Rattle.sii_edit.specs.Command.{outcome}
@@ -12,7 +12,7 @@ use Rattle.book_model.specs.Book.{Book, contents_of, is_closed, is_version_2}
 use Rattle.book_model.specs.Submit.{is_too_large, is_full, sized, submit, IsSubmitted, answered, out_of_memory}
 use Rattle.desk_book.specs.Submitting.{is_out_of_memory}
 
--- the number of a command that is accepted is that of the commands before it, and there may be one more
+-- an accepted command's number is the number of commands before it, and there may be one more
 abbrev pub IsNumbered : Book → Result ℕ SubmitRefusal → Type 0
 IsNumbered book (Ok number) = (number ≡ length book.accepted) × (length book.accepted + 1 < 2 ^ 64)
 IsNumbered book (Err refusal) = Unit {0}
@@ -39,12 +39,12 @@ module _ (book : Book) (command : Command) where
   pub numbered : (answer : Result ℕ SubmitRefusal) → answer ≡ submit book command → IsNumbered book answer
   numbered answer is = subst (IsNumbered book) (sym is) (numbered-if (is_closed book) (is_version_2 book.form) refl refl)
 
--- ---- want of memory
+-- ---- memory is refused
 
 memory-is : (refusal : SubmitRefusal) → OutOfMemory refusal → is_out_of_memory refusal ≡ true
 memory-is refusal is = rw is refl
 
--- a refusal that isn't want of memory is the book's own, and so is a number
+-- any answer but that memory was refused is the book's own
 pub own-refusal : (book : Book) (command : Command) (refusal : SubmitRefusal) → IsSubmitted book command (Err refusal) → is_out_of_memory refusal ≡ false → Err refusal ≡ submit book command
 own-refusal book command refusal (answered is) memory = is
 own-refusal book command refusal (out_of_memory is not_closed new) memory = let yes = memory-is refusal is in cc

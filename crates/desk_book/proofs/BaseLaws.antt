@@ -1,6 +1,6 @@
--- What was found at the open stays.
+-- Calls of a book don't change what it found at the open.
 use Rattle.std.proofs.Common.{◌≡◌, ◌∙◌, ℕ, List, [], ◌∷◌, refl, ap, Ok, Err}
-use Rattle.sii_runs.specs.Redo.{redone}
+use Rattle.sii_words.specs.Redo.{redone}
 use Rattle.jrn_format.specs.declared.journal.Entry.{Entry}
 use Rattle.book_model.specs.Entries.{runs_of}
 use Rattle.book_model.specs.Book.{Book, base_of}

@@ -1,4 +1,4 @@
--- One call more.
+-- What holds after one more call of a book.
 use Rattle.std.proofs.Common.{◌≡◌, ◌∙◌, ℕ, ◌+◌, ◌<◌, ◌^◌, List, [], ◌∷◌, ◌++◌, length, refl, sym, ap, subst, arith, length-append, Ok, Err}
 use Rattle.std.specs.Prelude.{count_by}
 use Rattle.std.proofs.lemmas.List.Sums.{fold-append, sum_by-append}
@@ -10,7 +10,7 @@ use Rattle.station_jobs.specs.declared.cycle.CycleNote.{CycleNote}
 use Rattle.sii_edit.specs.declared.command.Command.{Command}
 use Rattle.desk_book.specs.declared.call.Call.{Call}
 use Rattle.desk_book.specs.declared.call.Call.TheVariants.{Submitted}
-use Rattle.desk_notes.specs.Noted.{Noted}
+use Rattle.station_jobs.specs.Noted.{Noted}
 use Rattle.desk_book.specs.Calls.{after, IsAnswered, replayed, AreAnswered, is_refusal}
 use Rattle.desk_book.specs.Logs.{DiskEntry, RomEntry, disk_noted, rom_noted, turn_noted}
 use Rattle.desk_book.specs.Serving.{IsReplayed, AreCounted, AreLogs, entries_at}
@@ -29,7 +29,7 @@ is-replayed-more opened book later calls call is one goes = record {
   answers = answered-more opened calls call is.answers (subst (λ (b : Book). IsAnswered b call) is.same one);
 }
 
--- each slave's worker got what the call hands out to it
+-- each slave's notes have what the call hands out for it
 abbrev pub RomNoted : Call → (old new : List (Noted RomNext RomOutcome)) → Type 0
 RomNoted call old new = (i : ℕ) → i < length new → (i < length old) × (entries_at new i ≡ rom_noted i (entries_at old i) call)
 

@@ -1,10 +1,10 @@
--- The notes of one slave among those of all.
+-- The notes of one slave in the list of all notes.
 use Rattle.std.proofs.Common.{◌≡◌, ◌∙◌, ℕ, ◌<◌, List, length, ap}
 use Rattle.std.specs.Prelude.{slice_set}
 use Rattle.std.proofs.lemmas.List.{length-set, get_or-set_same, get_or-set_other}
 use Rattle.book_model.specs.declared.next.RomNext.{RomNext}
 use Rattle.book_model.specs.declared.next.RomOutcome.{RomOutcome}
-use Rattle.desk_notes.specs.Noted.{Noted}
+use Rattle.station_jobs.specs.Noted.{Noted}
 use Rattle.desk_book.specs.Logs.{RomEntry}
 use Rattle.desk_book.specs.Serving.{IsNoted, no_entries}
 

@@ -1,10 +1,10 @@
--- What the calls of a book keep.
+-- What the calls of a book leave unchanged.
 use Rattle.std.proofs.Common.{◌≡◌, ℕ, Bool, true, false, List, [], ◌∷◌, length, refl, Option, Some, None, Result, Ok, Err}
 use Rattle.std.specs.Prelude.{is_some, nat_lt}
 use Rattle.site_core.specs.declared.fault.DeviceFault.{DeviceFault}
 use Rattle.site_core.specs.declared.fault.DeviceFault.TheVariants.{Disk, Lost, Stopped}
 use Rattle.site_core.specs.declared.answers.Settled.TheVariants.{Written, Again, Dead}
-use Rattle.slave_queue.specs.Cells.{cell_of}
+use Rattle.book_model.specs.Cells.{cell_of}
 use Rattle.book_model.specs.declared.next.DiskNext.{DiskNext}
 use Rattle.book_model.specs.declared.next.RomOutcome.{RomOutcome}
 use Rattle.book_model.specs.declared.next.RomOutcome.TheVariants as outcomes

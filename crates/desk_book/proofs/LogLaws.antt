@@ -1,4 +1,4 @@
--- What a call hands out is noted.
+-- Each job that a call hands out is in the notes.
 use Rattle.std.proofs.Common.{◌≡◌, ◌≢◌, ◌∙◌, ◌⊎◌, inl, inr, ℕ, ◌<◌, Bool, true, false, List, length, refl, sym, ap, subst}
 use Rattle.std.specs.Prelude.{◌==◌, if◌then◌else◌}
 use Rattle.std.proofs.lemmas.Bool.{eq-eqb}
@@ -11,7 +11,7 @@ use Rattle.book_model.specs.declared.next.RomOutcome.{RomOutcome}
 use Rattle.station_jobs.specs.Dispatch.{with_outcome}
 use Rattle.desk_book.specs.declared.call.Call.{Call}
 use Rattle.desk_book.specs.declared.call.Call.TheVariants.{SlaveAsked, SlaveTold}
-use Rattle.desk_notes.specs.Noted.{Noted}
+use Rattle.station_jobs.specs.Noted.{Noted}
 use Rattle.desk_book.specs.Logs.{DiskEntry, RomEntry, with_job, with_disk_answer, with_rom_answer, rom_noted}
 use Rattle.desk_book.specs.Serving.{IsNoted, entries_at}
 use Rattle.desk_book.specs.Asking.{is_disk_job, is_rom_job}
@@ -47,7 +47,7 @@ with-rom-rest log rom.Stop is = refl
 with-rom-rest log (rom.Issue word value) is = cc
 with-rom-rest log (rom.Settle taken) is = cc
 
--- where one slave's notes follow the call, and no others are about it
+-- one slave's notes follow the call, and the call is about no other slave
 noted-each : (call : Call) (at : ℕ) (old new : List (Noted RomNext RomOutcome)) (log : List RomEntry) → at < length old → IsNoted old at log new → log ≡ rom_noted at (entries_at old at) call
     → ((i : ℕ) (l : List RomEntry) → i ≢ at → rom_noted i l call ≡ l) → (i : ℕ) → i < length new → ((i ≡ at) ⊎ (i ≢ at)) → entries_at new i ≡ rom_noted i (entries_at old i) call
 noted-each call at old new log inside is follows others i within (inl same) = subst (λ (k : ℕ). entries_at new k ≡ rom_noted k (entries_at old k) call) (sym same) (is.here ∙ follows)
@@ -96,7 +96,7 @@ told-here slave outcome log = ap (λ (b : Bool). if b then with_outcome log outc
 pub told-other : (slave : ℕ) (outcome : RomOutcome) (i : ℕ) (log : List RomEntry) → i ≢ slave → rom_noted i log (SlaveTold slave outcome) ≡ log
 told-other slave outcome i log other = ap (λ (b : Bool). if b then with_outcome log outcome else log) (isnt-other slave i other)
 
--- ---- the slave that is asked, and told
+-- ---- the slave that the call is about
 
 module _ (slave at : ℕ) (old : List (Noted RomNext RomOutcome)) (same : at ≡ slave) (inside : at < length old) where
   pub asked-noted : (answer : RomNext) (mid new : List (Noted RomNext RomOutcome)) → IsNoted old at (entries_at old at) mid → IsNoted mid at (with_job (entries_at mid at) answer) new → is_rom_job answer ≡ true

@@ -1,13 +1,13 @@
--- A job that is noted as out was handed out by the book.
+-- A job without an outcome in the notes is one that the book has handed out.
 use Rattle.std.proofs.Common.{◌≡◌, ◌≢◌, ◌∙◌, ◌⊎◌, inl, inr, ℕ, zero, suc, ◌+◌, Bool, true, false, List, [], ◌∷◌, length, get_or, set, refl, sym, ap, subst, arith, ◌<◌, Option, Some, None, Result, Ok, Err}
 use Rattle.std.specs.Prelude.{is_some, nat_lt, nat_le, ◌&&◌, fold, if◌then◌else◌}
 use Rattle.std.proofs.lemmas.List.{get_or-set_same, get_or-set_other}
 use Rattle.std.proofs.lemmas.Bool.Decides.{nat_tests}
-use Rattle.sii_runs.specs.declared.run.Run.{Run}
+use Rattle.sii_words.specs.declared.run.Run.{Run}
 use Rattle.site_core.specs.declared.fault.DeviceFault.{DeviceFault}
 use Rattle.site_core.specs.declared.fault.DeviceFault.TheVariants.{Disk, Lost, Stopped}
 use Rattle.site_core.specs.declared.answers.Settled.TheVariants.{Written, Again, Dead}
-use Rattle.slave_queue.specs.Cells.{asked, written, cell_of}
+use Rattle.book_model.specs.Cells.{asked, written, cell_of}
 use Rattle.book_model.specs.declared.fault.Fault.{Fault}
 use Rattle.book_model.specs.declared.fault.Fault.TheVariants as faults
 use Rattle.book_model.specs.declared.next.DiskNext.{DiskNext}
@@ -23,7 +23,7 @@ use Rattle.book_model.specs.DiskSteps.{action_of, doing_next, disk_next, went_on
 use Rattle.book_model.specs.RomSteps.{to_do, was_taken, is_last, with_errand, with_issue, with_again, without_work, rom_next, rom_done}
 use Rattle.station_jobs.specs.declared.log.Assignment.{Assignment}
 use Rattle.station_jobs.specs.Dispatch.{with_outcome}
-use Rattle.desk_notes.specs.Noted.{is_waiting}
+use Rattle.station_jobs.specs.Noted.{is_waiting}
 use Rattle.desk_book.specs.declared.call.Call.{Call}
 use Rattle.desk_book.specs.declared.call.Call.TheVariants.{Submitted, DiskAsked, DiskTold, SlaveAsked, SlaveTold, PlanAsked, Finished}
 use Rattle.desk_book.specs.Asking.{is_disk_job, is_rom_job}
@@ -56,7 +56,7 @@ next-by book j true failed (Settling word value taken) todo n e f t = rests rom.
 pub next-of : (book : Book) (j : ℕ) → Next book j
 next-of book j = next-by book j (nat_lt j (length book.slaves)) (is_some book.fault) (slave_at book j).errand (to_do book j) refl refl refl refl
 
--- ---- what comes back of it
+-- ---- its outcome
 
 -- one slave goes on, with nothing out; a fault stays
 pub record SlaveGoes (book : Book) (j : ℕ) (later : Book) : Type 0 where
@@ -122,7 +122,7 @@ pub data DiskNexts (book : Book) : Type 0 where
   disk_rests : (answer : DiskNext) → is_disk_job answer ≡ false → disk_next book ≡ (answer, book) → DiskNexts book
   disk_goes : (action : DiskNext) → disk_next book ≡ (action, record book { doing = doing_next book book.doing; is_handed_out = true }) → DiskNexts book
 
-no-action : (done : Bool) → is_disk_job (if done then disk.Stop else disk.Idle) ≡ false
+pub no-action : (done : Bool) → is_disk_job (if done then disk.Stop else disk.Idle) ≡ false
 no-action true = refl
 no-action false = refl
 
@@ -176,7 +176,7 @@ done-errand book true (Err Lost) i o = rw o refl
 pub told-errand : (book : Book) (result : Result (Unit {0}) DeviceFault) (i : ℕ) → (slave_at (disk_done book result) i).errand ≡ (slave_at book i).errand
 told-errand book result i = done-errand book book.is_handed_out result i refl
 
--- ---- an outcome that is told
+-- ---- an outcome that is reported
 
 -- then nothing is out
 told-last : {J O : Type 0} (log : List (Assignment J O)) (outcome : O) → is_waiting (with_outcome log outcome) ≡ false
@@ -185,7 +185,7 @@ told-last (last ∷ []) outcome = refl
 told-last (first ∷ next ∷ []) outcome = refl
 told-last (first ∷ next ∷ third ∷ jobs) outcome = told-last (next ∷ third ∷ jobs) outcome
 
--- ---- a slave's job that is noted as out is out
+-- ---- a slave's job without an outcome in the notes is out
 
 -- what is noted of the slave's jobs, and what the book is doing with it
 abbrev RomWaits : ℕ → Book → List RomEntry → Type 0
@@ -207,7 +207,7 @@ asked-out i book answer log is out (issues w others free todo within goes) =
 asked-out i book answer log is out (settles word value taken unsettled within goes) =
     λ waits. subst (λ (a : RomNext × Book). IsOut (slave_at a.1 i).errand) (sym goes) (out-here book i (record (slave_at book i) { errand = Settling word value taken }) within tt)
 
--- behind a call
+-- after a call
 rom-waits : (i : ℕ) (book : Book) (call : Call) (log : List RomEntry) → IsAnswered book call → RomWaits i book log → RomWaits i (after book call) (rom_noted i log call)
 rom-waits i book (Submitted command (Ok number)) log is out = out
 rom-waits i book (Submitted command (Err refusal)) log is out = out

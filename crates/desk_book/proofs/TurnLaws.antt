@@ -1,4 +1,4 @@
--- What a plan's answer is noted as.
+-- What the log keeps of a plan that the book answered.
 use Rattle.std.proofs.Common.{◌≡◌, refl, Some, None, Ok, Err}
 use Rattle.sii_image.specs.declared.plan.Plan.{Plan}
 use Rattle.sii_image.specs.declared.fault.ImageFault.TheVariants.{ImageOverLimit}

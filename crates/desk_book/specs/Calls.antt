@@ -12,9 +12,10 @@ use Rattle.book_model.specs.Reading.{applied, planned}
 use Rattle.desk_book.specs.declared.call.Call.{Call}
 use Rattle.desk_book.specs.declared.call.Call.TheVariants.{Submitted, DiskAsked, DiskTold, SlaveAsked, SlaveTold, PlanAsked, Finished}
 
--- what is noted of the process image of a plan: of how many commands it is, and how many bytes it has
+-- What a log keeps of the book's next plan: its prefix of commands, and the bytes of its image. `None` without such an image.
 abbrev pub turn_of : Book → Option CycleNote
-turn_of book = option_map (λ (image : ProcessImageParts). record { prefix = applied book; size = image.outputs + image.inputs }) (process_image (planned book))
+turn_of book =
+    option_map (λ (image : ProcessImageParts). record { prefix = applied book; size = image.outputs + image.inputs }) (process_image (planned book))
 
 -- the book after a call
 abbrev pub after : Book → Call → Book
@@ -27,14 +28,14 @@ after book (SlaveTold slave outcome) = rom_done book slave outcome
 after book (PlanAsked answer) = book
 after book Finished = finish book
 
--- a job is out for the slave
+-- a job of the slave is out
 abbrev pub IsOut : Errand → Type 0
 IsOut Free = ⊥
 IsOut (Issuing word value) = Unit {0}
 IsOut (Unsettled word value taken) = ⊥
 IsOut (Settling word value taken) = Unit {0}
 
--- The call was answered as the book answers it; and an outcome was told while a job was out.
+-- The call was answered as the book answers it. If it reported an outcome, a job was out.
 abbrev pub IsAnswered : Book → Call → Type 0
 IsAnswered book (Submitted command answer) = answer ≡ submit book command
 IsAnswered book (DiskAsked answer) = answer ≡ (disk_next book).0
@@ -46,16 +47,19 @@ IsAnswered book Finished = Unit {0}
 
 -- ---- one after another
 
+-- the book after these calls
 abbrev pub replayed : Book → List Call → Book
 replayed book [] = book
 replayed book (call ∷ calls) = replayed (after book call) calls
 
+-- Each of these calls was answered so by the book of that moment.
 abbrev pub AreAnswered : Book → List Call → Type 0
 AreAnswered book [] = Unit {0}
 AreAnswered book (call ∷ calls) = IsAnswered book call × AreAnswered (after book call) calls
 
 -- ---- refusals
 
+-- the call submitted a command that was refused
 abbrev pub is_refusal : Call → Bool
 is_refusal (Submitted command (Err refusal)) = true
 is_refusal call = false

@@ -7,4 +7,3 @@ pub mod Serving
 pub mod Submitting
 pub mod Asking
 pub mod Closing
-pub mod Below

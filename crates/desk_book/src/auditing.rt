@@ -1,21 +1,23 @@
-//! All shares of a desk together.
+//! What all shares of a desk count together.
 
 ghost use Rattle.std.specs.Prelude.{◌≡◌, ◌+◌, length, sum_by};
-ghost use Rattle.desk_book.specs.Serving.{Counts};
+ghost use Rattle.desk_book.specs.Serving.{ShareCounts};
 
 use crate::naming::{Refusals, Tickets};
 use crate::share::Share;
 use std::sync::ledger;
 use std::sync::ledger::Book;
 
-/// Lends the tokens of these shares to the rest, until all are together. Where those are all parts of the ledger, what they count is
-/// the ledger's total. Nothing changes.
+/// Merges the ticket tokens of these shares into `rest`, and then gives them back.
+///
+/// Nothing changes. If together they are all parts of the ledger, the tickets that they count add up to its total.
 pub(crate) fn lend_tickets<T: Tickets, R: Refusals>(
     shares: &mut [Share<T, R>],
     rest: &mut ledger::Share<T>,
     book: &mut Book<T>,
 )
-    ensures whole { rest.old.parts + length shares.old ≡ T.parts → rest.old.amount + sum_by (λ (s : Counts). s.tickets) shares.old ≡ book.old.total }
+    ensures whole { rest.old.parts + length shares.old ≡ T.parts
+        → rest.old.amount + sum_by (λ (s : ShareCounts). s.tickets) shares.old ≡ book.old.total }
     ensures parts { rest.new.parts ≡ rest.old.parts }
     ensures amount { rest.new.amount ≡ rest.old.amount }
     ensures total { book.new.total ≡ book.old.total }
@@ -31,14 +33,16 @@ pub(crate) fn lend_tickets<T: Tickets, R: Refusals>(
     rest.give(&mut first.ticket_token, 1, count);
 }
 
-/// Lends the tokens of these shares to the rest, until all are together. Where those are all parts of the ledger, what they count is
-/// the ledger's total. Nothing changes.
+/// Merges the refusal tokens of these shares into `rest`, and then gives them back.
+///
+/// Nothing changes. If together they are all parts of the ledger, the refusals that they count add up to its total.
 pub(crate) fn lend_refusals<T: Tickets, R: Refusals>(
     shares: &mut [Share<T, R>],
     rest: &mut ledger::Share<R>,
     book: &mut Book<R>,
 )
-    ensures whole { rest.old.parts + length shares.old ≡ R.parts → rest.old.amount + sum_by (λ (s : Counts). s.refusals) shares.old ≡ book.old.total }
+    ensures whole { rest.old.parts + length shares.old ≡ R.parts
+        → rest.old.amount + sum_by (λ (s : ShareCounts). s.refusals) shares.old ≡ book.old.total }
     ensures parts { rest.new.parts ≡ rest.old.parts }
     ensures amount { rest.new.amount ≡ rest.old.amount }
     ensures total { book.new.total ≡ book.old.total }

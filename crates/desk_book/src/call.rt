@@ -1,4 +1,4 @@
-//! What happens to a book under its lock.
+//! The calls of a book under its lock, as its history has them.
 
 ghost use Rattle.std.specs.Prelude.{◌≡◌};
 
@@ -9,7 +9,7 @@ use station_jobs::CycleNote;
 use std::marker::Model;
 use std::snapshot::Snapshot;
 
-/// A value that contracts read and no memory holds.
+/// A value that only contracts can read. It takes no memory.
 #[derive(Drop)]
 pub struct Recalled<T> {
     of: Snapshot<T>,
@@ -22,7 +22,7 @@ impl<T> Model for Recalled<T> {
 }
 
 impl<T> Recalled<T> {
-    /// What this value is now.
+    /// Records what this value is now.
     pub fn of(value: &T) -> Self
         ensures { result ≡ value.now }
     {
@@ -35,33 +35,42 @@ impl<T> Recalled<T> {
 /// A call of a book, with its answer.
 #[derive(Drop)]
 pub enum Call {
-    /// A command was submitted, and accepted with this number or refused.
+    /// A command was submitted.
     Submitted {
+        /// The command.
         command: Recalled<Command>,
+        /// Its number if it was accepted, or why it was refused.
         answer: Result<u64, SubmitRefusal>,
     },
-    /// It was asked what is to be done with the disk.
+    /// The book was asked for the next action on the disk.
     DiskAsked {
+        /// The action, or that there is none.
         answer: Recalled<DiskNext>,
     },
-    /// This came of it.
+    /// The outcome of the action on the disk was reported.
     DiskTold {
+        /// Whether it succeeded.
         outcome: Result<(), DeviceFault>,
     },
-    /// It was asked what is to be done with a slave.
+    /// The book was asked for the next job of a slave.
     SlaveAsked {
+        /// The slave's number, from 0.
         slave: u16,
+        /// The job, or that there is none.
         answer: RomNext,
     },
-    /// This came of it.
+    /// The outcome of a slave's job was reported.
     SlaveTold {
+        /// The slave's number, from 0.
         slave: u16,
+        /// How the job ended.
         outcome: RomOutcome,
     },
-    /// A plan was asked for. `None`: the process image was over its limits.
+    /// The book was asked for the plan of the next process data cycle.
     PlanAsked {
+        /// What is kept of the plan. `None`: its process image was over the limits.
         answer: Option<CycleNote>,
     },
-    /// The book was finished.
+    /// The book was closed for commands.
     Finished,
 }

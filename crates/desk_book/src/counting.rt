@@ -1,20 +1,20 @@
-//! What shares and receipts say of the book.
+//! Adds up shares, and compares receipts with the accepted commands.
 
 ghost use Rattle.std.specs.Prelude.{◌↔◌, ◌≡◌, ◌≤◌, ◌^◌, length, sum_by, IfSome, IfNone, IsTrue, All};
-ghost use Rattle.desk_book.specs.Serving.{Counts};
+ghost use Rattle.desk_book.specs.Serving.{ShareCounts};
 ghost use Rattle.desk_book.specs.Numbered.{Numbered};
 ghost use Rattle.desk_book.specs.Closing.{StandsAt, HasNumber, AreApart};
 
 use crate::naming::{Refusals, Tickets};
 use crate::share::Share;
 use crate::ticket::Receipt;
-use desk_notes::is_same_command;
 use sii_edit::Command;
+use station_jobs::is_same_command;
 
-/// How many tickets the shares count. `None` where they are more than `u64::MAX`.
+/// How many tickets the shares count together. `None` if these are more than `u64::MAX`.
 pub(crate) fn all_tickets<T: Tickets, R: Refusals>(shares: &[Share<T, R>]) -> Option<u64>
-    ensures some { IfSome result (λ sum. sum ≡ sum_by (λ (s : Counts). s.tickets) shares.now) }
-    ensures none { IfNone result (2 ^ 64 ≤ sum_by (λ (s : Counts). s.tickets) shares.now) }
+    ensures some { IfSome result (λ sum. sum ≡ sum_by (λ (s : ShareCounts). s.tickets) shares.now) }
+    ensures none { IfNone result (2 ^ 64 ≤ sum_by (λ (s : ShareCounts). s.tickets) shares.now) }
 {
     let mut sum: u64 = 0;
     for i in 0..shares.len() {
@@ -24,10 +24,10 @@ pub(crate) fn all_tickets<T: Tickets, R: Refusals>(shares: &[Share<T, R>]) -> Op
     Some(sum)
 }
 
-/// How many refusals they count. `None` where they are more than `u64::MAX`.
+/// How many refusals the shares count together. `None` if these are more than `u64::MAX`.
 pub(crate) fn all_refusals<T: Tickets, R: Refusals>(shares: &[Share<T, R>]) -> Option<u64>
-    ensures some { IfSome result (λ sum. sum ≡ sum_by (λ (s : Counts). s.refusals) shares.now) }
-    ensures none { IfNone result (2 ^ 64 ≤ sum_by (λ (s : Counts). s.refusals) shares.now) }
+    ensures some { IfSome result (λ sum. sum ≡ sum_by (λ (s : ShareCounts). s.refusals) shares.now) }
+    ensures none { IfNone result (2 ^ 64 ≤ sum_by (λ (s : ShareCounts). s.refusals) shares.now) }
 {
     let mut sum: u64 = 0;
     for i in 0..shares.len() {
@@ -37,7 +37,7 @@ pub(crate) fn all_refusals<T: Tickets, R: Refusals>(shares: &[Share<T, R>]) -> O
     Some(sum)
 }
 
-/// Whether the command stands at its number among these, and is one of the first, so many.
+/// Whether the command of this number in `commands` is this one, and is among the first `durable`.
 pub(crate) fn stands_at(number: u64, command: &Command, commands: &[Command], durable: u64) -> bool
     ensures { IsTrue result ↔ StandsAt commands.now durable (record { number = number; command = command.now }) }
 {
@@ -48,7 +48,7 @@ pub(crate) fn stands_at(number: u64, command: &Command, commands: &[Command], du
     is_same_command(&commands[at], command)
 }
 
-/// Whether each receipt's command stands at its number among the first of these commands, so many.
+/// Whether the command of each receipt is the one of its number in `commands`, and is among the first `durable`.
 pub(crate) fn stand_at_their_numbers(
     receipts: &[Receipt],
     commands: &[Command],
@@ -65,7 +65,7 @@ pub(crate) fn stand_at_their_numbers(
     true
 }
 
-/// Whether no two receipts have one number.
+/// Whether no two receipts have the same number.
 pub(crate) fn are_apart(receipts: &[Receipt]) -> bool
     ensures { IsTrue result ↔ AreApart receipts.now }
 {
@@ -78,7 +78,7 @@ pub(crate) fn are_apart(receipts: &[Receipt]) -> bool
     true
 }
 
-/// Whether one of the first receipts, so many, has this number.
+/// Whether one of the first `count` receipts has this number.
 fn has_number(receipts: &[Receipt], count: usize, number: u64) -> bool
     requires { count ≤ length receipts.now }
     ensures { IsTrue result ↔ HasNumber receipts.now count number }

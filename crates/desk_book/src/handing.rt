@@ -1,4 +1,4 @@
-//! What is to be done with the disk is asked for, and told.
+//! Hands out the disk's actions, and takes their outcomes.
 
 ghost use Rattle.std.specs.Prelude.{◌≡◌, ◌≤◌, ◌++◌, ◌∷◌, [], vec_capacity, IfOk};
 ghost use Rattle.desk_book.specs.Asking.{AsksDisk, disk_told, is_disk_job, bytes_of};
@@ -8,19 +8,18 @@ use crate::heard::Heard;
 use crate::naming::{Refusals, Tickets};
 use crate::served::Served;
 use book_model::DiskNext;
-use history::History;
-use item_list::ItemList;
+use lists::{History, ItemList};
 use site_core::DeviceFault;
 use std::alloc::{AllocError, Global};
 
-/// Notes a call of the book.
+/// Adds a call of the book to its history.
 pub(crate) fn note(history: &mut History<Call>, call: Call)
     ensures { history.new ≡ history.old ++ call ∷ [] }
 {
     history.note(&call);
 }
 
-/// Whether it is to be done, and not nothing.
+/// Whether this is an action: not `Idle` or `Stop`.
 fn is_job(next: &DiskNext) -> bool
     ensures { result ≡ is_disk_job next.now }
 {
@@ -30,7 +29,7 @@ fn is_job(next: &DiskNext) -> bool
     }
 }
 
-/// Memory for so many bytes, twice.
+/// Memory for `bytes` bytes, twice.
 fn two_rooms(alloc: Global, bytes: usize) -> Result<(Vec<u8>, Vec<u8>), AllocError>
     ensures first { IfOk result (λ rooms. (rooms.0.items ≡ []) × (bytes ≤ vec_capacity rooms.0)) }
     ensures second { IfOk result (λ rooms. (rooms.1.items ≡ []) × (bytes ≤ vec_capacity rooms.1)) }
@@ -40,7 +39,7 @@ fn two_rooms(alloc: Global, bytes: usize) -> Result<(Vec<u8>, Vec<u8>), AllocErr
     Ok((first, second))
 }
 
-/// A copy, whose bytes go into memory that is there for them.
+/// A copy, whose bytes are put into `room`.
 fn copied(next: &DiskNext, room: Vec<u8>) -> DiskNext
     requires empty { room.items ≡ [] }
     requires room { bytes_of next.now ≤ vec_capacity room }
@@ -68,8 +67,10 @@ fn copied(next: &DiskNext, room: Vec<u8>) -> DiskNext
 }
 
 impl<T: Tickets, R: Refusals> Served<T, R> {
-    /// What is to be done next with the disk, and a copy of it. The memory for both, and for their notes, is taken before the book is
-    /// asked. While a job is out there is nothing to be done, and the book isn't asked.
+    /// Asks the book for the next action on the disk. Answers it twice: one is for the dispatch's log.
+    ///
+    /// All memory is taken before the book is asked. After `NoMemory` nothing has changed. While an action is out, the answer is
+    /// `Nothing` and the book isn't asked.
     pub fn disk_next(&mut self) -> Heard<(DiskNext, DiskNext)>
         ensures { AsksDisk result self.old self.new }
     {
@@ -98,7 +99,7 @@ impl<T: Tickets, R: Refusals> Served<T, R> {
         }
     }
 
-    /// This came of the job of the disk that is out. Where none is, nothing is told.
+    /// Reports the outcome of the disk action that is out. If none is out, nothing changes.
     pub fn disk_done(&mut self, outcome: Result<(), DeviceFault>)
         ensures { self.new ≡ disk_told self.old outcome }
     {

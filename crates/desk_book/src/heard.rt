@@ -1,14 +1,14 @@
-//! What a dispatch hears of the book.
+//! The book's answer to a dispatch.
 
-/// What there is to be done.
+/// What the book answers when it is asked for a job.
 #[derive(Drop)]
 pub enum Heard<J> {
-    /// This.
+    /// A job to do.
     Work(J),
-    /// Nothing now.
+    /// No job now, but there may be one later.
     Nothing,
-    /// There was no memory.
+    /// Memory was refused, and nothing has changed.
     NoMemory,
-    /// Nothing, for good.
+    /// No job, now or later.
     Stop,
 }

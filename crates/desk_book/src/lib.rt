@@ -1,7 +1,8 @@
-//! The book of commands as it stands under a desk's lock: the book with its history, the ledgers of its tickets and refusals, and
-//! the jobs that were handed out.
+//! What a desk's lock protects: the book of commands with its history, the ledgers of its tickets and refusals, and the jobs that were
+//! handed out.
 //!
-//! The history is each call of the book since the desk was made, with its answer. What a desk is closed with is told by it.
+//! The history lists each call of the book since the desk was made, with its answer. Only contracts read it: they state by it what a desk
+//! is closed with.
 #![tactic(auto)]
 
 mod auditing;
@@ -22,7 +23,7 @@ mod turns;
 
 pub use call::{Call, Recalled};
 pub use heard::Heard;
-pub use naming::{Parts, Refusals, Tickets};
+pub use naming::{BlankLedger, Refusals, Tickets};
 pub use served::Served;
 pub use share::Share;
 pub use ticket::{Receipt, Refused, ShareFault, Ticket, Unacknowledged};

@@ -1,11 +1,11 @@
-//! Which desk it is.
+//! The types that stand for a desk in contracts: its two ledgers.
 
 ghost use Rattle.std.specs.Prelude.{◌≡◌};
 
 use std::marker::{Brand, Model};
 use std::sync::ledger::{Blank, Ledger};
 
-/// Names a desk: the ledger of its tickets, and the book that it was made of.
+/// The ledger of a desk's tickets. Its type stands for the desk, and says which book the desk was made of.
 pub trait Tickets: Ledger {
     ghost use Rattle.book_model.specs.Book.{Book};
 
@@ -24,14 +24,14 @@ impl Tickets for Brand {
 
 impl Refusals for Brand {}
 
-/// A ledger that isn't opened yet. Contracts see which it is, and in how many parts it is cut.
+/// A ledger that isn't opened yet. Contracts see its name, and into how many parts it is cut.
 #[derive(Drop)]
-pub struct Parts {
+pub struct BlankLedger {
     blank: Blank,
     count: u64,
 }
 
-impl Model for Parts {
+impl Model for BlankLedger {
     ghost use Rattle.std.specs.Prelude.{◌≡◌};
     ghost use Rattle.desk_book.specs.Tokens.{Cut};
 
@@ -42,24 +42,24 @@ impl Model for Parts {
     ghost invariant = { λ parts. parts.blank.parts ≡ parts.count };
 }
 
-impl Parts {
-    /// A ledger of so many parts.
-    pub fn new(count: u64) -> Parts
+impl BlankLedger {
+    /// A ledger of `count` parts. Each share of a desk takes one, and the desk keeps the last.
+    pub fn new(count: u64) -> BlankLedger
         ensures { result.count ≡ count }
     {
-        Parts {
+        BlankLedger {
             blank: Blank::new(count),
             count,
         }
     }
 
-    /// The ledger, and in how many parts it is cut.
+    /// The ledger, and into how many parts it is cut.
     pub(crate) fn into_blank(self) -> (Blank, u64)
         ensures name { result.0.name ≡ self.name }
         ensures parts { result.0.parts ≡ self.count }
         ensures count { result.1 ≡ self.count }
     {
-        let Parts { blank, count } = self;
+        let BlankLedger { blank, count } = self;
         (blank, count)
     }
 }

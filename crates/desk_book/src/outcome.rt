@@ -1,4 +1,4 @@
-//! What a book has come to, and whether what was handed in matches it.
+//! Reads the final book, and compares with it what is handed in to close a desk.
 
 ghost use Rattle.std.specs.Prelude.{◌≡◌, ◌↔◌, ◌<◌, length, IsTrue};
 ghost use Rattle.sii_edit.specs.Fold.{contents};
@@ -13,14 +13,15 @@ use crate::served::Served;
 use crate::share::Share;
 use crate::slaves::is_work_of;
 use crate::ticket::Receipt;
-use desk_notes::{DiskEntry, are_same_actions, are_same_turns};
 use sii_edit::Command;
 use sii_words::Plant;
 use site_core::Site;
-use station_jobs::{CycleNote, End, SlaveLog};
+use station_jobs::{CycleNote, DiskEntry, End, SlaveLog, are_same_actions, are_same_turns};
 
 impl<T: Tickets, R: Refusals> Served<T, R> {
-    /// The accepted commands, in order. The calls that made the book what it is were each answered as it answers them.
+    /// The accepted commands, in order.
+    ///
+    /// Each call of the history was answered as the book's definition answers it.
     pub fn accepted(&self) -> &[Command]
         ensures commands { result.now ≡ (replayed T.opened self.now.calls).accepted }
         ensures answered { AreAnswered T.opened self.now.calls }
@@ -35,8 +36,9 @@ impl<T: Tickets, R: Refusals> Served<T, R> {
         self.core.contents()
     }
 
-    /// Whether the book has no fault, and all that was found at the open or accepted since is settled. The calls that made the book
-    /// what it is were each answered as it answers them.
+    /// Whether the book has no fault, and everything that it found at the open or accepted since is settled.
+    ///
+    /// Each call of the history was answered as the book's definition answers it.
     pub fn is_served(&self) -> bool
         ensures served { result ≡ is_served (replayed T.opened self.now.calls) }
         ensures answered { AreAnswered T.opened self.now.calls }
@@ -45,7 +47,7 @@ impl<T: Tickets, R: Refusals> Served<T, R> {
         self.core.fault().is_none() && status.durable == status.accepted && self.core.is_settled()
     }
 
-    /// All shares of the desk count all tickets and refusals. Nothing changes.
+    /// Shows that all shares that were given out together count all tickets and refusals. Nothing changes.
     pub fn audit(&mut self, shares: &mut [Share<T, R>])
         ensures counted { length shares.old ≡ self.old.pool.given → CountAll (replayed T.opened self.old.calls) self.old.calls shares.old }
         ensures same { self.new ≡ self.old }
@@ -55,7 +57,7 @@ impl<T: Tickets, R: Refusals> Served<T, R> {
             .audit(shares, &mut self.tickets, &mut self.refusals);
     }
 
-    /// Whether the shares count all tickets and refusals.
+    /// Whether these shares together count as many tickets as commands were accepted, and as many refusals as were counted.
     pub fn shares_match(&self, shares: &[Share<T, R>]) -> bool
         ensures { IsTrue result ↔ CountAll (replayed T.opened self.now.calls) self.now.calls shares.now }
     {
@@ -70,7 +72,7 @@ impl<T: Tickets, R: Refusals> Served<T, R> {
         tickets == accepted && refusals == refused
     }
 
-    /// Whether each receipt is one of the book, and no two have one number.
+    /// Whether each receipt has the durable command of its number, and no two have the same number.
     pub fn receipts_match(&self, receipts: &[Receipt]) -> bool
         ensures { IsTrue result ↔ AreReceiptsOf (replayed T.opened self.now.calls) receipts.now }
     {
@@ -78,21 +80,21 @@ impl<T: Tickets, R: Refusals> Served<T, R> {
         stand_at_their_numbers(receipts, self.core.accepted(), durable) && are_apart(receipts)
     }
 
-    /// Whether these are the jobs of the disk that were handed out, with what was told of them.
+    /// Whether this log has exactly the disk actions that were handed out, with the outcomes that were reported.
     pub fn flusher_matches(&self, log: &[DiskEntry]) -> bool
         ensures { IsTrue result ↔ (log.now ≡ disk_log self.now.calls) }
     {
         are_same_actions(log, self.disk.as_slice())
     }
 
-    /// Whether these are the turns that were handed out.
+    /// Whether this log has exactly the process data cycles that were handed out.
     pub fn cycle_matches(&self, log: &[CycleNote]) -> bool
         ensures { IsTrue result ↔ (log.now ≡ cycle_log self.now.calls) }
     {
         are_same_turns(log, &self.cycle)
     }
 
-    /// Whether this is the work of a slave, with the jobs that were handed out for it.
+    /// Whether this is the log of slave `at`, with exactly the jobs that were handed out for it.
     fn worker_matches(&self, at: usize, log: &SlaveLog) -> bool
         requires { at < length (contents (base_of T.opened) (replayed T.opened self.now.calls).accepted) }
         ensures { IsTrue result ↔ IsWorkOf self.now.calls at log.now }
@@ -100,7 +102,9 @@ impl<T: Tickets, R: Refusals> Served<T, R> {
         is_work_of(&self.slaves, at, log)
     }
 
-    /// Whether there is one for each slave, in the order of the line. Each slave is where the jobs of its log led it.
+    /// Whether there is one end for each slave, in the order of the line, with exactly the jobs that were handed out for it.
+    ///
+    /// If so, these jobs led each slave to where it is.
     pub fn workers_match<S: Site>(&self, workers: &[End<S, SlaveLog>]) -> bool
         ensures matches { IsTrue result ↔ AreWorkersOf T.opened self.now.calls workers.now }
         ensures worked { IsTrue result → AllWorked S.seen workers.now }

@@ -1,16 +1,16 @@
-//! The shares that aren't given out.
+//! The parts of a desk's ledgers that no share has.
 
 ghost use Rattle.std.specs.Prelude.{◌≡◌, ◌+◌, ◌-◌, ◌<◌, ◌≤◌, ◌⊎◌, length, sum_by, IfSome, IfNone, OnSome};
-ghost use Rattle.desk_book.specs.Serving.{Counts};
+ghost use Rattle.desk_book.specs.Serving.{ShareCounts};
 
 use crate::auditing::{lend_refusals, lend_tickets};
-use crate::naming::{Parts, Refusals, Tickets};
+use crate::naming::{BlankLedger, Refusals, Tickets};
 use crate::share::Share;
 use std::marker::Model;
 use std::sync::ledger;
 use std::sync::ledger::Book;
 
-/// The parts of two ledgers that aren't given out.
+/// The parts of the two ledgers that aren't given out. Contracts see their numbers, and how many shares are given out.
 #[derive(Drop)]
 pub struct Pool<T: Tickets, R: Refusals> {
     pub(crate) tickets: ledger::Share<T>,
@@ -28,12 +28,16 @@ impl<T: Tickets, R: Refusals> Model for Pool<T, R> {
 
     ghost view = { λ pool. record { tickets = pool.ticket_parts; refusals = pool.refusal_parts; given = pool.given } };
 
-    ghost invariant = { λ pool. IsRest T.parts pool.tickets.parts pool.tickets.amount pool.ticket_parts pool.given × IsRest R.parts pool.refusals.parts pool.refusals.amount pool.refusal_parts pool.given };
+    ghost invariant = { λ pool. IsRest T.parts pool.tickets.parts pool.tickets.amount pool.ticket_parts pool.given
+        × IsRest R.parts pool.refusals.parts pool.refusals.amount pool.refusal_parts pool.given };
 }
 
 impl<T: Tickets, R: Refusals> Pool<T, R> {
-    /// Two ledgers are opened, with nothing given out.
-    pub(crate) fn open(tickets: Parts, refusals: Parts) -> (Book<T>, Book<R>, Pool<T, R>)
+    /// Opens the two ledgers, with nothing given out.
+    pub(crate) fn open(
+        tickets: BlankLedger,
+        refusals: BlankLedger,
+    ) -> (Book<T>, Book<R>, Pool<T, R>)
         requires tickets { (tickets.name ≡ T.name) × (tickets.count ≡ T.parts) }
         requires refusals { (refusals.name ≡ R.name) × (refusals.count ≡ R.parts) }
         ensures totals { (result.0.total ≡ 0) × (result.1.total ≡ 0) }
@@ -60,11 +64,12 @@ impl<T: Tickets, R: Refusals> Pool<T, R> {
         self.given
     }
 
-    /// A share of one part of each ledger. `None` where one of them has one part left, or none.
+    /// Gives out a share with one part of each ledger. `None` if one of them has at most one part left.
     pub(crate) fn share(&mut self) -> Option<Share<T, R>>
         ensures some { OnSome result ((1 < self.old.tickets) × (1 < self.old.refusals)) }
         ensures share { IfSome result (λ share. share ≡ record { tickets = 0; refusals = 0 }) }
-        ensures given { OnSome result (self.new ≡ record { tickets = self.old.tickets - 1; refusals = self.old.refusals - 1; given = self.old.given + 1 }) }
+        ensures given { OnSome result (self.new
+            ≡ record { tickets = self.old.tickets - 1; refusals = self.old.refusals - 1; given = self.old.given + 1 }) }
         ensures none { IfNone result ((self.old.tickets ≤ 1) ⊎ (self.old.refusals ≤ 1)) }
         ensures same { IfNone result (self.new ≡ self.old) }
     {
@@ -79,15 +84,15 @@ impl<T: Tickets, R: Refusals> Pool<T, R> {
         Some(Share::new(ticket_token, refusal_token))
     }
 
-    /// Where these are all shares that are given out, what they count are the totals of the ledgers. Nothing changes.
+    /// Shows that all shares that were given out together count the totals of the ledgers. Nothing changes.
     pub(crate) fn audit(
         &mut self,
         shares: &mut [Share<T, R>],
         tickets: &mut Book<T>,
         refusals: &mut Book<R>,
     )
-        ensures tickets { length shares.old ≡ self.old.given → sum_by (λ (s : Counts). s.tickets) shares.old ≡ tickets.old.total }
-        ensures refusals { length shares.old ≡ self.old.given → sum_by (λ (s : Counts). s.refusals) shares.old ≡ refusals.old.total }
+        ensures tickets { length shares.old ≡ self.old.given → sum_by (λ (s : ShareCounts). s.tickets) shares.old ≡ tickets.old.total }
+        ensures refusals { length shares.old ≡ self.old.given → sum_by (λ (s : ShareCounts). s.refusals) shares.old ≡ refusals.old.total }
         ensures ticket_total { tickets.new.total ≡ tickets.old.total }
         ensures refusal_total { refusals.new.total ≡ refusals.old.total }
         ensures same { self.new ≡ self.old }

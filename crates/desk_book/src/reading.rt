@@ -1,4 +1,4 @@
-//! What is read of the book under its lock.
+//! Reads the book's progress, and turns tickets into receipts.
 
 ghost use Rattle.std.specs.Prelude.{◌≡◌, IsTrue, IfOk, IfErr};
 ghost use Rattle.desk_book.specs.Calls.{replayed, AreAnswered};
@@ -11,32 +11,33 @@ use crate::ticket::{Receipt, Ticket, Unacknowledged};
 use book_model::{Fault, Status};
 
 impl<T: Tickets, R: Refusals> Served<T, R> {
-    /// How far the book is.
+    /// How many commands are accepted, durable and settled, and how many bytes of the journal are live.
     pub fn status(&self) -> Status {
         self.core.status()
     }
 
-    /// What has closed the book, if anything has.
+    /// The fault that has closed the book, if there is one.
     pub fn fault(&self) -> Option<Fault>
         ensures { result ≡ (replayed T.opened self.now.calls).fault }
     {
         self.core.fault()
     }
 
-    /// Whether the book answers `Closed` to whoever submits.
+    /// Whether the book accepts no commands: it was finished, or it has a fault.
     pub fn is_closed(&self) -> bool {
         self.is_finished || self.core.fault().is_some()
     }
 
-    /// Whether the command of this number isn't on the disk for good yet, and may still become so.
+    /// Whether the command of this number isn't durable yet, and the book has no fault.
     pub fn is_pending(&self, number: u64) -> bool {
         number >= self.core.status().durable && self.core.fault().is_none()
     }
 
-    /// Whether the command of the ticket is the accepted one of its number, and on the disk for good.
+    /// Whether the ticket's command is the accepted one of its number, and durable.
     fn is_durable(&self, ticket: &Ticket) -> bool
         ensures answered { AreAnswered T.opened self.now.calls }
-        ensures stands { IsTrue result → StandsAt (replayed T.opened self.now.calls).accepted (replayed T.opened self.now.calls).durable ticket.now }
+        ensures stands { IsTrue result
+            → StandsAt (replayed T.opened self.now.calls).accepted (replayed T.opened self.now.calls).durable ticket.now }
     {
         let durable = self.core.status().durable;
         stands_at(
@@ -47,14 +48,16 @@ impl<T: Tickets, R: Refusals> Served<T, R> {
         )
     }
 
-    /// The receipt of a ticket whose command is on the disk for good.
+    /// Turns a ticket whose command is durable into its receipt.
     ///
     /// # Errors
     ///
-    /// It isn't, or the ticket is of another desk. The ticket is handed back.
+    /// The ticket is handed back: its command isn't durable, or the book's command of this number is another one, because the ticket is
+    /// of another desk.
     pub fn receipt(&self, ticket: Ticket) -> Result<Receipt, Unacknowledged>
         ensures receipt { IfOk result (λ receipt. receipt ≡ ticket) }
-        ensures stands { IfOk result (λ receipt. StandsAt (replayed T.opened self.now.calls).accepted (replayed T.opened self.now.calls).durable receipt) }
+        ensures stands { IfOk result
+            (λ receipt. StandsAt (replayed T.opened self.now.calls).accepted (replayed T.opened self.now.calls).durable receipt) }
         ensures answered { AreAnswered T.opened self.now.calls }
         ensures handed_back { IfErr result (λ refused. refused.ticket ≡ ticket) }
     {

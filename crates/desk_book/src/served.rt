@@ -1,24 +1,23 @@
-//! The book under the lock of a desk.
+//! What a desk's lock protects.
 
 ghost use Rattle.std.specs.Prelude.{◌≡◌, ◌⊎◌, ◌≤◌, ◌-◌, ◌+◌, [], length, IfOk, IfSome, IfNone, OnSome};
 ghost use Rattle.book_model.specs.Book.{contents_of};
 ghost use Rattle.desk_book.specs.Serving.{AreRomLogs, with_call};
 
 use crate::call::Call;
-use crate::naming::{Parts, Refusals, Tickets};
+use crate::naming::{BlankLedger, Refusals, Tickets};
 use crate::pool::Pool;
 use crate::share::Share;
 use book_core::Core;
 use book_model::{DiskNext, RomNext, RomOutcome};
-use desk_notes::Notes;
-use history::History;
+use lists::History;
 use site_core::DeviceFault;
-use station_jobs::CycleNote;
+use station_jobs::{CycleNote, Notes};
 use std::alloc::{AllocError, Global};
 use std::marker::Model;
 use std::sync::ledger::Book;
 
-/// A book with its history, the ledgers of its tickets and its refusals, and what was handed out to those who do its jobs.
+/// A book with its history of calls, the ledgers of its tickets and refusals, and the jobs that were handed out.
 #[derive(Drop)]
 pub struct Served<T: Tickets, R: Refusals> {
     pub(crate) alloc: Global,
@@ -42,10 +41,12 @@ impl<T: Tickets, R: Refusals> Model for Served<T, R> {
 
     ghost view = { λ s. record { calls = s.history; tickets = s.tickets.total; refusals = s.refusals.total; pool = s.pool } };
 
-    ghost invariant = { λ s. IsReplayed T.opened s.core s.history × AreCounted s.core s.history s.tickets.total s.refusals.total × (s.refused ≡ s.refusals.total) × AreLogs s.history s.disk.entries s.slaves.items s.cycle.items × IsEach T.opened s.slaves.items };
+    ghost invariant = { λ s. IsReplayed T.opened s.core s.history × AreCounted s.core s.history s.tickets.total s.refusals.total
+        × (s.refused ≡ s.refusals.total) × AreLogs s.history s.disk.entries s.slaves.items s.cycle.items
+        × IsEach T.opened s.slaves.items };
 }
 
-/// Notes of so many slaves, to whom nothing was handed out yet.
+/// Notes for `count` slaves, to which nothing was handed out yet.
 fn no_notes(alloc: Global, count: usize) -> Result<Vec<Notes<RomNext, RomOutcome>>, AllocError>
     ensures none { IfOk result (λ notes. AreRomLogs [] notes.items) }
     ensures count { IfOk result (λ notes. length notes.items ≡ count) }
@@ -58,18 +59,26 @@ fn no_notes(alloc: Global, count: usize) -> Result<Vec<Notes<RomNext, RomOutcome
 }
 
 impl<T: Tickets, R: Refusals> Served<T, R> {
-    /// A book of which nothing was asked yet.
+    /// A book with an empty history, no jobs handed out and no shares given out.
+    ///
+    /// The book has to be `T.opened` and to have accepted no command yet. The ledgers have to be those of `T` and `R`, with as many parts
+    /// as these say.
+    ///
+    /// # Errors
+    ///
+    /// `AllocError`: memory was refused. The book is dropped.
     pub fn of(
         alloc: Global,
         core: Core,
-        tickets: Parts,
-        refusals: Parts,
+        tickets: BlankLedger,
+        refusals: BlankLedger,
     ) -> Result<Served<T, R>, AllocError>
         requires core { core ≡ T.opened }
         requires none { core.accepted ≡ [] }
         requires tickets { (tickets.name ≡ T.name) × (tickets.count ≡ T.parts) }
         requires refusals { (refusals.name ≡ R.name) × (refusals.count ≡ R.parts) }
-        ensures { IfOk result (λ served. served ≡ record { calls = []; tickets = 0; refusals = 0; pool = record { tickets = tickets.count; refusals = refusals.count; given = 0 } }) }
+        ensures { IfOk result (λ served. served
+            ≡ record { calls = []; tickets = 0; refusals = 0; pool = record { tickets = tickets.count; refusals = refusals.count; given = 0 } }) }
     {
         let Ok(slaves) = no_notes(alloc, core.contents().len()) else {
             drop(core);
@@ -78,13 +87,13 @@ impl<T: Tickets, R: Refusals> Served<T, R> {
         Ok(Served::with_notes(alloc, core, slaves, tickets, refusals))
     }
 
-    /// Such a book with the notes of its slaves, to whom nothing was handed out yet.
+    /// Such a book, made with empty notes for each of its slaves.
     fn with_notes(
         alloc: Global,
         core: Core,
         slaves: Vec<Notes<RomNext, RomOutcome>>,
-        tickets: Parts,
-        refusals: Parts,
+        tickets: BlankLedger,
+        refusals: BlankLedger,
     ) -> Served<T, R>
         requires core { core ≡ T.opened }
         requires none { core.accepted ≡ [] }
@@ -92,7 +101,8 @@ impl<T: Tickets, R: Refusals> Served<T, R> {
         requires count { length slaves.items ≡ length (contents_of core) }
         requires tickets { (tickets.name ≡ T.name) × (tickets.count ≡ T.parts) }
         requires refusals { (refusals.name ≡ R.name) × (refusals.count ≡ R.parts) }
-        ensures { result ≡ record { calls = []; tickets = 0; refusals = 0; pool = record { tickets = tickets.count; refusals = refusals.count; given = 0 } } }
+        ensures { result
+            ≡ record { calls = []; tickets = 0; refusals = 0; pool = record { tickets = tickets.count; refusals = refusals.count; given = 0 } } }
     {
         let (ticket_book, refusal_book, pool) = Pool::open(tickets, refusals);
         Served {
@@ -110,17 +120,18 @@ impl<T: Tickets, R: Refusals> Served<T, R> {
         }
     }
 
-    /// A share of one part of each ledger. `None` where one of them has one part left, or none.
+    /// Gives out a share with one part of each ledger. `None`, with nothing changed, if one of them has at most one part left.
     pub fn share(&mut self) -> Option<Share<T, R>>
         ensures share { IfSome result (λ share. share ≡ record { tickets = 0; refusals = 0 }) }
-        ensures given { OnSome result (self.new ≡ record self.old { pool = record { tickets = self.old.pool.tickets - 1; refusals = self.old.pool.refusals - 1; given = self.old.pool.given + 1 } }) }
+        ensures given { OnSome result (self.new ≡
+            record self.old { pool = record { tickets = self.old.pool.tickets - 1; refusals = self.old.pool.refusals - 1; given = self.old.pool.given + 1 } }) }
         ensures none { IfNone result ((self.old.pool.tickets ≤ 1) ⊎ (self.old.pool.refusals ≤ 1)) }
         ensures same { IfNone result (self.new ≡ self.old) }
     {
         self.pool.share()
     }
 
-    /// No more commands are accepted. What was accepted is still done.
+    /// Accepts no more commands. Those that were accepted are still carried out.
     pub fn finish(&mut self)
         ensures { self.new ≡ with_call self.old Call.Finished }
     {

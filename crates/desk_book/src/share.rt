@@ -1,4 +1,4 @@
-//! What a submitter holds.
+//! The right to submit at a desk.
 
 ghost use Rattle.std.specs.Prelude.{◌≡◌, ◌+◌, ◌<◌, ◌^◌};
 
@@ -7,7 +7,7 @@ use std::marker::Model;
 use std::sync::ledger;
 use std::sync::ledger::Book;
 
-/// A share of a desk's two ledgers: how many tickets were given for it, and how many refusals were counted in it.
+/// The right to submit at a desk, with one part of each of its ledgers. It counts the tickets and the refusals that it got.
 #[derive(Drop)]
 pub struct Share<T: Tickets, R: Refusals> {
     pub(crate) tickets: u64,
@@ -18,18 +18,19 @@ pub struct Share<T: Tickets, R: Refusals> {
 
 impl<T: Tickets, R: Refusals> Model for Share<T, R> {
     ghost use Rattle.std.specs.Prelude.{◌≡◌};
-    ghost use Rattle.desk_book.specs.Serving.{Counts};
+    ghost use Rattle.desk_book.specs.Serving.{ShareCounts};
     ghost use Rattle.desk_book.specs.Tokens.{IsToken};
 
-    ghost Value = { Counts };
+    ghost Value = { ShareCounts };
 
     ghost view = { λ s. record { tickets = s.tickets; refusals = s.refusals } };
 
-    ghost invariant = { λ s. IsToken s.tickets s.ticket_token.parts s.ticket_token.amount × IsToken s.refusals s.refusal_token.parts s.refusal_token.amount };
+    ghost invariant = { λ s. IsToken s.tickets s.ticket_token.parts s.ticket_token.amount
+        × IsToken s.refusals s.refusal_token.parts s.refusal_token.amount };
 }
 
 impl<T: Tickets, R: Refusals> Share<T, R> {
-    /// A share of one part of each ledger, which counts nothing yet.
+    /// A share with one part of each ledger, which counts nothing yet.
     pub(crate) fn new(ticket_token: ledger::Share<T>, refusal_token: ledger::Share<R>) -> Self
         requires tickets { (ticket_token.parts ≡ 1) × (ticket_token.amount ≡ 0) }
         requires refusals { (refusal_token.parts ≡ 1) × (refusal_token.amount ≡ 0) }
@@ -43,21 +44,21 @@ impl<T: Tickets, R: Refusals> Share<T, R> {
         }
     }
 
-    /// How many tickets were given for it.
+    /// How many tickets this share got.
     pub fn tickets(&self) -> u64
         ensures { result ≡ self.now.tickets }
     {
         self.tickets
     }
 
-    /// How many refusals were counted in it.
+    /// How many refusals this share counts.
     pub fn refusals(&self) -> u64
         ensures { result ≡ self.now.refusals }
     {
         self.refusals
     }
 
-    /// One ticket more is given.
+    /// ShareCounts one more ticket. The ledger's total has to stay below 2^64.
     pub(crate) fn count_ticket(&mut self, book: &mut Book<T>)
         requires { book.old.total + 1 < 2 ^ 64 }
         ensures total { book.new.total ≡ book.old.total + 1 }
@@ -68,7 +69,7 @@ impl<T: Tickets, R: Refusals> Share<T, R> {
         self.tickets += 1;
     }
 
-    /// One refusal more is counted.
+    /// ShareCounts one more refusal. The ledger's total has to stay below 2^64.
     pub(crate) fn count_refusal(&mut self, book: &mut Book<R>)
         requires { book.old.total + 1 < 2 ^ 64 }
         ensures few { book.old.total + 1 < 2 ^ 64 }

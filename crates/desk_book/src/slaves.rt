@@ -1,8 +1,8 @@
-//! What is to be done with a slave is asked for, and told.
+//! Hands out the jobs of the slaves, and takes their outcomes.
 
 ghost use Rattle.std.specs.Prelude.{◌≡◌, ◌↔◌, ◌<◌, length, slice_index_or, IsTrue, OnOk};
 ghost use Rattle.station_jobs.specs.Dispatch.{with_outcome};
-ghost use Rattle.desk_notes.specs.Noted.{is_waiting};
+ghost use Rattle.station_jobs.specs.Noted.{is_waiting};
 ghost use Rattle.desk_book.specs.Logs.{with_job};
 ghost use Rattle.desk_book.specs.Serving.{IsNoted, entries_at, no_entries};
 ghost use Rattle.desk_book.specs.Asking.{AsksSlave, SlaveIsTold, is_rom_job};
@@ -13,14 +13,13 @@ use crate::heard::Heard;
 use crate::naming::{Refusals, Tickets};
 use crate::served::Served;
 use book_model::{RomNext, RomOutcome};
-use desk_notes::{Notes, are_same_calls};
-use station_jobs::SlaveLog;
+use station_jobs::{Notes, SlaveLog, are_same_calls};
 use std::alloc::AllocError;
 
-/// What is noted of one slave.
+/// The jobs that were handed out for one slave, with their outcomes.
 type SlaveNotes = Notes<RomNext, RomOutcome>;
 
-/// Whether it is to be done, and not nothing.
+/// Whether this is an issue or a settle: not `Idle` or `Stop`.
 fn is_job(next: RomNext) -> bool
     ensures { result ≡ is_rom_job next }
 {
@@ -30,7 +29,7 @@ fn is_job(next: RomNext) -> bool
     }
 }
 
-/// Whether a job of the slave is out.
+/// Whether a job of slave `at` is out.
 fn is_waiting_at(slaves: &Vec<SlaveNotes>, at: usize) -> bool
     requires { at < length slaves.now.items }
     ensures { result ≡ is_waiting (entries_at slaves.now.items at) }
@@ -39,7 +38,7 @@ fn is_waiting_at(slaves: &Vec<SlaveNotes>, at: usize) -> bool
     notes.is_waiting()
 }
 
-/// Whether this is the work of the slave, with the jobs that are noted of it.
+/// Whether this is the log of slave `at`, with exactly the jobs that are noted for it.
 pub(crate) fn is_work_of(slaves: &Vec<SlaveNotes>, at: usize, log: &SlaveLog) -> bool
     requires { at < length slaves.now.items }
     ensures { IsTrue result ↔ (log.now.slave ≡ at) × (log.now.jobs ≡ entries_at slaves.now.items at) }
@@ -48,7 +47,7 @@ pub(crate) fn is_work_of(slaves: &Vec<SlaveNotes>, at: usize, log: &SlaveLog) ->
     usize::from(log.slave) == at && are_same_calls(log.jobs.as_slice(), notes.as_slice())
 }
 
-/// Room for one more job of the slave.
+/// Takes memory for one more job of slave `at`.
 fn reserve_at(slaves: &mut Vec<SlaveNotes>, at: usize) -> Result<(), AllocError>
     requires { at < length slaves.old.items }
     ensures same { IsNoted slaves.old.items at (entries_at slaves.old.items at) slaves.new.items }
@@ -58,7 +57,7 @@ fn reserve_at(slaves: &mut Vec<SlaveNotes>, at: usize) -> Result<(), AllocError>
     notes.reserve()
 }
 
-/// One more job of the slave is handed out.
+/// Notes one more job of slave `at`, for which there is room.
 fn hand_out_at(slaves: &mut Vec<SlaveNotes>, at: usize, job: RomNext)
     requires inside { at < length slaves.old.items }
     requires room { 0 < (slice_index_or slaves.old.items at no_entries).spare }
@@ -68,7 +67,7 @@ fn hand_out_at(slaves: &mut Vec<SlaveNotes>, at: usize, job: RomNext)
     notes.hand_out(job);
 }
 
-/// This came of the slave's last job.
+/// Notes the outcome of the last job of slave `at`.
 fn tell_at(slaves: &mut Vec<SlaveNotes>, at: usize, outcome: RomOutcome)
     requires { at < length slaves.old.items }
     ensures { IsNoted slaves.old.items at (with_outcome (entries_at slaves.old.items at) outcome) slaves.new.items }
@@ -78,8 +77,10 @@ fn tell_at(slaves: &mut Vec<SlaveNotes>, at: usize, outcome: RomOutcome)
 }
 
 impl<T: Tickets, R: Refusals> Served<T, R> {
-    /// What is to be done next with the slave. The memory for its note is taken before the book is asked. While a job of it is out
-    /// there is nothing to be done, and the book isn't asked; nor is it asked of a slave that the line doesn't have.
+    /// Asks the book for the next job of a slave.
+    ///
+    /// The memory for its note is taken before the book is asked. After `NoMemory` nothing has changed. The book isn't asked while a job
+    /// of the slave is out: the answer is `Nothing` then. For a slave that the line doesn't have, it is `Stop`.
     pub fn slave_next(&mut self, slave: u16) -> Heard<RomNext>
         ensures { AsksSlave slave result self.old self.new }
     {
@@ -105,7 +106,7 @@ impl<T: Tickets, R: Refusals> Served<T, R> {
         }
     }
 
-    /// This came of the slave's job that is out. Where none is, nothing is told.
+    /// Reports the outcome of the slave's job that is out. If none is out, nothing changes.
     pub fn slave_done(&mut self, slave: u16, outcome: RomOutcome)
         ensures { SlaveIsTold slave outcome self.old self.new }
     {

@@ -1,4 +1,4 @@
-//! A command is submitted.
+//! Submits commands, and counts their tickets and refusals.
 
 ghost use Rattle.std.specs.Prelude.{◌≡◌, IfOk, IfErr};
 ghost use Rattle.desk_book.specs.Calls.{replayed};
@@ -13,7 +13,7 @@ use crate::ticket::{Refused, Ticket};
 use book_model::SubmitRefusal;
 use sii_edit::{Cause, Command, Refusal};
 
-/// Whether there was no memory.
+/// Whether the command was refused because memory was.
 pub(crate) fn is_out_of_memory(refusal: SubmitRefusal) -> bool
     ensures { result ≡ is_out_of_memory refusal }
 {
@@ -24,12 +24,11 @@ pub(crate) fn is_out_of_memory(refusal: SubmitRefusal) -> bool
 }
 
 impl<T: Tickets, R: Refusals> Served<T, R> {
-    /// Submits the command to the book, and counts its ticket or its refusal in the share. Gives its number.
+    /// Submits the command to the book, and counts its ticket or its refusal in the share. Answers its number.
     ///
     /// # Errors
     ///
-    /// Those of the book. Want of memory isn't counted. Once `u64::MAX` refusals are counted in all shares, `Full` is answered in
-    /// place of asking the book, and isn't counted.
+    /// Those of `submit`, but the caller keeps the command.
     fn ask(&mut self, share: &mut Share<T, R>, command: &Command) -> Result<u64, SubmitRefusal>
         ensures { Submits (replayed T.opened self.old.calls) command.now result self.old share.old self.new share.new }
     {
@@ -66,12 +65,14 @@ impl<T: Tickets, R: Refusals> Served<T, R> {
             }
         }
     }
-    /// Submits a command, and gives a ticket for it, which counts in the share.
+    /// Submits a command. Answers a ticket for it, which the share counts.
     ///
     /// # Errors
     ///
-    /// Those of the book, which count in the share but for want of memory. Once `u64::MAX` refusals are counted in all shares, the
-    /// answer is `Full` and doesn't count. The command is handed back.
+    /// The command is handed back, and the book is unchanged. The first that applies is the reason: `Full`, once all shares together
+    /// count `u64::MAX` refusals; `Closed`; `OldJournal`; `Command`, with what is wrong with it on the current contents; `TooLarge`;
+    /// `Full`. Where memory was refused, the reason is `Command` with the cause `Memory`, in place of any but the first three. The share
+    /// counts each refusal, except the first kind of `Full` and those for memory.
     pub fn submit(&mut self, share: &mut Share<T, R>, command: Command) -> Result<Ticket, Refused>
         ensures answer { Submits (replayed T.opened self.old.calls) command (answer_of result) self.old share.old self.new share.new }
         ensures command { IfOk result (λ ticket. ticket.command ≡ command) }

@@ -1,4 +1,4 @@
-//! What a submitter is given.
+//! What a submitter gets: tickets, receipts and refusals.
 
 ghost use Rattle.std.specs.Prelude.{◌≡◌};
 
@@ -7,7 +7,7 @@ use sii_edit::Command;
 use std::marker::Model;
 use thiserror::Error;
 
-/// A command that was accepted, with its number, counted from 0.
+/// An accepted command, with its number, counted from 0 in the order of acceptance.
 #[derive(Drop)]
 pub struct Ticket {
     pub(crate) number: u64,
@@ -22,7 +22,7 @@ impl Model for Ticket {
     ghost view = { λ ticket. record { number = ticket.number; command = ticket.command } };
 }
 
-/// A command that is on the disk for good, with its number.
+/// The acknowledgement of a durable command: the command with its number.
 #[derive(Drop)]
 pub struct Receipt {
     pub(crate) number: u64,
@@ -40,26 +40,29 @@ impl Model for Receipt {
 /// A command that wasn't accepted, and why.
 #[derive(Drop)]
 pub struct Refused {
+    /// Why the command wasn't accepted.
     pub refusal: SubmitRefusal,
+    /// The command, handed back.
     pub command: Command,
 }
 
-/// The book has a fault, and the command of this ticket may be on the disk or not.
+/// A ticket that got no receipt. Its command may be durable or not.
 #[derive(Drop)]
 pub struct Unacknowledged {
+    /// The ticket, handed back.
     pub ticket: Ticket,
 }
 
-/// Why there is no share.
+/// Why no share was given out.
 #[derive(Clone, Copy, Debug, PartialEq, Eq, Error)]
 pub enum ShareFault {
-    /// All shares of the desk are given out.
+    /// The desk has no more shares to give out.
     #[error("no share is left")]
     NoShare,
 }
 
 impl Ticket {
-    /// The number of the command.
+    /// The number of the command, counted from 0.
     pub fn number(&self) -> u64
         ensures { result ≡ self.now.number }
     {
@@ -75,7 +78,7 @@ impl Ticket {
 }
 
 impl Receipt {
-    /// The number of the command.
+    /// The number of the command, counted from 0.
     pub fn number(&self) -> u64
         ensures { result ≡ self.now.number }
     {

@@ -1,4 +1,4 @@
-//! A plan for the cycle is asked for.
+//! Hands out the plans of process data cycles.
 
 ghost use Rattle.std.specs.Prelude.{◌≡◌, Some};
 ghost use Rattle.desk_book.specs.Asking.{AsksPlan, note_of};
@@ -11,7 +11,7 @@ use crate::served::Served;
 use sii_image::{ImageFault, Plan};
 use station_jobs::CycleNote;
 
-/// What is noted of a plan.
+/// What a log keeps of a plan: its prefix of commands, and the bytes of its image.
 pub fn note_of(plan: &Plan) -> CycleNote
     ensures { result ≡ note_of plan.now }
 {
@@ -28,7 +28,7 @@ impl<T: Tickets, R: Refusals> Served<T, R> {
         self.is_finished && status.settled == status.accepted
     }
 
-    /// Whether the last turn had the image of all commands, and there will be no others.
+    /// Whether there are no more cycles to do: no more commands will be settled, and the last cycle had the image after all of them.
     fn is_last_turn_done(&self) -> bool {
         match self.cycle.as_slice().last() {
             Some(last) => self.is_done() && last.prefix == self.core.applied(),
@@ -36,9 +36,11 @@ impl<T: Tickets, R: Refusals> Served<T, R> {
         }
     }
 
-    /// The plan of the next turn. The memory for its note is taken before the book is asked. There is none once the book has a fault;
-    /// and, once it was finished and all its commands are settled, where the last turn had the image of them all, or where there is
-    /// no such image.
+    /// Answers the plan of the next process data cycle: the process image after the commands that are settled in a row.
+    ///
+    /// The memory for its note is taken before the book is asked. After `NoMemory` nothing has changed. The answer is `Stop` once the book
+    /// has a fault; and once it is finished and all its commands are settled, if the last cycle had the image after all of them, or if
+    /// there is no such image. It is `Nothing` while there is no image but there may be one later.
     pub fn cycle_next(&mut self) -> Heard<Plan>
         ensures { AsksPlan result self.old self.new }
     {

@@ -1,4 +1,4 @@
--- A call happens as its event does.
+-- Each call of a book does to it what its event in the main law does.
 use Rattle.std.proofs.Common.{◌≡◌, ◌∙◌, sym, ap, Option, Some, Result, Ok, Err, refl, ℕ}
 use Rattle.sii_edit.specs.declared.command.Command.{Command}
 use Rattle.book_model.specs.declared.refusal.SubmitRefusal.{SubmitRefusal}

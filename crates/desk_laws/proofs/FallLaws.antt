@@ -1,4 +1,4 @@
--- The turns of a history never fall.
+-- From one process data cycle to the next, the prefix never becomes shorter.
 use Rattle.std.proofs.Common.{◌≡◌, ◌∙◌, ℕ, ◌+◌, ◌≤◌, List, [], ◌∷◌, ◌++◌, refl, sym, ap, arith, Option, Some, None, Ok, Err}
 use Rattle.std.specs.Prelude.{fold}
 use Rattle.sii_image.specs.ProcessImage.{ProcessImageParts, process_image}
@@ -14,7 +14,7 @@ use Rattle.desk_laws.proofs.GoesLaws.{GoesOn, applied-stays, same-on, command-on
 
 -- ---- lists of turns
 
--- of how many commands the last turn is
+-- the prefix of the last cycle
 abbrev top : ℕ → List CycleNote → ℕ
 top least [] = least
 top least (turn ∷ turns) = top turn.prefix turns
@@ -27,7 +27,7 @@ top-more : (least : ℕ) (turns : List CycleNote) (turn : CycleNote) → top lea
 top-more least [] turn = refl
 top-more least (first ∷ turns) turn = top-more first.prefix turns turn
 
--- ---- a turn is of the commands that are settled then
+-- ---- the prefix of a cycle is the settled one
 
 prefix-is : (book : Book) (turn : CycleNote) (image : Option ProcessImageParts) → process_image (planned book) ≡ image → Some turn ≡ turn_of book → turn.prefix ≡ applied book
 prefix-is book turn None has is = let none : Some turn ≡ None = rw has at is in absurd cc
@@ -42,7 +42,7 @@ prefix-is book turn (Some image) has is =
 finished-on : (book : Book) → GoesOn book (after book Finished)
 finished-on book = let on = same-on book in record { goes = record { found = refl; next = on.goes.next; entries = on.goes.entries; count = refl; owes = on.goes.owes }; appends = λ appends. appends }
 
--- behind a call that hands out no turn
+-- after a call that hands out no cycle
 on : (book : Book) (call : Call) (least : ℕ) → GoesOn book (after book call) → AppendsNext book → least ≤ applied book → AppendsNext (after book call) × (least ≤ applied (after book call))
 on book call least goes appends le =
     let more = applied-stays book (after book call) goes.goes in

@@ -1,4 +1,4 @@
--- A call of a book adds to the entries that were live, and to what is owed no more than they name.
+-- A call of a book may add live entries, and pending writes only of words that these entries name.
 use Rattle.std.proofs.Common.{◌≡◌, ◌∙◌, ◌⊎◌, inl, inr, ℕ, zero, suc, ◌+◌, ◌≤◌, Bool, true, false, List, [], ◌∷◌, ◌++◌, length, take, drop, set, refl, sym, ap, subst, arith, append_assoc, Option, Some, None, Result, Ok, Err}
 use Rattle.std.specs.Prelude.{is_some, nat_lt, if◌then◌else◌}
 use Rattle.std.proofs.lemmas.List.{append-nil}
@@ -7,11 +7,11 @@ use Rattle.sii_edit.specs.declared.command.Command.{Command}
 use Rattle.jrn_format.specs.declared.journal.Entry.{Entry}
 use Rattle.jrn_format.specs.declared.journal.Form.{Form}
 use Rattle.jrn_format.specs.declared.journal.Form.TheVariants.{One, Two, Moving}
-use Rattle.jrn_laws.specs.Halves.{Place, place_of}
+use Rattle.jrn_format.specs.Halves.{Place, place_of}
 use Rattle.site_core.specs.declared.fault.DeviceFault.{DeviceFault}
 use Rattle.site_core.specs.declared.fault.DeviceFault.TheVariants.{Disk, Lost, Stopped}
 use Rattle.site_core.specs.declared.answers.Settled.TheVariants.{Written, Again, Dead}
-use Rattle.slave_queue.specs.Cells.{is_any, cell_of}
+use Rattle.book_model.specs.Cells.{is_any, cell_of}
 use Rattle.book_model.specs.declared.next.DiskNext.{DiskNext}
 use Rattle.book_model.specs.declared.fault.Fault.{Fault}
 use Rattle.book_model.specs.declared.fault.Fault.TheVariants as faults
@@ -23,8 +23,9 @@ use Rattle.book_model.specs.Submit.{with_command}
 use Rattle.book_model.specs.DiskSteps.{can_retire, can_migrate, begun, action_of, doing_next, disk_next, behind_far_gate, went_on, disk_done}
 use Rattle.book_model.specs.RomSteps.{to_do, is_last, was_taken, with_errand, with_again, rom_next, rom_done}
 use Rattle.book_model.specs.Reading.{all_entries, applied, settled_prefix}
-use Rattle.world_law.specs.Below.{OwesNoMore}
-use Rattle.world_law.proofs.Below.{prefix-stays, entry_after, entries-push}
+use Rattle.book_laws.specs.Fits.{OwesNoMore}
+use Rattle.book_laws.proofs.SettledLaws.{prefix-stays}
+use Rattle.book_laws.proofs.CommandLaws.{entry_after, entries-push}
 use Rattle.desk_laws.specs.Turns.{AppendsNext}
 use Rattle.desk_laws.proofs.OwedLaws.{OweLess, owe-same, owe-asked, owe-written, count-set, owes-set, owes-live, count-live}
 

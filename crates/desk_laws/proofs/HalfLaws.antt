@@ -1,4 +1,4 @@
--- What the half of one slave may hold, by what the book knows of its words and is doing with it.
+-- What a slave's half may hold, given what the book knows of its words and which job is out.
 use Rattle.std.proofs.Common.{◌≡◌, ◌≢◌, inl, inr, ℕ, ◌<◌, Bool, true, false, List, length, map, get_or, set, refl, sym, ◌∙◌, ap, subst, arith, length-set}
 use Rattle.std.proofs.lemmas.List.{get_or-set_same, get_or-set_other, length-map, get_or-map}
 use Rattle.std.proofs.lemmas.Bool.{cases_eq}
@@ -7,10 +7,12 @@ use Rattle.esc_model.specs.WordAccess.{IsIdle, IsWell, OnlyRests, TakesWord}
 use Rattle.esc_model.proofs.Resting.{MayRest-leaves, MayRest-twice, MayLeave-same, MayLeave-idle}
 use Rattle.esc_model.proofs.OnlyResting.{MayRest-only, OnlyRests-leaves, OnlyRests-length}
 use Rattle.esc_model.proofs.WordWriting.{taken_then_well}
-use Rattle.slave_queue.specs.Cells.{Known, Cell, asked, written, opened, nothing, cell_of, next_issue}
+use Rattle.book_model.specs.Cells.{Known, Cell, asked, written, opened, nothing, cell_of, next_issue}
 use Rattle.book_model.specs.Book.{Errand, Free, Issuing, Unsettled, Settling}
-use Rattle.world_law.specs.Below.{MayBe, IsUnsure, HasTaken, TakesOrNot}
-use Rattle.world_law.proofs.Below.{words-but, taken-left}
+use Rattle.book_laws.specs.Owed.{MayBe, IsUnsure}
+use Rattle.book_laws.specs.Slaves.{HasTaken}
+use Rattle.book_laws.specs.Steps.{TakesOrNot}
+use Rattle.book_laws.proofs.SlaveLaws.{words-but, taken-left}
 
 -- the word is one of the slave's, and it is unknown
 pub record IsAsked (word : ℕ) (cells : List Cell) : Type 0 where
@@ -22,14 +24,14 @@ pub record IsIssued (slave word value : ℕ) (taken : Bool) (half : SlaveHalf) (
   pub asked : IsAsked word cells
   pub took : taken ≡ true → HasTaken slave word value half
 
--- of a word that is handed out to be issued the half knows nothing until it comes back
+-- nothing is said of a word that is being issued until the issue returns
 abbrev pub ErrandFits : ℕ → Errand → SlaveHalf → List Cell → Type 0
 ErrandFits slave Free half cells = Unit {0}
 ErrandFits slave (Issuing word value) half cells = IsAsked word cells
 ErrandFits slave (Unsettled word value taken) half cells = IsIssued slave word value taken half cells
 ErrandFits slave (Settling word value taken) half cells = IsIssued slave word value taken half cells
 
--- whatever a stop leaves of the half, each word may hold what it holds there
+-- each word may hold what a power cut leaves in it
 pub record HalfFits (slave : ℕ) (half : SlaveHalf) (errand : Errand) (cells : List Cell) : Type 0 where
   pub size : length cells ≡ length half.words
   pub words : (left : List ℕ) → MayLeave half left → (at : ℕ) → at < length cells → MayBe (cell_of cells at).known (get_or left at 0)
@@ -83,7 +85,7 @@ half-asked slave word value half cells inside fits = record {
   };
 }
 
--- ---- an issue comes back
+-- ---- an issue returns
 
 -- an unknown word may hold anything
 may-be-any : (known : Known) (word : ℕ) → IsUnsure known → MayBe known word
@@ -116,7 +118,7 @@ half-issued taken said slave word value half begun later cells begins rests so f
   };
 }
 
--- ---- a settle comes back
+-- ---- a settle returns
 
 -- the word is written
 pub half-written : (slave word value : ℕ) (half later : SlaveHalf) (cells : List Cell) → MayRest half later → IsWell later → HalfFits slave half (Settling word value true) cells

@@ -8,4 +8,12 @@ pub mod WordLaws
 pub mod StandLaws
 pub mod ServeLaws
 pub mod SlaveLaws
-pub mod Below
+pub mod DiskWork
+pub mod HalfWork
+pub mod DiskLog
+pub mod DiskUp
+pub mod SlaveUp
+pub mod SlaveOn
+pub mod Joining
+pub mod Ending
+pub mod TogetherLaws

@@ -1,12 +1,13 @@
--- What is owed to the words once a call has changed them.
+-- The values that words must still be given, after a call.
 use Rattle.std.proofs.Common.{◌≡◌, ℕ, zero, suc, ◌+◌, ◌≤◌, List, [], ◌∷◌, length, get_or, set, refl, ap, subst, arith, add-zero, zero-add, add-suc, suc-add}
-use Rattle.sii_runs.specs.declared.run.Run.{Run}
-use Rattle.slave_queue.specs.Cells.{Cell, Holds, all_named, cell_of, asked, written}
+use Rattle.sii_words.specs.declared.run.Run.{Run}
+use Rattle.book_model.specs.Cells.{Cell, Holds, all_named, cell_of, asked, written}
 use Rattle.book_model.specs.Entries.{values}
 use Rattle.book_model.specs.Book.{Slave, nobody, all_cells, cell_at}
 use Rattle.book_model.specs.Open.{owing_words, owing_slaves}
-use Rattle.world_law.specs.Below.{OwesNoMore}
-use Rattle.world_law.proofs.Below.{length-all_named}
+use Rattle.book_laws.specs.Fits.{OwesNoMore}
+use Rattle.book_laws.proofs.CellLaws.{length-all_named}
+use Rattle.book_core.proofs.LiveLaws.{owes-slave, owes-word}
 
 -- ---- one slave
 
@@ -49,20 +50,7 @@ owes-less (t ∷ ts) (suc i) s le (suc k) at = owes-less ts i s le k at
 pub owes-set : (slaves : List Slave) (i : ℕ) (s : Slave) → OweLess (get_or slaves i nobody).cells s.cells → OwesNoMore (all_cells slaves) (all_cells (set slaves i s)) []
 owes-set slaves i s le k at = let less = owes-less slaves i s le k at in omega (arith, less)
 
--- ---- a batch goes live
-
-owes-word : (runs : List Run) (slave first : ℕ) (cells : List Cell) (k : ℕ)
-    → length (cell_of (owing_words runs slave first cells) k).owed ≤ length (cell_of cells k).owed + length (values runs slave (first + k))
-owes-word runs slave first [] k = omega arith
-owes-word runs slave first (c ∷ cs) zero = rw add-zero (length-all_named c.known c.owed (values runs slave first))
-owes-word runs slave first (c ∷ cs) (suc k) = rw (add-suc first k, ← suc-add first k) (owes-word runs slave (suc first) cs k)
-
-owes-slave : (runs : List Run) (first : ℕ) (slaves : List Slave) (k at : ℕ)
-    → length (cell_at (all_cells (owing_slaves runs first slaves)) k at).owed ≤ length (cell_at (all_cells slaves) k at).owed + length (values runs (first + k) at)
-owes-slave runs first [] k at = omega arith
-owes-slave runs first (s ∷ ss) zero at =
-    rw add-zero (subst (λ (n : ℕ). length (cell_of (owing_words runs first 0 s.cells) at).owed ≤ length (cell_of s.cells at).owed + length (values runs first n)) (omega arith) (owes-word runs first 0 s.cells at))
-owes-slave runs first (s ∷ ss) (suc k) at = rw (add-suc first k, ← suc-add first k) (owes-slave runs (suc first) ss k at)
+-- ---- a batch becomes live
 
 pub owes-live : (runs : List Run) (slaves : List Slave) → OwesNoMore (all_cells slaves) (all_cells (owing_slaves runs 0 slaves)) runs
 owes-live runs slaves = λ k at. subst (λ (n : ℕ). length (cell_at (all_cells (owing_slaves runs 0 slaves)) k at).owed ≤ length (cell_at (all_cells slaves) k at).owed + length (values runs n at)) (omega arith) (owes-slave runs 0 slaves k at)

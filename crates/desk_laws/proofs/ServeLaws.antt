@@ -1,4 +1,4 @@
--- One slave is served along a history, as its log says.
+-- One slave, call by call, as the log of its jobs says.
 use Rattle.std.proofs.Common.{◌≡◌, ◌≢◌, ◌∙◌, ◌⊎◌, inl, inr, ℕ, zero, suc, ◌<◌, Bool, true, false, List, [], ◌∷◌, length, get_or, set, refl, sym, ap, subst, arith, length-append, Option, Some, None, Ok, Err}
 use Rattle.std.specs.Prelude.{is_some, fold, slice_get}
 use Rattle.std.proofs.lemmas.List.{get_or-set_same}
@@ -10,7 +10,7 @@ use Rattle.site_core.specs.declared.answers.Issued.{Issued}
 use Rattle.site_core.specs.declared.answers.Issued.TheVariants.{Taken, NotTaken, Lost}
 use Rattle.site_core.specs.declared.answers.Settled.TheVariants.{Written, Again, Dead}
 use Rattle.site_core.specs.State.{State}
-use Rattle.slave_queue.specs.Cells.{Cell, asked, written, cell_of}
+use Rattle.book_model.specs.Cells.{Cell, asked, written, cell_of}
 use Rattle.book_model.specs.declared.next.DiskNext.{DiskNext}
 use Rattle.book_model.specs.declared.next.RomNext.{RomNext}
 use Rattle.book_model.specs.declared.next.RomNext.TheVariants as next
@@ -20,8 +20,8 @@ use Rattle.book_model.specs.Book.{Book, Slave, Errand, Free, Issuing, Unsettled,
 use Rattle.book_model.specs.Submit.{with_command}
 use Rattle.book_model.specs.DiskSteps.{disk_next, disk_done}
 use Rattle.book_model.specs.RomSteps.{was_taken, is_last, with_errand, with_issue, rom_next, rom_done}
-use Rattle.world_law.proofs.Below.{asked-fits, written-fits}
-use Rattle.world_law.specs.Below.{MayComeBack}
+use Rattle.book_laws.proofs.CellLaws.{asked-fits, written-fits}
+use Rattle.book_laws.specs.Steps.{MayComeBack}
 use Rattle.station_jobs.specs.declared.log.Assignment.{Assignment}
 use Rattle.station_jobs.specs.Dispatch.{with_outcome}
 use Rattle.station_jobs.specs.Working.{HalfReturns, SlaveReturns}
@@ -37,7 +37,7 @@ use Rattle.desk_laws.proofs.StandLaws.{Stands, all_runs, stands-command, stands-
 
 -- ---- what the log says of the slave
 
--- The job came back so, where an outcome was told and the site didn't stop.
+-- The job returned so, if an outcome was reported and the site didn't stop.
 abbrev pub StepsBy : ℕ → RomEntry → State → State → Type 0
 StepsBy i entry old new = (outcome : RomOutcome) → entry.outcome ≡ Some outcome → outcome ≢ outcomes.Stopped → SlaveReturns i entry.job outcome old new
 
@@ -53,7 +53,7 @@ IsPending (Issuing word value) log = (outcome : Option RomOutcome) × (log ≡ r
 IsPending (Unsettled word value taken) log = log ≡ []
 IsPending (Settling word value taken) log = (outcome : Option RomOutcome) × (log ≡ record { job = next.Settle taken; outcome = outcome } ∷ [])
 
--- ---- an entry that is told of stays as it is
+-- ---- an entry with an outcome stays as it is
 
 answer-behind : (entry : RomEntry) (log : List RomEntry) (answer : RomNext) → with_rom_answer (entry ∷ log) answer ≡ entry ∷ with_rom_answer log answer
 answer-behind entry log (next.Issue word value) = refl
@@ -70,7 +70,7 @@ outcome-length [] outcome = refl
 outcome-length (x ∷ []) outcome = refl
 outcome-length (x ∷ y ∷ log) outcome = omega (arith, outcome-length (y ∷ log) outcome)
 
--- where a job is out, it stands in the log
+-- a job that is out is in the log
 abbrev HasOut : ℕ → Book → List RomEntry → Type 0
 HasOut i book log = IsOut (slave_at book i).errand → 0 < length log
 

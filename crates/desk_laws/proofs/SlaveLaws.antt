@@ -1,26 +1,28 @@
--- Once all is settled, a slave that was served reads as the contents.
+-- Once everything is settled, a slave reads as the contents after all accepted commands.
 use Rattle.std.proofs.Common.{◌≡◌, ◌≢◌, ◌∙◌, ◌⊎◌, inl, inr, ℕ, zero, suc, ◌<◌, Bool, true, false, List, [], ◌∷◌, ◌++◌, length, take, refl, sym, ap, subst, arith, Some, None}
 use Rattle.std.specs.Prelude.{is_some, not, ◌&&◌, ◌==◌, slice_get}
 use Rattle.std.proofs.lemmas.List.{take_all}
 use Rattle.std.proofs.lemmas.Bool.Decides.{nat_tests}
 use Rattle.sii_words.specs.Plant.{words_of}
-use Rattle.sii_runs.specs.declared.run.Run.{Run}
-use Rattle.sii_runs.specs.Redo.{redone}
-use Rattle.sii_runs.proofs.RedoLaws.{redone-append}
+use Rattle.sii_words.specs.declared.run.Run.{Run}
+use Rattle.sii_words.specs.Redo.{redone}
+use Rattle.sii_words.proofs.RedoLaws.{redone-append}
 use Rattle.sii_edit.specs.declared.command.Command.{Command}
 use Rattle.sii_edit.specs.Fold.{contents}
 use Rattle.esc_model.specs.SlaveHalf.{SlaveHalf, MayLeave}
 use Rattle.esc_model.proofs.Resting.{MayLeave-same, length-MayLeave}
 use Rattle.site_core.specs.State.{State, Seen}
-use Rattle.slave_queue.specs.Cells.{Cell, cell_of}
-use Rattle.slave_queue.proofs.SettledLaws.{and-left, and-right}
+use Rattle.book_model.specs.Cells.{Cell, cell_of}
+use Rattle.book_model.proofs.SettledLaws.{and-left, and-right}
 use Rattle.book_model.specs.declared.next.RomOutcome.{RomOutcome}
 use Rattle.book_model.specs.declared.next.RomOutcome.TheVariants as outcomes
 use Rattle.book_model.specs.Entries.{runs_of}
 use Rattle.book_model.specs.Book.{Book, Errand, Free, Issuing, Unsettled, Settling, base_of, contents_of, own, all_cells, slave_at}
 use Rattle.book_model.specs.Reading.{all_entries, settled_prefix}
-use Rattle.world_law.proofs.Below.{cells_of, length-all_cells, entries-contents, runs_of-append}
-use Rattle.desk_book.specs.Below.{is_settled}
+use Rattle.book_laws.proofs.BookLaws.{cells_of, length-all_cells}
+use Rattle.book_laws.proofs.CommandLaws.{entries-contents}
+use Rattle.book_laws.proofs.FitLaws.{runs_of-append}
+use Rattle.book_core.specs.Settled.{is_settled}
 use Rattle.station_jobs.specs.declared.log.SlaveLog.{SlaveLog}
 use Rattle.station_jobs.specs.Ends.{Stay}
 use Rattle.station_jobs.specs.Jobs.{DoneInTurn, MayEnd}

@@ -1,11 +1,11 @@
--- What holds of one slave while its book is at work, whatever the others do.
+-- What holds of one slave at each call of its book, whatever the other slaves do.
 use Rattle.std.proofs.Common.{◌≡◌, ◌∙◌, inl, inr, ℕ, zero, suc, ◌+◌, ◌<◌, ◌≤◌, Bool, true, false, List, [], ◌∷◌, ◌++◌, length, map, take, drop, get_or, set, refl, sym, ap, subst, arith, add-zero, zero-add, add-suc, suc-add, length-append, length-drop, length-set, append_assoc, Option, Result, Ok, Err}
 use Rattle.std.specs.Prelude.{is_some, filter}
 use Rattle.std.proofs.lemmas.Bool.{cases_lt}
 use Rattle.std.proofs.lemmas.List.{append-nil, get_or-set_same, get_or_past, length-map, length-take, take-append-le}
 use Rattle.std.proofs.Math.Seq.{take-add}
 use Rattle.sii_words.specs.Plant.{words_of}
-use Rattle.sii_runs.specs.declared.run.Run.{Run}
+use Rattle.sii_words.specs.declared.run.Run.{Run}
 use Rattle.sii_edit.specs.declared.command.Command.{Command}
 use Rattle.jrn_format.specs.declared.journal.Entry.{Entry}
 use Rattle.jrn_format.specs.declared.journal.Journal.{Journal}
@@ -13,8 +13,8 @@ use Rattle.esc_model.specs.SlaveHalf.{SlaveHalf}
 use Rattle.esc_model.specs.WordAccess.{IsIdle}
 use Rattle.site_core.specs.declared.fault.DeviceFault.{DeviceFault}
 use Rattle.site_core.specs.declared.fault.DeviceFault.TheVariants.{Disk, Lost, Stopped}
-use Rattle.slave_queue.specs.Cells.{Cell, is_any, opened, cell_of}
-use Rattle.slave_queue.specs.Cells.{nothing as no_cell}
+use Rattle.book_model.specs.Cells.{Cell, is_any, opened, cell_of}
+use Rattle.book_model.specs.Cells.{nothing as no_cell}
 use Rattle.book_model.specs.declared.next.DiskNext.{DiskNext}
 use Rattle.book_model.specs.declared.fault.Fault.{Fault}
 use Rattle.book_model.specs.declared.fault.Fault.TheVariants as faults
@@ -24,10 +24,12 @@ use Rattle.book_model.specs.Submit.{with_command}
 use Rattle.book_model.specs.DiskSteps.{disk_next, went_on, disk_done}
 use Rattle.book_model.specs.RomSteps.{to_do}
 use Rattle.book_model.specs.Entries.{runs_of, namings, live_runs}
-use Rattle.slave_queue.specs.Pending.{last_of}
-use Rattle.jrn_laws.specs.Halves.{Place, live}
+use Rattle.book_model.specs.Pending.{last_of}
+use Rattle.jrn_format.specs.Halves.{Place, live}
 use Rattle.book_model.specs.Reading.{all_entries}
-use Rattle.world_law.proofs.Below.{entry_after, entries-push, runs_of-append, owed-inside}
+use Rattle.book_laws.proofs.CommandLaws.{entry_after, entries-push}
+use Rattle.book_laws.proofs.FitLaws.{runs_of-append}
+use Rattle.book_laws.proofs.WorkLaws.{owed-inside, some-of}
 use Rattle.desk_book.proofs.OutLaws.{DiskNexts, disk_rests, disk_goes, nexts-of}
 use Rattle.desk_laws.specs.Turns.{AppendsNext}
 use Rattle.desk_laws.proofs.GoesLaws.{command-on, disk-asked-on, disk-told-on}
@@ -48,7 +50,7 @@ pub record Stands (i : ℕ) (book : Book) (half : SlaveHalf) : Type 0 where
   pub words : WordsFit i (words_of book.words i) (all_runs book) (slave_at book i).cells
   pub fits : HalfFits i half (slave_at book i).errand (slave_at book i).cells
 
--- ---- a batch that goes live, for one slave
+-- ---- a batch that becomes live, for one slave
 
 owing-slave : (runs : List Run) (first : ℕ) (slaves : List Slave) (i : ℕ) → i < length slaves
     → get_or (owing_slaves runs first slaves) i nobody ≡ record (get_or slaves i nobody) { cells = owing_words runs (first + i) 0 (get_or slaves i nobody).cells }
@@ -146,13 +148,13 @@ stands-asked i book half stands = from (nexts-of book)
         (record { words = ap (λ (a : DiskNext × Book). a.1.words) is; found = ap (λ (a : DiskNext × Book). a.1.found) is; accepted = ap (λ (a : DiskNext × Book). a.1.accepted) is; durable = ap (λ (a : DiskNext × Book). a.1.durable) is; slaves = ap (λ (a : DiskNext × Book). a.1.slaves) is })
         ((disk-asked-on book).appends stands.appends) stands
 
--- ---- what becomes of the book as the disk comes back
+-- ---- the book after an outcome of the disk
 
 -- the book with nothing handed out
 abbrev rested : Book → Book
 rested book = record book { is_handed_out = false }
 
--- nothing happens to the slaves, or a batch goes live; a fault stays
+-- the slaves stay the same, or a batch becomes live; a fault stays
 data DiskBack (book later : Book) : Type 0 where
   quiet : Quiet book later → (is_some book.fault ≡ true → is_some later.fault ≡ true) → DiskBack book later
   lives : (place : Place) (entries : List Entry) → book.doing ≡ OpenSync place entries → later ≡ went_on (rested book) (OpenSync place entries) → DiskBack book later
@@ -270,10 +272,6 @@ first-if test y ys later false fails x rest is = later x rest (sym (rw fails ref
 first-passes : {A : Type 0} (test : A → Bool) (xs : List A) → FirstPasses test xs
 first-passes test [] x rest is = absurd cc
 first-passes test (y ∷ ys) x rest is = first-if test y ys (first-passes test ys) (test y) refl x rest is
-
-some-of : (owed : List ℕ) → is_any owed ≡ true → 0 < length owed
-some-of [] is = absurd cc
-some-of (v ∷ owed) is = omega arith
 
 -- it is one of the slave's, and is owed something
 pub to-do-owed : (book : Book) (i : ℕ) (w : ℕ × ℕ) (others : List (ℕ × ℕ)) → to_do book i ≡ w ∷ others → (w.0 < length (slave_at book i).cells) × (0 < length (cell_of (slave_at book i).cells w.0).owed)

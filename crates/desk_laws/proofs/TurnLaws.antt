@@ -1,4 +1,4 @@
--- The turns of a history are of contents that the accepted commands lead to.
+-- Each cycle of a history has the image of the contents after a prefix of the accepted commands.
 use Rattle.std.proofs.Common.{◌≡◌, ◌∙◌, ℕ, ◌+◌, List, [], ◌∷◌, ◌++◌, length, take, refl, sym, ap, subst, arith, append_assoc, Option, Some, None, Ok, Err}
 use Rattle.std.specs.List.{AllByRecursion}
 use Rattle.std.specs.Prelude.{fold}
@@ -20,7 +20,7 @@ use Rattle.desk_laws.specs.Turns.{IsTurnOf}
 
 -- ---- commands are only ever added
 
--- these are more commands than those
+-- `later` begins with `commands`
 record IsMore (commands later : List Command) : Type 0 where
   more : List Command
   all : later ≡ commands ++ more

@@ -1,22 +1,23 @@
--- The words of one slave: what is owed to them leads to what all runs since the open make of the words that were read.
+-- The words of one slave: the pending writes lead to the contents that all runs since the open make of the words as read.
 use Rattle.std.proofs.Common.{◌≡◌, ◌⊎◌, inl, inr, ℕ, zero, suc, ◌+◌, ◌<◌, ◌≤◌, Bool, true, false, List, [], ◌∷◌, ◌++◌, length, map, get_or, set, refl, sym, ◌∙◌, ap, subst, arith, length-set, add-zero, zero-add, add-suc, suc-add, Option, Some, None, unwrap_or, ext_get_or}
 use Rattle.std.specs.Prelude.{if◌then◌else◌}
 use Rattle.std.specs.Option.{option_or}
 use Rattle.std.proofs.lemmas.List.{get_or-set_same, get_or-set_other, length-map, get_or-map}
 use Rattle.std.proofs.lemmas.Bool.{cases_eq}
 use Rattle.sii_words.specs.Plant.{words_of}
-use Rattle.sii_runs.specs.declared.run.Run.{Run}
-use Rattle.sii_runs.specs.Redo.{redone, last_given}
-use Rattle.sii_runs.proofs.RedoLaws.{last_given-append, word-redone, length-words_of-redone}
+use Rattle.sii_words.specs.declared.run.Run.{Run}
+use Rattle.sii_words.specs.Redo.{redone, last_given}
+use Rattle.sii_words.proofs.RedoLaws.{last_given-append, word-redone, length-words_of-redone}
 use Rattle.jrn_format.specs.declared.journal.Entry.{Entry}
-use Rattle.slave_queue.specs.Cells.{Cell, Known, owing, opened, nothing, cell_of}
-use Rattle.slave_queue.specs.Pending.{namings_settled}
-use Rattle.slave_queue.proofs.SettledLaws.{and-left, and-right, word-settled}
+use Rattle.book_model.specs.Cells.{Cell, Known, owing, opened, nothing, cell_of}
+use Rattle.book_model.specs.Pending.{namings_settled}
+use Rattle.book_model.proofs.SettledLaws.{and-left, and-right, word-settled}
 use Rattle.book_model.specs.Entries.{runs_of, namings, values}
 use Rattle.book_model.specs.Open.{owing_words}
 use Rattle.book_model.specs.Reading.{settled_from, runs_settled, settled_prefix}
-use Rattle.world_law.specs.Below.{MayBe, IsUnsure, CellFits, due, redone_word}
-use Rattle.world_law.proofs.Below.{values-append, opened-fits, owing-fits, slave-settled}
+use Rattle.book_laws.specs.Owed.{MayBe, IsUnsure, CellFits, due, redone_word}
+use Rattle.book_laws.proofs.CellLaws.{values-append, opened-fits, owing-fits}
+use Rattle.book_laws.proofs.SettledLaws.{slave-settled}
 use Rattle.desk_laws.proofs.HalfLaws.{SameKnown}
 
 -- a cell for each word, and each leads there

@@ -1,4 +1,5 @@
 pub mod Events
 pub mod Turns
 pub mod Slaves
-pub mod Below
+pub mod Joined
+pub mod Together

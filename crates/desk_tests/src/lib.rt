@@ -1,4 +1,4 @@
-//! Tests of a desk, and of a line that is served by one, in threads.
+//! Tests of a desk, and of a line that threads serve from one.
 #![tactic(auto)]
 
 #[cfg(test)]

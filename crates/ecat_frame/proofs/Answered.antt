@@ -151,7 +151,7 @@ overwrite_part front old new rest at len at_is =
     ap (drop (at + length new)) (sym (append_assoc front old rest)) ∙ drop_at (front ++ old) rest (at + length new) (omega (arith, length-append front old)) in
     rw (before, behind) (append_assoc front new rest)
 
--- the first ten bytes, which an answer leaves alone
+-- the first ten bytes, which an answer doesn't change
 abbrev head_bytes : Pdu → (len : ℕ) → Bool → List ℕ
 head_bytes d len more = take 10 (datagram_bytes d (length_word len 0 more) 0)
 

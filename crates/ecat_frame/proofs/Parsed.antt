@@ -1,4 +1,4 @@
--- What an answer of reading says of all lists of datagrams, and of all places.
+-- What the result of reading says of all lists of datagrams, and of all places.
 use Rattle.std.proofs.Common.{◌≡◌, ℕ, List, Result, Ok, Err, ap}
 use Rattle.std.specs.Prelude.{IfOk, IfErr}
 use Rattle.std.specs.Result.{IsOkAnd}

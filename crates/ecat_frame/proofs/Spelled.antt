@@ -1,4 +1,4 @@
--- The one spelling: its length, its datagrams, and what one more datagram changes.
+-- The canonical encoding: its length, its datagrams, and what one more datagram changes.
 use Rattle.std.proofs.Common.{◌≡◌, ℕ, ◌+◌, ◌-◌, ◌/◌, ◌%◌, ◌^◌, ◌<◌, ◌≤◌, Bool, true, false, List, [], ◌∷◌, ◌++◌, length, get_or, set, take, drop, refl, sym, ap, subst, ◌∙◌, append_assoc, length-append, length-drop, arith}
 use Rattle.std.specs.Prelude.{bit_or}
 use Rattle.std.specs.Int.{w16, to_le_bytes, from_le_bytes}

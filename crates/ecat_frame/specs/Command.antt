@@ -3,14 +3,14 @@ use Rattle.std.specs.Prelude.{ℕ, ◌==◌, if◌then◌else◌}
 use Rattle.ecat_frame.specs.declared.command.Command.{Command}
 use Rattle.ecat_frame.specs.declared.command.Command.TheVariants.{Fprd, Fpwr, Lrw, Other}
 
--- the byte that stands for a command in a datagram
+-- the code of a command, a byte of the datagram
 abbrev pub code_of : Command → ℕ
 code_of Fprd = 4
 code_of Fpwr = 5
 code_of Lrw = 12
 code_of (Other code) = code
 
--- The command that a byte stands for. `Other 4` spells the byte of `Fprd`, and is never what a byte stands for.
+-- The command with this code. `Other 4` has the code of `Fprd`, but a code of 4 is always read as `Fprd`.
 abbrev pub command_of : ℕ → Command
 command_of code =
     if code == 4 then Fprd else if code == 5 then Fpwr else if code == 12 then Lrw else Other code

@@ -14,15 +14,15 @@ pub record Pdu : Type 0 where
   pub content : List ℕ
   pub counter : ℕ
 
--- a datagram of the code by its values
+-- the values of a datagram of the code
 abbrev pub pdu : Datagram → Pdu
 pdu d = record { command = code_of d.command; index = d.index; address = d.address; content = d.content.now; counter = d.counter }
 
--- a datagram as its sender makes it, which no slave has counted yet
+-- a datagram as it is sent, with a working counter of 0
 abbrev pub sent : Command → (index address : ℕ) → List ℕ → Pdu
 sent command index address content = record { command = code_of command; index = index; address = address; content = content; counter = 0 }
 
--- what the fields have room for
+-- The values fit their fields.
 pub record Fits (d : Pdu) : Type 0 where
   pub address : d.address < 2 ^ 32
   pub length : length d.content < 2 ^ 11
@@ -39,7 +39,7 @@ datagram_bytes d word irq =
     d.command ∷ d.index ∷ to_le_bytes w32 d.address ++ to_le_bytes w16 word ++ to_le_bytes w16 irq
     ++ d.content ++ to_le_bytes w16 d.counter
 
--- The bytes are this datagram, whatever its free bits and its IRQ word are.
+-- The bytes are this datagram, with any free bits and any IRQ word.
 pub record IsDatagram (bytes : List ℕ) (d : Pdu) (more : Bool) : Type 0 where
   pub fits : Fits d
   pub free : ℕ
@@ -48,13 +48,13 @@ pub record IsDatagram (bytes : List ℕ) (d : Pdu) (more : Bool) : Type 0 where
   pub irq_fits : irq < 2 ^ 16
   pub spelled : bytes ≡ datagram_bytes d (length_word (length d.content) free more) irq
 
--- whether another datagram follows one that stands before these; behind the last, `more` says it
+-- Whether a datagram in front of these is followed by another: yes if there are any, otherwise as `more` says.
 abbrev pub follows : List Pdu → Bool → Bool
 follows [] more = more
 follows (d ∷ ds) more = true
 
--- The bytes are these datagrams, one behind the other, with bit 15 set on all but the last. The last one
--- has it where `more` says so: only a frame that breaks off there has it set.
+-- The bytes are these datagrams, one behind the other, with bit 15 set on all but the last. On the last one `more` decides: it is
+-- set only if the frame is cut off behind it.
 abbrev pub AreDatagrams : List ℕ → List Pdu → Bool → Type 0
 AreDatagrams bytes [] more = bytes ≡ []
 AreDatagrams bytes (d ∷ ds) more =
@@ -72,8 +72,7 @@ pub record HasHeader (bytes : List ℕ) (stated type : ℕ) (behind : List ℕ) 
   pub type_fits : type < 2 ^ 4
   pub spelled : bytes ≡ to_le_bytes w16 (header_word stated reserved type) ++ behind
 
--- The bytes are a frame of these datagrams: a header of type 1, the datagrams, of 1,498 bytes at most, and
--- whatever bytes pad it.
+-- The bytes are a frame of these datagrams: a header of type 1, the datagrams, 1,498 bytes at most, and any padding.
 pub record IsFrame (bytes : List ℕ) (ds : List Pdu) : Type 0 where
   pub inside : List ℕ
   pub padding : List ℕ
@@ -81,14 +80,17 @@ pub record IsFrame (bytes : List ℕ) (ds : List Pdu) : Type 0 where
   pub room : length inside ≤ 1498
   pub datagrams : AreDatagrams inside ds false
 
--- ---- The one spelling: what is free is zero, and nothing pads it.
+-- ---- The canonical encoding: all that is free is zero, and there is no padding.
 
+-- one datagram, and whether another follows
 abbrev pub spelled_datagram : Pdu → Bool → List ℕ
 spelled_datagram d more = datagram_bytes d (length_word (length d.content) 0 more) 0
 
+-- datagrams, one behind the other
 abbrev pub spelled : List Pdu → Bool → List ℕ
 spelled [] more = []
 spelled (d ∷ ds) more = spelled_datagram d (follows ds more) ++ spelled ds more
 
+-- a whole frame
 abbrev pub spelling : List Pdu → List ℕ
 spelling ds = to_le_bytes w16 (header_word (length (spelled ds false)) 0 1) ++ spelled ds false

@@ -8,19 +8,19 @@ ghost use Rattle.ecat_frame.specs.Frame.{pdu, Fits, spelled_datagram, header_wor
 use crate::datagram::Datagram;
 use arrayvec::ArrayVec;
 
-/// The most bytes of a frame: what one Ethernet frame carries.
+/// The greatest length of a frame, in bytes: what one Ethernet frame carries.
 pub const MAX_LEN: usize = 1500;
 
-/// What a datagram takes besides its content: ten bytes before it, and its working counter.
+/// The bytes of a datagram besides its content: ten before it, and the two of its working counter.
 pub(crate) const OVERHEAD: usize = 12;
 
-/// The IRQ word, zero when spelt.
+/// The IRQ word, always written as zero.
 const IRQ: [u8; 2] = [0, 0];
 
 /// Bit 7 of a length word's high byte: another datagram follows.
 const MORE: u8 = 0x80;
 
-/// Writes at the end, where there is room.
+/// Appends bytes, for which there must be room.
 pub(crate) fn put(bytes: &mut ArrayVec<u8, MAX_LEN>, part: &[u8])
     requires { array_vec_len bytes.old + length part.now ≤ MAX_LEN }
     ensures { bytes.new.items ≡ bytes.old.items ++ part.now }
@@ -31,7 +31,7 @@ pub(crate) fn put(bytes: &mut ArrayVec<u8, MAX_LEN>, part: &[u8])
     }
 }
 
-/// Writes over the bytes from `at` on.
+/// Overwrites the bytes from `at` on.
 pub(crate) fn overwrite(bytes: &mut ArrayVec<u8, MAX_LEN>, at: usize, part: &[u8])
     requires { at + length part.now ≤ array_vec_len bytes.old }
     ensures { bytes.new.items
@@ -40,7 +40,7 @@ pub(crate) fn overwrite(bytes: &mut ArrayVec<u8, MAX_LEN>, at: usize, part: &[u8
     bytes.as_mut_slice()[at..at + part.len()].copy_from_slice(part);
 }
 
-/// Writes a datagram at the end, which none follows.
+/// Appends a datagram as the last one, with bit 15 of its length word clear.
 pub(crate) fn put_datagram(bytes: &mut ArrayVec<u8, MAX_LEN>, datagram: Datagram<'_>)
     requires { array_vec_len bytes.old + 12 + length datagram.content.now ≤ MAX_LEN }
     ensures written { bytes.new.items ≡ bytes.old.items ++ spelled_datagram (pdu datagram.entry) false }
@@ -55,7 +55,7 @@ pub(crate) fn put_datagram(bytes: &mut ArrayVec<u8, MAX_LEN>, datagram: Datagram
     put(bytes, &datagram.counter.to_le_bytes());
 }
 
-/// Says in the datagram at `at`, if there is one, that another follows.
+/// Sets bit 15 of the length word of the datagram that begins at `at`, if there is one: another follows.
 pub(crate) fn promise_more(bytes: &mut ArrayVec<u8, MAX_LEN>, at: usize)
     requires { at ≤ MAX_LEN }
     ensures { let high = slice_index bytes.old.items (at + 7)
@@ -66,7 +66,7 @@ pub(crate) fn promise_more(bytes: &mut ArrayVec<u8, MAX_LEN>, at: usize)
     }
 }
 
-/// Writes the header for the bytes that stand behind it.
+/// Writes the header, with the length of the bytes behind it.
 pub(crate) fn state_length(bytes: &mut ArrayVec<u8, MAX_LEN>)
     requires { 2 ≤ array_vec_len bytes.old }
     ensures { let stated = array_vec_len bytes.old - 2

@@ -3,10 +3,9 @@
 ghost use Rattle.std.specs.Prelude.{◌≡◌, ◌+◌, ◌*◌, ◌^◌, ◌++◌};
 ghost use Rattle.std.specs.Int.{w16, w32, to_le_bytes};
 
-/// What a slave is asked to do with a datagram (ETG.1000.4).
+/// The command of a datagram (ETG.1000.4).
 ///
-/// A frame keeps the code alone. `Other` with the code of another variant is spelt as that variant, and a
-/// code that has a variant of its own is always read as that variant.
+/// A frame stores only the code. A code that has a named variant is always read as that variant, also if it was written as `Other`.
 #[derive(Clone, Copy, Debug, PartialEq, Eq)]
 pub enum Command {
     /// Configured address physical read, code 4.
@@ -22,7 +21,7 @@ pub enum Command {
 impl Command {
     ghost use Rattle.ecat_frame.specs.Command.{code_of};
 
-    /// The command's byte in a datagram.
+    /// The command's code, as it stands in a datagram.
     pub fn code(self) -> u8
         ensures { result ≡ code_of self }
     {
@@ -35,7 +34,7 @@ impl Command {
     }
 }
 
-/// The command that a byte stands for.
+/// The command with this code.
 impl From<u8> for Command {
     ghost use Rattle.std.specs.Prelude.{◌≡◌};
     ghost use Rattle.ecat_frame.specs.Command.{command_of};
@@ -52,7 +51,7 @@ impl From<u8> for Command {
     }
 }
 
-/// The address of an FP command (ETG.1000.4): the station address as ADP and the register as ADO.
+/// The address field of an FP command (ETG.1000.4): ADP, the station address, in the low 16 bits, and ADO, the register, in the high 16.
 pub fn fp(station: u16, register: u16) -> u32
     ensures value { result ≡ station + 2 ^ 16 * register }
     ensures bytes { to_le_bytes w32 result ≡ to_le_bytes w16 station ++ to_le_bytes w16 register }

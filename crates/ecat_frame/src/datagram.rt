@@ -8,16 +8,16 @@ use crate::command::Command;
 /// A datagram of a frame (ETG.1000.4).
 #[derive(Clone, Copy, Debug)]
 pub struct Datagram<'a> {
-    /// What the slaves are asked to do.
+    /// What the slaves are to do.
     pub command: Command,
-    /// The sender's own number, which slaves leave alone.
+    /// A number of the sender's choice, which slaves don't change.
     pub index: u8,
-    /// Logical, or ADP in the low half and ADO in the high half.
+    /// A logical address, or ADP in the low 16 bits and ADO in the high 16.
     pub address: u32,
-    /// Up to 1,486 bytes in a frame.
+    /// The data, in a frame up to 1,486 bytes.
     pub content: &'a [u8],
-    /// The working counter: what the slaves added to it.
+    /// The working counter: the sum of what the slaves added.
     pub counter: u16,
-    // A code that has a variant of its own is never `Other`.
+    // `Other` never holds the code of a named variant.
     pub ghost named: { command_of (code_of command) ≡ command },
 }

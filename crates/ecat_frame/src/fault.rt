@@ -2,13 +2,13 @@
 
 use thiserror::Error;
 
-/// A datagram that finds no room, or bytes that are no frame (ETG.1000.4).
+/// Why a datagram was not appended, or bytes were not read as a frame (ETG.1000.4).
 #[derive(Clone, Copy, Debug, PartialEq, Eq, Error)]
 pub enum FrameFault {
     /// The frame would be longer than 1,500 bytes.
     #[error("the frame has no room for the datagram")]
     FrameFull,
-    /// The bytes are no frame; `at` is the place of the first fault, in bytes from the frame's start.
+    /// The bytes are no frame. `at` is the place of the first fault, in bytes from the frame's start.
     #[error("the bytes are no EtherCAT frame from byte {at} on")]
     BadFrame { at: usize },
 }

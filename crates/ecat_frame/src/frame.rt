@@ -1,4 +1,4 @@
-//! Frames.
+//! A frame, and the iterator over its datagrams.
 
 ghost use Rattle.std.specs.Prelude.{◌≡◌, ◌+◌, ◌<◌, ◌≤◌, ◌↔◌, ℕ, List, [], ◌∷◌, ◌++◌, length, take, drop, slice_get, true, false, IsOk, IfOk, IfErr, OnOk, OnErr, IsOkAnd};
 ghost use Rattle.std.specs.Option.{ForSome};
@@ -13,13 +13,13 @@ use std::marker::Model;
 
 /// An EtherCAT frame (ETG.1000.4): a header and datagrams, 1,500 bytes at most.
 ///
-/// It keeps the datagrams in their one spelling: reserved bits, the circulating bit and the IRQ word are zero,
-/// and nothing pads the frame. What `parse` reads is brought into that spelling.
+/// It holds the datagrams in one canonical encoding: reserved bits, the circulating bit and the IRQ word are zero, and there is no
+/// padding. `parse` turns what it reads into that encoding.
 #[derive(Debug, Drop)]
 pub struct Frame {
     bytes: ArrayVec<u8, MAX_LEN>,
     count: usize,
-    // where the last datagram begins
+    // where the last datagram begins, in bytes from the frame's start
     last: usize,
 }
 
@@ -36,11 +36,11 @@ impl Model for Frame {
         (pdus frame.count (drop 2 frame.bytes.items)) };
 }
 
-/// The datagrams of a frame (ETG.1000.4), in order.
+/// An iterator over the datagrams of a frame (ETG.1000.4), in order.
 #[derive(Debug, Drop)]
 pub struct Datagrams<'a> {
     rest: &'a [u8],
-    // how many datagrams these bytes are
+    // how many datagrams are left
     left: usize,
 }
 
@@ -80,7 +80,7 @@ impl Frame {
     ghost use Rattle.ecat_frame.specs.Fault.{IsFaultOf, BreaksOff, IsFaultInside, IsBadAt};
     ghost use Rattle.ecat_frame.specs.Answer.{answered};
 
-    /// A frame without datagrams.
+    /// Makes a frame without datagrams.
     pub fn new() -> Frame
         ensures { result ≡ [] }
     {
@@ -93,7 +93,11 @@ impl Frame {
         }
     }
 
-    /// Appends a datagram with a working counter of 0. Its content is of 1,486 bytes at most.
+    /// Appends a datagram with a working counter of 0.
+    ///
+    /// # Errors
+    ///
+    /// `FrameFull` if the frame would be longer than 1,500 bytes. It is unchanged then.
     pub fn push(
         &mut self,
         command: Command,
@@ -105,8 +109,7 @@ impl Frame {
         ensures full { IfErr result (λ fault. fault ≡ FrameFault.FrameFull) }
         ensures err { OnErr result (self.new ≡ self.old) }
 
-        // It succeeds exactly where the new spelling is short enough, and the datagram takes 12 bytes
-        // besides its content.
+        // It succeeds exactly if the new frame has at most 1,500 bytes. A datagram takes 12 bytes besides its content.
         ensures room { let new = self.old ++ sent command index address content.now ∷ []
             in IsOk result ↔ (length (spelling new) ≤ MAX_LEN) }
         ensures grows { let new = self.old ++ sent command index address content.now ∷ []
@@ -125,7 +128,7 @@ impl Frame {
         Ok(())
     }
 
-    /// Appends a datagram, for which there is room.
+    /// Appends a datagram, for which there must be room.
     fn append(&mut self, datagram: Datagram<'_>)
         requires { length (spelling self.old) + 12 + length datagram.content.now ≤ MAX_LEN }
         ensures { self.new ≡ self.old ++ pdu datagram.entry ∷ [] }
@@ -137,7 +140,7 @@ impl Frame {
         state_length(&mut self.bytes);
     }
 
-    /// The frame's bytes.
+    /// The frame's bytes, 1,500 at most.
     pub fn as_bytes(&self) -> &[u8]
         ensures spelling { result.now ≡ spelling self.now }
         ensures frame { IsFrame result.now self.now }
@@ -146,14 +149,14 @@ impl Frame {
         self.bytes.as_slice()
     }
 
-    /// How many datagrams the frame has.
+    /// The number of datagrams in the frame.
     pub fn count(&self) -> usize
         ensures { result ≡ length self.now }
     {
         self.count
     }
 
-    /// The datagrams in order.
+    /// The datagrams, in order.
     pub fn datagrams(&self) -> Datagrams<'_>
         ensures { result ≡ self.now }
     {
@@ -163,7 +166,7 @@ impl Frame {
         }
     }
 
-    /// The datagrams from the one at `k` on.
+    /// The datagrams from index `k` on.
     fn datagrams_from(&self, k: usize) -> Datagrams<'_>
         requires { k ≤ length self.now }
         ensures { result ≡ drop k self.now }
@@ -175,7 +178,7 @@ impl Frame {
         datagrams
     }
 
-    /// The datagram at `k`.
+    /// The datagram at index `k`, which must be below `count`.
     pub fn datagram(&self, k: usize) -> Datagram<'_>
         requires { k < length self.now }
         ensures { slice_get self.now k ≡ Some (pdu result) }
@@ -186,7 +189,7 @@ impl Frame {
         }
     }
 
-    /// Where the content of the datagram at `k` begins.
+    /// The byte offset of the content of the datagram at index `k`.
     fn content_at(&self, k: usize) -> usize
         requires { k < length self.now }
         ensures place { result ≡ 12 + length (spelled (take k self.now) true) }
@@ -195,7 +198,8 @@ impl Frame {
         self.bytes.len() - self.datagrams_from(k).rest.len() + 10
     }
 
-    /// Puts the answer into the datagram at `k`: its content, of the length that it has, and its working counter.
+    /// Answers the datagram at index `k`: replaces its content and its working counter. `k` must be below `count`, and the new content
+    /// as long as the old.
     pub fn answer(&mut self, k: usize, content: &[u8], counter: u16)
         requires inside { k < length self.old }
         requires equal { ForSome (slice_get self.old k) (λ d. length content.now ≡ length d.content) }
@@ -206,20 +210,20 @@ impl Frame {
         overwrite(&mut self.bytes, at + content.len(), &counter.to_le_bytes());
     }
 
-    /// Reads a frame. Reserved bits, the circulating bits and the IRQ words are ignored, any command is kept,
-    /// and what pads the frame behind its stated length is dropped.
+    /// Reads a frame. Ignores reserved bits, circulating bits and IRQ words, accepts any command, and drops the padding behind the
+    /// stated length.
     ///
     /// # Errors
     ///
-    /// `BadFrame` with the place of the first fault from the left: 0 where the header isn't there, 1 where the type
-    /// isn't 1, 0 where the stated length isn't there or is above 1,498; then the place of the datagram that isn't
-    /// whole, or of the first byte behind the last datagram and inside the stated length.
+    /// `BadFrame` with the place of the first fault, judged in this order: 0 if the header is cut off; 1 if the type isn't 1; 0 if the
+    /// stated length is above 1,498 or above the number of bytes that follow; then the place of the first datagram that is cut off, or
+    /// of the first byte between the last datagram and the stated length.
     pub fn parse(bytes: &[u8]) -> Result<Frame, FrameFault>
-        // What is read is a frame, and what is a frame is read.
+        // Only frames are read, and every frame is.
         ensures found { IfOk result (IsFrame bytes.now) }
         ensures only { (ds : List Pdu) → IsFrame bytes.now ds → IsOkAnd result (λ frame. frame ≡ ds) }
 
-        // What is refused is bad at the place that the fault says, and what is bad is refused there.
+        // Only bad bytes are refused, at the place of their first fault, and all bad bytes are.
         ensures fault { IfErr result (IsFaultOf bytes.now) }
         ensures place { (at : ℕ) → IsBadAt bytes.now at → result ≡ Err (FrameFault.BadFrame at) }
     {

@@ -1,7 +1,6 @@
 //! EtherCAT frames and their datagrams as bytes, without allocation (ETG.1000.4).
 //!
-//! Contracts see a [`Frame`] as the list of its datagrams, a [`Datagram`] by its values, and a command by its
-//! code.
+//! Contracts see a [`Frame`] as the list of its datagrams, a [`Datagram`] by its values, and a command by its code.
 #![tactic(auto)]
 
 mod bytes;

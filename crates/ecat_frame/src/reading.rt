@@ -8,13 +8,13 @@ use crate::command::Command;
 use crate::datagram::Datagram;
 use crate::fault::FrameFault;
 
-/// The type of a frame that holds datagrams, bits 12 to 15 of its header.
+/// The type of a frame that holds datagrams: bits 12 to 15 of its header.
 const TYPE: u16 = 1;
 
-/// The most bytes inside the stated length.
+/// The greatest length that a header may state, in bytes.
 const MAX_INSIDE: usize = 1498;
 
-/// Bits 0 to 10 of the header and of a datagram's length word.
+/// Bits 0 to 10 of the header and of a datagram's length word: the length, in bytes.
 const LENGTH: u16 = 0x07ff;
 
 /// Bit 15 of a datagram's length word: another datagram follows.
@@ -39,7 +39,7 @@ pub(crate) fn inside_of(bytes: &[u8]) -> Result<&[u8], FrameFault>
     Ok(&behind[..stated])
 }
 
-/// The fault at the first byte of `rest`, which ends the bytes inside the stated length.
+/// The fault at the first byte of `rest`, the end of the bytes inside the stated length.
 pub(crate) fn fault_at(inside: &[u8], rest: &[u8]) -> FrameFault
     requires { length rest.now ≤ length inside.now }
     ensures { result ≡ FrameFault.BadFrame (2 + length inside.now - length rest.now) }
@@ -49,7 +49,7 @@ pub(crate) fn fault_at(inside: &[u8], rest: &[u8]) -> FrameFault
     }
 }
 
-/// The datagram at the front, whether another follows it, and the bytes behind it.
+/// The datagram at the front, whether another follows it, and the bytes behind it. None if it is cut off.
 pub(crate) fn first_datagram(bytes: &[u8]) -> Option<(Datagram<'_>, bool, &[u8])>
     ensures whole { IfSome result (λ taken. TakesDatagram bytes.now taken.0 taken.1 taken.2.now) }
     ensures none { IfNone result (NoDatagram bytes.now) }

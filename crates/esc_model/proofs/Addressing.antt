@@ -1,4 +1,4 @@
--- What a half makes of a read, by its address.
+-- What a half does with a read, by its address.
 use Rattle.std.proofs.Common.{◌≡◌, ◌⊎◌, ℕ, ◌-◌, ◌<◌, true, false, List, [], ◌∷◌, length, eq-eqb, refl, sym, ap, inl, inr, arith}
 use Rattle.std.proofs.lemmas.Bool.Decides.{eqb_tells}
 use Rattle.ecat_frame.specs.declared.command.Command.TheVariants.{Fprd, Fpwr}

@@ -1,4 +1,4 @@
--- Halves whose words only came to rest.
+-- Halves to whose words nothing happened but that they may have become idle.
 use Rattle.std.proofs.Common.{◌≡◌, ℕ, inl, inr, List, length, None, refl, sym, ap, subst, ◌∙◌}
 use Rattle.ecat_frame.specs.Frame.{Pdu}
 use Rattle.esc_model.specs.SlaveHalf.{SlaveHalf, Activity, Idle, Reading, Writing, in_flight, MayRest, MayHold, MayLeave}
@@ -20,7 +20,7 @@ MayRest-only half later (inr ends) = record {
   words = inr (ap in_flight (MayEnd-is_idle half.activity half later ends), MayEnd-words half.activity half later ends);
 }
 
--- what a stop may leave follows from the words and the word in flight
+-- what a power cut may leave follows from the words and the word in flight
 MayHold-by_flight : (a b : Activity) (words left : List ℕ) → in_flight a ≡ in_flight b → MayHold a words left → MayHold b words left
 MayHold-by_flight Idle Idle words left same holds = holds
 MayHold-by_flight Idle Reading words left same holds = holds
@@ -40,7 +40,7 @@ MayHold-none Idle words left none holds = holds
 MayHold-none Reading words left none holds = holds
 MayHold-none (Writing w v) words left none holds = absurd cc
 
--- where nothing is in flight a stop leaves the words alone
+-- where nothing is in flight a power cut leaves only the words
 pub MayLeave-none : (half : SlaveHalf) (left : List ℕ) → in_flight half.activity ≡ None → MayLeave half left → left ≡ half.words
 MayLeave-none half left none leaves = MayHold-none half.activity half.words left none leaves
 
@@ -49,7 +49,7 @@ leaves_by : (half later : SlaveHalf) (left : List ℕ) → OnlyRests half later
 leaves_by half later left rests same leaves =
     MayHold-by_flight later.activity half.activity half.words left same.1 (subst (λ (w : List ℕ). MayHold later.activity w left) same.0 leaves)
 
--- it adds nothing that a stop may leave
+-- it adds nothing to what a power cut may leave
 pub OnlyRests-leaves : (half later : SlaveHalf) (left : List ℕ) → OnlyRests half later → MayLeave later left → MayLeave half left
 OnlyRests-leaves half later left rests leaves =
     elim rests.words [

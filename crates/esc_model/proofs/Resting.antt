@@ -1,10 +1,10 @@
--- Coming to rest and stopping, seen from what a stop may leave.
+-- Becoming idle and power cuts: what each adds to what a power cut may leave.
 use Rattle.std.proofs.Common.{◌≡◌, ℕ, Bool, false, inl, inr, List, length, refl, sym, ap, subst, ◌∙◌, slice_index, slice_set, length-set}
 use Rattle.std.proofs.lemmas.List.{set-get_or}
 use Rattle.esc_model.specs.Registers.{access_byte}
 use Rattle.esc_model.specs.SlaveHalf.{SlaveHalf, Activity, Idle, Reading, Writing, with_errors, MayEnd, MayRest, MayHold, MayLeave, IsTorn, MayStop}
 
--- a stop may leave the words as they are
+-- a power cut may leave the words as they are
 pub MayHold-same : (activity : Activity) (words : List ℕ) → MayHold activity words words
 MayHold-same Idle words = refl
 MayHold-same Reading words = refl
@@ -74,11 +74,11 @@ MayHold-idle Idle words left is holds = holds
 MayHold-idle Reading words left is holds = absurd cc
 MayHold-idle (Writing word value) words left is holds = absurd cc
 
--- of an idle half a stop leaves the words as they are
+-- of an idle half a power cut leaves the words as they are
 pub MayLeave-idle : (half : SlaveHalf) (left : List ℕ) → half.activity ≡ Idle → MayLeave half left → left ≡ half.words
 MayLeave-idle half left is leaves = MayHold-idle half.activity half.words left is leaves
 
--- coming to rest adds nothing that a stop may leave
+-- becoming idle adds nothing to what a power cut may leave
 pub MayRest-leaves : (half later : SlaveHalf) (left : List ℕ) → MayRest half later → MayLeave later left → MayLeave half left
 MayRest-leaves half later left (inl same) leaves = subst (λ (h : SlaveHalf). MayLeave h left) same leaves
 MayRest-leaves half later left (inr ends) leaves =
@@ -95,14 +95,14 @@ IsTorn-words Idle half later torn = absurd torn
 IsTorn-words Reading half later torn = absurd torn
 IsTorn-words (Writing word value) half later torn = (torn.0, ap (λ (h : SlaveHalf). h.words) torn.1)
 
--- nor does a stop add anything
+-- nor does a power cut add anything
 pub MayStop-leaves : (half later : SlaveHalf) (left : List ℕ) → MayStop half later → MayLeave later left → MayLeave half left
 MayStop-leaves half later left (inl same) leaves = subst (λ (h : SlaveHalf). MayLeave h left) same leaves
 MayStop-leaves half later left (inr torn) leaves =
     let is : left ≡ later.words = MayLeave-idle later left (IsTorn-is_idle half.activity half later torn) leaves in
     subst (λ (w : List ℕ). MayLeave half w) (sym is) (IsTorn-words half.activity half later torn)
 
--- a stop keeps the number of words
+-- a power cut keeps the number of words
 MayHold-length : (activity : Activity) (words left : List ℕ) → MayHold activity words left → length left ≡ length words
 MayHold-length Idle words left holds = ap length holds
 MayHold-length Reading words left holds = ap length holds

@@ -1,4 +1,4 @@
--- What a half makes of a read of two words.
+-- What the command to read two words does to a half.
 use Rattle.std.proofs.Common.{◌≡◌, ◌⊎◌, ℕ, ◌+◌, ◌^◌, ◌<◌, ◌||◌, true, false, ◌++◌, None, slice_index, refl, sym, ap, subst, ◌∙◌, inl, inr, arith}
 use Rattle.std.specs.Int.{w16, w32, to_le_bytes}
 use Rattle.esc_model.specs.SlaveHalf.{SlaveHalf, Reading, is_busy, in_flight, begun, with_command_errors, with_stored}

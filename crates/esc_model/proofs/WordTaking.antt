@@ -1,4 +1,4 @@
--- What a half makes of a word that is handed to it.
+-- What the command to write a word does to a half.
 use Rattle.std.proofs.Common.{◌≡◌, ◌≢◌, ◌⊎◌, ℕ, ◌+◌, ◌*◌, ◌/◌, ◌%◌, ◌^◌, ◌<◌, ◌||◌, Bool, true, false, nat_le, List, ◌++◌, length, refl, sym, ap, subst, ◌∙◌, inl, inr, arith}
 use Rattle.std.specs.Int.{w16, w32, to_le_bytes}
 use Rattle.std.specs.Prelude.{◌==◌, if◌then◌else◌}
@@ -96,7 +96,7 @@ write_writes : (half : SlaveHalf) (slave word value : ℕ) → slave < 64
     → Writes half slave (is_busy half.activity ≡ false) (begun (with_command_errors (with_stored half 2 (content_of word value)))) (served_datagram half (write_order slave word value))
 write_writes half slave word value near = control_writes half slave (content_of word value) near refl refl refl
 
--- a half that rested and took the datagram, or passed it on
+-- a half that became idle and took the datagram, or passed it on
 pub data Issues (slave word value : ℕ) (half : SlaveHalf) (rested : SlaveHalf) : Type 0 where
   passed : (served_datagram rested (write_order slave word value)).half ≡ rested → (served_datagram rested (write_order slave word value)).added ≡ 0
       → (¬ IsIdle half ⊎ (half.station ≢ station slave)) → Issues slave word value half rested

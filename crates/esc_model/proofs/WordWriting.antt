@@ -1,4 +1,4 @@
--- How a word that a half has taken comes to an end.
+-- How the write of a word that a half has taken ends.
 use Rattle.std.proofs.Common.{◌≡◌, ℕ, false, List, slice_set, inl, inr, sym, ap, subst, ◌∙◌}
 use Rattle.esc_model.specs.SlaveHalf.{SlaveHalf, Activity, Idle, Writing, MayEnd, MayRest, settled, with_errors}
 use Rattle.esc_model.specs.WordAccess.{IsWell, IsWritingOrInError, IsWritten}
@@ -6,7 +6,7 @@ use Rattle.esc_model.specs.Laws.{TakenThenWell}
 use Rattle.esc_model.proofs.Resting.{MayRest-idle, MayLeave-idle}
 use Rattle.esc_model.proofs.Status.{no_error}
 
--- a write that is seen to have ended well has put its word in place
+-- a write that is seen to have ended without an error has put its word in place
 ended_well : (word value : ℕ) (half later : SlaveHalf) → MayEnd (Writing word value) half later → IsWell later → later ≡ with_errors (settled half word value) false false
 ended_well word value half later (inl is) well = is
 ended_well word value half later (inr fails) well =

@@ -1,4 +1,4 @@
--- What a half makes of writes to its registers.
+-- What a write to its registers does to a half.
 use Rattle.std.proofs.Common.{◌≡◌, ◌⊎◌, ℕ, ◌+◌, ◌%◌, ◌<◌, ◌||◌, ◌&&◌, Bool, true, false, nat_le, nat_lt, List, [], ◌∷◌, length, refl, sym, ap, subst, ◌∙◌, inl, inr, arith, ◌/◌}
 use Rattle.std.specs.Prelude.{◌==◌, if◌then◌else◌}
 use Rattle.std.proofs.lemmas.Bool.Decides.{nat_tests}
@@ -95,7 +95,7 @@ clear_writes half slave near =
     subst (λ (h : SlaveHalf). Writes half slave (is_busy half.activity ≡ false) h (served_datagram half (clear_order slave))) (begun_idle (with_command_errors (with_stored half 2 (0 ∷ 0 ∷ []))) refl)
     (control_writes half slave (0 ∷ 0 ∷ []) near refl refl refl)
 
--- What a write that changes registers alone leaves: words, station, activity and, where it is 0, the access byte.
+-- What a write that changes only registers keeps: words, station, activity and, where it is 0, the access byte.
 pub record OnlyRegisters (half later : SlaveHalf) : Type 0 where
   pub words : later.words ≡ half.words
   pub station : later.station ≡ half.station

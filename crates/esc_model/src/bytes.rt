@@ -1,8 +1,8 @@
-// Parts of a list of bytes, read and written in place.
+// Reading and writing a part of some bytes in place.
 ghost use Rattle.std.specs.Prelude.{◌≡◌, ◌+◌, ◌≤◌, length, slice_range};
 ghost use Rattle.esc_model.specs.Bytes.{overlaid};
 
-/// Fills the part with the bytes from this place on.
+/// Fills `part` with the bytes from `at` on.
 pub(crate) fn read_part(bytes: &[u8], at: usize, part: &mut [u8])
     requires { at + length part.old ≤ length bytes.now }
     ensures { part.new ≡ slice_range bytes.now at (at + length part.old) }
@@ -11,7 +11,7 @@ pub(crate) fn read_part(bytes: &[u8], at: usize, part: &mut [u8])
     part.copy_from_slice(&bytes[at..end]);
 }
 
-/// Lays the part over the bytes from this place on.
+/// Overwrites the bytes from `at` on with `part`.
 pub(crate) fn write_part(bytes: &mut [u8], at: usize, part: &[u8])
     requires { at + length part.now ≤ length bytes.old }
     ensures { bytes.new ≡ overlaid bytes.old at part.now }
@@ -20,7 +20,7 @@ pub(crate) fn write_part(bytes: &mut [u8], at: usize, part: &[u8])
     bytes[at..end].copy_from_slice(part);
 }
 
-/// Copies so many bytes from one place to another.
+/// Copies `count` bytes from `at` on, over those of `to` from `place` on.
 pub(crate) fn copy_part(from: &[u8], at: usize, count: usize, to: &mut [u8], place: usize)
     requires from { at + count ≤ length from.now }
     requires to { place + count ≤ length to.old }

@@ -26,7 +26,20 @@ impl Model for EepromRegisters {
 
     ghost Value = { Registers };
 
-    ghost view = { λ r. record { offered = r.offered; forced = r.forced; control = r.control; command = r.command; loading_error = r.loading_error; command_error = r.command_error; enable_error = r.enable_error; address = r.address; first = r.first; second = r.second; third = r.third; fourth = r.fourth } };
+    ghost view = { λ r. record {
+      offered = r.offered;
+      forced = r.forced;
+      control = r.control;
+      command = r.command;
+      loading_error = r.loading_error;
+      command_error = r.command_error;
+      enable_error = r.enable_error;
+      address = r.address;
+      first = r.first;
+      second = r.second;
+      third = r.third;
+      fourth = r.fourth;
+    } };
 
     ghost invariant = { λ r. r.command < 8 };
 }
@@ -57,7 +70,7 @@ impl EepromRegisters {
         EepromRegisters { ..*self }
     }
 
-    /// The sixteen bytes that a read gives.
+    /// The sixteen bytes as a read shows them.
     pub(crate) fn bytes(&self, busy: bool) -> [u8; 16]
         ensures { result ≡ register_bytes self.now busy }
     {
@@ -86,14 +99,14 @@ impl EepromRegisters {
         ]
     }
 
-    /// The byte 0x0500.
+    /// The byte at 0x0500: who has access to the EEPROM.
     fn access_byte(&self) -> u8
         ensures { result ≡ access_byte self.now }
     {
         weight(self.offered, 1) + weight(self.forced, 2)
     }
 
-    /// The byte 0x0503.
+    /// The byte at 0x0503: the high byte of control and status.
     fn status_byte(&self, busy: bool) -> u8
         ensures { result ≡ status_byte self.now busy }
     {
@@ -104,7 +117,7 @@ impl EepromRegisters {
             + weight(busy, 0x80)
     }
 
-    /// Keeps what these registers store of the bytes.
+    /// Writes the sixteen bytes to the registers. Bits that can't be written keep their values.
     pub(crate) fn store(&mut self, bytes: &[u8; 16])
         ensures { self.new ≡ stored self.old bytes.now }
     {
@@ -119,35 +132,35 @@ impl EepromRegisters {
         self.fourth = u16::from_le_bytes([bytes[14], bytes[15]]);
     }
 
-    /// The command of bits 8 to 10.
+    /// The command: bits 8 to 10 of control and status.
     pub(crate) fn command(&self) -> u8
         ensures { result ≡ self.now.command }
     {
         self.command
     }
 
-    /// Bit 0 of control and status: the write is enabled.
+    /// Whether bit 0 of control and status is set, which enables writing.
     pub(crate) fn write_enabled(&self) -> bool
         ensures { result ≡ (self.now.control % 2 == 1) }
     {
         self.control % 2 == 1
     }
 
-    /// The EEPROM is offered to the PDI.
+    /// Whether the EEPROM is offered to the PDI.
     pub(crate) fn is_offered(&self) -> bool
         ensures { result ≡ self.now.offered }
     {
         self.offered
     }
 
-    /// The number of the word that a command is about.
+    /// The word address, on which a command acts.
     pub(crate) fn address(&self) -> u32
         ensures { result ≡ self.now.address }
     {
         self.address
     }
 
-    /// The first word of content, which a command writes.
+    /// The first word of data, which a write command writes.
     pub(crate) fn first(&self) -> u16
         ensures { result ≡ self.now.first }
     {
@@ -161,7 +174,7 @@ impl EepromRegisters {
         self.second = second;
     }
 
-    /// Sets or clears bits 13 and 14.
+    /// Sets or clears bits 13 and 14 of control and status.
     pub(crate) fn set_errors(&mut self, command_error: bool, enable_error: bool)
         ensures { self.new ≡ record self.old { command_error = command_error; enable_error = enable_error } }
     {
@@ -169,7 +182,7 @@ impl EepromRegisters {
         self.enable_error = enable_error;
     }
 
-    /// Sets bit 13.
+    /// Sets bit 13 of control and status.
     pub(crate) fn set_command_error(&mut self)
         ensures { self.new ≡ record self.old { command_error = true } }
     {
@@ -177,7 +190,7 @@ impl EepromRegisters {
     }
 }
 
-/// What a bit of the status byte adds to it.
+/// What a bit adds to its byte.
 fn weight(set: bool, worth: u8) -> u8
     ensures { result ≡ (if set then worth else 0) }
 {

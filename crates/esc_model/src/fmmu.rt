@@ -7,17 +7,20 @@ use crate::bytes::copy_part;
 /// A fieldbus memory management unit (ETG.1000.4), which maps bytes of a slave's memory into the logical address space.
 #[derive(Clone, Copy)]
 pub struct Fmmu {
+    /// The logical start address.
     pub logical: u32,
+    /// The length of both ranges, in bytes.
     pub count: u16,
+    /// The physical start address, in the slave's memory.
     pub physical: u16,
-    /// Bit 0 for inputs of the master, bit 1 for outputs.
+    /// The type: bit 0 for reads (inputs of the master), bit 1 for writes (its outputs).
     pub kind: u8,
-    /// Bit 0 says that it is active.
+    /// Bit 0 is set if the FMMU is active.
     pub activate: u8,
 }
 
 impl Fmmu {
-    /// The one that stands at this place of a slave's memory.
+    /// The FMMU at this address of a slave's memory.
     fn at(bytes: &[u8], at: usize) -> Fmmu
         requires { at + 16 ≤ length bytes.now }
         ensures { result ≡ fmmu_at bytes.now at }
@@ -31,7 +34,7 @@ impl Fmmu {
         }
     }
 
-    /// The eight of a slave.
+    /// The eight FMMUs of a slave.
     #[tactic(auto, unfolding(crate::specs::Fmmu::fmmus))]
     fn all(bytes: &[u8]) -> [Fmmu; 8]
         requires { length bytes.now ≡ 65536 }
@@ -49,7 +52,7 @@ impl Fmmu {
         ]
     }
 
-    /// Whether it acts in a datagram of this logical start and so many bytes.
+    /// Whether it acts on a logical datagram of `count` bytes from `start` on.
     fn acts(&self, start: u32, count: usize) -> bool
         ensures { result ≡ acts start count self.now }
     {
@@ -76,8 +79,8 @@ impl Fmmu {
     }
 }
 
-/// Exchanges the content of a datagram of this logical start with the memory, which is `memory` as the units read it and
-/// `next` as they have written it. Answers what that adds to the working counter.
+/// Exchanges the content of a logical datagram with a slave's memory through its FMMUs. Reads use `memory`; `next` becomes the memory
+/// after all writes. Returns what that adds to the working counter: 1 if an FMMU reads, plus 2 if one writes.
 pub(crate) fn exchange(memory: &[u8], next: &mut [u8], start: u32, content: &mut [u8]) -> u16
     requires memory { length memory.now ≡ 65536 }
     requires next { length next.old ≡ 65536 }
@@ -93,7 +96,7 @@ pub(crate) fn exchange(memory: &[u8], next: &mut [u8], start: u32, content: &mut
     counter
 }
 
-/// What the units add to the working counter of a datagram of this logical start and so many bytes.
+/// What these FMMUs add to the working counter of a logical datagram of `count` bytes from `start` on.
 fn counter_of(units: &[Fmmu], start: u32, count: usize) -> u16
     ensures { result ≡ counter_of units.now start count }
 {
@@ -112,7 +115,7 @@ fn any_writes(units: &[Fmmu], start: u32, count: usize) -> bool
     units.iter().any(|unit| unit.writes(start, count))
 }
 
-/// Reads into the content of a datagram what the units map there.
+/// Copies from the memory to the content of a logical datagram what these FMMUs read.
 fn read_mapped(memory: &[u8], units: &[Fmmu], start: u32, content: &mut [u8])
     requires { length memory.now ≡ 65536 }
     ensures { content.new ≡ all_read memory.now units.now start content.old }
@@ -131,7 +134,7 @@ fn read_mapped(memory: &[u8], units: &[Fmmu], start: u32, content: &mut [u8])
     }
 }
 
-/// Writes into the memory what the units map there of the content.
+/// Copies from the content of a logical datagram to the memory what these FMMUs write.
 fn write_mapped(content: &[u8], units: &[Fmmu], start: u32, memory: &mut [u8])
     requires { length memory.old ≡ 65536 }
     ensures { memory.new ≡ all_written content.now units.now start memory.old }

@@ -1,5 +1,5 @@
-//! A slave in memory, as its EtherCAT slave controller shows it to the line (ETG.1000.4): the half that serves the EEPROM
-//! by its registers, and the half that holds the process data behind FMMUs.
+//! A model of an EtherCAT slave, as its slave controller appears on the line (ETG.1000.4): the EEPROM half, which serves the EEPROM
+//! by registers, and the process half, which holds process data behind FMMUs.
 #![tactic(auto)]
 
 mod bytes;
@@ -15,4 +15,4 @@ mod work;
 pub use process_half::ProcessHalf;
 pub use rest::{Rest, WordWrite};
 pub use rom_half::RomHalf;
-pub use station::station_address;
+pub use station::{FIRST_STATION, station_address};

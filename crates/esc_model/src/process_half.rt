@@ -12,13 +12,13 @@ use std::alloc::{AllocError, Global};
 use std::marker::Model;
 use std::mem;
 
-/// The half of a slave that holds its process data (ETG.1000.4): 0x10000 bytes, registers below 0x1000 and memory from there
-/// on. A station reads and writes them by address, or through the eight FMMUs at 0x0600.
+/// The process half of a slave (ETG.1000.4): 0x10000 bytes, registers below 0x1000 and process data memory from there on. A master
+/// reads and writes them by address, or through the eight FMMUs at 0x0600.
 #[derive(Drop)]
 pub struct ProcessHalf {
     station: u16,
     memory: Vec<u8>,
-    /// What the memory will be after an exchange, while the datagram still reads what it was before.
+    /// Where an exchange builds the memory after its writes, while its reads still use the memory before them.
     next: Vec<u8>,
 }
 
@@ -35,8 +35,12 @@ impl Model for ProcessHalf {
 }
 
 impl ProcessHalf {
-    /// The half of a slave with these words and this station address, just switched on: the station address and the alias of
-    /// the words stand at 0x0010, and all else is 0. The words aren't kept.
+    /// Makes the process half of a slave at power-up: the station address and the alias of the words stand at 0x0010, and all other
+    /// bytes are 0.
+    ///
+    /// # Errors
+    ///
+    /// `AllocError` if memory is refused.
     pub fn power_up(alloc: Global, words: &Words, station: u16) -> Result<ProcessHalf, AllocError>
         ensures { IfOk result (λ half. half ≡ powered_up words.now station) }
     {
@@ -50,7 +54,11 @@ impl ProcessHalf {
         })
     }
 
-    /// A copy with the same station address and memory.
+    /// Makes a copy with the same station address and memory.
+    ///
+    /// # Errors
+    ///
+    /// `AllocError` if memory is refused.
     pub fn try_copy(&self) -> Result<ProcessHalf, AllocError>
         ensures { IfOk result (λ copy. copy ≡ self.now) }
     {
@@ -61,7 +69,7 @@ impl ProcessHalf {
         })
     }
 
-    /// The byte of the memory at this address, which is 0x1000 or above.
+    /// Returns the byte at this address, which must be 0x1000 or above.
     pub fn peek(&self, address: u16) -> u8
         requires { 0x1000 ≤ address }
         ensures { result ≡ slice_index self.now.bytes address }
@@ -70,7 +78,7 @@ impl ProcessHalf {
         self.memory[at]
     }
 
-    /// Changes the byte of the memory at this address, which is 0x1000 or above, and no other.
+    /// Sets the byte at this address, which must be 0x1000 or above.
     pub fn poke(&mut self, address: u16, value: u8)
         requires { 0x1000 ≤ address }
         ensures { self.new ≡ record self.old { bytes = slice_set self.old.bytes address value } }
@@ -78,9 +86,11 @@ impl ProcessHalf {
         self.memory[usize::from(address)] = value;
     }
 
-    /// Takes a datagram whole, and answers what it adds to its working counter: 0, 1 for a read, 1 for a write by FPWR, and for
-    /// an LRW 1 where an FMMU reads and 2 where one writes. The address of an FP command has the station address in the low 16
-    /// bits and the register in the high ones; that of an LRW is the logical start. A read fills the content.
+    /// Takes a datagram, and returns what the half adds to its working counter: 1 for an FPRD or FPWR that is for this station and for
+    /// bytes that may be read or written; for an LRW 1 if an FMMU reads, plus 2 if one writes; otherwise 0.
+    ///
+    /// The address of an FP command is the station address in the low 16 bits and the register in the high ones; that of an LRW is the
+    /// logical start address. A read fills `content`.
     #[tactic(auto, unfolding(crate::specs::ProcessHalf::processed))]
     pub fn take(&mut self, command: Command, address: u32, content: &mut [u8]) -> u16
         ensures { processed self.old command address content.old ≡ record { memory = self.new; content = content.new; added = result } }
@@ -93,7 +103,7 @@ impl ProcessHalf {
         }
     }
 
-    /// Reads for an FPRD.
+    /// Serves an FPRD.
     fn read(&self, address: u32, content: &mut [u8]) -> u16
         ensures { read_for self.now address content.old ≡ record { memory = self.now; content = content.new; added = result } }
     {
@@ -105,7 +115,7 @@ impl ProcessHalf {
         1
     }
 
-    /// Writes for an FPWR.
+    /// Serves an FPWR.
     fn write(&mut self, address: u32, content: &[u8]) -> u16
         ensures { written_for self.old address content.now ≡ record { memory = self.new; content = content.now; added = result } }
     {
@@ -117,7 +127,7 @@ impl ProcessHalf {
         1
     }
 
-    /// Exchanges data through the FMMUs for an LRW.
+    /// Serves an LRW through the FMMUs.
     fn exchange(&mut self, start: u32, content: &mut [u8]) -> u16
         ensures memory { self.new ≡ record self.old { bytes = all_written content.old (fmmus self.old.bytes) start self.old.bytes } }
         ensures content { content.new ≡ all_read self.old.bytes (fmmus self.old.bytes) start content.old }
@@ -129,7 +139,7 @@ impl ProcessHalf {
     }
 }
 
-/// Whether so many bytes, at least one, lie wholly between the two bounds.
+/// Whether `count` bytes from `start` on, at least one, lie in `from..to`.
 fn lies_in(from: usize, to: usize, start: usize, count: usize) -> bool
     requires bounds { from ≤ to }
     requires to { to < 2 ^ 32 }
@@ -138,7 +148,7 @@ fn lies_in(from: usize, to: usize, start: usize, count: usize) -> bool
     count > 0 && from <= start && start <= to && count <= to - start
 }
 
-/// Whether the FMMUs, the sync managers or the memory hold these bytes.
+/// Whether these bytes may be written: they lie in the FMMUs, the sync managers or the memory.
 fn is_writable(start: usize, count: usize) -> bool
     ensures { result ≡ is_writable start count }
 {
@@ -147,7 +157,7 @@ fn is_writable(start: usize, count: usize) -> bool
         || lies_in(0x1000, 0x10000, start, count)
 }
 
-/// Whether these or the station address and the alias do.
+/// Whether these bytes may be read: those that may be written, and the station address with the alias.
 fn is_readable(start: usize, count: usize) -> bool
     ensures { result ≡ is_readable start count }
 {

@@ -1,6 +1,6 @@
 use crate::rest::WordWrite;
 
-/// What a half is doing. `left` is how many datagrams more will find it so.
+/// What a half is doing. `left` is the number of further datagrams that will find it busy.
 #[derive(Clone, Copy)]
 pub(crate) enum Work {
     Idle,

@@ -12,7 +12,7 @@ use Rattle.esc_rom.specs.declared.poll.Rested.TheVariants.{Well, Failed}
 use Rattle.esc_rom.specs.declared.fault.RomFault.{RomFault}
 use Rattle.esc_rom.specs.declared.fault.RomFault.TheVariants as rom
 use Rattle.esc_rom.specs.declared.reading.WordPair.{WordPair}
-use Rattle.esc_rom.specs.Runs.{Quiet, Ran, IsCut, IsSeen, Waited}
+use Rattle.esc_rom.specs.Runs.{Quiet, Ran, StopsQuietly, IsSeen, Waited}
 use Rattle.esc_rom.specs.WordPairs.{ReadsPair, ReadsAll}
 use Rattle.esc_rom.specs.Access.{BecomesRead, BecomesUnread, ReadsWords}
 use Rattle.esc_rom.proofs.Runs.{Quiet-none, Ran-then, Ran-weaker}
@@ -20,7 +20,7 @@ use Rattle.esc_rom.proofs.Past.{Ran-tied, never_idle, NeverIdle-behind}
 use Rattle.esc_rom.proofs.SettledWords.{seen_idle}
 use Rattle.esc_rom.proofs.States.{HalfGoes-weaker}
 
--- the half came to rest at the station, and the first words are read
+-- the half became idle, has the station address, and the first words are read
 pub record Filled (slave : ℕ) (words : List ℕ) (count : ℕ) (half now : SlaveHalf) : Type 0 where
   pub only : OnlyRests half now
   pub idle : IsIdle now
@@ -140,7 +140,7 @@ module _ (old : Seen) (slave size long : ℕ) (new : Seen) (is : long ≡ size) 
     faults = inr (inr refl);
   }
 
-  pub reads_cut : (result : Result (List ℕ) RomFault) → result ≡ Err rom.Stopped → IsCut old (10000 + 30006 * (long / 2)) new → ReadsWords old slave size result new
+  pub reads_cut : (result : Result (List ℕ) RomFault) → result ≡ Err rom.Stopped → StopsQuietly old (10000 + 30006 * (long / 2)) new → ReadsWords old slave size result new
   reads_cut result stopped cut = subst (λ (r : Result (List ℕ) RomFault). ReadsWords old slave size r new) (sym stopped) (record {
     quiet = same_most old long size new is cut.quiet;
     read = λ w was. absurd cc;

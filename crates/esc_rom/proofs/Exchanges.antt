@@ -1,4 +1,4 @@
--- A frame of one datagram goes to the half of one slave.
+-- A frame of one datagram for the EEPROM half of one slave.
 use Rattle.std.proofs.Common.{◌≡◌, ◌⊎◌, ℕ, List, [], ◌∷◌, ◌++◌, map, Option, Some, None, slice_get, Result, Ok, Err, refl, sym, ap, subst, ◌∙◌, inl, inr, arith}
 use Rattle.std.specs.List.{AllByRecursion}
 use Rattle.ecat_frame.specs.Frame.{Pdu}
@@ -18,7 +18,7 @@ use Rattle.site_core.proofs.DeviceCalls.{is_stopped_or, LeavesOnly-stopped}
 use Rattle.site_core.proofs.Times.{Calls-follows, Calls-clock}
 use Rattle.esc_rom.specs.declared.fault.Stop.{Stop}
 use Rattle.esc_rom.specs.Sending.{Sends}
-use Rattle.esc_rom.specs.Runs.{Quiet, Ran, IsCut, WasLost}
+use Rattle.esc_rom.specs.Runs.{Quiet, Ran, StopsQuietly, WasLost}
 use Rattle.esc_rom.proofs.States.{same_some, with_half-same}
 use Rattle.esc_rom.proofs.Past.{FailsAt-last}
 
@@ -179,5 +179,5 @@ module _ (old : Seen) (slave : ℕ) (order : Pdu) (new : Seen) (gentle : IsGentl
         half = lost_half old slave order new sends;
       }
 
-  pub cut : {stop : Stop} → Sends old slave order (Err stop) new → IsCut old 1 new
+  pub cut : {stop : Stop} → Sends old slave order (Err stop) new → StopsQuietly old 1 new
   cut sends = record { quiet = exchange_quiet old slave order (Err device.Stopped) (order ∷ []) new gentle sends; stopped = sends.call.stopped.1 refl }

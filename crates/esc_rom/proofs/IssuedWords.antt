@@ -1,4 +1,4 @@
--- Words that are issued: the pairs that a stop may leave, and what is answered.
+-- Words that are issued: the pairs that a power cut may leave, and the answers of `issue`.
 use Rattle.std.proofs.Common.{◌≡◌, ◌≢◌, ◌⊎◌, ℕ, ◌^◌, ◌<◌, ◌==◌, true, false, List, [], ◌∷◌, ◌++◌, map, Option, Some, None, slice_get, slice_set, Result, Ok, Err, refl, sym, ap, subst, ◌∙◌, inl, inr, arith}
 use Rattle.std.specs.Int.{w16, w32, to_le_bytes}
 use Rattle.std.proofs.lemmas.List.{set-set}
@@ -28,7 +28,7 @@ use Rattle.esc_rom.proofs.States.{slice_set-same, slice_get-set, HalfGoes-weaker
 use Rattle.esc_rom.proofs.Exchanges.{exchange_passes, Answers, back_half, lost_half}
 use Rattle.esc_rom.proofs.Writes.{counter_says}
 
--- what a stop may leave of a half that has taken a word: the words that it had, but for this one
+-- what a power cut may leave of a half that has taken a word: the words that it had, but for this one
 flying : (activity : Activity) (words left : List ℕ) (word value : ℕ) → activity ≡ Writing word value → MayHold activity words left → (held : ℕ) × (left ≡ slice_set words word held)
 flying activity words left word value is holds = subst (λ (a : Activity). MayHold a words left) is holds
 

@@ -11,3 +11,7 @@ pub mod OpenSlaves
 pub mod ReadPairs
 pub mod AllWords
 pub mod WordLaws
+pub mod Counting
+pub mod SlaveLaws
+pub mod LineLaws
+pub mod SizeLaws

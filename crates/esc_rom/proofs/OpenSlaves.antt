@@ -3,7 +3,7 @@ use Rattle.std.proofs.Common.{◌≡◌, ◌⊎◌, ℕ, ◌+◌, ◌%◌, ◌<�
 use Rattle.ecat_frame.specs.Frame.{Pdu}
 use Rattle.esc_model.specs.SlaveHalf.{SlaveHalf}
 use Rattle.esc_model.specs.Registers.{access_byte}
-use Rattle.esc_model.specs.Datagrams.{Receives, Counts}
+use Rattle.esc_model.specs.Datagrams.{Receives, CountsDatagram}
 use Rattle.esc_model.specs.Orders.{access_order, clear_order}
 use Rattle.esc_model.specs.WordAccess.{IsAt, IsIdle, OnlyRests}
 use Rattle.esc_model.proofs.Resting.{MayRest-idle, MayRest-access, MayRest-station}
@@ -16,7 +16,7 @@ use Rattle.esc_rom.specs.declared.fault.RomFault.{RomFault}
 use Rattle.esc_rom.specs.declared.fault.RomFault.TheVariants as rom
 use Rattle.esc_rom.specs.declared.poll.Rested.{Rested}
 use Rattle.esc_rom.specs.Past.{HalfAt, AreLost, IsReached}
-use Rattle.esc_rom.specs.Runs.{Ran, IsCut, Runs, Waited, Tries, never, again, OnceRefused, Insists}
+use Rattle.esc_rom.specs.Runs.{Ran, StopsQuietly, Performs, Waited, Tries, never, again, OnceRefused, Insists}
 use Rattle.esc_rom.specs.Access.{BecomesOpen, OpensSlave}
 use Rattle.esc_rom.proofs.Runs.{Ran-then, Ran-weaker, Ran-cut}
 use Rattle.esc_rom.proofs.Past.{Ran-tied, never_idle}
@@ -28,7 +28,7 @@ tries_closed : (order : Pdu) (R : SlaveHalf → SlaveHalf → Type 0) → ((half
 tries_closed order R same then one half later never = same half
 tries_closed order R same then one half later (again {mid} tried receives) = then half mid later (tries_closed order R same then one half mid tried) (one mid later receives)
 
-received : (order : Pdu) (half later : SlaveHalf) → Counts order half later → Receives order half later
+received : (order : Pdu) (half later : SlaveHalf) → CountsDatagram order half later → Receives order half later
 received order half later counts = record { rested = counts.rested; rests = counts.rests; is = counts.is }
 
 module _ (slave : ℕ) (near : slave < 64) where
@@ -130,7 +130,7 @@ module _ {a : Seen} {slave : ℕ} (near : slave < 64) where
         idle = seen_idle slave rested later waited.1;
       }) ran more
 
-  pub opens : {d : Seen} (result : Result Bool Stop) (e : Seen) → Ran IsFree a slave 10006 d → Runs (Insists (clear_order slave) d e) d slave 3 result e → Runs (BecomesOpen a slave e) a slave 10009 result e
+  pub opens : {d : Seen} (result : Result Bool Stop) (e : Seen) → Ran IsFree a slave 10006 d → Performs (Insists (clear_order slave) d e) d slave 3 result e → Performs (BecomesOpen a slave e) a slave 10009 result e
   opens {d} (Ok said) e ran more = Ran-then (omega arith) (λ half mid later so insists. cleared a slave near d e said half mid later (Follows-clock a d ran.quiet.follows) so insists) ran (Ran-tied more)
   opens (Err stop) e ran cut = Ran-cut (omega arith) ran cut
 
@@ -144,6 +144,6 @@ pub opens_dead : (old : Seen) (slave : ℕ) (new : Seen) → Ran (BecomesOpen ol
 opens_dead old slave new ran =
     record { quiet = ran.quiet; opened = λ was. absurd cc; dead = λ was. ran.half; stopped = (λ stop. absurd (ran.going stop), λ was. absurd cc); faults = inr refl }
 
-pub opens_cut : (old : Seen) (slave : ℕ) (result : Result (Unit {0}) RomFault) (new : Seen) → result ≡ Err rom.Stopped → IsCut old 10009 new → OpensSlave old slave result new
+pub opens_cut : (old : Seen) (slave : ℕ) (result : Result (Unit {0}) RomFault) (new : Seen) → result ≡ Err rom.Stopped → StopsQuietly old 10009 new → OpensSlave old slave result new
 opens_cut old slave result new is cut = subst (λ (r : Result (Unit {0}) RomFault). OpensSlave old slave r new) (sym is)
     (record { quiet = cut.quiet; opened = λ was. absurd cc; dead = λ was. absurd cc; stopped = (λ stops. refl, λ was. cut.stopped); faults = inl refl })

@@ -1,4 +1,4 @@
--- The half of a slave at the times of the past.
+-- The EEPROM half of a slave at each time of the past.
 use Rattle.std.proofs.Common.{◌≡◌, ℕ, ◌+◌, ◌<◌, ◌≤◌, Some, slice_get, refl, sym, ap, subst, ◌∙◌, inl, inr, arith}
 use Rattle.std.proofs.lemmas.Bool.Decides.{eqb_tells}
 use Rattle.esc_model.specs.SlaveHalf.{SlaveHalf}

@@ -84,7 +84,7 @@ module _ (old : Seen) (slave : ℕ) (new : Seen) (near : slave < 64) where
 
 -- POLLS IN A ROW
 
--- so many polls missed it
+-- this many polls missed it
 pub record InVain (old : Seen) (slave times : ℕ) (now : Seen) (half later : SlaveHalf) : Type 0 where
   pub rests : MayRest half later
   pub polls : PollsInVain now slave (clock old) times

@@ -4,7 +4,7 @@ use Rattle.std.specs.Int.{w16, w32, to_le_bytes}
 use Rattle.ecat_frame.specs.Frame.{Pdu, sent}
 use Rattle.ecat_frame.specs.declared.command.Command.TheVariants.{Fpwr}
 use Rattle.esc_model.specs.SlaveHalf.{SlaveHalf, Activity, Idle, Reading, Outcome, is_busy, MayEnd, MayRest}
-use Rattle.esc_model.specs.Datagrams.{served_datagram, reply_of, Counts, Receives}
+use Rattle.esc_model.specs.Datagrams.{served_datagram, reply_of, CountsDatagram, Receives}
 use Rattle.esc_model.specs.Orders.{address_of, fetch_order, read_order}
 use Rattle.esc_model.specs.WordAccess.{IsAt, IsIdle, HasError, IsWell, OnlyRests, IsGentle}
 use Rattle.esc_model.proofs.Resting.{MayRest-idle, MayEnd-is_idle, MayRest-station}
@@ -77,15 +77,15 @@ module _ (old : Seen) (slave : ℕ) (new : Seen) (near : slave < 64) where
 
 -- the half has taken the command to read, or refused it
 pub record HasAsked (slave word : ℕ) (half later : SlaveHalf) : Type 0 where
-  pub counts : Counts (read_order slave word) half later
+  pub counts : CountsDatagram (read_order slave word) half later
   pub only : OnlyRests half later
   pub reads : (IsIdle later × HasError later)
       ⊎ ((later.activity ≡ Reading) × (later.registers.first ≡ slice_index later.words word) × (later.registers.second ≡ slice_index later.words (word + 1)))
 
--- it has come to rest well, with the words in its registers
+-- it became idle without an error, with the words in its registers
 pub record HasFetched (slave word : ℕ) (half later : SlaveHalf) : Type 0 where
   pub asked : SlaveHalf
-  pub counts : Counts (read_order slave word) half asked
+  pub counts : CountsDatagram (read_order slave word) half asked
   pub rests : MayRest asked later
   pub well : IsWell later
   pub only : OnlyRests half later
@@ -108,7 +108,7 @@ read_rests mid later reading (inl same) well =
     let e : Idle ≡ Reading = sym well.idle ∙ ap (λ (h : SlaveHalf). h.activity) same ∙ reading in absurd cc
 read_rests mid later reading (inr ends) well = read_ends mid later (subst (λ (a : Activity). MayEnd a mid later) reading ends) well
 
--- a half that is busy after it may have come to rest has stayed as it was
+-- a half that may have become idle, and is busy, is as it was
 busy_stays : (half later : SlaveHalf) → MayRest half later → is_busy later.activity ≡ true → later ≡ half
 busy_stays half later (inl same) busy = same
 busy_stays half later (inr ends) busy = absurd (let e : true ≡ false = sym busy ∙ ap is_busy (MayEnd-is_idle half.activity half later ends) in cc)
@@ -138,7 +138,7 @@ module _ {a : Seen} {slave word : ℕ} (near : slave < 64) (word_fits : word < 2
   pub asked : {b : Seen} → Ran (Wrote (read_order slave word) a b true) a slave 1 b → Ran (HasAsked slave word) a slave 1 b
   asked {b} ran = Ran-weaker (omega arith) (λ half later here there counts. goes half later counts) ran
     where
-      goes : (half later : SlaveHalf) → Counts (read_order slave word) half later → HasAsked slave word half later
+      goes : (half later : SlaveHalf) → CountsDatagram (read_order slave word) half later → HasAsked slave word half later
       goes half later counts =
           let taken : IsAsked word counts.rested later = subst (λ (h : SlaveHalf). IsAsked word counts.rested h) (sym counts.is) (read_taken counts.rested slave word near word_fits counts.counted).1 in
           record {
@@ -210,7 +210,7 @@ read_bytes_gentle slave word content near word_fits is =
 
 -- TRIES IN A ROW
 
--- so many tries failed
+-- this many tries failed
 pub record FailedSo (a : Seen) (slave word times : ℕ) (b : Seen) (half later : SlaveHalf) : Type 0 where
   pub only : OnlyRests half later
   pub tries : IsAt slave half → FailTries b slave word (clock a) times (clock b)

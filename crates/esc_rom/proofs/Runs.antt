@@ -6,7 +6,7 @@ use Rattle.site_core.specs.Passes.{LeavesOnly}
 use Rattle.site_core.proofs.Runs.{Passes-none, Passes-then, Passes-weaker, Passes-stays}
 use Rattle.site_core.proofs.Times.{Follows-same, Follows-then}
 use Rattle.esc_rom.specs.declared.fault.Stop.{Stop}
-use Rattle.esc_rom.specs.Runs.{Quiet, Ran, IsCut, Runs}
+use Rattle.esc_rom.specs.Runs.{Quiet, Ran, StopsQuietly, Performs}
 use Rattle.esc_rom.proofs.States.{HalfGoes-weaker, HalfGoes-then}
 
 -- nothing done
@@ -48,14 +48,14 @@ pub Ran-weaker : {R W : SlaveHalf → SlaveHalf → Type 0} {a b : Seen} {slave 
     → ((half later : SlaveHalf) → slice_get a.state.halves slave ≡ Some half → slice_get b.state.halves slave ≡ Some later → R half later → W half later) → Ran R a slave m b → Ran W a slave most b
 Ran-weaker more weaker ran = record { quiet = Quiet-more more ran.quiet; some = ran.some; going = ran.going; half = HalfGoes-weaker ran.half weaker }
 
-pub Ran-cut : {R : SlaveHalf → SlaveHalf → Type 0} {a b c : Seen} {slave m n most : ℕ} → m + n ≤ most → Ran R a slave m b → IsCut b n c → IsCut a most c
+pub Ran-cut : {R : SlaveHalf → SlaveHalf → Type 0} {a b c : Seen} {slave m n most : ℕ} → m + n ≤ most → Ran R a slave m b → StopsQuietly b n c → StopsQuietly a most c
 Ran-cut more ran cut = record { quiet = Quiet-then more ran.quiet cut.quiet; stopped = cut.stopped }
 
-pub IsCut-more : {a b : Seen} {m most : ℕ} → m ≤ most → IsCut a m b → IsCut a most b
+pub IsCut-more : {a b : Seen} {m most : ℕ} → m ≤ most → StopsQuietly a m b → StopsQuietly a most b
 IsCut-more more cut = record { quiet = Quiet-more more cut.quiet; stopped = cut.stopped }
 
 -- an answer that is an error
-pub cut_as : {T : Type 0} (R : T → SlaveHalf → SlaveHalf → Type 0) {a b : Seen} (slave : ℕ) {most : ℕ} (result : Result T Stop) → IsErr result → IsCut a most b → Runs R a slave most result b
+pub cut_as : {T : Type 0} (R : T → SlaveHalf → SlaveHalf → Type 0) {a b : Seen} (slave : ℕ) {most : ℕ} (result : Result T Stop) → IsErr result → StopsQuietly a most b → Performs R a slave most result b
 cut_as R slave (Ok value) is cut = absurd cc
 cut_as R slave (Err stop) is cut = cut
 
@@ -67,7 +67,7 @@ pub record NoneYet (R : SlaveHalf → SlaveHalf → Type 0) (a : Seen) (most : �
   pub same : b ≡ a
   pub stays : (half : SlaveHalf) → R half half
 
--- or some runs of so many calls
+-- or some runs of this many calls
 pub data SoFar (R : SlaveHalf → SlaveHalf → Type 0) (a : Seen) (slave most : ℕ) (b : Seen) : Type 0 where
   none : NoneYet R a most b → SoFar R a slave most b
   some : Ran R a slave most b → SoFar R a slave most b
@@ -78,8 +78,8 @@ so_then {W = W} {c = c} {slave = slave} {n = n} more both (none yet) ran =
     Ran-weaker (omega arith) (λ half later here there goes. both half half later (yet.stays half) goes) (subst (λ (s : Seen). Ran W s slave n c) yet.same ran)
 so_then more both (some first) second = Ran-then more both first second
 
-pub so_cut : {R : SlaveHalf → SlaveHalf → Type 0} {a b c : Seen} {slave m n most : ℕ} → m + n ≤ most → SoFar R a slave m b → IsCut b n c → IsCut a most c
-so_cut {c = c} {n = n} more (none yet) cut = IsCut-more (omega arith) (subst (λ (s : Seen). IsCut s n c) yet.same cut)
+pub so_cut : {R : SlaveHalf → SlaveHalf → Type 0} {a b c : Seen} {slave m n most : ℕ} → m + n ≤ most → SoFar R a slave m b → StopsQuietly b n c → StopsQuietly a most c
+so_cut {c = c} {n = n} more (none yet) cut = IsCut-more (omega arith) (subst (λ (s : Seen). StopsQuietly s n c) yet.same cut)
 so_cut more (some first) cut = Ran-cut more first cut
 
 pub so_over : {R : SlaveHalf → SlaveHalf → Type 0} {a b : Seen} {slave most : ℕ} → 0 < most → SoFar R a slave most b → Ran R a slave most b

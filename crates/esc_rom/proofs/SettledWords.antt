@@ -1,4 +1,4 @@
--- What clearing the errors leaves of a half, and how a settle ends.
+-- Clearing the errors of a half, and the outcomes of `settle`.
 use Rattle.std.proofs.Common.{◌≡◌, ℕ, ◌+◌, ◌<◌, Bool, IsTrue, Result, Ok, Err, Some, None, refl, sym, ap, subst, ◌∙◌, inl, inr, arith}
 use Rattle.esc_model.specs.Registers.{access_byte}
 use Rattle.esc_model.specs.SlaveHalf.{SlaveHalf}
@@ -17,7 +17,7 @@ use Rattle.site_core.specs.State.{Seen, HalfGoes, clock}
 use Rattle.site_core.proofs.Times.{Follows-clock}
 use Rattle.esc_rom.specs.declared.poll.Rested.{Rested}
 use Rattle.esc_rom.specs.declared.poll.Rested.TheVariants.{Well, Failed}
-use Rattle.esc_rom.specs.Runs.{Ran, IsCut, IsSeen, Waited, Wrote}
+use Rattle.esc_rom.specs.Runs.{Ran, StopsQuietly, IsSeen, Waited, Wrote}
 use Rattle.esc_rom.specs.Past.{HalfAt}
 use Rattle.esc_rom.specs.Access.{BecomesSettled, SettlesSlave}
 use Rattle.esc_rom.proofs.Runs.{Ran-then, Ran-weaker}
@@ -92,7 +92,7 @@ settles_ok old slave taken answer new ran = record {
   only_stopped = tt;
 }
 
-pub settles_cut : (old : Seen) (slave : ℕ) (taken : Bool) (result : Result Settled DeviceFault) (new : Seen) → result ≡ Err device.Stopped → IsCut old 10001 new → SettlesSlave old slave taken result new
+pub settles_cut : (old : Seen) (slave : ℕ) (taken : Bool) (result : Result Settled DeviceFault) (new : Seen) → result ≡ Err device.Stopped → StopsQuietly old 10001 new → SettlesSlave old slave taken result new
 settles_cut old slave taken result new is cut = subst (λ (r : Result Settled DeviceFault). SettlesSlave old slave taken r new) (sym is) (record {
   quiet = cut.quiet;
   half = λ s was. absurd cc;

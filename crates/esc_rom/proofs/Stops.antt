@@ -1,4 +1,4 @@
--- The fault that a stop is answered with.
+-- The fault that a stopped site is reported as.
 use Rattle.std.proofs.Common.{◌≡◌, Result, Ok, Err, IsErrAnd, ap, ◌∙◌}
 use Rattle.site_core.specs.declared.fault.DeviceFault.{DeviceFault}
 use Rattle.site_core.specs.declared.fault.DeviceFault.TheVariants as device

@@ -43,7 +43,7 @@ write_back old slave address content new {datagram} value is ran = Ran-weaker (o
       | inr none ↦ subst (λ (b : Bool). Wrote (sent Fpwr 0 address content) old new b half later) (sym (is ∙ none.0)) (inr (record { rested = answers.rested; rests = answers.rests; refused = none.1; is = answers.is }))
     ]
 
--- whatever is told of it, the half took the datagram or it is the same
+-- whatever the answer, the half took the datagram or is unchanged
 pub wrote_receives : (order : Pdu) (old new : Seen) (value : Bool) (half later : SlaveHalf) → Wrote order old new value half later → (later ≡ half) ⊎ Receives order half later
 wrote_receives order old new true half later counts = inr (record { rested = counts.rested; rests = counts.rests; is = counts.is })
 wrote_receives order old new false half later (inl lost) = lost.2
@@ -51,7 +51,7 @@ wrote_receives order old new false half later (inr refuses) = inr (record { rest
 
 -- INSISTING
 
--- so many were sent, and the half didn't count one, or isn't known to have counted it
+-- this many were sent and all lost, or the half once refused one
 pub record TriedSo (order : Pdu) (old : Seen) (times : ℕ) (now : Seen) (half later : SlaveHalf) : Type 0 where
   pub tried : Tries order half later
   pub why : ((clock now ≡ clock old + times) × AreLost now (clock old) times) ⊎ OnceRefused order half

@@ -1,4 +1,4 @@
--- What the calls of word access do: on pairs, what a stop may leave; on states, what becomes of this slave's half.
+-- What each call of word access does: what a power cut may leave (pairs), and what becomes of the slave's EEPROM half (states).
 use Rattle.std.specs.Prelude.{◌≡◌, ◌⊎◌, ◌↔◌, ℕ, ◌+◌, ◌*◌, ◌/◌, ◌≤◌, List, Bool, true, false, Some, Result, Ok, Err, IfErr, IsTrue, slice_get, slice_set}
 use Rattle.esc_model.specs.SlaveHalf.{SlaveHalf, MayRest}
 use Rattle.esc_model.specs.Registers.{access_byte}
@@ -19,27 +19,31 @@ use Rattle.esc_rom.specs.Runs.{Quiet}
 
 -- ISSUE
 
--- the pairs differ at this word of this slave alone, if they do
+-- The pairs are the same, but for this word of this slave.
 abbrev pub DiffersAtWord : Pair → (slave word : ℕ) → Pair → Type 0
 DiffersAtWord before slave word pair =
     (pair.disk ≡ before.disk)
     × ((pair.words ≡ before.words)
-    ⊎ ((words : List ℕ) × (held : ℕ) × (slice_get before.words slave ≡ Some words) × (pair.words ≡ slice_set before.words slave (slice_set words word held))))
+    ⊎ ((words : List ℕ) × (held : ℕ) × (slice_get before.words slave ≡ Some words)
+    × (pair.words ≡ slice_set before.words slave (slice_set words word held))))
 
--- a pair that a stop could have left before, with this word of this slave holding anything
+-- A pair that a power cut could have left before, except that this word of this slave may hold anything.
 abbrev pub WordMayDiffer : Seen → (slave word : ℕ) → Pair → Type 0
 WordMayDiffer old slave word pair = (before : Pair) × Leaves old.state before × DiffersAtWord before slave word pair
 
--- The half came to rest or not. It took the word only where that is said, or where the frame was lost, and it didn't take it
--- only where it was busy or is at another station.
+-- What becomes of the half, by the answer of `issue`; it may also have become idle. `Taken`: it took the word. `NotTaken`: it was
+-- busy, or is at another station address. `Lost`: the call lost its frame, and the half took the word or not.
 abbrev pub BecomesIssued : Seen → (slave word value : ℕ) → Seen → Issued → SlaveHalf → SlaveHalf → Type 0
 BecomesIssued old slave word value new issued.Taken half later = TakesWord slave word value half later
 BecomesIssued old slave word value new issued.NotTaken half later = MayRest half later × (¬ IsIdle half ⊎ (¬ IsAt slave half))
-BecomesIssued old slave word value new issued.Lost half later = (MayRest half later ⊎ TakesWord slave word value half later) × FailsAt new (clock old)
+BecomesIssued old slave word value new issued.Lost half later =
+    (MayRest half later ⊎ TakesWord slave word value half later) × FailsAt new (clock old)
 
+-- `issue`: one device call, at no point of which a power cut leaves a change but in this word.
 pub record IssuesWord (old : Seen) (slave word value : ℕ) (result : Result Issued DeviceFault) (new : Seen) : Type 0 where
   pub stays : StaysWithin (WordMayDiffer old slave word) old new
-  pub half : (issued : Issued) → result ≡ Ok issued → HalfGoes (BecomesIssued old slave word value new issued) old.state slave new.state
+  pub half : (issued : Issued) → result ≡ Ok issued
+      → HalfGoes (BecomesIssued old slave word value new issued) old.state slave new.state
   pub follows : Follows old new
   pub clock : clock new ≡ clock old + 1
   pub never_fewer : old.faults ≤ new.faults
@@ -49,28 +53,36 @@ pub record IssuesWord (old : Seen) (slave word value : ℕ) (result : Result Iss
 
 -- SETTLE
 
--- The half came to rest or not. Written only where it was taken, and then a word that the half was writing is in place. Again, of a
--- word that was taken, only where the half came to rest in error. Dead only where 10,000 polls didn't see it idle.
+-- What becomes of the half, by the answer of `settle`; it may also have become idle. `Written`: the word was taken, and a word that
+-- the half was writing has its new value. `Again`: the half is idle; if the word was taken, the half had become idle with an error.
+-- `Dead`: 10,000 polls didn't see it idle.
 abbrev pub BecomesSettled : Seen → (slave : ℕ) → (taken : Bool) → Seen → Settled → SlaveHalf → SlaveHalf → Type 0
 BecomesSettled old slave taken new settled.Written half later =
-    IsTrue taken × MayRest half later × IsWell later × ((word value : ℕ) → IsWritingOrInError word value half → IsWritten word value half later)
-BecomesSettled old slave taken new settled.Again half later = OnlyRests half later × IsIdle later × (IsTrue taken → RestsInError old slave new half)
+    IsTrue taken × MayRest half later × IsWell later
+    × ((word value : ℕ) → IsWritingOrInError word value half → IsWritten word value half later)
+BecomesSettled old slave taken new settled.Again half later =
+    OnlyRests half later × IsIdle later × (IsTrue taken → RestsInError old slave new half)
 BecomesSettled old slave taken new settled.Dead half later = MayRest half later × WaitsInVain old slave new
 
+-- `settle`: at most 10,001 device calls, at no point of which a power cut leaves anything new.
 pub record SettlesSlave (old : Seen) (slave : ℕ) (taken : Bool) (result : Result Settled DeviceFault) (new : Seen) : Type 0 where
   pub quiet : Quiet old 10001 new
-  pub half : (settled : Settled) → result ≡ Ok settled → HalfGoes (BecomesSettled old slave taken new settled) old.state slave new.state
+  pub half : (settled : Settled) → result ≡ Ok settled
+      → HalfGoes (BecomesSettled old slave taken new settled) old.state slave new.state
   pub stopped : IsTrue new.is_stopped ↔ (result ≡ Err device.Stopped)
   pub only_stopped : IfErr result (λ fault. fault ≡ device.Stopped)
 
 -- OPEN
 
--- The half came to rest or not. Once it is open it is idle, and 0x0500 is 0: the EEPROM isn't offered to the PDI. A slave is given up
--- where 10,000 polls in a row didn't see it idle, three datagrams in a row were lost, or it is at another station.
+-- What becomes of the half, by whether it was opened; it may also have become idle. If it was, it is idle, and 0x0500 is 0: the EEPROM
+-- isn't offered to the PDI. If it wasn't, 10,000 polls in a row didn't see it idle, three datagrams in a row were lost, or it is at
+-- another station address.
 abbrev pub BecomesOpen : Seen → (slave : ℕ) → Seen → Bool → SlaveHalf → SlaveHalf → Type 0
 BecomesOpen old slave new true half later = OnlyRests half later × IsIdle later × (access_byte later.registers ≡ 0)
-BecomesOpen old slave new false half later = OnlyRests half later × (NeverIdle old slave new ⊎ (LosesThree old slave new ⊎ (¬ IsAt slave half)))
+BecomesOpen old slave new false half later =
+    OnlyRests half later × (NeverIdle old slave new ⊎ (LosesThree old slave new ⊎ (¬ IsAt slave half)))
 
+-- `open_slave`: at most 10,009 device calls, at no point of which a power cut leaves anything new.
 pub record OpensSlave (old : Seen) (slave : ℕ) (result : Result (Unit {0}) RomFault) (new : Seen) : Type 0 where
   pub quiet : Quiet old 10009 new
   pub opened : result ≡ Ok tt → HalfGoes (BecomesOpen old slave new true) old.state slave new.state
@@ -80,15 +92,15 @@ pub record OpensSlave (old : Seen) (slave : ℕ) (result : Result (Unit {0}) Rom
 
 -- READ
 
--- The half came to rest or not. At Ok it is idle, and these are its words, which are the only ones that a stop leaves.
+-- All words were read. The half is idle and has these words; so a power cut leaves no others.
 abbrev pub BecomesRead : List ℕ → SlaveHalf → SlaveHalf → Type 0
 BecomesRead words half later = OnlyRests half later × IsIdle later × (later.words ≡ words)
 
--- It came to rest or not, and 10,000 polls in a row didn't see it idle, or three tries in a row to read two words failed.
+-- The slave was given up: 10,000 polls in a row didn't see it idle, or three tries in a row to read two words failed.
 abbrev pub BecomesUnread : Seen → (slave size : ℕ) → Seen → SlaveHalf → SlaveHalf → Type 0
 BecomesUnread old slave size new half later = OnlyRests half later × GivesUpReading old slave size new
 
--- Want of memory is told before anything is sent.
+-- `read_all` of `size` words. At no point does a power cut leave anything new. If memory is refused, nothing was sent.
 pub record ReadsWords (old : Seen) (slave size : ℕ) (result : Result (List ℕ) RomFault) (new : Seen) : Type 0 where
   pub quiet : Quiet old (10000 + 30006 * (size / 2)) new
   pub read : (words : List ℕ) → result ≡ Ok words → HalfGoes (BecomesRead words) old.state slave new.state

@@ -5,3 +5,5 @@ pub mod Runs
 pub mod WordPairs
 pub mod Access
 pub mod Laws
+pub mod Owned
+pub mod Reading

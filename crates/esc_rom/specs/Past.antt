@@ -1,19 +1,19 @@
--- Why a word is issued again, or a slave is given up, as the past tells it: the half of the slave at each time of the clock, and which
--- calls failed.
+-- Why a word is issued again, or a slave is given up, in terms of the past: the EEPROM half of the slave at each time of the clock, and
+-- which calls lost their frame.
 use Rattle.std.specs.Prelude.{◌≡◌, ◌⊎◌, ℕ, ◌+◌, ◌%◌, ◌<◌, ◌≤◌, Some, slice_get}
 use Rattle.esc_model.specs.Registers.{access_byte}
 use Rattle.esc_model.specs.SlaveHalf.{SlaveHalf, MayRest}
-use Rattle.esc_model.specs.Datagrams.{Receives, Counts}
+use Rattle.esc_model.specs.Datagrams.{Receives, CountsDatagram}
 use Rattle.esc_model.specs.Orders.{read_order}
 use Rattle.esc_model.specs.WordAccess.{IsAt, IsIdle, HasError, IsWell}
 use Rattle.site_core.specs.State.{Seen, clock}
 use Rattle.site_core.specs.Times.{instant_at, FailsAt}
 
--- the half of this slave at this time
+-- The half of this slave at this time.
 abbrev pub HalfAt : Seen → (slave time : ℕ) → SlaveHalf → Type 0
 HalfAt seen slave time half = slice_get (instant_at seen time).state.halves slave ≡ Some half
 
--- from one time to another it went so
+-- The half of this slave at time `from` and at time `end` are related by `R`.
 pub record HalfWent (R : SlaveHalf → SlaveHalf → Type 0) (seen : Seen) (slave from end : ℕ) : Type 0 where
   pub half : SlaveHalf
   pub later : SlaveHalf
@@ -21,13 +21,13 @@ pub record HalfWent (R : SlaveHalf → SlaveHalf → Type 0) (seen : Seen) (slav
   pub last : HalfAt seen slave end later
   pub goes : R half later
 
--- so many calls in a row lost their datagram
+-- This number of calls in a row lost their frame.
 abbrev pub AreLost : Seen → (from times : ℕ) → Type 0
 AreLost seen from times = (k : ℕ) → k < times → FailsAt seen (from + k)
 
 -- A WORD THAT ISN'T WRITTEN
 
--- before the last call the half had come to rest, with bit 13 or 14
+-- Before the last call the half had become idle, with bit 13 or 14 set.
 pub record RestsInError (old : Seen) (slave : ℕ) (new : Seen) (half : SlaveHalf) : Type 0 where
   pub time : ℕ
   pub after : clock old ≤ time
@@ -40,21 +40,22 @@ pub record RestsInError (old : Seen) (slave : ℕ) (new : Seen) (half : SlaveHal
 
 -- A SLAVE THAT ISN'T IDLE
 
--- a poll that didn't see the half idle: it was lost, or the half is busy after it, or is at another station
+-- A poll that didn't see the half idle: its frame was lost, or the half is busy after it, or is at another station address.
 abbrev pub MissesIdle : Seen → (slave time : ℕ) → Type 0
 MissesIdle seen slave time =
-    HalfWent (λ half later. MayRest half later × (FailsAt seen time ⊎ ((¬ IsIdle later) ⊎ (¬ IsAt slave half)))) seen slave time (time + 1)
+    HalfWent (λ half later. MayRest half later × (FailsAt seen time ⊎ ((¬ IsIdle later) ⊎ (¬ IsAt slave half))))
+    seen slave time (time + 1)
 
--- so many of them in a row
+-- this number of such polls in a row
 abbrev pub PollsInVain : Seen → (slave from times : ℕ) → Type 0
 PollsInVain seen slave from times = (k : ℕ) → k < times → MissesIdle seen slave (from + k)
 
--- all calls were such polls, 10,000 of them
+-- The calls were 10,000 such polls.
 pub record WaitsInVain (old : Seen) (slave : ℕ) (new : Seen) : Type 0 where
   pub polls : PollsInVain new slave (clock old) 10000
   pub clock : clock new ≡ clock old + 10000
 
--- the last 10,000 calls were
+-- The last 10,000 calls were such polls.
 pub record NeverIdle (old : Seen) (slave : ℕ) (new : Seen) : Type 0 where
   pub from : ℕ
   pub after : clock old ≤ from
@@ -63,11 +64,11 @@ pub record NeverIdle (old : Seen) (slave : ℕ) (new : Seen) : Type 0 where
 
 -- A SLAVE THAT DOESN'T TAKE A DATAGRAM
 
--- ECAT access is forced, or the half is idle and not offered to the PDI
+-- 0x0500 is 2, which forces ECAT access, or it is 0 and the half is idle.
 abbrev pub IsReached : SlaveHalf → Type 0
 IsReached half = (access_byte half.registers ≡ 2) ⊎ (IsIdle half × (access_byte half.registers ≡ 0))
 
--- The last three calls lost their datagram, and they were the first ones, or came behind the wait or the datagrams that the half took.
+-- The last three calls lost their frame. They were the first three calls, or the datagrams before them had reached the half.
 pub record LosesThree (old : Seen) (slave : ℕ) (new : Seen) : Type 0 where
   pub from : ℕ
   pub after : clock old ≤ from
@@ -77,33 +78,35 @@ pub record LosesThree (old : Seen) (slave : ℕ) (new : Seen) : Type 0 where
 
 -- A SLAVE WHOSE WORDS AREN'T READ
 
--- What ended a try to read this word and the next one, from one time to another, of a half at the slave's station. A command that was
--- lost may have been taken, and so the half may be busy at the next try.
+-- Why a try to read this word and the next one failed, at a half with the slave's station address, from one time to another. A command
+-- whose frame was lost may have been taken, and so the half may be busy at the next try.
 pub data EndsTry (seen : Seen) (slave word from end : ℕ) (half later : SlaveHalf) : Type 0 where
   -- it was busy, and still is
   still_busy : (¬ IsIdle half) → later ≡ half → EndsTry seen slave word from end half later
-  -- the command to read was lost, and was taken or not
-  command_lost : FailsAt seen from → (later ≡ half) ⊎ Receives (read_order slave word) half later → EndsTry seen slave word from end half later
-  -- the half counted the command, and came to rest with bit 13 or 14
-  in_error : {asked : SlaveHalf} → Counts (read_order slave word) half asked → MayRest asked later → IsIdle later → HasError later
+  -- the frame of the command to read was lost, and the half took the command or not
+  command_lost : FailsAt seen from → (later ≡ half) ⊎ Receives (read_order slave word) half later
       → EndsTry seen slave word from end half later
-  -- it came to rest well, and the datagram that asked for the words was lost
-  words_lost : {asked : SlaveHalf} → (time : ℕ) → Counts (read_order slave word) half asked → MayRest asked later → IsWell later
+  -- the half took the command, and became idle with bit 13 or 14 set
+  in_error : {asked : SlaveHalf} → CountsDatagram (read_order slave word) half asked → MayRest asked later → IsIdle later → HasError later
+      → EndsTry seen slave word from end half later
+  -- it became idle without an error, and the frame that was to fetch the words was lost
+  words_lost : {asked : SlaveHalf} → (time : ℕ) → CountsDatagram (read_order slave word) half asked → MayRest asked later → IsWell later
       → from < time → end ≡ time + 1 → FailsAt seen time → EndsTry seen slave word from end half later
 
--- a try that failed: the command to read, 10,000 polls at most, and the datagram that asks for the words
+-- A try that failed, of at most 10,002 calls: the command to read, 10,000 polls, and the fetch of the words.
 pub record FailsTry (seen : Seen) (slave word from end : ℕ) : Type 0 where
   pub some : from < end
   pub within : end ≤ from + 10002
   pub ends : HalfWent (EndsTry seen slave word from end) seen slave from end
 
--- so many of them in a row
+-- this number of failed tries in a row
 pub data FailTries (seen : Seen) (slave word from : ℕ) : (times end : ℕ) → Type 0 where
   no_try : FailTries seen slave word from 0 from
-  one_more_try : {times mid end : ℕ} → FailTries seen slave word from times mid → FailsTry seen slave word mid end → FailTries seen slave word from (times + 1) end
+  one_more_try : {times mid end : ℕ} → FailTries seen slave word from times mid → FailsTry seen slave word mid end
+      → FailTries seen slave word from (times + 1) end
 
--- The half was idle and at the slave's station, and then three tries in a row failed, for the same two words of so many. They were the
--- last calls.
+-- The half was idle and has the slave's station address, and then three tries in a row to read the same two of the `size` words failed.
+-- They were the last calls.
 pub record ReadsInVain (old : Seen) (slave size : ℕ) (new : Seen) : Type 0 where
   pub from : ℕ
   pub after : clock old ≤ from
@@ -113,5 +116,6 @@ pub record ReadsInVain (old : Seen) (slave size : ℕ) (new : Seen) : Type 0 whe
   pub inside : word + 1 < size
   pub tries : FailTries new slave word from 3 (clock new)
 
+-- `read_all` gives a slave up for one of these two reasons.
 abbrev pub GivesUpReading : Seen → (slave size : ℕ) → Seen → Type 0
 GivesUpReading old slave size new = NeverIdle old slave new ⊎ ReadsInVain old slave size new

@@ -1,4 +1,4 @@
--- A datagram to the half of one slave, in a frame of its own.
+-- One datagram in one frame, for the EEPROM half of one slave.
 use Rattle.std.specs.Prelude.{ℕ, List, [], ◌∷◌, Option, Some, None, Result, Ok, Err}
 use Rattle.ecat_frame.specs.Frame.{Pdu}
 use Rattle.site_core.specs.declared.fault.DeviceFault.TheVariants as device
@@ -6,7 +6,7 @@ use Rattle.site_core.specs.State.{Seen}
 use Rattle.site_core.specs.Calls.{ExchangesFrame}
 use Rattle.esc_rom.specs.declared.fault.Stop.{Stop}
 
--- it comes back, or it is lost, or the site stops
+-- The frame comes back, or is lost (`None`), or the site stops.
 abbrev pub Sends : (old : Seen) (slave : ℕ) → Pdu → Result (Option (List Pdu)) Stop → (new : Seen) → Type 0
 Sends old slave order (Ok (Some answer)) new = ExchangesFrame old slave (order ∷ []) (Ok tt) answer new
 Sends old slave order (Ok None) new = ExchangesFrame old slave (order ∷ []) (Err device.Lost) (order ∷ []) new

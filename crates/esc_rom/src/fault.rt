@@ -1,4 +1,4 @@
-//! Why words could not be read or written.
+//! Why a slave could not be opened or read.
 
 ghost use Rattle.std.specs.Prelude.{◌≡◌};
 ghost use Rattle.esc_rom.specs.declared.fault.RomFault.TheVariants as rom;
@@ -11,13 +11,13 @@ use thiserror::Error;
 /// Why a slave's EEPROM (ETG.1000.4, slave information interface) could not be opened or read.
 #[derive(Clone, Copy, Debug, PartialEq, Eq, Error)]
 pub enum RomFault {
-    /// Out of memory.
+    /// Memory was refused.
     #[error("out of memory")]
     Memory,
-    /// The slave at this place of the line doesn't take what is sent to it, or doesn't come to rest.
+    /// The slave with this number doesn't take what is sent to it, doesn't become idle, or doesn't give its words.
     #[error("slave {slave} is dead")]
     SlaveDead { slave: u16 },
-    /// The site has stopped.
+    /// The site has stopped, as at a power cut.
     #[error("the site has stopped")]
     Stopped,
 }
@@ -38,7 +38,7 @@ impl<T: Drop> From<AllocFailed<T>> for RomFault {
     }
 }
 
-/// The site has stopped, which is all that can end the sending of datagrams.
+/// The site has stopped: the only fault that ends a sequence of datagrams. A lost frame doesn't.
 #[derive(Clone, Copy)]
 pub(crate) struct Stop;
 

@@ -1,4 +1,4 @@
-//! Handing a word to a slave.
+//! Issuing a word: sending the command that writes it.
 
 ghost use Rattle.std.specs.Prelude.{◌≡◌, ◌++◌};
 ghost use Rattle.std.specs.Int.{w16, w32, to_le_bytes};
@@ -10,10 +10,10 @@ use crate::send::send;
 use ecat_frame::Command;
 use site_core::{DeviceFault, Issued, Site};
 
-/// Control with write enable, and the command write.
+/// Control and status: write enable, and the command write.
 const WRITE: u16 = 0x0201;
 
-/// What the datagram that writes a word carries from the control register on: write enable and the command, the word's number as 32
+/// The content of the datagram that writes a word, for the control register: write enable and the command, the word's number in 32
 /// bits, and its value (ETG.1000.4, slave information interface).
 pub fn write_content(word: u16, value: u16) -> [u8; 8]
     ensures { result ≡ to_le_bytes w16 0x0201 ++ to_le_bytes w32 word ++ to_le_bytes w16 value }
@@ -24,11 +24,14 @@ pub fn write_content(word: u16, value: u16) -> [u8; 8]
     [enable, command, a, b, c, d, low, high]
 }
 
-/// Asks a slave to write a word of its EEPROM (ETG.1000.4, slave information interface).
+/// Sends a slave the command to write one word of its EEPROM (ETG.1000.4, slave information interface), in one datagram.
+///
+/// `settle` waits until the word is written. The site must own the EEPROM half of the slave.
 ///
 /// # Errors
 ///
-/// `Stopped` alone, once the site has stopped.
+/// Only `Stopped`, if the site has stopped, or stops in this call. That word may hold anything then; no other has changed. A lost frame
+/// is no error here, but the answer `Lost`.
 pub fn issue<S: Site>(
     site: &mut S,
     slave: u16,

@@ -1,8 +1,8 @@
-//! Laws over calls in a row. A function here does nothing: its contract is the law.
+//! Laws about calls in a row. The functions here do nothing: the contract of each is the law.
 
 ghost use Rattle.esc_rom.specs.Laws.{WrittenStays};
 
-/// A word that was issued and taken, and then written, holds its value after each stop.
+/// If a slave took a word and the next `settle` reports it as written, every power cut leaves its value in it.
 pub fn written_stays()
     ensures { WrittenStays }
 {}

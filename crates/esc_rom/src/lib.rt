@@ -1,12 +1,12 @@
-//! Access to the words of a slave's EEPROM by its registers (ETG.1000.4, slave information interface), over any line of slaves.
-//!
-//! Each call sends datagrams to one slave, one in a frame, and says what a stop may leave at any moment on the way.
+//! EEPROM words through the slave's registers: opening, reading and writing one slave, and reading all slaves of a line.
 #![tactic(auto)]
 
 mod fault;
 mod issuing;
 pub mod laws;
+mod line_reading;
 mod opening;
+mod owned;
 mod poll;
 mod reading;
 mod registers;
@@ -16,7 +16,9 @@ mod write;
 
 pub use fault::RomFault;
 pub use issuing::{issue, write_content};
+pub use line_reading::read_slaves;
 pub use opening::open_slave;
+pub use owned::{line_sizes, owns_all};
 pub use reading::read_all;
 pub use registers::{ACCESS, ADDRESS, CONTENT, CONTROL, POLLS, TRIES};
 pub use settling::settle;

@@ -2,7 +2,7 @@
 
 ghost use Rattle.std.specs.Prelude.{◌≡◌};
 ghost use Rattle.site_core.specs.Line.{Owns};
-ghost use Rattle.esc_rom.specs.Runs.{Runs};
+ghost use Rattle.esc_rom.specs.Runs.{Performs};
 ghost use Rattle.esc_rom.specs.Access.{OpensSlave, BecomesOpen};
 
 use crate::fault::{RomFault, Stop};
@@ -11,10 +11,10 @@ use crate::registers::{ACCESS, CONTROL};
 use crate::write::insist;
 use site_core::Site;
 
-/// Takes the EEPROM from the PDI, waits until the slave is idle, and clears its errors. Tells whether that is done.
+/// Takes the EEPROM from the PDI, waits until the slave is idle, and clears its errors. Returns whether all that succeeded.
 fn take_over<S: Site>(site: &mut S, slave: u16) -> Result<bool, Stop>
     requires { Owns (S.line site.old) slave }
-    ensures runs { Runs (BecomesOpen (S.seen site.old) slave (S.seen site.new)) (S.seen site.old) slave 10009 result (S.seen site.new) }
+    ensures runs { Performs (BecomesOpen (S.seen site.old) slave (S.seen site.new)) (S.seen site.old) slave 10009 result (S.seen site.new) }
     ensures line { S.line site.new ≡ S.line site.old }
 {
     if !insist(site, slave, ACCESS, &[0x02])? {
@@ -29,12 +29,13 @@ fn take_over<S: Site>(site: &mut S, slave: u16) -> Result<bool, Stop>
     insist(site, slave, CONTROL, &[0, 0])
 }
 
-/// Opens the EEPROM of a slave for word access (ETG.1000.4, slave information interface).
+/// Opens the EEPROM of a slave for word access (ETG.1000.4, slave information interface): takes it from the PDI, waits until the slave
+/// is idle, and clears its errors. The site must own the EEPROM half of the slave.
 ///
 /// # Errors
 ///
-/// `SlaveDead` where the slave doesn't take a datagram in three tries, or isn't idle after 10,000 polls; `Stopped` once the
-/// site has stopped.
+/// `Stopped` if the site has stopped, or stops in this call. `SlaveDead` if the slave doesn't take a datagram in three tries, or isn't
+/// seen idle in 10,000 polls. In both cases a power cut leaves nothing that it couldn't have left before the call.
 pub fn open_slave<S: Site>(site: &mut S, slave: u16) -> Result<(), RomFault>
     requires { Owns (S.line site.old) slave }
     ensures opens { OpensSlave (S.seen site.old) slave result (S.seen site.new) }

@@ -4,7 +4,7 @@ ghost use Rattle.std.specs.Prelude.{◌≡◌, length};
 ghost use Rattle.ecat_frame.specs.Frame.{pdu};
 ghost use Rattle.site_core.specs.Line.{Owns};
 ghost use Rattle.esc_rom.specs.Status.{rest_shown, found_in};
-ghost use Rattle.esc_rom.specs.Runs.{Runs, Polled, Waited};
+ghost use Rattle.esc_rom.specs.Runs.{Performs, Polled, Waited};
 
 use crate::fault::Stop;
 use crate::registers::{CONTROL, POLLS};
@@ -12,7 +12,7 @@ use crate::send::send;
 use ecat_frame::{Command, Datagram};
 use site_core::Site;
 
-/// How an idle slave came to rest.
+/// How the last command of an idle slave ended.
 #[derive(Clone, Copy)]
 pub(crate) enum Rested {
     /// Bits 13 and 14 of control and status are clear.
@@ -21,7 +21,7 @@ pub(crate) enum Rested {
     Failed,
 }
 
-/// What the high byte of control and status says. None where the slave is busy.
+/// Reads the high byte of control and status. None if the slave is busy.
 fn read_status(status: u8) -> Option<Rested>
     ensures { result ≡ rest_shown status }
 {
@@ -32,7 +32,7 @@ fn read_status(status: u8) -> Option<Rested>
     }
 }
 
-/// What the answer to a poll says. None where the slave is busy, or hasn't counted the datagram.
+/// Reads the answer to a poll. None if the slave is busy, or the working counter isn't 1.
 fn found(answer: Datagram<'_>) -> Option<Rested>
     requires { length answer.content.now ≡ 2 }
     ensures { result ≡ found_in (pdu answer.entry) }
@@ -43,10 +43,10 @@ fn found(answer: Datagram<'_>) -> Option<Rested>
     read_status(answer.content[1])
 }
 
-/// Polls a slave once. None where it isn't seen idle: it is busy, or the frame is lost, or it isn't counted.
+/// Polls a slave once. None if it isn't seen idle: it is busy, the frame is lost, or the working counter isn't 1.
 pub(crate) fn poll<S: Site>(site: &mut S, slave: u16) -> Result<Option<Rested>, Stop>
     requires { Owns (S.line site.old) slave }
-    ensures runs { Runs (Polled (S.seen site.old) slave (S.seen site.new)) (S.seen site.old) slave 1 result (S.seen site.new) }
+    ensures runs { Performs (Polled (S.seen site.old) slave (S.seen site.new)) (S.seen site.old) slave 1 result (S.seen site.new) }
     ensures line { S.line site.new ≡ S.line site.old }
 {
     match send(site, slave, Command::Fprd, CONTROL, &[0, 0])? {
@@ -55,10 +55,10 @@ pub(crate) fn poll<S: Site>(site: &mut S, slave: u16) -> Result<Option<Rested>, 
     }
 }
 
-/// Polls a slave until it is idle. None where it isn't after the last poll.
+/// Polls a slave until it is seen idle. None if it isn't in 10,000 polls.
 pub(crate) fn wait_idle<S: Site>(site: &mut S, slave: u16) -> Result<Option<Rested>, Stop>
     requires { Owns (S.line site.old) slave }
-    ensures runs { Runs (Waited (S.seen site.old) slave (S.seen site.new)) (S.seen site.old) slave 10000 result (S.seen site.new) }
+    ensures runs { Performs (Waited (S.seen site.old) slave (S.seen site.new)) (S.seen site.old) slave 10000 result (S.seen site.new) }
     ensures line { S.line site.new ≡ S.line site.old }
 {
     for _poll in 0..POLLS {

@@ -5,7 +5,7 @@ ghost use Rattle.sii_words.specs.Words.{IsDeviceSize};
 ghost use Rattle.std.specs.Int.{w16, w32, to_le_bytes};
 ghost use Rattle.ecat_frame.specs.Frame.{pdu};
 ghost use Rattle.site_core.specs.Line.{Owns};
-ghost use Rattle.esc_rom.specs.Runs.{Runs};
+ghost use Rattle.esc_rom.specs.Runs.{Performs};
 ghost use Rattle.esc_rom.specs.WordPairs.{pair_of, Fetched, TriesRead, ReadsPair, ReadsAll};
 ghost use Rattle.esc_rom.specs.Access.{ReadsWords};
 
@@ -19,27 +19,27 @@ use sii_words::{Words, WordsFault};
 use site_core::Site;
 use std::alloc::Global;
 
-/// Control, and the command read.
+/// Control and status: the command read.
 const READ: u16 = 0x0100;
 
-/// Two words, one behind the other.
+/// Two neighbouring words.
 #[derive(Clone, Copy)]
 pub(crate) struct WordPair {
     first: u16,
     second: u16,
 }
 
-/// What came of one try to read two words.
+/// The outcome of one try to read two words.
 #[derive(Clone, Copy)]
 pub(crate) enum Tried {
     Read(WordPair),
-    /// A datagram was lost or not counted, or the slave showed an error.
+    /// A frame was lost, a working counter wasn't 1, or the slave showed an error.
     Failed,
-    /// The slave was polled 10,000 times and not seen idle.
+    /// The slave was polled 10,000 times and was never seen idle.
     Dead,
 }
 
-/// Control, and the word's number as 32 bits.
+/// The content of the datagram that asks for a word and the next one: the command, and the word's number in 32 bits.
 fn read_content(word: u16) -> [u8; 6]
     ensures { result ≡ to_le_bytes w16 0x0100 ++ to_le_bytes w32 word }
 {
@@ -48,7 +48,7 @@ fn read_content(word: u16) -> [u8; 6]
     [enable, command, a, b, c, d]
 }
 
-/// The words in an answer. None where the slave hasn't counted the datagram.
+/// The two words in an answer. None if its working counter isn't 1.
 fn pair_in(answer: Datagram<'_>) -> Option<WordPair>
     requires { length answer.content.now ≡ 4 }
     ensures { result ≡ pair_of (pdu answer.entry) }
@@ -63,10 +63,10 @@ fn pair_in(answer: Datagram<'_>) -> Option<WordPair>
     })
 }
 
-/// Asks for the two words that a slave has read. None where the frame is lost or isn't counted.
+/// Fetches the two words that a slave has read. None if the frame is lost, or the working counter isn't 1.
 fn fetch<S: Site>(site: &mut S, slave: u16) -> Result<Option<WordPair>, Stop>
     requires { Owns (S.line site.old) slave }
-    ensures runs { Runs (Fetched (S.seen site.old) slave (S.seen site.new)) (S.seen site.old) slave 1 result (S.seen site.new) }
+    ensures runs { Performs (Fetched (S.seen site.old) slave (S.seen site.new)) (S.seen site.old) slave 1 result (S.seen site.new) }
     ensures line { S.line site.new ≡ S.line site.old }
 {
     match send(site, slave, Command::Fprd, CONTENT, &[0, 0, 0, 0])? {
@@ -78,7 +78,7 @@ fn fetch<S: Site>(site: &mut S, slave: u16) -> Result<Option<WordPair>, Stop>
 /// Tries once to read a word and the next one.
 fn try_pair<S: Site>(site: &mut S, slave: u16, word: u16) -> Result<Tried, Stop>
     requires { Owns (S.line site.old) slave }
-    ensures runs { Runs (TriesRead (S.seen site.old) slave word (S.seen site.new)) (S.seen site.old) slave 10002 result (S.seen site.new) }
+    ensures runs { Performs (TriesRead (S.seen site.old) slave word (S.seen site.new)) (S.seen site.old) slave 10002 result (S.seen site.new) }
     ensures line { S.line site.new ≡ S.line site.old }
 {
     let content = read_content(word);
@@ -97,10 +97,10 @@ fn try_pair<S: Site>(site: &mut S, slave: u16, word: u16) -> Result<Tried, Stop>
     Ok(Tried::Read(pair))
 }
 
-/// Reads a word and the next one, in three tries at most. None where the slave is dead.
+/// Reads a word and the next one, in at most three tries. None if the slave is given up.
 fn read_pair<S: Site>(site: &mut S, slave: u16, word: u16) -> Result<Option<WordPair>, Stop>
     requires { Owns (S.line site.old) slave }
-    ensures runs { Runs (ReadsPair (S.seen site.old) slave word (S.seen site.new)) (S.seen site.old) slave 30006 result (S.seen site.new) }
+    ensures runs { Performs (ReadsPair (S.seen site.old) slave word (S.seen site.new)) (S.seen site.old) slave 30006 result (S.seen site.new) }
     ensures line { S.line site.new ≡ S.line site.old }
 {
     for _try in 0..TRIES {
@@ -113,10 +113,11 @@ fn read_pair<S: Site>(site: &mut S, slave: u16, word: u16) -> Result<Option<Word
     Ok(None)
 }
 
-/// Waits until a slave is idle, and reads its words, two by two, into the place of those that are there. Tells whether all were read.
+/// Waits until a slave is idle, and replaces `words` by the slave's words, read two by two. Returns whether all were read.
 fn wait_and_fill<S: Site>(site: &mut S, slave: u16, words: &mut Words) -> Result<bool, Stop>
     requires { Owns (S.line site.old) slave }
-    ensures runs { Runs (ReadsAll (S.seen site.old) slave (S.seen site.new) words.new) (S.seen site.old) slave (10000 + 30006 * (length words.old / 2)) result (S.seen site.new) }
+    ensures runs { Performs (ReadsAll (S.seen site.old) slave (S.seen site.new) words.new) (S.seen site.old) slave
+        (10000 + 30006 * (length words.old / 2)) result (S.seen site.new) }
     ensures length { length words.new ≡ length words.old }
     ensures line { S.line site.new ≡ S.line site.old }
 {
@@ -133,7 +134,7 @@ fn wait_and_fill<S: Site>(site: &mut S, slave: u16, words: &mut Words) -> Result
     Ok(true)
 }
 
-/// As many words as a slave has, all 0.
+/// This number of words, all 0.
 fn blank(alloc: Global, count: u16) -> Result<Words, RomFault>
     requires { IsDeviceSize count }
     ensures count { IfOk result (λ words. length words ≡ count) }
@@ -147,12 +148,14 @@ fn blank(alloc: Global, count: u16) -> Result<Words, RomFault>
     }
 }
 
-/// Reads all words of a slave (ETG.1000.4, slave information interface), once it is idle.
+/// Waits until a slave is idle, and reads all words of its EEPROM (ETG.1000.4, slave information interface). The site must own the
+/// EEPROM half of the slave.
 ///
 /// # Errors
 ///
-/// `Memory` before anything is sent; `SlaveDead` where the slave isn't idle after 10,000 polls, or two words can't be read in
-/// three tries; `Stopped` once the site has stopped.
+/// `Memory` if memory is refused; nothing was sent then. `Stopped` if the site has stopped, or stops in this call. `SlaveDead` if the
+/// slave isn't seen idle in 10,000 polls in a row, or two words can't be read in three tries. In all cases a power cut leaves nothing
+/// that it couldn't have left before the call.
 pub fn read_all<S: Site>(alloc: Global, site: &mut S, slave: u16) -> Result<Words, RomFault>
     requires { Owns (S.line site.old) slave }
     ensures reads { ReadsWords (S.seen site.old) slave (slice_index (S.line site.old).sizes slave) result (S.seen site.new) }

@@ -11,7 +11,7 @@ use ecat_frame::{Command, Frame, fp};
 use esc_model::station_address;
 use site_core::{DeviceFault, Site};
 
-/// A frame with one datagram to a slave.
+/// A frame with one datagram for a register of a slave.
 fn frame_of(slave: u16, command: Command, register: u16, content: &[u8]) -> Frame
     requires slave { slave < 64 }
     requires short { length content.now ≤ 16 }
@@ -25,7 +25,7 @@ fn frame_of(slave: u16, command: Command, register: u16, content: &[u8]) -> Fram
     }
 }
 
-/// Sends one datagram to a slave. None where the frame is lost.
+/// Sends one datagram to a register of a slave, and returns what comes back. None if the frame is lost.
 pub(crate) fn send<S: Site>(
     site: &mut S,
     slave: u16,

@@ -1,8 +1,8 @@
-//! Waiting for a word that was handed to a slave.
+//! Waiting for a word that was issued to a slave.
 
 ghost use Rattle.std.specs.Prelude.{◌≡◌};
 ghost use Rattle.site_core.specs.Line.{Owns};
-ghost use Rattle.esc_rom.specs.Runs.{Runs};
+ghost use Rattle.esc_rom.specs.Runs.{Performs};
 ghost use Rattle.esc_rom.specs.Access.{SettlesSlave, BecomesSettled};
 
 use crate::fault::Stop;
@@ -11,10 +11,10 @@ use crate::registers::CONTROL;
 use crate::write::write;
 use site_core::{DeviceFault, Settled, Site};
 
-/// Polls a slave until it is idle, and clears its errors if the word isn't in place.
+/// Polls a slave until it is idle. If the word isn't known to be written, clears the slave's errors.
 fn rest<S: Site>(site: &mut S, slave: u16, taken: bool) -> Result<Settled, Stop>
     requires { Owns (S.line site.old) slave }
-    ensures runs { Runs (BecomesSettled (S.seen site.old) slave taken (S.seen site.new)) (S.seen site.old) slave 10001 result (S.seen site.new) }
+    ensures runs { Performs (BecomesSettled (S.seen site.old) slave taken (S.seen site.new)) (S.seen site.old) slave 10001 result (S.seen site.new) }
     ensures line { S.line site.new ≡ S.line site.old }
 {
     let Some(rested) = wait_idle(site, slave)? else {
@@ -27,12 +27,15 @@ fn rest<S: Site>(site: &mut S, slave: u16, taken: bool) -> Result<Settled, Stop>
     Ok(Settled::Again)
 }
 
-/// Finds out what became of a word that was issued to a slave (ETG.1000.4, slave information interface), `taken` if the slave is
-/// known to have taken it.
+/// Waits until a slave to which a word was issued is idle, and returns whether the word is written (ETG.1000.4, slave information
+/// interface). `taken` says that `issue` returned `Taken`; otherwise the answer is never `Written`.
+///
+/// The site must own the EEPROM half of the slave.
 ///
 /// # Errors
 ///
-/// `Stopped` alone, once the site has stopped.
+/// Only `Stopped`, if the site has stopped, or stops in this call. A power cut leaves nothing then that it couldn't have left before the
+/// call.
 pub fn settle<S: Site>(site: &mut S, slave: u16, taken: bool) -> Result<Settled, DeviceFault>
     requires { Owns (S.line site.old) slave }
     ensures settles { SettlesSlave (S.seen site.old) slave taken result (S.seen site.new) }

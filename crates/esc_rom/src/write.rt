@@ -1,4 +1,4 @@
-//! Sending what a slave is to take, where it brings no word into flight.
+//! Writing to a register of a slave, where that puts no word of the EEPROM in flight.
 
 ghost use Rattle.std.specs.Prelude.{◌≡◌, ◌+◌, ◌≤◌, length};
 ghost use Rattle.ecat_frame.specs.Frame.{sent};
@@ -6,7 +6,7 @@ ghost use Rattle.ecat_frame.specs.declared.command.Command.TheVariants.{Fpwr};
 ghost use Rattle.site_core.specs.Line.{Owns};
 ghost use Rattle.esc_model.specs.Orders.{address_of};
 ghost use Rattle.esc_model.specs.WordAccess.{IsGentle};
-ghost use Rattle.esc_rom.specs.Runs.{Runs, Wrote, Insists};
+ghost use Rattle.esc_rom.specs.Runs.{Performs, Wrote, Insists};
 
 use crate::fault::Stop;
 use crate::registers::TRIES;
@@ -14,7 +14,7 @@ use crate::send::send;
 use ecat_frame::Command;
 use site_core::Site;
 
-/// Writes to a register. Tells whether the slave is known to have taken it.
+/// Writes to a register once. Returns whether the slave took it: the working counter came back as 1.
 pub(crate) fn write<S: Site>(
     site: &mut S,
     slave: u16,
@@ -24,7 +24,8 @@ pub(crate) fn write<S: Site>(
     requires owned { Owns (S.line site.old) slave }
     requires short { length content.now ≤ 16 }
     requires gentle { IsGentle (sent Fpwr 0 (address_of slave register) content.now) }
-    ensures runs { Runs (Wrote (sent Fpwr 0 (address_of slave register) content.now) (S.seen site.old) (S.seen site.new)) (S.seen site.old) slave 1 result (S.seen site.new) }
+    ensures runs { Performs (Wrote (sent Fpwr 0 (address_of slave register) content.now) (S.seen site.old) (S.seen site.new))
+        (S.seen site.old) slave 1 result (S.seen site.new) }
     ensures line { S.line site.new ≡ S.line site.old }
 {
     match send(site, slave, Command::Fpwr, register, content)? {
@@ -33,7 +34,7 @@ pub(crate) fn write<S: Site>(
     }
 }
 
-/// Writes to a register until the slave takes it, three times at most. Tells whether it took it.
+/// Writes to a register until the slave takes it, at most three times. Returns whether it did.
 pub(crate) fn insist<S: Site>(
     site: &mut S,
     slave: u16,
@@ -43,7 +44,8 @@ pub(crate) fn insist<S: Site>(
     requires owned { Owns (S.line site.old) slave }
     requires short { length content.now ≤ 16 }
     requires gentle { IsGentle (sent Fpwr 0 (address_of slave register) content.now) }
-    ensures runs { Runs (Insists (sent Fpwr 0 (address_of slave register) content.now) (S.seen site.old) (S.seen site.new)) (S.seen site.old) slave 3 result (S.seen site.new) }
+    ensures runs { Performs (Insists (sent Fpwr 0 (address_of slave register) content.now) (S.seen site.old) (S.seen site.new))
+        (S.seen site.old) slave 3 result (S.seen site.new) }
     ensures line { S.line site.new ≡ S.line site.old }
 {
     for _try in 0..TRIES {

@@ -29,7 +29,7 @@ ends_of spelling half area batches live = record {
   spelt = live.starts.spelt ∙ ap (λ (t : List ℕ). spelt_batches spelling batches ++ t) live.ends.3;
 }
 
--- the batch in front, and what stands behind it
+-- the batch in front, and what follows it
 split_batch : (spelling : Spelling) (batch : Batch) (batches : List Batch) (tail : List ℕ)
     → spelt_batches spelling (batch ∷ batches) ++ tail ≡ 0xA5 ∷ spelt_behind spelling batch.generation batch.entries ++ (spelt_batches spelling batches ++ tail)
 split_batch spelling batch batches tail = append_assoc (spelt_batch spelling batch) (spelt_batches spelling batches) tail

@@ -7,8 +7,8 @@ use Rattle.jrn_format.specs.declared.journal.Spelling.{Spelling}
 use Rattle.jrn_format.specs.declared.fault.JournalFault.{JournalFault}
 use Rattle.jrn_format.specs.declared.fault.JournalFault.TheVariants.{WrongLine, BadJournal}
 use Rattle.jrn_format.specs.Batch.{spelt_batch, CanStand, IsWithin}
-use Rattle.jrn_format.specs.Area.{spelt_batches, IsClosed, StartsWith, IsLive, IsCut}
-use Rattle.jrn_format.specs.Area.IsCut.{malformed, outside}
+use Rattle.jrn_format.specs.Area.{spelt_batches, IsClosed, StartsWith, IsLive, IsUnreadableArea}
+use Rattle.jrn_format.specs.Area.IsUnreadableArea.{malformed, outside}
 use Rattle.jrn_format.specs.steps.Reading.{◌>>>◌, Front, front_of, batches_of}
 use Rattle.jrn_format.specs.steps.Reading.Front.{Closed, Live, Bad}
 use Rattle.jrn_format.proofs.Numbers.{IsBytes}
@@ -84,21 +84,21 @@ area_live spelling half sizes end area (batch ∷ batches) good some e =
 
 cut_cons : (spelling : Spelling) (half : ℕ) (sizes : List ℕ) (end : ℕ) (area : List ℕ) (batch : Batch) (bytes : List ℕ) (fault : JournalFault)
     → CanStand spelling half batch → area ≡ spelt_batch spelling batch ++ bytes → IsWithin sizes batch
-    → IsCut spelling half sizes end bytes fault → IsCut spelling half sizes end area fault
+    → IsUnreadableArea spelling half sizes end bytes fault → IsUnreadableArea spelling half sizes end area fault
 cut_cons spelling half sizes end area batch bytes fault can e within (malformed batches rest at starts withins is_open none place is) =
     malformed (batch ∷ batches) rest at (starts_cons spelling half area batch bytes batches rest can e starts) (within, withins) is_open none place is
 cut_cons spelling half sizes end area batch bytes fault can e within (outside batches rest last starts withins has out is) =
     outside (batch ∷ batches) rest last (starts_cons spelling half area batch bytes batches rest can e starts) (within, withins) has out is
 
 cut_here : (spelling : Spelling) (half : ℕ) (sizes : List ℕ) (end : ℕ) (area : List ℕ) (fault : JournalFault) → length area ≤ end
-    → IsBadFront spelling half sizes end area fault → IsCut spelling half sizes end area fault
+    → IsBadFront spelling half sizes end area fault → IsUnreadableArea spelling half sizes end area fault
 cut_here spelling half sizes end area fault room (no_batch is_open none is) =
     malformed [] area (end - length area) (record { can_stand = tt; spelt = refl }) tt is_open none (omega arith) is
 cut_here spelling half sizes end area fault room (not_there batch has out is) =
     outside [] area batch (record { can_stand = tt; spelt = refl }) tt has out is
 
 cut_below : (spelling : Spelling) (half : ℕ) (sizes : List ℕ) (end n : ℕ) (area : List ℕ) (fault : JournalFault) (front : Front) → length area < n → IsBytes area → length area ≤ end
-    → front_of spelling half sizes end area ≡ front → batches_of spelling half sizes end area ≡ Err fault → IsCut spelling half sizes end area fault
+    → front_of spelling half sizes end area ≡ front → batches_of spelling half sizes end area ≡ Err fault → IsUnreadableArea spelling half sizes end area fault
 cut_below spelling half sizes end zero area fault front small good room e h = absurd (omega arith)
 cut_below spelling half sizes end (suc n) area fault Closed small good room e h = let never = sym (batches_of-closed spelling half sizes end area e) ∙ h in absurd cc
 cut_below spelling half sizes end (suc n) area fault (Live batch rest) small good room e h =
@@ -113,7 +113,7 @@ cut_below spelling half sizes end (suc n) area fault (Bad other) small good room
     cut_here spelling half sizes end area fault room (front_bad spelling half sizes end area fault good (e ∙ ap (λ (f : JournalFault). Bad f) same))
 
 pub area_cut : (spelling : Spelling) (half : ℕ) (sizes : List ℕ) (end : ℕ) (area : List ℕ) (fault : JournalFault) → IsBytes area → length area ≤ end
-    → batches_of spelling half sizes end area ≡ Err fault → IsCut spelling half sizes end area fault
+    → batches_of spelling half sizes end area ≡ Err fault → IsUnreadableArea spelling half sizes end area fault
 area_cut spelling half sizes end area fault good room h =
     cut_below spelling half sizes end (suc (length area)) area fault (front_of spelling half sizes end area) (omega arith) good room refl h
 
@@ -128,7 +128,7 @@ one_before : (batch : Batch) (batches : List Batch) (r : Result (List Batch) Jou
 one_before batch batches (Ok more) = refl
 one_before batch batches (Err fault) = refl
 
--- the batches in front are read, whatever stands behind them
+-- the batches in front are read, whatever follows them
 reads_through : (spelling : Spelling) (half : ℕ) (sizes : List ℕ) (end : ℕ) (batches : List Batch) (rest : List ℕ) → AllByRecursion (CanStand spelling half) batches → AllByRecursion (IsWithin sizes) batches
     → 0 < length rest → batches_of spelling half sizes end (spelt_batches spelling batches ++ rest) ≡ (batches_of spelling half sizes end rest >>> λ more. Ok (batches ++ more))
 reads_through spelling half sizes end [] rest can within some = nothing_before (batches_of spelling half sizes end rest)
@@ -161,7 +161,7 @@ stops spelling half sizes end area batches rest fault starts within some bad =
     ∙ reads_through spelling half sizes end batches rest starts.can_stand within some
     ∙ ap (λ r. r >>> λ more. Ok (batches ++ more)) (batches_of-bad spelling half sizes end rest fault bad)
 
-pub cut_area : (spelling : Spelling) (half : ℕ) (sizes : List ℕ) (end : ℕ) (area : List ℕ) (fault : JournalFault) → IsBytes area → IsCut spelling half sizes end area fault
+pub cut_area : (spelling : Spelling) (half : ℕ) (sizes : List ℕ) (end : ℕ) (area : List ℕ) (fault : JournalFault) → IsBytes area → IsUnreadableArea spelling half sizes end area fault
     → batches_of spelling half sizes end area ≡ Err fault
 cut_area spelling half sizes end area fault good (malformed batches rest at starts within is_open none place is) =
     let good_rest = IsBytes-behind (spelt_batches spelling batches) rest (subst IsBytes starts.spelt good) in

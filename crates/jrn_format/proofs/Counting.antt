@@ -1,4 +1,4 @@
--- Reading so many values, as a loop does.
+-- Reading a given number of values, as a loop does.
 use Rattle.std.proofs.Common.{◌≡◌, ℕ, suc, ◌-◌, ◌+◌, ◌≤◌, ◌<◌, List, [], ◌∷◌, ◌++◌, Option, Some, None, refl, sym, ap, ◌∙◌, append_assoc, arith}
 use Rattle.std.proofs.lemmas.List.{append-nil}
 use Rattle.jrn_format.specs.declared.fault.ReadFault.{ReadFault}

@@ -4,7 +4,7 @@ use Rattle.std.specs.Prelude.{All}
 use Rattle.std.specs.List.{AllByRecursion}
 use Rattle.std.proofs.lemmas.List.{take_all}
 use Rattle.std.proofs.lemmas.List.Elements.{All-head, All-tail}
-use Rattle.sii_runs.specs.declared.run.Run.{Run}
+use Rattle.sii_words.specs.declared.run.Run.{Run}
 use Rattle.jrn_format.specs.declared.journal.Entry.{Entry}
 use Rattle.jrn_format.specs.Batch.{RunFits, EntryFits, PayloadFits, IsCountedRun, AreCountedRuns, AreCounted}
 

@@ -15,7 +15,7 @@ use Rattle.jrn_format.proofs.Numbers.{IsBytes, IsBytes-take, IsBytes-drop}
 use Rattle.jrn_format.proofs.Areas.{bind_ok, area_live, area_cut, live_area, cut_area}
 use Rattle.jrn_format.proofs.Order.{order_is, order_again, order_fault, no_order}
 
--- ---- where the halves stand
+-- ---- the places of the halves
 
 half_is : (area first second : List ℕ) → AreHalves area first second → length area / 2 ≡ length first
 half_is area first second h =

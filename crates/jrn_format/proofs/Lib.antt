@@ -13,3 +13,10 @@ pub mod JournalGrammar
 pub mod AreaLaws
 pub mod Sizes
 pub mod Fitting
+pub mod HalvesLaws
+pub mod FileLaws
+pub mod OpenLaws
+pub mod MigrationLaws
+pub mod WholeLaws
+pub mod SizeLaws
+pub mod InsideLaws

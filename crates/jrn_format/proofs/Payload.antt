@@ -4,7 +4,7 @@ use Rattle.std.specs.List.{flat_map, AllByRecursion}
 use Rattle.std.specs.Int.{w16, w64, to_le_bytes}
 use Rattle.std.proofs.lemmas.Bool.{eqb-true, eqb-false, ne_eqb}
 use Rattle.std.proofs.lemmas.List.{append-nil, nil_from_length}
-use Rattle.sii_runs.specs.declared.run.Run.{Run}
+use Rattle.sii_words.specs.declared.run.Run.{Run}
 use Rattle.jrn_format.specs.declared.journal.Entry.{Entry}
 use Rattle.jrn_format.specs.Batch.{spelt_run, spelt_entry, spelt_payload, RunFits, EntryFits, PayloadFits}
 use Rattle.jrn_format.specs.steps.Reading.{◌>>=◌, number_at, counted, run_at, entry_at, entries_of}

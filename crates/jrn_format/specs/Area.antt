@@ -1,4 +1,4 @@
--- An area of a journal: batches one after another from its start, each behind an open gate, and a closed gate behind the last.
+-- An area of a journal: consecutive batches from its start, each after an open gate, and a closed gate after the last.
 use Rattle.std.specs.Prelude.{◌≡◌, ◌≢◌, ℕ, ◌+◌, List, ◌∷◌, ◌++◌, length}
 use Rattle.std.specs.List.{flat_map, AllByRecursion}
 use Rattle.jrn_format.specs.declared.journal.Batch.{Batch}
@@ -7,43 +7,47 @@ use Rattle.jrn_format.specs.declared.fault.JournalFault.{JournalFault}
 use Rattle.jrn_format.specs.declared.fault.JournalFault.TheVariants.{WrongLine, BadJournal}
 use Rattle.jrn_format.specs.Batch.{spelt_batch, CanStand, IsWithin}
 
+-- The encoding of batches, one after another.
 abbrev pub spelt_batches : Spelling → List Batch → List ℕ
 spelt_batches spelling batches = flat_map (spelt_batch spelling) batches
 
--- A closed gate: any byte but 0xA5.
+-- The bytes begin with a closed gate: any byte but 0xA5.
 abbrev pub IsClosed : List ℕ → Type 0
 IsClosed bytes = (gate : ℕ) × (behind : List ℕ) × (gate ≢ 0xA5) × (bytes ≡ gate ∷ behind)
 
+-- The bytes begin with an open gate: 0xA5.
 abbrev pub IsOpen : List ℕ → Type 0
 IsOpen bytes = (behind : List ℕ) × (bytes ≡ 0xA5 ∷ behind)
 
--- The area is spelt as these batches, and goes on with the rest.
+-- The area begins with the encoding of these batches, and `rest` follows.
 pub record StartsWith (spelling : Spelling) (half : ℕ) (area : List ℕ) (batches : List Batch) (rest : List ℕ) : Type 0 where
   pub can_stand : AllByRecursion (CanStand spelling half) batches
   pub spelt : area ≡ spelt_batches spelling batches ++ rest
 
--- These batches are live in the area.
+-- These batches are live in the area: it is their encoding, followed by a closed gate.
 pub record IsLive (spelling : Spelling) (half : ℕ) (area : List ℕ) (batches : List Batch) : Type 0 where
   pub rest : List ℕ
   pub starts : StartsWith spelling half area batches rest
   pub ends : IsClosed rest
 
--- ---- areas that can't be read
+-- ---- malformed areas
 
--- A batch stands in front, with a gate behind it.
+-- The bytes begin with a well-formed batch, followed by a gate.
 pub record HasBatch (spelling : Spelling) (half : ℕ) (bytes : List ℕ) (batch : Batch) : Type 0 where
   pub can_stand : CanStand spelling half batch
   pub gate : ℕ
   pub behind : List ℕ
   pub spelt : bytes ≡ spelt_batch spelling batch ++ gate ∷ behind
 
--- The first place where the area can't be read. The byte behind it has the number `end` in the file.
-pub data IsCut (spelling : Spelling) (half : ℕ) (sizes : List ℕ) (end : ℕ) (area : List ℕ) (fault : JournalFault) : Type 0 where
-  -- an open gate, and no batch with a gate behind it
-  malformed : (batches : List Batch) (rest : List ℕ) (at : ℕ) → StartsWith spelling half area batches rest → AllByRecursion (IsWithin sizes) batches
+-- The first fault of a malformed area, from left to right. `end` is the file offset just past the area.
+pub data IsUnreadableArea (spelling : Spelling) (half : ℕ) (sizes : List ℕ) (end : ℕ) (area : List ℕ) (fault : JournalFault) : Type 0 where
+  -- BadJournal: an open gate that no well-formed batch with another gate follows
+  malformed : (batches : List Batch) (rest : List ℕ) (at : ℕ) → StartsWith spelling half area batches rest
+      → AllByRecursion (IsWithin sizes) batches
       → IsOpen rest → ((batch : Batch) → HasBatch spelling half rest batch → ⊥)
-      → at + length rest ≡ end → fault ≡ BadJournal at → IsCut spelling half sizes end area fault
-  -- a batch that names words that aren't there
-  outside : (batches : List Batch) (rest : List ℕ) (batch : Batch) → StartsWith spelling half area batches rest → AllByRecursion (IsWithin sizes) batches
+      → at + length rest ≡ end → fault ≡ BadJournal at → IsUnreadableArea spelling half sizes end area fault
+  -- WrongLine: a batch that names a slave or a word that the line doesn't have
+  outside : (batches : List Batch) (rest : List ℕ) (batch : Batch) → StartsWith spelling half area batches rest
+      → AllByRecursion (IsWithin sizes) batches
       → HasBatch spelling half rest batch → (IsWithin sizes batch → ⊥)
-      → fault ≡ WrongLine → IsCut spelling half sizes end area fault
+      → fault ≡ WrongLine → IsUnreadableArea spelling half sizes end area fault

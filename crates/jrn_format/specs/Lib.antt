@@ -5,3 +5,7 @@ pub mod Header
 pub mod Journal
 pub mod Fault
 pub mod steps
+pub mod Halves
+pub mod Live
+pub mod File
+pub mod Migration

@@ -1,8 +1,8 @@
--- Want of memory stands in place of any other answer.
+-- Refused memory may be reported in place of any other fault.
 use Rattle.jrn_format.specs.declared.fault.JournalFault.{JournalFault}
 use Rattle.jrn_format.specs.declared.fault.JournalFault.TheVariants.{Memory, NotAJournal, BadVersion, WrongLine, BadJournal}
 
--- the fact holds wherever another fault is answered
+-- P holds, unless the fault is Memory.
 abbrev pub UnlessMemory : JournalFault → Type 0 → Type 0
 UnlessMemory Memory P = Unit {0}
 UnlessMemory NotAJournal P = P

@@ -1,2 +1,2 @@
--- How private functions read, step by step. The grammar that they meet is in the files beside.
+-- What private functions read, step by step. The files of the folder above state the grammar that it is proved to agree with.
 pub mod Reading

@@ -1,4 +1,4 @@
-//! Reading the batches of an area.
+//! Reads the live batches of an area: a whole area in version 1, one half in version 2.
 
 ghost use Rattle.std.specs.Prelude.{◌≡◌, ◌^◌, ◌<◌, ◌≤◌, length};
 ghost use Rattle.std.specs.List.{list_all};
@@ -8,10 +8,10 @@ use crate::fault::JournalFault;
 use crate::fields::OPEN;
 use crate::journal::{Batch, Entry, Spelling};
 use crate::reading::batch_of;
-use sii_runs::Run;
+use sii_words::Run;
 use std::alloc::Global;
 
-/// Whether the slave is there, and has the words that the run names.
+/// Whether the line has the run's slave, and that slave has all words of the run. `sizes` are words per slave.
 fn run_is_within(sizes: &[u16], run: &Run) -> bool
     ensures { result ≡ run_is_within sizes.now run.now }
 {
@@ -32,7 +32,7 @@ fn entry_is_within(sizes: &[u16], entry: &Entry) -> bool
         .all(|run| run_is_within(sizes, run))
 }
 
-/// Whether the line has all words that the batch names.
+/// Whether each run of the batch is within the line.
 fn batch_is_within(sizes: &[u16], batch: &Batch) -> bool
     ensures { result ≡ batch_is_within sizes.now batch.now }
 {
@@ -43,8 +43,9 @@ fn batch_is_within(sizes: &[u16], batch: &Batch) -> bool
         .all(|entry| entry_is_within(sizes, entry))
 }
 
-/// The batch in front and the bytes from the next gate on, or `None` at a closed gate. Behind the
-/// bytes the file goes on with byte `end`.
+/// Reads the first batch of `bytes`, and returns it with the bytes from the next gate on; or `None` at a closed gate.
+///
+/// `end` is the file offset just past `bytes`.
 #[tactic(auto, unfolding(crate::specs::steps::Reading::front_of))]
 fn front<'a>(
     alloc: Global,
@@ -70,7 +71,12 @@ fn front<'a>(
     Ok(Some((batch, rest)))
 }
 
-/// The batches that are live in an area. Behind it the file goes on with byte `end`.
+/// Reads the live batches of an area, in order. `end` is the file offset just past the area.
+///
+/// # Errors
+///
+/// The first fault from left to right: `BadJournal` at an open gate that no well-formed batch with another gate follows, or
+/// `WrongLine` at a batch that names a slave or a word that the line doesn't have. `Memory` instead if memory was refused.
 pub(crate) fn batches(
     alloc: Global,
     spelling: Spelling,

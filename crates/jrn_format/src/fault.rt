@@ -1,4 +1,4 @@
-//! Why a journal can't be read.
+//! The faults of reading a journal.
 
 ghost use Rattle.std.specs.Prelude.{◌≡◌};
 
@@ -8,34 +8,37 @@ use thiserror::Error;
 /// Why a journal can't be read.
 #[derive(Clone, Copy, Debug, PartialEq, Eq, Error)]
 pub enum JournalFault {
+    /// Memory was refused.
     #[error("out of memory")]
     Memory,
-    /// The file is shorter than a header, or its gate is closed.
+    /// The file is shorter than its header of 8 bytes, or its file gate (byte 0) isn't 0xA5.
     #[error("the file is not a journal")]
     NotAJournal,
-    /// The version byte is none that is known.
+    /// The version byte (byte 1), `found`, is neither 1 nor 2, and the file isn't an interrupted migration.
     #[error("the journal is of the unknown version {found}")]
     BadVersion { found: u8 },
-    /// The journal is of another line: it has another number of slaves, or names a word that isn't there.
+    /// The journal belongs to another line: its header has another number of slaves, or a batch names a slave or a word that
+    /// this line doesn't have.
     #[error("the journal is of another line")]
     WrongLine,
-    /// What stands at byte `at` of the file can't be read.
+    /// The journal is malformed at file offset `at`, in bytes.
     #[error("the journal is malformed at byte {at}")]
     BadJournal { at: usize },
 }
 
-/// Why no batch can be read.
+/// Why a batch can't be read.
 #[derive(Clone, Copy)]
 pub(crate) enum ReadFault {
+    /// Memory was refused.
     Memory,
-    /// The bytes aren't spelt as they should be.
+    /// The bytes aren't the encoding of a batch.
     Malformed,
 }
 
 impl ReadFault {
     ghost use Rattle.jrn_format.specs.steps.Reading.{fault_at};
 
-    /// The fault of a journal whose batch at byte `at` can't be read.
+    /// The fault of a journal whose batch at file offset `at` can't be read.
     pub(crate) fn at(self, at: usize) -> JournalFault
         ensures { result ≡ fault_at self at }
     {

@@ -1,16 +1,16 @@
-//! Fields at the head of a file and of a batch. All numbers are low byte first.
+//! Fields of a journal's header and of a batch. All numbers are little-endian.
 
 ghost use Rattle.std.specs.Prelude.{◌≡◌, ◌≤◌, length, slice_index};
 ghost use Rattle.std.specs.Int.{w16, w32};
 ghost use Rattle.jrn_format.specs.Header.{field_at, header_bytes};
 
-/// A gate with this byte is open, with any other one closed.
+/// The value of an open gate. Any other value is a closed gate.
 pub const OPEN: u8 = 0xA5;
 
-/// The byte of a file at which the area begins, behind the header.
+/// File offset of the area, in bytes: the length of the header.
 pub const AREA_START: usize = 8;
 
-/// The header of a journal of version 2 for so many slaves, whose area has `capacity` bytes.
+/// The header of a journal of version 2, for a line of `slaves` slaves and an area of `capacity` bytes.
 pub fn header(slaves: u16, capacity: u32) -> [u8; 8]
     ensures { result ≡ header_bytes 2 slaves capacity }
 {
@@ -19,7 +19,7 @@ pub fn header(slaves: u16, capacity: u32) -> [u8; 8]
     [OPEN, 2, s0, s1, c0, c1, c2, c3]
 }
 
-/// The gate at the head of a file or a batch: its first byte.
+/// The gate of a file or of a batch: byte 0. It requires at least 1 byte.
 pub fn gate(bytes: &[u8]) -> u8
     requires { 1 ≤ length bytes.now }
     ensures { result ≡ slice_index bytes.now 0 }
@@ -27,7 +27,7 @@ pub fn gate(bytes: &[u8]) -> u8
     bytes[0]
 }
 
-/// The version byte of a file: its second byte.
+/// The version byte of a file: byte 1. It requires at least 2 bytes.
 pub fn version(file: &[u8]) -> u8
     requires { 2 ≤ length file.now }
     ensures { result ≡ slice_index file.now 1 }
@@ -35,7 +35,7 @@ pub fn version(file: &[u8]) -> u8
     file[1]
 }
 
-/// How many slaves the line of a file has: its bytes 2 and 3.
+/// The number of slaves in the header of a file: bytes 2 and 3. It requires at least 4 bytes.
 pub fn slave_count(file: &[u8]) -> u16
     requires { 4 ≤ length file.now }
     ensures { result ≡ field_at w16 2 file.now }
@@ -43,7 +43,7 @@ pub fn slave_count(file: &[u8]) -> u16
     u16::from_le_bytes([file[2], file[3]])
 }
 
-/// How many bytes the area of a file has: its bytes 4 to 7.
+/// The length of the area in the header of a file, in bytes: bytes 4 to 7. It requires at least 8 bytes.
 pub fn capacity(file: &[u8]) -> u32
     requires { 8 ≤ length file.now }
     ensures { result ≡ field_at w32 4 file.now }
@@ -51,7 +51,7 @@ pub fn capacity(file: &[u8]) -> u32
     u32::from_le_bytes([file[4], file[5], file[6], file[7]])
 }
 
-/// The generation of a batch of version 2, from its gate on: its second byte.
+/// The generation of a batch of version 2: byte 1, counted from its gate. It requires at least 2 bytes.
 pub fn generation(batch: &[u8]) -> u8
     requires { 2 ≤ length batch.now }
     ensures { result ≡ slice_index batch.now 1 }
@@ -59,7 +59,7 @@ pub fn generation(batch: &[u8]) -> u8
     batch[1]
 }
 
-/// How many bytes the payload of a batch of version 2 has, from its gate on: its bytes 2 to 5.
+/// The payload length of a batch of version 2, in bytes: bytes 2 to 5, counted from its gate. It requires at least 6 bytes.
 pub fn payload_length(batch: &[u8]) -> u32
     requires { 6 ≤ length batch.now }
     ensures { result ≡ field_at w32 2 batch.now }

@@ -1,4 +1,4 @@
-//! Reading the two halves of an area of version 2.
+//! Reads the two halves of an area of version 2.
 
 ghost use Rattle.std.specs.Prelude.{◌≡◌, ◌≤◌, length};
 ghost use Rattle.jrn_format.specs.steps.Reading.{Answers, are_of, halves_of, in_order, is_followed_by, older_generation};
@@ -9,7 +9,7 @@ use crate::fields::AREA_START;
 use crate::journal::{Batch, Spelling};
 use std::alloc::Global;
 
-/// The generation of the older half, where one of the two is live.
+/// The generation that the older half has or would have; 0 if nothing is live in either half.
 fn older_generation(older: &[Batch], newer: &[Batch]) -> u8
     ensures { result ≡ older_generation older.now newer.now }
 {
@@ -26,8 +26,7 @@ fn are_of(generation: u8, batches: &[Batch]) -> bool
     batches.iter().all(|batch| batch.generation == generation)
 }
 
-/// Whether the batches of the older half are all of one generation, and those of the newer half all
-/// of the next.
+/// Whether all batches in `older` have one generation, and all in `newer` the next one, modulo 256.
 fn is_followed_by(older: &[Batch], newer: &[Batch]) -> bool
     ensures { result ≡ is_followed_by older.now newer.now }
 {
@@ -35,7 +34,7 @@ fn is_followed_by(older: &[Batch], newer: &[Batch]) -> bool
     are_of(generation, older) && are_of(generation.wrapping_add(1), newer)
 }
 
-/// The batches of both halves, those of the older half in front.
+/// Joins the batches of both halves, those of the older half first. The generations decide which half that is.
 #[tactic(auto, unfolding(crate::specs::steps::Reading::in_order))]
 fn in_order(mut firsts: Vec<Batch>, mut seconds: Vec<Batch>) -> Result<Vec<Batch>, JournalFault>
     ensures { Answers (λ v. v.items) result (in_order firsts.items seconds.items) }
@@ -51,7 +50,12 @@ fn in_order(mut firsts: Vec<Batch>, mut seconds: Vec<Batch>) -> Result<Vec<Batch
     Err(JournalFault::BadJournal { at: AREA_START })
 }
 
-/// The batches that are live in the halves of an area, which begins behind the header.
+/// Reads the live batches of an area of version 2, those of the older half first.
+///
+/// # Errors
+///
+/// As for `batches`, in half 0 and then in half 1; then `BadJournal` at byte 8 if the generations are mixed within a half or
+/// not consecutive. `Memory` instead if memory was refused.
 #[tactic(auto, unfolding(crate::specs::steps::Reading::halves_of))]
 pub(crate) fn halves(alloc: Global, sizes: &[u16], area: &[u8]) -> Result<Vec<Batch>, JournalFault>
     requires { length area.now ≤ 4194304 }

@@ -1,8 +1,8 @@
-//! What holds of journals, apart from any code. Each function's contract is a law, and its body does nothing.
+//! Laws of the journal format, apart from any code. Each function's contract is a law, and its body does nothing.
 
 ghost use Rattle.std.specs.Prelude.{◌≡◌, ◌≢◌, ◌<◌, ◌↔◌, ℕ, List, [], ◌∷◌, ◌++◌, length, map, All};
-ghost use Rattle.sii_runs.specs.Redo.{LiesInside};
-ghost use Rattle.sii_runs.specs.declared.run.Run.{Run};
+ghost use Rattle.sii_words.specs.Redo.{LiesInside};
+ghost use Rattle.sii_words.specs.declared.run.Run.{Run};
 ghost use Rattle.jrn_format.specs.Area.{spelt_batches, IsClosed, IsLive};
 ghost use Rattle.jrn_format.specs.Batch.{spelt_batch, spelt_behind, CanStand, LiesWithin};
 ghost use Rattle.jrn_format.specs.Fault.{IsNoJournal};
@@ -12,62 +12,66 @@ ghost use Rattle.jrn_format.specs.declared.journal.Batch.{Batch};
 ghost use Rattle.jrn_format.specs.declared.journal.Journal.{Journal};
 ghost use Rattle.jrn_format.specs.declared.journal.Spelling.{Spelling};
 
-/// A file is one journal at most.
+/// A file is at most one journal.
 pub fn one_journal()
-    ensures { (file sizes : List ℕ) (journal other : Journal) → IsJournal file sizes journal → IsJournal file sizes other → journal ≡ other }
+    ensures { (file sizes : List ℕ) (journal other : Journal) → IsJournal file sizes journal → IsJournal file sizes other
+        → journal ≡ other }
 {}
 
-/// A file is refused for one reason at most.
+/// A file is refused with at most one fault.
 pub fn one_fault()
     ensures { (file sizes : List ℕ) (fault other : JournalFault) → All (λ byte. byte < 256) file
         → IsNoJournal file sizes fault → IsNoJournal file sizes other → fault ≡ other }
 {}
 
-/// A file that is refused is no journal.
+/// A file with a fault is not a journal.
 pub fn journal_or_fault()
     ensures { (file sizes : List ℕ) (fault : JournalFault) (journal : Journal) → All (λ byte. byte < 256) file
         → IsNoJournal file sizes fault → IsJournal file sizes journal → ⊥ }
 {}
 
-/// One list of batches at most is live in an area.
+/// At most one list of batches is live in an area.
 pub fn one_live()
     ensures { (spelling : Spelling) (half : ℕ) (area : List ℕ) (batches others : List Batch)
         → IsLive spelling half area batches → IsLive spelling half area others → batches ≡ others }
 {}
 
-/// Nothing is live exactly where the area begins with a closed gate.
+/// Nothing is live in an area if and only if it begins with a closed gate.
 pub fn nothing_is_live()
     ensures { (spelling : Spelling) (half : ℕ) (area : List ℕ) → IsLive spelling half area [] ↔ IsClosed area }
 {}
 
-/// A batch in front of an area in which others are live.
+/// A well-formed batch placed in front of an area is live, followed by the batches that are live in that area.
 pub fn first_is_live()
     ensures { (spelling : Spelling) (half : ℕ) (batch : Batch) (batches : List Batch) (rest : List ℕ)
-        → CanStand spelling half batch → IsLive spelling half rest batches → IsLive spelling half (spelt_batch spelling batch ++ rest) (batch ∷ batches) }
+        → CanStand spelling half batch → IsLive spelling half rest batches
+        → IsLive spelling half (spelt_batch spelling batch ++ rest) (batch ∷ batches) }
 {}
 
-/// Where the first gate is closed nothing is live, whatever stands behind it: so a half is retired.
+/// If the first gate is closed, nothing is live, whatever bytes follow. This is how a half is retired.
 pub fn retire()
     ensures { (spelling : Spelling) (half gate : ℕ) (rest : List ℕ) → gate ≢ 0xA5 → IsLive spelling half (gate ∷ rest) [] }
 {}
 
-/// Behind the live batches any closed gate may stand, and anything behind it: so a batch is written there before it is live.
+/// The bytes that follow the live batches may be any closed gate and anything after it: a new batch is written there before it
+/// is live.
 pub fn written_behind()
     ensures { (spelling : Spelling) (half : ℕ) (batches : List Batch) (gate : ℕ) (rest : List ℕ) (other : ℕ) (behind : List ℕ)
         → IsLive spelling half (spelt_batches spelling batches ++ gate ∷ rest) batches → other ≢ 0xA5
         → IsLive spelling half (spelt_batches spelling batches ++ other ∷ behind) batches }
 {}
 
-/// Where a batch with a closed gate behind it is written behind the gate that ends the live batches, it is live once that gate
-/// is open.
+/// A batch written after the gate that ends the live batches, and followed by a closed gate, becomes live when that gate is
+/// opened.
 pub fn append()
-    ensures { (spelling : Spelling) (half : ℕ) (batches : List Batch) (gate : ℕ) (rest : List ℕ) (batch : Batch) (closing : ℕ) (behind : List ℕ)
+    ensures { (spelling : Spelling) (half : ℕ) (batches : List Batch) (gate : ℕ) (rest : List ℕ) (batch : Batch) (closing : ℕ)
+        (behind : List ℕ)
         → IsLive spelling half (spelt_batches spelling batches ++ gate ∷ rest) batches → CanStand spelling half batch → closing ≢ 0xA5
         → rest ≡ spelt_behind spelling batch.generation batch.entries ++ closing ∷ behind
         → IsLive spelling half (spelt_batches spelling batches ++ 0xA5 ∷ rest) (batches ++ batch ∷ []) }
 {}
 
-/// A run inside the sizes of a line lies inside each plant of that line.
+/// A run that is within a line's sizes lies inside each plant of those sizes.
 pub fn runs_lie_inside()
     ensures { (plant : List (List ℕ)) (run : Run) → LiesWithin (map (λ words. length words) plant) run → LiesInside plant run }
 {}

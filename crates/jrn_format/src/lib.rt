@@ -1,12 +1,18 @@
-//! The journal's bytes: the batches that are live in a file, and the bytes of a batch.
+//! The journal's bytes: the batches that are live in a file, and the bytes of a batch; and the laws of what is live as batches are
+//! appended, retired and migrated. A law is a function with an empty body: its contract is the theorem.
 #![tactic(auto)]
 
 mod area;
+pub mod batch_sizes;
 mod fault;
 mod fields;
+pub mod file;
 mod halves;
 mod journal;
 pub mod laws;
+pub mod live_halves;
+pub mod migration;
+pub mod opening;
 mod reading;
 mod scanning;
 mod writing;

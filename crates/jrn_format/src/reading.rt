@@ -1,4 +1,4 @@
-//! Reading a batch, from left to right.
+//! Reads a batch, from left to right. Each reader returns a value and the bytes after it.
 
 ghost use Rattle.std.specs.Prelude.{◌≡◌};
 ghost use Rattle.std.specs.Int.{w16, w32, w64};
@@ -6,7 +6,7 @@ ghost use Rattle.jrn_format.specs.steps.Reading.{Gives, batch_at, counted, entri
 
 use crate::fault::ReadFault;
 use crate::journal::{Batch, Entry, EntryList, RunList, Spelling};
-use sii_runs::{Run, WordList};
+use sii_words::{Run, WordList};
 use std::alloc::Global;
 
 fn u16_at(bytes: &[u8]) -> Result<(u16, &[u8]), ReadFault>
@@ -111,7 +111,7 @@ fn counted_entries(alloc: Global, count: u16, bytes: &[u8]) -> Result<(EntryList
     Ok((EntryList::from_vec(entries), rest))
 }
 
-/// The commands that a payload spells, all of its bytes.
+/// Reads a payload, all of its bytes, as at least one entry.
 #[tactic(auto, unfolding(crate::specs::steps::Reading::entries_of))]
 fn entries(alloc: Global, payload: &[u8]) -> Result<EntryList, ReadFault>
     ensures { Gives (λ entries. entries) result (entries_of payload.now) }
@@ -124,7 +124,7 @@ fn entries(alloc: Global, payload: &[u8]) -> Result<EntryList, ReadFault>
     Ok(entries)
 }
 
-/// The generation byte, where the spelling has one, and the bytes behind it.
+/// Reads the generation byte; in the encoding of version 1 it is 0, and no byte is read.
 #[tactic(auto, unfolding(crate::specs::steps::Reading::generation_at))]
 fn generation_of(spelling: Spelling, bytes: &[u8]) -> Result<(u8, &[u8]), ReadFault>
     ensures { Gives (λ x. (x.0, x.1.now)) result (generation_at spelling bytes.now) }
@@ -136,7 +136,7 @@ fn generation_of(spelling: Spelling, bytes: &[u8]) -> Result<(u8, &[u8]), ReadFa
     }
 }
 
-/// The batch behind an open gate, and the bytes from the next gate on, of which there is one at least.
+/// Reads the batch after an open gate, and returns it with the bytes from the next gate on, at least one.
 #[tactic(auto, unfolding(crate::specs::steps::Reading::batch_at))]
 pub(crate) fn batch_of(
     alloc: Global,

@@ -1,4 +1,4 @@
-//! Reading a journal.
+//! Reads a whole journal.
 
 ghost use Rattle.std.specs.Prelude.{◌≡◌, ◌≤◌, length, IfOk, IfErr};
 ghost use Rattle.std.specs.Int.{w16, w32};
@@ -14,13 +14,13 @@ use crate::halves::halves;
 use crate::journal::{Batch, BatchList, Form, Journal, Spelling};
 use std::alloc::Global;
 
-/// The fewest bytes that an area may have.
+/// The minimum length of an area, in bytes.
 const LEAST: usize = 4096;
 
-/// The most bytes that an area may have.
+/// The maximum length of an area, in bytes.
 const MOST: usize = 4_194_304;
 
-/// Whether behind the header stand a closed gate and the mark of a migration that was begun.
+/// Whether the bytes after the header are a closed gate and the mark of a migration.
 fn is_marked(behind: &[u8]) -> bool
     ensures { result ≡ is_marked behind.now }
 {
@@ -42,14 +42,14 @@ fn form_of(version: u8, behind: &[u8]) -> Result<Form, JournalFault>
     }
 }
 
-/// Whether an area may have so many bytes.
+/// Whether an area may have `capacity` bytes.
 fn is_capacity(capacity: usize) -> bool
     ensures { result ≡ is_capacity capacity }
 {
     LEAST <= capacity && capacity <= MOST
 }
 
-/// The area in the bytes behind a file's header.
+/// The area within `behind`, the bytes after the header of `file`.
 #[tactic(auto, unfolding(crate::specs::steps::Reading::area_behind))]
 fn area_behind<'a>(
     file: &[u8],
@@ -75,7 +75,7 @@ fn area_behind<'a>(
     Ok((form, area))
 }
 
-/// The form and the area of a journal of a line of so many slaves.
+/// The form and the area of a journal, for a line of `slaves` slaves.
 #[tactic(auto, unfolding(crate::specs::steps::Reading::area_of))]
 fn area_of(file: &[u8], slaves: usize) -> Result<(Form, &[u8]), JournalFault>
     ensures { Answers (λ x. (x.0, x.1.now)) result (area_of file.now slaves) }
@@ -124,15 +124,24 @@ fn journal(alloc: Global, file: &[u8], sizes: &[u16]) -> Result<Journal, Journal
     })
 }
 
-/// What is live in a file, for a line whose slaves have `sizes` words.
+/// Reads the live batches of a journal file, for a line whose slaves have `sizes` words each.
 ///
-/// The first fault that applies is answered, in this order. `NotAJournal`: fewer than 8 bytes, or a
-/// closed file gate. `BadVersion`: neither version 1 nor 2, and no migration that was stopped.
-/// `WrongLine`: another number of slaves. `BadJournal { at: 4 }`: a capacity outside 4,096 to
-/// 4,194,304. `BadJournal` at the file's length: the area isn't whole. Then, from the area's start
-/// or half by half, `BadJournal` at an open gate with no whole batch and a gate behind it, or
-/// `WrongLine` at a batch that names a word that isn't there. Last `BadJournal { at: 8 }`:
-/// generations that don't follow one another.
+/// Bytes after the area are ignored.
+///
+/// # Errors
+///
+/// The first fault that applies, in this order:
+///
+/// - `NotAJournal`: fewer than 8 bytes, or a closed file gate.
+/// - `BadVersion`: neither version 1 nor 2, and not an interrupted migration.
+/// - `WrongLine`: another number of slaves.
+/// - `BadJournal { at: 4 }`: a capacity outside 4,096 to 4,194,304.
+/// - `BadJournal` at the file's length: the file ends before the area does.
+/// - From the start of the area, or half by half: `BadJournal` at an open gate that no well-formed batch with another gate
+///   follows; `WrongLine` at a batch that names a slave or a word that the line doesn't have.
+/// - `BadJournal { at: 8 }`: generations mixed within a half, or not consecutive.
+///
+/// `Memory` comes instead if memory was refused.
 pub fn scan(alloc: Global, file: &[u8], sizes: &[u16]) -> Result<Journal, JournalFault>
     ensures found { IfOk result (IsJournal file.now sizes.now) }
     ensures refused { IfErr result (IsFaultOf file.now sizes.now) }

@@ -1,14 +1,14 @@
-//! The bytes of a batch.
+//! Writes the bytes of a batch.
 
 ghost use Rattle.std.specs.Prelude.{◌≡◌, ◌+◌, ◌<◌, ◌^◌, ◌++◌, [], ◌∷◌, ℕ, length, OnOk, IfOk, All};
 ghost use Rattle.jrn_format.specs.Batch.{AreCounted, AreCountedRuns, IsCountedRun, EntryFits, PayloadFits, RunFits, entry_size, spelt_behind, spelt_entry, spelt_payload, spelt_run};
 ghost use Rattle.jrn_format.specs.declared.journal.Entry.{Entry};
 
 use crate::journal::{Entry, Spelling};
-use sii_runs::Run;
+use sii_words::Run;
 use std::alloc::{AllocError, Global};
 
-/// A batch is written with this closed gate behind it.
+/// The value of a closed gate as this crate writes it, after each batch.
 pub const CLOSED: u8 = 0x00;
 
 fn put_run(out: &mut Vec<u8>, run: &Run) -> Result<(), AllocError>
@@ -53,8 +53,14 @@ fn payload(alloc: Global, entries: &[Entry]) -> Result<Vec<u8>, AllocError>
     Ok(bytes)
 }
 
-/// The bytes of a batch of version 2 behind its gate, with the closed gate behind it. Each value fits
-/// into its field, so the batch may stand in a journal.
+/// Encodes a batch of version 2: the bytes after its gate, and a closed gate at the end.
+///
+/// It requires 1 to 65,535 entries, each with fewer than 65,536 runs of 1 to 65,535 words, and a payload shorter than 2^32
+/// bytes.
+///
+/// # Errors
+///
+/// `AllocError` if memory was refused.
 pub fn encode_batch(alloc: Global, generation: u8, entries: &[Entry]) -> Result<Vec<u8>, AllocError>
     requires { AreCounted entries.now }
     ensures spelt { IfOk result (λ bytes. bytes.items
@@ -70,7 +76,7 @@ pub fn encode_batch(alloc: Global, generation: u8, entries: &[Entry]) -> Result<
     Ok(bytes)
 }
 
-/// How many bytes the runs take in a payload.
+/// The length of these runs in a payload, in bytes.
 fn runs_size(runs: &[Run]) -> u32
     requires counted { AreCountedRuns runs.now }
     requires fits { entry_size runs.now < 2 ^ 32 }
@@ -81,7 +87,9 @@ fn runs_size(runs: &[Run]) -> u32
         .sum()
 }
 
-/// How many bytes a command with these runs takes in a payload.
+/// The length in a payload of an entry with these runs, in bytes.
+///
+/// It requires fewer than 65,536 runs of 1 to 65,535 words each, and a result less than 2^32.
 pub fn size_of(runs: &[Run]) -> u32
     requires counted { AreCountedRuns runs.now }
     requires fits { entry_size runs.now < 2 ^ 32 }

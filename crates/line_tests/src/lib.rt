@@ -1,5 +1,17 @@
-//! Tests that cross the crates of the line: slaves in memory, reached by registers over frames.
+//! Tests of what stands below the book: words, categories, commands, journal bytes, frames, slaves and a line in memory.
 #![tactic(auto)]
 
 #[cfg(test)]
+mod categories;
+#[cfg(test)]
+mod commands;
+#[cfg(test)]
+mod history;
+#[cfg(test)]
+mod journal;
+#[cfg(test)]
+mod process_image;
+#[cfg(test)]
 mod tests;
+#[cfg(test)]
+mod words;

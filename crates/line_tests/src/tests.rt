@@ -1,5 +1,8 @@
 mod cycle;
+mod frames;
 mod process_data;
+mod process_half;
+mod rom_half;
 mod site_faults;
 
 use ecat_frame::{Command, Frame, FrameFault, fp};
@@ -17,7 +20,7 @@ fn zero_words(alloc: Global) -> Option<Words> {
     Words::from_bytes(alloc, &bytes).ok()
 }
 
-// The site of these parts, where they are whole.
+// The site of these parts, if they fit together.
 fn site_of(alloc: Global, parts: Parts) -> Option<MemSite> {
     if !parts.is_whole() {
         return None;
@@ -25,12 +28,12 @@ fn site_of(alloc: Global, parts: Parts) -> Option<MemSite> {
     Some(MemSite::of_parts(alloc, parts))
 }
 
-// A line of one slave of 64 words at station 0x1001. It stays busy for so many datagrams.
+// A line of one slave of 64 words with the station address 0x1001. Each command keeps it busy for `delay` datagrams.
 fn line(alloc: Global, delay: u32) -> Option<MemSite> {
     line_of(alloc, &[0x1001], delay)
 }
 
-// A line of a slave of 64 words for each of these stations.
+// A line of slaves of 64 words with these station addresses.
 fn line_of(alloc: Global, stations: &[u16], delay: u32) -> Option<MemSite> {
     let mut halves = Vec::new(alloc);
     let mut sizes = Vec::new(alloc);
@@ -49,7 +52,7 @@ fn line_of(alloc: Global, stations: &[u16], delay: u32) -> Option<MemSite> {
     site_of(alloc, parts)
 }
 
-// The process halves of slaves with these words, at these stations.
+// The process halves of slaves with these words and these station addresses.
 fn process_halves(alloc: Global, words: &Words, stations: &[u16]) -> Option<Vec<ProcessHalf>> {
     let mut process = Vec::new(alloc);
     for station in stations {
@@ -59,7 +62,7 @@ fn process_halves(alloc: Global, words: &Words, stations: &[u16]) -> Option<Vec<
     Some(process)
 }
 
-// A place for each of so many halves, none of which is there.
+// An entry for each of `count` EEPROM halves, none of which the site owns.
 fn no_halves(alloc: Global, count: usize) -> Option<Vec<Option<RomHalf>>> {
     let mut halves = Vec::new(alloc);
     for _slave in 0..count {
@@ -68,7 +71,7 @@ fn no_halves(alloc: Global, count: usize) -> Option<Vec<Option<RomHalf>>> {
     Some(halves)
 }
 
-// A line of slaves of so many words, of which the site owns these process halves alone.
+// A line of slaves of `size` words. The site owns only these process halves.
 fn process_line(alloc: Global, size: u16, process: Vec<ProcessHalf>) -> Option<MemSite> {
     let count = process.len();
     let mut sizes = Vec::new(alloc);
@@ -82,14 +85,14 @@ fn process_line(alloc: Global, size: u16, process: Vec<ProcessHalf>) -> Option<M
     site_of(alloc, parts)
 }
 
-// An issue of word 4 and its settling.
+// The answers to an issue of word 4 and to the settle after it.
 type Round = (Issued, Settled);
 
-// How many words fail, how many calls pass before one is lost (10,000: none is), and what each round answers. The word is written
-// then.
+// How many writes of the word end with an error, how many calls succeed before one is lost (10,000: none is), and the answers of each
+// round. After them the word is written.
 const WRITTEN: &[(u32, u64, &[Round])] = &[
     (0, 10_000, &[(Issued::Taken, Settled::Written)]),
-    // A word that fails is issued again.
+    // A word whose write ends with an error is issued again.
     (
         1,
         10_000,
@@ -98,7 +101,7 @@ const WRITTEN: &[(u32, u64, &[Round])] = &[
             (Issued::Taken, Settled::Written),
         ],
     ),
-    // So is a lost one.
+    // So is one whose frame is lost.
     (
         0,
         0,
@@ -107,11 +110,11 @@ const WRITTEN: &[(u32, u64, &[Round])] = &[
             (Issued::Taken, Settled::Written),
         ],
     ),
-    // A lost poll is a poll.
+    // A lost poll only counts as a poll.
     (0, 1, &[(Issued::Taken, Settled::Written)]),
 ];
 
-// Whether an issue of 1 in word 4, and what settles it, answer so.
+// Whether an issue of 1 for word 4, and the settle after it, have these answers.
 fn goes_so(site: &mut impl Site, round: Round) -> bool {
     let (issued, settled) = round;
     site.owns(0)
@@ -119,7 +122,7 @@ fn goes_so(site: &mut impl Site, round: Round) -> bool {
         && settle(site, 0, issued == Issued::Taken) == Ok(settled)
 }
 
-// Whether each round answers so.
+// Whether each round has these answers.
 fn go_so(site: &mut impl Site, rounds: &[Round]) -> bool {
     for round in rounds {
         if !goes_so(site, *round) {
@@ -129,7 +132,7 @@ fn go_so(site: &mut impl Site, rounds: &[Round]) -> bool {
     true
 }
 
-// The alias that the slave has, as a station reads it.
+// The alias of the slave, as `read_all` reads it.
 fn alias_of(alloc: Global, site: &mut impl Site) -> Option<u16> {
     if !site.owns(0) || open_slave(site, 0).is_err() {
         return None;
@@ -157,7 +160,7 @@ fn words_are_written(rt: HostRuntime) {
     }
 }
 
-// Whether a slave that stays busy so long is settled so.
+// Whether `settle` has this answer at a slave that stays busy for `delay` datagrams.
 fn is_settled(alloc: Global, delay: u32, settled: Settled) -> bool {
     let Some(mut site) = line(alloc, delay) else {
         return false;
@@ -174,14 +177,14 @@ fn polls_have_an_end(rt: HostRuntime) {
     }
 }
 
-// Whether slave 0 isn't there.
+// Whether slave 0 is given up.
 fn is_dead(site: &mut impl Site) -> bool {
     site.owns(0)
         && open_slave(site, 0) == Err(RomFault::SlaveDead { slave: 0 })
         && issue(site, 0, 4, 1) == Ok(Issued::NotTaken)
 }
 
-// Whether a slave at this station isn't found.
+// Whether a slave with this station address is given up as slave 0.
 fn is_missed(alloc: Global, station: u16) -> bool {
     let Some(mut site) = line_of(alloc, &[station], 1) else {
         return false;
@@ -204,7 +207,7 @@ fn left(parts: &Parts, slave: usize) -> Option<(u16, bool)> {
     }
 }
 
-// Whether the site stops in the word of the second slave, as that of the first is in flight.
+// Whether the site stops in the word of the second slave, while that of the first is in flight.
 fn stops_in_the_second(site: &mut impl Site) -> bool {
     site.owns(0)
         && site.owns(1)
@@ -220,7 +223,7 @@ fn has_stopped(site: &mut impl Site) -> bool {
         && open_slave(site, 1) == Err(RomFault::Stopped)
 }
 
-// What a stop leaves of both slaves, where the second word that is written is torn.
+// What a power cut leaves of both slaves, if it tears the second word that is written.
 fn left_by_a_stop(alloc: Global, pattern: Pattern) -> Option<[(u16, bool); 2]> {
     let mut site = line_of(alloc, &[0x1001, 0x1002], 9)?;
     site.fuse(1, pattern);
@@ -246,7 +249,7 @@ fn a_stop_tears_a_word(rt: HostRuntime) {
     }
 }
 
-// Whether a frame of these bytes goes to slave 0, and comes back as those.
+// Whether the frame has the bytes `sent`, and comes back from slave 0 as `back`.
 fn is_exchanged(site: &mut impl Site, frame: &mut Frame, sent: &[u8], back: &[u8]) -> bool {
     site.owns(0)
         && frame.as_bytes() == sent
@@ -254,7 +257,7 @@ fn is_exchanged(site: &mut impl Site, frame: &mut Frame, sent: &[u8], back: &[u8
         && frame.as_bytes() == back
 }
 
-// Whether a frame of one datagram has these bytes, and comes back from a slave as those.
+// Whether a frame of one datagram has the bytes `sent`, and comes back from a slave as `back`.
 fn goes_and_comes(
     alloc: Global,
     command: Command,
@@ -279,7 +282,7 @@ const ISSUE: &[u8] = &[
     0x00, 0x00, 0x01, 0x00, 0x00, 0x00,
 ];
 
-// Those that come back.
+// The bytes that come back.
 const ISSUED: &[u8] = &[
     0x14, 0x10, 0x05, 0x00, 0x01, 0x10, 0x02, 0x05, 0x08, 0x00, 0x00, 0x00, 0x01, 0x02, 0x04, 0x00,
     0x00, 0x00, 0x01, 0x00, 0x01, 0x00,
@@ -297,7 +300,7 @@ fn is_too_long(content: &[u8]) -> bool {
     Frame::new().push(Command::Lrw, 0, 0, content) == Err(FrameFault::FrameFull)
 }
 
-// The longest datagram fills a frame of 1,500 bytes, which goes through a slave as it is.
+// The longest datagram fills a frame of 1,500 bytes. A slave passes it on unchanged.
 #[test]
 fn the_longest_frame_is_exchanged(rt: HostRuntime) {
     let content = [7u8; 1487];

@@ -1,4 +1,4 @@
--- An action of the disk, over any site.
+-- An action of the disk, on any site.
 use Rattle.std.proofs.Common.{◌≡◌, ℕ, Bool, true, false, List, [], ◌∷◌, length, refl, sym, ◌∙◌, ap, subst, Option, Some, None, Result, Ok, Err}
 use Rattle.std.specs.Prelude.{is_some, if◌then◌else◌}
 use Rattle.esc_model.specs.SlaveHalf.{SlaveHalf}
@@ -17,16 +17,17 @@ use Rattle.book_model.specs.Book.{Book, Doing, Resting, Payload, PayloadSync, Op
 use Rattle.book_model.specs.DiskSteps.{action_of, doing_next, disk_next, disk_done}
 use Rattle.book_model.specs.Machine.{Machine}
 use Rattle.book_model.specs.Kept.{Kept}
-use Rattle.up_laws.specs.Below.{Frame, gate_byte, begun_on, ended_on, FailsOn, in_progress, rested}
-use Rattle.up_laws.specs.Steps.{acknowledged_by}
-use Rattle.up_laws.specs.Up.{Up}
-use Rattle.up_laws.proofs.LineLaws.{up-kept}
-use Rattle.up_laws.proofs.DiskEventLaws.{up-begins, up-fails}
-use Rattle.up_laws.proofs.DiskEndLaws.{up-ends}
+use Rattle.book_laws.specs.Frame.{JournalFrame}
+use Rattle.book_laws.specs.Events.{gate_byte, begun_on, ended_on, FailsOn, in_progress, rested}
+use Rattle.book_laws.specs.Steps.{acknowledged_by}
+use Rattle.book_laws.specs.Up.{Up}
+use Rattle.book_laws.proofs.LineLaws.{up-kept}
+use Rattle.book_laws.proofs.DiskEventLaws.{up-begins, up-fails}
+use Rattle.book_laws.proofs.DiskEndLaws.{up-ends}
 use Rattle.runner_laws.specs.Running.{KeepsAll, CallsDisk, UpAfterDisk}
 
 -- what a stop leaves all the way is some that a station that is up leaves
-pub keeps-all : (frame : Frame) (book : Book) (state : State) (took : List Bool) (m : Machine) (old new : Seen) → Up frame book state took m → Passes (LeavesOnly (Leaves state)) old new → KeepsAll m old new
+pub keeps-all : (frame : JournalFrame) (book : Book) (state : State) (took : List Bool) (m : Machine) (old new : Seen) → Up frame book state took m → Passes (LeavesOnly (Leaves state)) old new → KeepsAll m old new
 keeps-all frame book state took m old new up passes =
     Passes-stays (λ pair. Kept pair.disk pair.words m) old new
     (Passes-weaker (LeavesOnly (Leaves state)) (LeavesOnly (λ (pair : Pair). Kept pair.disk pair.words m)) old new (λ s only pair leaves. up-kept frame book state took m pair up (only pair leaves)) passes)
@@ -87,7 +88,7 @@ module _ (book : Book) where
 
 -- ---- the call
 
-module _ (frame : Frame) (book : Book) (took : List Bool) (m : Machine) (old : Seen) (up : Up frame book old.state took m) where
+module _ (frame : JournalFrame) (book : Book) (took : List Bool) (m : Machine) (old : Seen) (up : Up frame book old.state took m) where
   abbrev later : Book
   later = (disk_next book).1
 

@@ -1,13 +1,14 @@
--- A word that nothing is known of may hold anything.
+-- A word whose value is unknown may hold anything.
 use Rattle.std.proofs.Common.{◌≡◌, ◌≢◌, ◌⊎◌, inl, inr, ℕ, ◌<◌, List, [], length, get_or, set, sym, ◌∙◌, ap, subst, length-set, Some}
 use Rattle.std.specs.Prelude.{slice_get}
 use Rattle.std.proofs.lemmas.Bool.{cases_eq}
 use Rattle.std.proofs.lemmas.List.{get_or-set_same, get_or-set_other}
 use Rattle.std.proofs.lemmas.Option.{slice_get_within, get_or_from_slice_get}
 use Rattle.sii_words.specs.Plant.{words_of}
-use Rattle.slave_queue.specs.Cells.{Known, Cell}
+use Rattle.book_model.specs.Cells.{Known, Cell}
 use Rattle.book_model.specs.Book.{cell_at}
-use Rattle.up_laws.specs.Below.{MayBe, IsUnsure, word_at, MayHoldAll}
+use Rattle.book_laws.specs.Owed.{MayBe, IsUnsure}
+use Rattle.book_laws.specs.Plants.{word_at, MayHoldAll}
 
 module _ (plant : List (List ℕ)) (cells : List (List Cell)) (left : List (List ℕ)) (may : MayHoldAll plant cells left) (i word held : ℕ) (words : List ℕ) (here : slice_get left i ≡ Some words) (unsure : IsUnsure (cell_at cells i word).known) where
   -- the words with this one exchanged

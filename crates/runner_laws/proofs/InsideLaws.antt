@@ -7,9 +7,9 @@ use Rattle.jrn_format.specs.declared.journal.Form.TheVariants.{One, Two, Moving}
 use Rattle.jrn_format.specs.declared.journal.Spelling.TheVariants.{WithGeneration}
 use Rattle.jrn_format.specs.Area.{spelt_batches}
 use Rattle.jrn_format.specs.Header.{header_bytes}
-use Rattle.jrn_laws.specs.Halves.{Halves, Place, InOlder, InNewer, half_of, batches_in}
-use Rattle.jrn_laws.specs.File.{IsFile}
-use Rattle.jrn_laws.proofs.FileLaws.{at_other}
+use Rattle.jrn_format.specs.Halves.{Halves, Place, InOlder, InNewer, half_of, batches_in}
+use Rattle.jrn_format.specs.File.{IsFile}
+use Rattle.jrn_format.proofs.FileLaws.{at_other}
 use Rattle.site_core.specs.Disk.{Disk, write_begun}
 use Rattle.site_core.specs.State.{Seen}
 use Rattle.book_model.specs.declared.next.DiskNext.{DiskNext}
@@ -17,28 +17,17 @@ use Rattle.book_model.specs.declared.next.DiskNext.TheVariants as next
 use Rattle.book_model.specs.Book.{Book, Doing, Resting, Payload, PayloadSync, OpenGate, OpenSync, CloseGate, CloseSync, FarGate, Mark, MarkSync, Version, VersionSync, half_at}
 use Rattle.book_model.specs.DiskSteps.{place_at, action_of, disk_next}
 use Rattle.book_model.specs.Machine.{Machine}
-use Rattle.up_laws.specs.Below.{
-  Frame,
-  room,
-  IsFramed,
-  begun_on,
-  in_progress,
-  OpensGate,
-  DoingFits,
-  IsVersioned,
-  BeforeVersion,
-  OldDoingFits,
-  FormFits,
-  JournalFits,
-}
-use Rattle.up_laws.proofs.Below.{place-at, half-at}
-use Rattle.up_laws.specs.Up.{Up}
+use Rattle.book_laws.specs.Frame.{JournalFrame, room, IsFramed}
+use Rattle.book_laws.specs.Events.{begun_on, in_progress}
+use Rattle.book_laws.specs.Doing.{OpensGate, DoingFits}
+use Rattle.book_laws.specs.OldFile.{IsVersioned, BeforeVersion}
+use Rattle.book_laws.specs.OldDoing.{OldDoingFits, FormFits, JournalFits}
+use Rattle.book_laws.proofs.DoneLaws.{place-at, half-at}
+use Rattle.book_laws.specs.Up.{Up}
 use Rattle.runner_laws.proofs.DiskRuns.{IsAction, begun-up, out-of}
+use Rattle.book_laws.proofs.StopLaws.{header_long}
 
 -- ---- how long the file is
-
-header_long : (version slaves capacity : ℕ) → length (header_bytes version slaves capacity) ≡ 8
-header_long version slaves capacity = refl
 
 file-long : (version slaves capacity at : ℕ) (one two last bytes : List ℕ) → IsFile (header_bytes version slaves capacity) at one two last bytes → length bytes ≡ 8 + (length one + length two + length last)
 file-long version slaves capacity zero one two last bytes file =
@@ -47,7 +36,7 @@ file-long version slaves capacity (suc n) one two last bytes file =
     omega (arith, ap length file.is, header_long version slaves capacity, length-append (header_bytes version slaves capacity) ((two ++ one) ++ last), length-append (two ++ one) last, length-append two one)
 
 -- a place in a half
-half-inside : (frame : Frame) (half : ℕ) (one two bytes : List ℕ) (into : ℕ) → half ≤ 1 → into ≤ length one → IsFramed frame half one two bytes → 8 + half * room frame + into ≤ length bytes
+half-inside : (frame : JournalFrame) (half : ℕ) (one two bytes : List ℕ) (into : ℕ) → half ≤ 1 → into ≤ length one → IsFramed frame half one two bytes → 8 + half * room frame + into ≤ length bytes
 half-inside frame zero one two bytes into le small framed =
     let long = file-long 2 frame.slaves frame.capacity zero one two frame.last bytes framed.file in omega (arith, long, small)
 half-inside frame (suc zero) one two bytes into le small framed =
@@ -70,14 +59,14 @@ place_of (Some (next.Gate at closed)) = at
 place_of (Some other) = 0
 
 -- the gate behind the batches, and the byte behind it
-gate-inside : (frame : Frame) (book : Book) (place : Place) (gate : ℕ) (rest beside bytes : List ℕ) → book.capacity ≡ frame.capacity → book.halves.at ≤ 1
+gate-inside : (frame : JournalFrame) (book : Book) (place : Place) (gate : ℕ) (rest beside bytes : List ℕ) → book.capacity ≡ frame.capacity → book.halves.at ≤ 1
     → IsFramed frame (half_of book.halves place) (spelt_batches WithGeneration (batches_in book.halves place) ++ (gate ∷ rest)) beside bytes → place_at book place + 1 ≤ length bytes
 gate-inside frame book place gate rest beside bytes same le framed =
     let batches = spelt_batches WithGeneration (batches_in book.halves place) in
     let there = half-inside frame (half_of book.halves place) (batches ++ (gate ∷ rest)) beside bytes (length batches + 1) (half-small book.halves place le) (omega (arith, length-append batches (gate ∷ rest))) framed in
     omega (arith, there, place-at frame book place same)
 
-module _ (frame : Frame) (book : Book) (disk : Disk) (same : book.capacity ≡ frame.capacity) where
+module _ (frame : JournalFrame) (book : Book) (disk : Disk) (same : book.capacity ≡ frame.capacity) where
   opens-inside : (place : Place) (entries : List Entry) (out failed : Bool) → OpensGate frame book place entries out failed disk → place_at book place + 1 ≤ length disk.bytes
   opens-inside place entries true failed g = let h = g.1 in gate-inside frame book place g.0 h.rest h.beside disk.bytes same h.stands.at h.framed
   opens-inside place entries false false n = gate-inside frame book place n.gate n.rest n.beside disk.bytes same n.stands.at n.framed
@@ -145,7 +134,7 @@ module _ (frame : Frame) (book : Book) (disk : Disk) (same : book.capacity ≡ f
 
 -- ---- what is handed out
 
-module _ (frame : Frame) (book : Book) (took : List Bool) (m : Machine) (old : Seen) (up : Up frame book old.state took m) where
+module _ (frame : JournalFrame) (book : Book) (took : List Bool) (m : Machine) (old : Seen) (up : Up frame book old.state took m) where
   write-inside : (action : DiskNext) (at count : ℕ) → (disk_next book).0 ≡ action → IsAction action → begun_on (Some action) old.state.disk ≡ write_begun old.state.disk at count → place_of (Some action) ≤ length old.state.disk.bytes
   write-inside action at count is some begun =
       let later = (disk_next book).1 in

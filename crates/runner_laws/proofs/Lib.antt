@@ -4,3 +4,9 @@ pub mod WordRuns
 pub mod GoLaws
 pub mod InsideLaws
 pub mod ReadyLaws
+pub mod CallLaws
+pub mod NamedLaws
+pub mod OpenLaws
+pub mod DiskLaws
+pub mod WordLaws
+pub mod EndLaws

@@ -2,7 +2,7 @@
 use Rattle.std.proofs.Common.{◌≡◌, ℕ, ◌<◌, Bool, true, false, List, [], length, refl, sym, ◌∙◌, ap, subst, arith, Result, Ok, Err}
 use Rattle.std.specs.Prelude.{is_some, nat_lt}
 use Rattle.std.proofs.lemmas.Bool.Decides.{nat_tests}
-use Rattle.sii_runs.specs.Redo.{redone}
+use Rattle.sii_words.specs.Redo.{redone}
 use Rattle.jrn_format.specs.declared.journal.Journal.{Journal}
 use Rattle.esc_rom.specs.Access.{IssuesWord, SettlesSlave}
 use Rattle.site_core.specs.declared.fault.DeviceFault.{DeviceFault}
@@ -11,7 +11,7 @@ use Rattle.site_core.specs.declared.answers.Issued.{Issued}
 use Rattle.site_core.specs.declared.answers.Settled.{Settled}
 use Rattle.site_core.specs.declared.answers.Settled.TheVariants.{Written, Again, Dead}
 use Rattle.site_core.specs.State.{Seen}
-use Rattle.slave_queue.specs.Cells.{cell_of}
+use Rattle.book_model.specs.Cells.{cell_of}
 use Rattle.book_model.specs.declared.next.DiskNext.{DiskNext}
 use Rattle.book_model.specs.declared.next.DiskNext.TheVariants as disk
 use Rattle.book_model.specs.declared.next.RomNext.{RomNext}
@@ -24,10 +24,10 @@ use Rattle.book_model.specs.DiskSteps.{went_on, disk_next, disk_done}
 use Rattle.book_model.specs.RomSteps.{is_last, with_again, rom_next, rom_done}
 use Rattle.book_model.specs.Machine.{Machine}
 use Rattle.book_model.specs.Kept.{Kept}
-use Rattle.up_laws.specs.Below.{rested}
-use Rattle.up_laws.specs.Opening.{words_in, IsFound, book_on}
-use Rattle.up_laws.proofs.OpeningLaws.{up-opens}
-use Rattle.up_laws.proofs.SlaveEventLaws as events
+use Rattle.book_laws.specs.Events.{rested}
+use Rattle.book_laws.specs.Opening.{words_in, IsFound, book_on}
+use Rattle.book_laws.proofs.OpeningLaws.{up-opens}
+use Rattle.book_laws.proofs.SlaveEventLaws as events
 use Rattle.runner_laws.specs.Running.{CallsDisk, UpAfterDisk}
 use Rattle.runner_laws.specs.Ready.{IsReady, issue_outcome, settle_outcome}
 use Rattle.runner_laws.proofs.DiskRuns.{IsAction, disk-runs, out-of}

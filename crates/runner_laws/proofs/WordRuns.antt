@@ -1,4 +1,4 @@
--- The words of a slave, over any site.
+-- Issues and settles of a slave's words, on any site.
 use Rattle.std.proofs.Common.{◌≡◌, inl, inr, ℕ, ◌<◌, Bool, true, false, List, length, get_or, set, refl, sym, ◌∙◌, ap, subst, arith, length-set, Some, Ok, Err, Result}
 use Rattle.std.specs.Prelude.{slice_get}
 use Rattle.std.proofs.lemmas.Bool.Decides.{nat_tests}
@@ -16,7 +16,7 @@ use Rattle.site_core.specs.declared.answers.Settled.TheVariants.{Written, Again,
 use Rattle.site_core.specs.State.{State, Pair, Leaves, Seen, with_half}
 use Rattle.site_core.specs.Passes.{LeavesOnly}
 use Rattle.site_core.proofs.Runs.{Passes-weaker, Passes-stays}
-use Rattle.slave_queue.specs.Cells.{Cell, cell_of}
+use Rattle.book_model.specs.Cells.{Cell, cell_of}
 use Rattle.book_model.specs.declared.next.RomNext.{RomNext}
 use Rattle.book_model.specs.declared.next.RomNext.TheVariants as next
 use Rattle.book_model.specs.declared.next.RomOutcome.TheVariants as outcomes
@@ -24,16 +24,19 @@ use Rattle.book_model.specs.Book.{Book, Slave, Errand, Free, Issuing, Settling, 
 use Rattle.book_model.specs.RomSteps.{was_taken, rom_next, rom_done}
 use Rattle.book_model.specs.Machine.{Machine}
 use Rattle.book_model.specs.Kept.{Kept}
-use Rattle.up_laws.specs.Below.{IsUnsure, MayHoldAll, Frame}
-use Rattle.up_laws.proofs.Below.{cells_of, journal-kept}
-use Rattle.up_laws.specs.Slaves.{Asks, ErrandFits}
-use Rattle.up_laws.specs.Steps.{TakesOrNot, MayBegin, took_after}
-use Rattle.up_laws.specs.Up.{Up}
-use Rattle.up_laws.proofs.LineLaws.{half-there, holds-all}
-use Rattle.up_laws.proofs.GoesLaws.{up-rests}
-use Rattle.up_laws.proofs.OutcomeLaws.{up-issued, up-settled, up-dead, up-again}
-use Rattle.up_laws.proofs.SlaveEventLaws as events
-use Rattle.up_laws.proofs.SlaveEventLaws.{IsNothing, asks, same-state, up-asks}
+use Rattle.book_laws.specs.Owed.{IsUnsure}
+use Rattle.book_laws.specs.Plants.{MayHoldAll}
+use Rattle.book_laws.specs.Frame.{JournalFrame}
+use Rattle.book_laws.proofs.BookLaws.{cells_of}
+use Rattle.book_laws.proofs.FormLaws.{journal-kept}
+use Rattle.book_laws.specs.Slaves.{Asks, ErrandFits}
+use Rattle.book_laws.specs.Steps.{TakesOrNot, MayBegin, took_after}
+use Rattle.book_laws.specs.Up.{Up}
+use Rattle.book_laws.proofs.LineLaws.{half-there, holds-all}
+use Rattle.book_laws.proofs.GoesLaws.{up-rests}
+use Rattle.book_laws.proofs.OutcomeLaws.{up-issued, up-settled, up-dead, up-again}
+use Rattle.book_laws.proofs.SlaveEventLaws as events
+use Rattle.book_laws.proofs.SlaveEventLaws.{IsNothing, asks, same-state, up-asks}
 use Rattle.runner_laws.specs.Running.{KeepsAll, UpAfterIssue, UpAfterSettle}
 use Rattle.runner_laws.proofs.DiskRuns.{keeps-all}
 use Rattle.runner_laws.proofs.HoldLaws.{holds-torn}
@@ -68,7 +71,7 @@ module _ (book : Book) (i : ℕ) (within : i < length book.slaves) where
   settles-as taken (events.settle w v t errand is) =
       subst (SettlesAs taken) (sym is) (λ same. let t_is : t ≡ taken = cc in (w, v, ap (λ (s : Slave). s.errand) (get_or-set_same book.slaves i _ nobody within) ∙ ap (Settling w v) t_is))
 
-module _ (frame : Frame) (book : Book) (took : List Bool) (m : Machine) (old : Seen) (i : ℕ) (up : Up frame book old.state took m) (within : i < length book.slaves) where
+module _ (frame : JournalFrame) (book : Book) (took : List Bool) (m : Machine) (old : Seen) (i : ℕ) (up : Up frame book old.state took m) (within : i < length book.slaves) where
   abbrev later : Book
   later = (rom_next book i).1
 

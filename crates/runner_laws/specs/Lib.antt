@@ -1,3 +1,4 @@
 pub mod Running
 pub mod Ready
-pub mod Below
+pub mod Left
+pub mod Recovering

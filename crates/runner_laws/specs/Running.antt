@@ -1,4 +1,5 @@
--- What a runner's device calls do, over any site: all the way only what is kept may be left, and after it the station is up.
+-- What the device calls of a station keep, on any site: at each moment a stop leaves only what is kept, and afterwards the station's
+-- invariant holds.
 use Rattle.std.specs.Prelude.{ℕ, ◌≤◌, Bool, List, [], ◌∷◌, ◌++◌, length, take, Result, Ok, Err, slice_set}
 use Rattle.sii_edit.specs.declared.command.Command.{Command}
 use Rattle.site_core.specs.declared.fault.DeviceFault.{DeviceFault}
@@ -16,22 +17,23 @@ use Rattle.book_model.specs.DiskSteps.{disk_done}
 use Rattle.book_model.specs.RomSteps.{rom_done}
 use Rattle.book_model.specs.Machine.{Machine}
 use Rattle.book_model.specs.Kept.{Kept}
-use Rattle.up_laws.specs.Below.{Frame, gate_byte}
-use Rattle.up_laws.specs.Steps.{acknowledged_by}
-use Rattle.up_laws.specs.Up.{Up}
+use Rattle.book_laws.specs.Frame.{JournalFrame}
+use Rattle.book_laws.specs.Events.{gate_byte}
+use Rattle.book_laws.specs.Steps.{acknowledged_by}
+use Rattle.book_laws.specs.Up.{Up}
 
--- from the one time to the other a stop could have left only pairs that are kept for this machine
+-- At each moment between the two times a stop could have left only pairs that are kept for this machine.
 abbrev pub KeepsAll : Machine → Seen → Seen → Type 0
 KeepsAll machine old new = StaysWithin (λ pair. Kept pair.disk pair.words machine) old new
 
 -- ---- the disk
 
--- a write from a place inside the disk on
+-- A write that begins inside the disk or right behind its last byte.
 pub record WritesInside (old : Seen) (at : ℕ) (bytes : List ℕ) (result : Result (Unit {0}) DeviceFault) (new : Seen) : Type 0 where
   pub inside : at ≤ length old.state.disk.bytes
   pub writes : WritesDisk old at bytes result new
 
--- the device call that is asked for
+-- The device call that carries out an action of the disk.
 abbrev pub CallsDisk : DiskNext → Seen → Result (Unit {0}) DeviceFault → Seen → Type 0
 CallsDisk (next.Write at bytes) old result new = WritesInside old at bytes result new
 CallsDisk (next.Gate at closed) old result new = WritesInside old at (gate_byte closed ∷ []) result new
@@ -39,35 +41,40 @@ CallsDisk next.Sync old result new = SyncsDisk old result new
 CallsDisk next.Idle old result new = ⊥
 CallsDisk next.Stop old result new = ⊥
 
--- Once it is done, what is durable then is acknowledged. Nothing is said where the site has stopped.
-abbrev pub UpAfterDisk : Frame → Book → List Bool → Machine → Seen → Result (Unit {0}) DeviceFault → Type 0
-UpAfterDisk frame book took machine new (Ok done) = Up frame (disk_done book (Ok tt)) new.state took (acknowledged_by (disk_done book (Ok tt)) machine)
+-- The station's invariant after an action of the disk. On success everything durable is acknowledged; after a stop nothing is claimed.
+abbrev pub UpAfterDisk : JournalFrame → Book → List Bool → Machine → Seen → Result (Unit {0}) DeviceFault → Type 0
+UpAfterDisk frame book took machine new (Ok done) =
+    Up frame (disk_done book (Ok tt)) new.state took (acknowledged_by (disk_done book (Ok tt)) machine)
 UpAfterDisk frame book took machine new (Err device.Disk) = Up frame (disk_done book (Err device.Disk)) new.state took machine
 UpAfterDisk frame book took machine new (Err device.Lost) = ⊥
 UpAfterDisk frame book took machine new (Err device.Stopped) = Unit {0}
 
 -- ---- a slave
 
-abbrev pub UpAfterIssue : Frame → Book → List Bool → Machine → ℕ → Seen → Result Issued DeviceFault → Type 0
-UpAfterIssue frame book took machine slave new (Ok issued) = (taken : Bool) × Up frame (rom_done book slave (outcomes.Issued issued)) new.state (slice_set took slave taken) machine
+-- The station's invariant after an issue. After a stop nothing is claimed.
+abbrev pub UpAfterIssue : JournalFrame → Book → List Bool → Machine → ℕ → Seen → Result Issued DeviceFault → Type 0
+UpAfterIssue frame book took machine slave new (Ok issued) =
+    (taken : Bool) × Up frame (rom_done book slave (outcomes.Issued issued)) new.state (slice_set took slave taken) machine
 UpAfterIssue frame book took machine slave new (Err device.Stopped) = Unit {0}
 UpAfterIssue frame book took machine slave new (Err fault) = ⊥
 
-abbrev pub UpAfterSettle : Frame → Book → List Bool → Machine → ℕ → Seen → Result Settled DeviceFault → Type 0
+-- The station's invariant after a settle. After a stop nothing is claimed.
+abbrev pub UpAfterSettle : JournalFrame → Book → List Bool → Machine → ℕ → Seen → Result Settled DeviceFault → Type 0
 UpAfterSettle frame book took machine slave new (Ok settled) = Up frame (rom_done book slave (outcomes.Settled settled)) new.state took machine
 UpAfterSettle frame book took machine slave new (Err device.Stopped) = Unit {0}
 UpAfterSettle frame book took machine slave new (Err fault) = ⊥
 
 -- ---- calls in a row
 
--- kept with the first of the commands that are accepted meanwhile, so many
+-- The pair is kept with the first j of the commands accepted meanwhile counted in.
 abbrev pub KeptWith : Machine → List Command → Pair → Type 0
-KeptWith machine commands pair = (j : ℕ) × (j ≤ length commands) × Kept pair.disk pair.words (record machine { accepted = machine.accepted ++ take j commands })
+KeptWith machine commands pair = (j : ℕ) × (j ≤ length commands)
+    × Kept pair.disk pair.words (record machine { accepted = machine.accepted ++ take j commands })
 
--- from the one time to the other a stop could have left only such pairs
+-- At each moment between the two times a stop could have left only such pairs.
 abbrev pub KeepsWith : Machine → List Command → Seen → Seen → Type 0
 KeepsWith machine commands old new = StaysWithin (KeptWith machine commands) old new
 
--- with all of these commands accepted, and so many acknowledged
+-- The machine with all these commands accepted, and `count` of all commands acknowledged.
 abbrev pub with_commands : Machine → List Command → ℕ → Machine
 with_commands machine commands count = record machine { accepted = machine.accepted ++ commands; acknowledged = count }

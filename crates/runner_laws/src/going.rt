@@ -1,4 +1,4 @@
-//! Calls in a row keep what each of them keeps.
+//! Device calls in a row keep what each of them keeps.
 
 ghost use Rattle.std.specs.Prelude.{ℕ, ◌≤◌, ◌++◌, List};
 ghost use Rattle.sii_edit.specs.declared.command.Command.{Command};
@@ -8,24 +8,29 @@ ghost use Rattle.book_model.specs.Kept.{Kept};
 ghost use Rattle.book_model.specs.Machine.{Machine};
 ghost use Rattle.runner_laws.specs.Running.{KeepsAll, KeepsWith, with_commands};
 
-/// What adds nothing to what a stop may leave, as calls that only read, a sync, and opening and reading a slave, keeps what was kept.
+/// Calls keep what was kept if a power cut in them leaves nothing that it couldn't leave before. Reads and syncs are such calls.
 pub fn what_adds_nothing_keeps()
-    ensures { (machine : Machine) (old new : Seen) → AddsNothing old new → ((pair : Pair) → Leaves old.state pair → Kept pair.disk pair.words machine) → KeepsAll machine old new }
+    ensures { (machine : Machine) (old new : Seen) → AddsNothing old new
+        → ((pair : Pair) → Leaves old.state pair → Kept pair.disk pair.words machine) → KeepsAll machine old new }
 {}
 
-/// One run behind another, for one machine, and while commands are accepted on the way.
+/// Two runs one after another keep what each of them keeps, also while commands are accepted on the way.
 pub fn runs_in_a_row_keep()
-    ensures all { (machine : Machine) (first mid last : Seen) → KeepsAll machine first mid → KeepsAll machine mid last → KeepsAll machine first last }
-    ensures with_commands { (machine : Machine) (commands : List Command) (first mid last : Seen) → KeepsWith machine commands first mid → KeepsWith machine commands mid last → KeepsWith machine commands first last }
+    ensures all { (machine : Machine) (first mid last : Seen) → KeepsAll machine first mid → KeepsAll machine mid last
+        → KeepsAll machine first last }
+    ensures with_commands { (machine : Machine) (commands : List Command) (first mid last : Seen) → KeepsWith machine commands first mid
+        → KeepsWith machine commands mid last → KeepsWith machine commands first last }
 {}
 
-/// What is kept once all these commands are accepted, and so many acknowledged, is kept with some of them.
+/// A run that keeps everything with all these commands accepted also keeps it with a prefix of them.
 pub fn a_run_with_commands_keeps()
-    ensures { (machine : Machine) (commands : List Command) (count : ℕ) (old new : Seen) → machine.acknowledged ≤ count → KeepsAll (with_commands machine commands count) old new
+    ensures { (machine : Machine) (commands : List Command) (count : ℕ) (old new : Seen) → machine.acknowledged ≤ count
+        → KeepsAll (with_commands machine commands count) old new
         → KeepsWith machine commands old new }
 {}
 
-/// More commands may be accepted later.
+/// What is kept while these commands are accepted stays kept if more are accepted behind them.
 pub fn more_commands_may_come()
-    ensures { (machine : Machine) (commands more : List Command) (old new : Seen) → KeepsWith machine commands old new → KeepsWith machine (commands ++ more) old new }
+    ensures { (machine : Machine) (commands more : List Command) (old new : Seen) → KeepsWith machine commands old new
+        → KeepsWith machine (commands ++ more) old new }
 {}

@@ -1,4 +1,4 @@
--- One category edited: what the words then are.
+-- Category edits: the new words, and their chain.
 use Rattle.std.proofs.Common.{◌≡◌, ◌≢◌, ℕ, zero, suc, ◌+◌, ◌-◌, ◌<◌, ◌≤◌, All, List, [], ◌∷◌, ◌++◌, length, take, drop, Option, Some, None, Result, Ok, Err, refl, sym, ap, subst, ◌∙◌, append_assoc, arith}
 use Rattle.std.specs.Prelude.{slice_get, IfSome, IfOk, MatchOption, map}
 use Rattle.std.proofs.lemmas.Grind.{flat_map-append}
@@ -146,11 +146,11 @@ spliced_typed (Some i) kind (word ∷ words) ms typed some h = All-set (λ m. m.
 
 -- ---- the new words
 
-length-closing : (words : List ℕ) → length (closing words) ≡ length words
+pub length-closing : (words : List ℕ) → length (closing words) ≡ length words
 length-closing [] = refl
 length-closing (word ∷ words) = refl
 
-closing_ends : (words : List ℕ) → IsEnd (closing words)
+pub closing_ends : (words : List ℕ) → IsEnd (closing words)
 closing_ends [] = tt
 closing_ends (word ∷ words) = refl
 
@@ -158,7 +158,7 @@ closing_mark : (words : List ℕ) → 0 < length words → slice_get (closing wo
 closing_mark [] h = absurd (omega arith)
 closing_mark (word ∷ words) h = refl
 
-drop-closing : (words : List ℕ) → drop 1 (closing words) ≡ drop 1 words
+pub drop-closing : (words : List ℕ) → drop 1 (closing words) ≡ drop 1 words
 drop-closing [] = refl
 drop-closing (word ∷ words) = refl
 

@@ -1,4 +1,4 @@
--- Sync managers and PDOs: what is left behind one is shorter.
+-- Sync managers and PDOs: what reading one of them leaves, and that reading agrees with the grammar.
 use Rattle.std.proofs.Common.{◌≡◌, ℕ, zero, suc, ◌/◌, ◌%◌, ◌<◌, ◌≤◌, List, [], ◌∷◌, ◌++◌, length, map, Result, Ok, Err, refl, sym, ap, subst, ◌∙◌, append_assoc, arith}
 use Rattle.std.specs.List.{flat_map}
 use Rattle.sii_cats.specs.steps.Items.{◌>>=◌, items_of, counted}

@@ -1,4 +1,4 @@
--- Items one after another: reading them one by one gives what the grammar relates to the cells.
+-- Items: reading them one by one gives what the grammar relates to the cells.
 use Rattle.std.proofs.Common.{◌≡◌, ℕ, zero, suc, ◌-◌, ◌+◌, ◌<◌, ◌≤◌, List, [], ◌∷◌, ◌++◌, length, Result, Ok, Err, refl, sym, ap, subst, ◌∙◌, append_assoc, arith}
 use Rattle.std.specs.Prelude.{IsErr}
 use Rattle.std.specs.List.{flat_map}
@@ -28,7 +28,7 @@ same_behind cells f g Ended h = refl
 same_behind cells f g (Item x rest) h = ap (λ r. r >>= λ xs. Ok (x ∷ xs)) (h x rest refl)
 same_behind cells f g Broken h = refl
 
--- any bound above the number of cells gives the same
+-- any bound above the number of cells gives the same items
 enough : {X : Type 0} (front : List ℕ → Front X) → Shrinks front → (m n : ℕ) (cells : List ℕ) → length cells < m → length cells < n
     → items_below front m cells ≡ items_below front n cells
 unfolding items_below

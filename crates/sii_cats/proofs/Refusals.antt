@@ -1,4 +1,4 @@
--- A fault that is passed on.
+-- Faults that are passed on to the caller.
 use Rattle.std.proofs.Common.{◌≡◌, ℕ, Result, Ok, Err}
 use Rattle.std.specs.Prelude.{IsErr}
 use Rattle.sii_cats.specs.Reading.{Refuses, Answers}

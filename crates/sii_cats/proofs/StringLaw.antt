@@ -7,9 +7,7 @@ use Rattle.sii_cats.specs.steps.Items.{◌>>=◌, counted}
 use Rattle.sii_cats.specs.Strings.{AreStrings, string_bytes}
 use Rattle.sii_cats.specs.steps.Strings.{string_at, strings_in}
 use Rattle.sii_cats.proofs.Items.{ok_is, bind_ok, IsReader, counted_takes, counted_again}
-
-abbrev Anything : List ℕ → Type 0
-Anything cells = Unit {0}
+use Rattle.sii_cats.proofs.ChainLaw.{Anything}
 
 guard_ok : {A E : Type 0} (b : Bool) (d : E) (x y : A) → cond b (Err d) (Ok x) ≡ Ok y → (b ≡ false) × (x ≡ y)
 guard_ok true d x y e = absurd cc

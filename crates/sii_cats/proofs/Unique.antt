@@ -1,4 +1,4 @@
--- One reading at most.
+-- Each content, and each chain, has at most one reading.
 use Rattle.std.proofs.Common.{◌≡◌, ℕ, ◌<◌, ◌^◌, List, [], ◌∷◌, length, get_or, drop, Result, Ok, Err, refl, sym, ap, ◌∙◌, arith, inl, inr}
 use Rattle.std.proofs.lemmas.List.{get_or_past, length-drop}
 use Rattle.std.proofs.lemmas.Bool.{cases_lt}

@@ -1,4 +1,4 @@
--- Reading the chain: the categories so far, and the word that was reached.
+-- Reading the chain: the categories read so far, and the word that is reached.
 use Rattle.std.proofs.Common.{◌≡◌, ℕ, ◌+◌, ◌≤◌, List, [], ◌∷◌, ◌++◌, length, map, drop, Result, Ok, Err, refl, sym, ap, subst, ◌∙◌, arith}
 use Rattle.std.proofs.lemmas.List.{map_push, length-append, length-take, length-drop, flat_map_more}
 use Rattle.std.proofs.lemmas.List.Elements.{All-push, All-nil}

@@ -1,4 +1,4 @@
--- A fact of each item, seen with and without where it lies in memory.
+-- A fact of each item of a list, for the running code's items and for their values in contracts.
 use Rattle.std.proofs.Common.{List, map, All, subst, arith}
 use Rattle.std.proofs.lemmas.List.{get_or-map, length-map}
 

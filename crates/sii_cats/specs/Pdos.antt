@@ -6,7 +6,7 @@ use Rattle.sii_cats.specs.Items.{AreItems}
 use Rattle.sii_cats.specs.declared.mappings.PdoEntry.{PdoEntry}
 use Rattle.sii_cats.specs.declared.mappings.Pdo.{Pdo}
 
--- a PDO without where its entries lie in memory
+-- a PDO as contracts compare it: its head, and the list of its entries
 pub record Mapping : Type 0 where
   pub index : ℕ
   pub entries : List PdoEntry
@@ -15,27 +15,31 @@ pub record Mapping : Type 0 where
   pub name : ℕ
   pub flags : ℕ
 
+-- the value in contracts of a PDO of the running code
 abbrev pub view : Pdo → Mapping
-view p = record { index = p.index; entries = p.entries.items; manager = p.manager; synchronization = p.synchronization; name = p.name; flags = p.flags }
+view p =
+    record { index = p.index; entries = p.entries.items; manager = p.manager; synchronization = p.synchronization; name = p.name; flags = p.flags }
 
+-- the values of several PDOs
 abbrev pub views : List Pdo → List Mapping
 views ps = map view ps
 
--- index, subindex, name index, data type, bit length, flags
+-- the eight bytes of an entry: index, subindex, name index, data type, bit length, flags
 abbrev pub entry_bytes : PdoEntry → List ℕ
 entry_bytes e = low_first e.index ++ (e.subindex ∷ e.name ∷ e.data_type ∷ e.bit_length ∷ []) ++ low_first e.flags
 
--- index, number of entries, SyncM, synchronization, name index, flags
+-- the eight bytes of a head: index, number of entries, SyncM, synchronization, name index, flags
 abbrev pub head_bytes : Mapping → List ℕ
 head_bytes p = low_first p.index ++ (length p.entries ∷ p.manager ∷ p.synchronization ∷ p.name ∷ []) ++ low_first p.flags
 
+-- the bytes of a PDO: its head, and its entries
 abbrev pub pdo_bytes : Mapping → List ℕ
 pdo_bytes p = head_bytes p ++ flat_map entry_bytes p.entries
 
--- one PDO after another; fewer bytes than a head's are ignored at the end
+-- The bytes are these PDOs one after another; fewer than eight bytes at the end are ignored.
 abbrev pub ArePdos : List ℕ → List Mapping → Type 0
 ArePdos bytes pdos = AreItems (λ cells p rest. cells ≡ pdo_bytes p ++ rest) (λ rest. length rest < 8) bytes pdos
 
--- the number of entries is a byte
+-- a PDO can be written if its number of entries fits one byte
 abbrev pub IsWritable : Mapping → Type 0
 IsWritable p = length p.entries < 256

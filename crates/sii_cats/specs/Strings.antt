@@ -3,22 +3,25 @@ use Rattle.std.specs.Prelude.{◌≡◌, ℕ, List, [], ◌∷◌, ◌++◌, ◌
 use Rattle.std.specs.Global.{Vec}
 use Rattle.std.specs.List.{flat_map}
 
--- strings without where they lie in memory
+-- strings of the running code as lists of bytes
 abbrev pub texts : List (Vec ℕ) → List (List ℕ)
 texts strings = map (λ string. string.items) strings
 
+-- the bytes of a string: its length, and the string
 abbrev pub string_bytes : List ℕ → List ℕ
 string_bytes string = length string ∷ string
 
--- the number of strings, and the strings; what follows the last is ignored, and no bytes are no strings
+-- The bytes are the number of strings, and these strings; bytes behind the last string are ignored, and no bytes are no
+-- strings.
 abbrev pub AreStrings : List ℕ → List (List ℕ) → Type 0
 AreStrings [] strings = strings ≡ []
 AreStrings (count ∷ bytes) strings = (count ≡ length strings) × (rest : List ℕ) × (bytes ≡ flat_map string_bytes strings ++ rest)
 
--- the number of strings, and each string's length, is a byte
+-- strings can be written if their number, and the length of each, fit one byte
 pub record AreWritable (strings : List (List ℕ)) : Type 0 where
   pub few : length strings < 256
   pub short : All (λ string. length string < 256) strings
 
+-- the bytes of a STRINGS category with these strings
 abbrev pub all_bytes : List (List ℕ) → List ℕ
 all_bytes strings = length strings ∷ flat_map string_bytes strings

@@ -1,4 +1,4 @@
--- Definitions that follow the code's steps. The laws join them to the grammars, and no reader has to trust them.
+-- Definitions that follow the code's steps. Laws prove that they agree with the grammars, so no reader has to trust them.
 pub mod Items
 pub mod Chain
 pub mod Contents

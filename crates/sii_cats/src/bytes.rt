@@ -5,14 +5,15 @@ ghost use Rattle.sii_cats.specs.Bytes.{bytes_of, padded};
 
 use std::alloc::{AllocError, Global};
 
-/// The word of two bytes.
+/// The word made of a low and a high byte.
 pub fn pair(low: u8, high: u8) -> u16
     ensures { bytes_of (result ∷ []) ≡ low ∷ high ∷ [] }
 {
     u16::from_le_bytes([low, high])
 }
 
-/// The word that the next two bytes are, or the last one alone, and the bytes behind it.
+/// The word that begins the bytes, and the bytes behind it; `None` if there are no bytes. A single byte is a word with the high
+/// byte 0.
 fn word_of(bytes: &[u8]) -> Option<(u16, &[u8])>
     ensures { MatchOption result (bytes.now ≡ [])
         (λ x. (padded bytes.now ≡ bytes_of (x.0 ∷ []) ++ padded x.1.now)
@@ -25,7 +26,11 @@ fn word_of(bytes: &[u8]) -> Option<(u16, &[u8])>
     }
 }
 
-/// The words of these bytes. Behind an odd number of bytes stands a 0.
+/// Packs bytes into words, each word low byte first. An odd number of bytes is padded with 0x00.
+///
+/// # Errors
+///
+/// `AllocError` if memory was refused.
 pub fn packed(alloc: Global, bytes: &[u8]) -> Result<Vec<u16>, AllocError>
     ensures { IfOk result (λ v. bytes_of v.items ≡ padded bytes.now) }
 {

@@ -8,23 +8,23 @@ use crate::fault::ChainFault;
 use crate::kind::END;
 use std::alloc::Global;
 
-/// The word of the first category's header (ETG.1000.6, slave information interface categories).
+/// The number of the word at which the chain begins (ETG.1000.6, slave information interface categories).
 pub const FIRST_HEADER: usize = 0x40;
 
-/// A category of a chain, by its place among the words (ETG.1000.6): a word with its type, a word with the length of its content
-/// in words, and the content.
+/// Where a category stands among the words (ETG.1000.6): a type word, a word with the length of its content in words, and the
+/// content.
 #[derive(Clone, Copy, Debug, PartialEq, Eq)]
 pub struct Category {
     /// The type.
     pub kind: u16,
-    /// The word of its header.
+    /// The number of its type word.
     pub at: usize,
-    /// How many words its content has.
+    /// The length of its content in words.
     pub count: usize,
 }
 
 impl Category {
-    /// The word behind the content.
+    /// The number of the word behind the content. It must fit 64 bits.
     pub fn end(self) -> usize
         requires { end_of self < 2 ^ 64 }
         ensures { result ≡ end_of self }
@@ -32,7 +32,7 @@ impl Category {
         self.at + 2 + self.count
     }
 
-    /// The content, of the words that the category was read from.
+    /// The content, among the words that the category was read from. The category must end inside them.
     pub fn content(self, words: &[u16]) -> &[u16]
         requires { end_of self ≤ length words.now }
         ensures { result.now ≡ content_of words.now self }
@@ -43,7 +43,7 @@ impl Category {
     }
 }
 
-/// The category whose header stands at a word, or `None` at the end of the chain.
+/// The category with its header at word `at`, or `None` at the end of the chain.
 fn header_at(words: &[u16], at: usize) -> Result<Option<Category>, ChainFault>
     requires { at ≤ length words.now }
     ensures { HeaderGives words.now at result }
@@ -59,7 +59,12 @@ fn header_at(words: &[u16], at: usize) -> Result<Option<Category>, ChainFault>
     }
 }
 
-/// The categories of the chain, and the word behind it.
+/// Reads the chain of categories: the categories, and the number of the word behind the last one. There must be at least 64
+/// words.
+///
+/// # Errors
+///
+/// As for `chain`.
 pub fn walk(alloc: Global, words: &[u16]) -> Result<(Vec<Category>, usize), ChainFault>
     requires { 64 ≤ length words.now }
     ensures exact { GivesChain (λ x. map (member_of words.now) x.0.items) words.now result }
@@ -74,8 +79,11 @@ pub fn walk(alloc: Global, words: &[u16]) -> Result<(Vec<Category>, usize), Chai
     Ok((categories, at))
 }
 
-/// The categories of the words of a device, 64 at least. `RunsOut`: the header at word `at`, or its
-/// content, isn't whole.
+/// Reads the chain of categories among the words of a device, from word 0x40 on. There must be at least 64 words.
+///
+/// # Errors
+///
+/// `RunsOut` if a category is cut off, with the word of its header. Or `Memory` in place of any answer if memory was refused.
 pub fn chain(alloc: Global, words: &[u16]) -> Result<Vec<Category>, ChainFault>
     requires { 64 ≤ length words.now }
     ensures grammar { AnswersChain (λ v. map (member_of words.now) v.items) words.now result }

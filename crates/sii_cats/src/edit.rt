@@ -1,4 +1,4 @@
-//! One category of a device exchanged, added or taken out.
+//! Replaces, adds or removes one category of a device.
 
 ghost use Rattle.std.specs.Prelude.{◌≡◌, ◌≢◌, ◌<◌, ◌≤◌, ◌^◌, ◌++◌, [], length, take, drop, All, IfOk, IfSome, OnOk, MatchOption, slice_get, Some};
 ghost use Rattle.sii_cats.specs.declared.categories.Category.{Category};
@@ -25,7 +25,8 @@ impl From<ChainFault> for CatFault {
     }
 }
 
-/// Where a category stands, or where the chain ends: its header, and the word behind its content.
+/// The words that an edit replaces, as the first of them and the one behind the last: those of category `member`, or none at
+/// the end of the chain.
 fn gap(categories: &[Category], end: usize, member: Option<usize>) -> (usize, usize)
     requires inside { IfSome member (λ i. i < length categories.now) }
     requires fits { All (λ c. end_of c < 2 ^ 64) categories.now }
@@ -41,7 +42,7 @@ fn gap(categories: &[Category], end: usize, member: Option<usize>) -> (usize, us
     }
 }
 
-/// Adds a category, or nothing without a content.
+/// Adds the words of a category, or nothing if the content is empty.
 fn push_member(words: &mut Vec<u16>, kind: u16, content: &[u16]) -> Result<(), AllocError>
     requires { length content.now < 65536 }
     ensures { OnOk result (words.new.items ≡ words.old.items ++ new_words kind content.now) }
@@ -53,7 +54,7 @@ fn push_member(words: &mut Vec<u16>, kind: u16, content: &[u16]) -> Result<(), A
     words.extend_from_slice(content)
 }
 
-/// Adds the end mark, where a word is left, and the old words behind it.
+/// Adds the end mark if a word is left for it, and the old words behind it.
 fn close(words: &mut Vec<u16>, old: &[u16]) -> Result<(), AllocError>
     requires { length words.old.items ≤ length old.now }
     ensures { OnOk result (words.new.items
@@ -79,7 +80,7 @@ fn spelled_len(content: &[u16]) -> usize
     }
 }
 
-/// The words with the category at word `first`, and the categories `kept` behind it.
+/// The words before word `first`, this category, the categories `kept`, the end mark, and the old words behind it.
 fn rebuilt(
     alloc: Global,
     words: &[u16],
@@ -104,14 +105,18 @@ fn rebuilt(
     Ok(out)
 }
 
-/// The words of a device with category number `member` of its chain exchanged, or taken out where the
-/// content is empty, or with a category added last (`None`). The word behind the new chain, if one is
-/// left, becomes the end mark, and all words further back keep their values.
+/// The words of a device with one category replaced, removed or added.
 ///
-/// A device has 64 to 4,096 words. Where its chain can be read, `member` is in it. A category that is
-/// added has a content, and none that is added or exchanged has the end mark's type.
+/// Category number `member` of the chain, from 0, is replaced, or removed if `content` is empty. With `None` the category is
+/// added last. The word behind the new chain becomes the end mark, if one is left, and all words behind that keep their values.
 ///
-/// `RunsOut`: the chain can't be read. `NoRoom`: the new chain passes the end of the device.
+/// A device has 64 to 4,096 words. If its chain can be read, `member` must be in it. An added category must have a content, and
+/// a category that is added or replaced must not have the end mark's type.
+///
+/// # Errors
+///
+/// In this order: `RunsOut` if the chain can't be read; `NoRoom` if the new chain passes the end of the device. Or `Memory` in
+/// place of any answer if memory was refused.
 pub fn splice(
     alloc: Global,
     words: &[u16],

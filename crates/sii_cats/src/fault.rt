@@ -8,22 +8,24 @@ use thiserror::Error;
 /// Why the chain of categories can't be read.
 #[derive(Clone, Copy, Debug, PartialEq, Eq, Error)]
 pub enum ChainFault {
+    /// Memory was refused.
     #[error("out of memory")]
     Memory,
-    /// The header at word `at`, or its content, isn't whole.
+    /// The category with its header at word `at` is cut off: its header or its content passes the end of the words.
     #[error("the category at word {at} is not whole")]
     RunsOut { at: usize },
 }
 
-/// Why a category can't be read, written or exchanged.
+/// Why a category can't be read, written or replaced.
 #[derive(Clone, Copy, Debug, PartialEq, Eq, Error)]
 pub enum CatFault {
+    /// Memory was refused.
     #[error("out of memory")]
     Memory,
-    /// The header at word `at`, or its content, isn't whole.
+    /// The category with its header at word `at` is cut off: its header or its content passes the end of the words.
     #[error("the category at word {at} is not whole")]
     RunsOut { at: usize },
-    /// A content of type `kind` that can't be read or written.
+    /// The content of a category of type `kind` can't be read or written.
     #[error("the content of a category of type {kind} is malformed")]
     BadCategory { kind: u16 },
     /// The chain would pass the end of the device.

@@ -1,19 +1,19 @@
-//! What holds of the contents of categories, and of chains, apart from any code.
+//! Laws of chains and of the contents of categories. The contract of each function is a theorem, and its body is empty.
 
 ghost use Rattle.sii_cats.specs.Laws.{CutsAreUnique, ReadingsAgree, UniqueChain, UniqueContents};
 
-/// Bytes are the contents of one list of units, sync managers, PDOs or strings at most.
+/// Bytes have at most one reading as FMMU units, as sync managers, as PDOs, and as strings.
 pub fn one_content()
     ensures { UniqueContents }
 {}
 
-/// Words have one chain at most; where they have none, one header is the first that isn't whole.
+/// Words have at most one chain. They are cut off at one header at most, and have no chain then.
 pub fn one_chain()
     ensures unique { UniqueChain }
     ensures cut { CutsAreUnique }
 {}
 
-/// What reading gives as a function is what the grammars relate to the words.
+/// The readings that follow the code step by step give exactly what the grammars relate to the words.
 pub fn readings()
     ensures { ReadingsAgree }
 {}

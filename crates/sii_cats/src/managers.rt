@@ -12,7 +12,7 @@ use crate::bytes::pair;
 use sii_words::bytes_of_words;
 use std::alloc::{AllocError, Global};
 
-/// A sync manager in a SyncM category (ETG.1000.6 and ETG.2010, category SyncM): eight bytes.
+/// A sync manager as a SyncM category describes it (ETG.1000.6 and ETG.2010): eight bytes.
 #[derive(Clone, Copy, Debug, PartialEq, Eq)]
 pub struct Manager {
     /// Physical start address.
@@ -25,7 +25,7 @@ pub struct Manager {
     pub status: u8,
     /// Enable flags.
     pub enable: u8,
-    /// 0 unused, 1 mailbox out, 2 mailbox in, 3 process data out, 4 process data in.
+    /// Type: 0 unused, 1 mailbox out, 2 mailbox in, 3 process data out, 4 process data in.
     pub kind: u8,
 }
 
@@ -61,8 +61,12 @@ fn read_managers(alloc: Global, bytes: &[u8]) -> Result<Vec<Manager>, AllocError
     Ok(managers)
 }
 
-/// The sync managers of a SyncM category with this content. Up to three words behind the last whole
-/// one are ignored, and no content is refused.
+/// Reads the content of a SyncM category: its sync managers, in order. Up to three words behind the last whole one are ignored,
+/// and any content can be read.
+///
+/// # Errors
+///
+/// `AllocError` if memory was refused.
 pub fn syncms(alloc: Global, words: &[u16]) -> Result<Vec<Manager>, AllocError>
     ensures grammar { IfOk result (λ v. AreManagers (bytes_of words.now) v.items) }
     ensures exact { IfOk result (λ v. managers_of words.now ≡ Ok v.items) }
@@ -70,7 +74,7 @@ pub fn syncms(alloc: Global, words: &[u16]) -> Result<Vec<Manager>, AllocError>
     read_managers(alloc, &bytes_of_words(alloc, words)?)
 }
 
-/// The words of a sync manager.
+/// The four words of a sync manager.
 fn manager_words(manager: Manager) -> [u16; 4]
     ensures { bytes_of result ≡ manager_bytes manager }
 {
@@ -83,6 +87,10 @@ fn manager_words(manager: Manager) -> [u16; 4]
 }
 
 /// The content of a SyncM category with these sync managers.
+///
+/// # Errors
+///
+/// `AllocError` if memory was refused.
 pub fn write_syncms(alloc: Global, managers: &[Manager]) -> Result<Vec<u16>, AllocError>
     ensures written { IfOk result (λ v. bytes_of v.items ≡ flat_map manager_bytes managers.now) }
     ensures read_back { IfOk result (λ v. AreManagers (bytes_of v.items) managers.now) }

@@ -19,26 +19,32 @@ use std::alloc::{AllocError, Global};
 pub struct PdoEntry {
     /// Index of the object.
     pub index: u16,
+    /// Subindex of the object.
     pub subindex: u8,
-    /// The name's place among the strings, from 1; 0 is no name.
+    /// The number of its name among the strings, from 1; 0 is no name.
     pub name: u8,
+    /// Code of the data type.
     pub data_type: u8,
     /// Length in bits.
     pub bit_length: u8,
+    /// Flags.
     pub flags: u16,
 }
 
-/// A process data object and its entries, 255 at most in a content (ETG.1000.6 and ETG.2010, categories TXPDO and RXPDO): a
-/// head of eight bytes, and the entries behind it.
+/// A process data object (ETG.1000.6 and ETG.2010, categories TXPDO and RXPDO): a head of eight bytes, and its entries.
 #[derive(Debug, Drop)]
 pub struct Pdo {
+    /// Index of the PDO.
     pub index: u16,
+    /// The entries, in order. A content has room for 255 of them.
     pub entries: Vec<PdoEntry>,
-    /// The sync manager that it is assigned to; 0xFF is none.
+    /// The number of the sync manager that it is assigned to; 0xFF is none.
     pub manager: u8,
+    /// Synchronization.
     pub synchronization: u8,
-    /// The name's place among the strings, from 1; 0 is no name.
+    /// The number of its name among the strings, from 1; 0 is no name.
     pub name: u8,
+    /// Flags.
     pub flags: u16,
 }
 
@@ -131,10 +137,13 @@ fn read_pdos(alloc: Global, kind: u16, bytes: &[u8]) -> Result<Vec<Pdo>, CatFaul
     Ok(pdos)
 }
 
-/// The PDOs of a category of type `kind` with this content. Fewer than four words behind the last
-/// whole one are ignored.
+/// Reads the content of a category of type `kind`, TXPDO or RXPDO: its PDOs, in order. Fewer than four words behind the last
+/// whole PDO are ignored.
 ///
-/// `BadCategory`: four words or more are left, and the PDO that they begin isn't whole.
+/// # Errors
+///
+/// `BadCategory` if four words or more are left and the PDO that they begin isn't whole. Or `Memory` in place of any answer if
+/// memory was refused.
 pub fn pdos(alloc: Global, kind: u16, words: &[u16]) -> Result<Vec<Pdo>, CatFault>
     ensures grammar { Answers (λ v. views v.items) (ArePdos (bytes_of words.now)) kind result }
     ensures exact { Gives (λ v. views v.items) kind result (pdos_of words.now) }
@@ -142,7 +151,7 @@ pub fn pdos(alloc: Global, kind: u16, words: &[u16]) -> Result<Vec<Pdo>, CatFaul
     read_pdos(alloc, kind, &bytes_of_words(alloc, words)?)
 }
 
-/// The words of an entry.
+/// The four words of an entry.
 fn entry_words(entry: PdoEntry) -> [u16; 4]
     ensures { bytes_of result ≡ entry_bytes entry }
 {
@@ -154,7 +163,7 @@ fn entry_words(entry: PdoEntry) -> [u16; 4]
     ]
 }
 
-/// The words of a PDO before those of its entries.
+/// The four words of a PDO before those of its entries.
 fn head_words(pdo: &Pdo) -> [u16; 4]
     requires { length pdo.now.entries.items < 256 }
     ensures { bytes_of result ≡ head_bytes (view pdo.now) }
@@ -196,9 +205,11 @@ fn write_all(alloc: Global, pdos: &[Pdo]) -> Result<Vec<u16>, AllocError>
     Ok(words)
 }
 
-/// The content of a category of type `kind` with these PDOs.
+/// The content of a category of type `kind`, TXPDO or RXPDO, with these PDOs.
 ///
-/// `BadCategory`: a PDO has more than 255 entries.
+/// # Errors
+///
+/// `BadCategory` if a PDO has more than 255 entries. Or `Memory` in place of any answer if memory was refused.
 pub fn write_pdos(alloc: Global, kind: u16, pdos: &[Pdo]) -> Result<Vec<u16>, CatFault>
     ensures written { Writes (λ v. bytes_of v.items) (All IsWritable (views pdos.now)) kind result
         (flat_map pdo_bytes (views pdos.now)) }

@@ -55,10 +55,12 @@ fn all_strings(alloc: Global, bytes: &[u8]) -> Result<Vec<Vec<u8>>, CatFault>
     }
 }
 
-/// The strings of a STRINGS category with this content (ETG.1000.6 and ETG.2010), string 1 first. An empty content is no
-/// strings, and what follows the last string is ignored.
+/// Reads the content of a STRINGS category (ETG.1000.6 and ETG.2010): its strings, string 1 first. Empty content has no
+/// strings, and bytes behind the last string are ignored.
 ///
-/// `BadCategory`: the bytes end before the last string.
+/// # Errors
+///
+/// `BadCategory` if the bytes end before the last string does. Or `Memory` in place of any answer if memory was refused.
 pub fn strings(alloc: Global, words: &[u16]) -> Result<Vec<Vec<u8>>, CatFault>
     ensures grammar { Answers (λ v. texts v.items) (AreStrings (bytes_of words.now)) 10 result }
     ensures exact { Gives (λ v. texts v.items) 10 result (strings_of words.now) }
@@ -90,7 +92,10 @@ fn write_all(alloc: Global, strings: &[Vec<u8>]) -> Result<Vec<u8>, AllocError>
 
 /// The content of a STRINGS category with these strings, padded to a whole word with 0x00.
 ///
-/// `BadCategory`: there are more than 255 strings, or a string has more than 255 bytes.
+/// # Errors
+///
+/// `BadCategory` if there are more than 255 strings or a string has more than 255 bytes. Or `Memory` in place of any answer if
+/// memory was refused.
 pub fn write_strings(alloc: Global, strings: &[Vec<u8>]) -> Result<Vec<u16>, CatFault>
     ensures written { Writes (λ v. bytes_of v.items) (AreWritable (texts strings.now)) 10 result
         (padded (all_bytes (texts strings.now))) }

@@ -8,29 +8,30 @@ use crate::bytes::packed;
 use sii_words::bytes_of_words;
 use std::alloc::{AllocError, Global};
 
-/// A unit's byte in an FMMU category (ETG.1000.6 and ETG.2010), kept as it is.
+/// One FMMU in an FMMU category (ETG.1000.6 and ETG.2010).
 #[derive(Clone, Copy, Debug, PartialEq, Eq)]
 pub struct FmmuUnit {
+    /// Its byte, kept as it is: 0x00 or 0xFF unused, 1 outputs, 2 inputs, 3 SyncM status.
     pub byte: u8,
 }
 
 /// What an FMMU is used for (ETG.1000.6 and ETG.2010, category FMMU).
 #[derive(Clone, Copy, Debug, PartialEq, Eq)]
 pub enum FmmuUse {
-    /// 0x00 or 0xFF.
+    /// Not used: 0x00 or 0xFF.
     Unused,
-    /// 1.
+    /// Outputs: 1.
     Outputs,
-    /// 2.
+    /// Inputs: 2.
     Inputs,
-    /// 3.
+    /// Status of a sync manager: 3.
     SyncManagerStatus,
-    /// Any other byte; it isn't judged.
+    /// Any other byte. It isn't judged.
     Other,
 }
 
 impl FmmuUnit {
-    /// What the unit is used for.
+    /// What the FMMU is used for.
     pub fn usage(self) -> FmmuUse
         ensures { result ≡ use_of self.byte }
     {
@@ -53,7 +54,11 @@ fn units_of(alloc: Global, bytes: &[u8]) -> Result<Vec<FmmuUnit>, AllocError>
         .collect(alloc)
 }
 
-/// The units of an FMMU category with this content, a byte each. No content is refused.
+/// Reads the content of an FMMU category: one unit for each byte. Any content can be read.
+///
+/// # Errors
+///
+/// `AllocError` if memory was refused.
 pub fn fmmus(alloc: Global, words: &[u16]) -> Result<Vec<FmmuUnit>, AllocError>
     ensures { IfOk result (λ v. AreUnits (bytes_of words.now) v.items) }
 {
@@ -66,8 +71,11 @@ fn bytes_of_units(alloc: Global, units: &[FmmuUnit]) -> Result<Vec<u8>, AllocErr
     units.iter().map(|unit| unit.byte).collect(alloc)
 }
 
-/// The content of an FMMU category with these units. Behind an odd number of them stands an unused
-/// one, 0x00.
+/// The content of an FMMU category with these units. An odd number of units is padded with an unused one, 0x00.
+///
+/// # Errors
+///
+/// `AllocError` if memory was refused.
 pub fn write_fmmus(alloc: Global, units: &[FmmuUnit]) -> Result<Vec<u16>, AllocError>
     ensures written { IfOk result (λ v. bytes_of v.items ≡ padded (unit_bytes units.now)) }
     ensures read_back { IfOk result (λ v. AreUnits (bytes_of v.items) (in_pairs units.now)) }

@@ -1,4 +1,4 @@
--- Category edits of a chain that can be read.
+-- Category edits of words whose chain can be read.
 use Rattle.std.proofs.Common.{◌≡◌, ◌≢◌, ◌⊎◌, ◌+◌, ◌<◌, ◌≤◌, ℕ, suc, ◌==◌, Bool, true, false, cond, not, nat_lt, List, [], ◌∷◌, ◌++◌, length, map, IsErrAnd, Option, Some, None, Result, Ok, Err, is_err, refl, sym, ap, ◌∙◌, inl, inr, arith, append-nil}
 use Rattle.std.specs.Prelude.{count_by, position}
 use Rattle.std.specs.List.{position_or_len}

@@ -16,16 +16,16 @@ use Rattle.sii_edit.specs.declared.refusal.Cause.{Cause}
 use Rattle.sii_edit.specs.declared.refusal.Cause.TheVariants.{NoSlave, SameSlave, BadCheck, ImageOverLimit, Memory}
 use Rattle.sii_edit.specs.declared.refusal.Refusal.{Refusal}
 use Rattle.sii_edit.specs.Alias.{with_alias}
-use Rattle.sii_runs.specs.Redo.{SameShape, LiesInside, redone}
-use Rattle.sii_runs.specs.Run.{runs_between}
-use Rattle.sii_runs.specs.declared.run.Run.{Run}
+use Rattle.sii_words.specs.Redo.{SameShape, LiesInside, redone}
+use Rattle.sii_words.specs.Run.{runs_between}
+use Rattle.sii_words.specs.declared.run.Run.{Run}
 use Rattle.sii_edit.specs.Refusal.{unless, whole, of_whole, of_place, IsCauseOf}
 use Rattle.sii_edit.specs.Command.{slave_of, causes_against, words_after, edited_words, edited, edits_from, group_causes, grouped, is_missing, swap_causes, swapped, carried_out, has_process_image, with_process_image, outcome, unguarded}
 use Rattle.sii_edit.proofs.AliasLaws.{length-with_alias}
 use Rattle.sii_edit.proofs.ShapeLaws.{length-words_after}
 use Rattle.sii_edit.proofs.UnlessLaws.{unless-ok, unless-change, unless-err, unless-stop, unless-pass, none_holds, NamesNoMemory, unless-not_memory, whole_ok, whole_err, place_ok, place_err, then_ok, then_err}
 use Rattle.sii_edit.proofs.ProcessImageLaws.{with_process_image-has, with_process_image_accepts, with_process_image_refuses}
-use Rattle.sii_runs.proofs.RunLaws.{redone-runs_between, LiesInside-runs_between}
+use Rattle.sii_words.proofs.RunLaws.{redone-runs_between, LiesInside-runs_between}
 
 -- an edit of a slave that isn't there, and of one that is
 pub edited-missing : (plant : List (List ℕ)) (expect : Option Expect) (edit : Edit) → length plant ≤ slave_of edit → edited plant expect edit ≡ Err NoSlave
@@ -198,7 +198,7 @@ not_memory_carried_out plant (Guarded edits) refusal is = not_memory_grouped pla
 over_limit : (refusal : Refusal) → refusal ≡ whole ImageOverLimit → refusal.cause ≢ Memory
 over_limit refusal is = λ memory. let never : ImageOverLimit ≡ Memory = sym (ap (λ (r : Refusal). r.cause) is) ∙ memory in cc
 
--- want of memory is no part of what a command does
+-- the definition of a command never gives `Memory`
 pub not_memory : (plant : List (List ℕ)) (command : Command) (refusal : Refusal) → outcome plant command ≡ Err refusal → refusal.cause ≢ Memory
 not_memory plant command refusal is =
     elim (with_process_image_refuses (carried_out plant command) refusal is) [

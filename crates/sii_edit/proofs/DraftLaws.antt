@@ -1,4 +1,4 @@
--- Drafts: the plant that a draft makes.
+-- Drafts: the plant that a draft makes, and the steps of a draft.
 use Rattle.std.proofs.Common.{◌≡◌, ◌≢◌, ℕ, zero, suc, ◌<◌, ◌≤◌, List, [], ◌∷◌, length, get_or, set, refl, sym, ap, ap₂, ◌∙◌, arith, subst, inl, inr, Option, Some, None, Result, Ok, Err, IsErrAnd, slice_set, length-set, get_or-set_other}
 use Rattle.std.proofs.lemmas.Bool.{cases_eq, cases_lt, eq-eqb, ne_eqb, lt-ltb, le-ltb}
 use Rattle.std.proofs.lemmas.Grind.{get_or-set_at}

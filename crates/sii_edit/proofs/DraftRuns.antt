@@ -2,9 +2,9 @@
 use Rattle.std.proofs.Common.{◌≡◌, ℕ, zero, suc, ◌+◌, ◌<◌, ◌≤◌, List, [], ◌∷◌, ◌++◌, length, set, refl, sym, ap, ◌∙◌, arith}
 use Rattle.sii_words.specs.Plant.{words_of}
 use Rattle.sii_image.specs.NewLayouts.{RiseFrom}
-use Rattle.sii_runs.specs.declared.run.Run.{Run}
-use Rattle.sii_runs.specs.Run.{runs_from, runs_between, stretches}
-use Rattle.sii_runs.proofs.StretchLaws.{stretches-same}
+use Rattle.sii_words.specs.declared.run.Run.{Run}
+use Rattle.sii_words.specs.Run.{runs_from, runs_between, stretches}
+use Rattle.sii_words.proofs.StretchLaws.{stretches-same}
 use Rattle.sii_edit.specs.declared.draft.Renewal.{Renewal}
 use Rattle.sii_edit.specs.Draft.{drafted, renewed, renewed_as, renewed_slaves, IsDraftOf}
 use Rattle.sii_edit.specs.steps.Draft.{drafted_runs}

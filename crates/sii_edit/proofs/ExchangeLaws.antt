@@ -1,4 +1,4 @@
--- What a category edit leaves: the relation that it is.
+-- Category edits: the words that they leave are those of the relation.
 use Rattle.std.proofs.Common.{◌≡◌, ◌≢◌, ◌+◌, ◌<◌, ◌≤◌, ℕ, zero, suc, ◌==◌, ◌||◌, Bool, true, false, cond, nat_lt, List, [], ◌∷◌, ◌++◌, length, take, drop, get_or, All, Option, Some, None, Result, Ok, Err, is_err, refl, sym, ap, subst, ◌∙◌, append_assoc, arith}
 use Rattle.std.specs.Prelude.{slice_get, position}
 use Rattle.std.proofs.lemmas.List.{length-append, length-drop, drop_at, take_at, drop-drop, length-take-le}
@@ -17,6 +17,7 @@ use Rattle.sii_edit.specs.Refusal.{unless}
 use Rattle.sii_edit.proofs.CategoryLaws.{count-cons, count-None}
 use Rattle.sii_edit.proofs.ShapeLaws.{length-with_chain, within}
 use Rattle.sii_edit.proofs.UnlessLaws.{none_holds, unless-ok}
+use Rattle.sii_cats.proofs.Edits.{AreTyped, closing_ends, drop-closing}
 
 -- ---- the place of a category
 
@@ -71,10 +72,6 @@ place_is kind ms (Some i) is few =
 
 -- ---- the new chain
 
--- no category has the end mark's type
-abbrev pub AreTyped : List Member → Type 0
-AreTyped ms = All (λ m. m.kind ≢ 0xFFFF) ms
-
 typed_chain : (cells : List ℕ) (ms : List Member) → AreItems Begins IsEnd cells ms → AreTyped ms
 typed_chain cells [] items = All-nil (λ m. m.kind ≢ 0xFFFF)
 typed_chain cells (m ∷ ms) items = All-cons (λ x. x.kind ≢ 0xFFFF) m ms items.1.0 (typed_chain items.0 ms items.2)
@@ -93,17 +90,9 @@ typed_spliced (Some i) kind [] ms fit typed =
     All-append (λ m. m.kind ≢ 0xFFFF) (take i ms) (drop (suc i) ms) (All-take (λ m. m.kind ≢ 0xFFFF) i ms typed) (All-drop (λ m. m.kind ≢ 0xFFFF) (suc i) ms typed)
 typed_spliced (Some i) kind (word ∷ words) ms fit typed = All-set (λ m. m.kind ≢ 0xFFFF) ms i (record { kind = kind; content = word ∷ words }) fit typed
 
-closing_ends : (words : List ℕ) → IsEnd (closing words)
-closing_ends [] = tt
-closing_ends (word ∷ words) = refl
-
 closing_mark : (words : List ℕ) → 0 < length words → slice_get (closing words) 0 ≡ Some 0xFFFF
 closing_mark [] some = absurd (omega arith)
 closing_mark (word ∷ words) some = refl
-
-drop-closing : (words : List ℕ) → drop 1 (closing words) ≡ drop 1 words
-drop-closing [] = refl
-drop-closing (word ∷ words) = refl
 
 first_behind : (front words : List ℕ) → slice_get (front ++ words) (length front) ≡ slice_get words 0
 first_behind [] words = refl

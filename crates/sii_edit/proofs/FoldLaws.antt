@@ -5,7 +5,7 @@ use Rattle.sii_edit.specs.declared.command.Command.{Command}
 use Rattle.sii_edit.specs.declared.refusal.Refusal.{Refusal}
 use Rattle.sii_edit.specs.Command.{outcome}
 use Rattle.sii_edit.specs.Fold.{contents, contents_after, after}
-use Rattle.sii_runs.specs.Redo.{SameShape}
+use Rattle.sii_words.specs.Redo.{SameShape}
 use Rattle.sii_edit.proofs.CommandLaws.{SameShape-trans, SameShape-outcome}
 
 pub contents-append : (base : List (List ℕ)) (first second : List Command) → contents base (first ++ second) ≡ contents (contents base first) second

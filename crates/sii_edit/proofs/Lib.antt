@@ -11,3 +11,5 @@ mod PlaceLaws
 pub mod ProcessImageLaws
 mod LayoutLaws
 pub mod FoldLaws
+pub mod WordLaws
+pub mod PlantLaws

@@ -1,11 +1,11 @@
--- Another alias over the words of a slave.
+-- Words of a slave with a new alias.
 use Rattle.std.proofs.Common.{◌≡◌, ℕ, ◌%◌, ◌<◌, List, length, slice_index, set, get_or, not, IsTrue, ◌==◌, ◌↔◌, [], ◌∷◌, ◌++◌, Option, Some, None, Result, Ok, Err, refl, sym, ap, ap₂, ◌∙◌, arith, get_or-set_same, get_or-set_other, length-set, append_assoc}
 use Rattle.std.specs.Result.{OnOk}
 use Rattle.std.specs.declared.alloc.AllocError.{AllocError}
 use Rattle.std.proofs.lemmas.Bool.Decides.{nat_tests}
-use Rattle.sii_runs.specs.declared.run.Run.{Run}
-use Rattle.sii_runs.specs.Run.{stretches}
-use Rattle.sii_runs.proofs.StretchLaws.{stretches-two_words}
+use Rattle.sii_words.specs.declared.run.Run.{Run}
+use Rattle.sii_words.specs.Run.{stretches}
+use Rattle.sii_words.proofs.StretchLaws.{stretches-two_words}
 use Rattle.std.proofs.lemmas.List.{set-set, set_comm}
 use Rattle.sii_words.specs.Words.{alias_of}
 use Rattle.sii_words.specs.Identity.{identity_of}
@@ -65,7 +65,7 @@ identity_named words name =
       behind_named words name 15 (omega arith),
     ) refl
 
--- another alias doesn't change who the slave is
+-- a new alias doesn't change the identity of the slave
 pub is_other-named : (expect : Option Expect) (words : List ℕ) (name : Option Name) → is_other expect words ≡ is_other expect (named_as words name)
 is_other-named expect words None = refl
 is_other-named None words (Some name) = refl

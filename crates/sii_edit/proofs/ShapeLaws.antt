@@ -13,13 +13,10 @@ use Rattle.sii_edit.specs.Image.{with_front}
 use Rattle.sii_edit.specs.Command.{causes_against, words_after}
 use Rattle.sii_edit.proofs.AliasLaws.{length-with_alias}
 use Rattle.sii_edit.proofs.UnlessLaws.{NoneHolds}
+use Rattle.sii_cats.proofs.Edits.{length-closing}
 
 pub length-with_front : (words front : List ℕ) → length front ≤ length words → length (with_front words front) ≡ length words
 length-with_front words front fits = omega (arith, length-append front (drop (length front) words), length-drop (length front) words)
-
-length-closing : (words : List ℕ) → length (closing words) ≡ length words
-length-closing [] = refl
-length-closing (word ∷ words) = refl
 
 pub length-with_chain : (words : List ℕ) (ms : List Member) → chain_end ms ≤ length words → length (with_chain words ms) ≡ length words
 length-with_chain words ms fits =

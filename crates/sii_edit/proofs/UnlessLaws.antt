@@ -1,4 +1,4 @@
--- The first cause that applies: what an answer says of the tests.
+-- The first cause that applies: what an answer means for the tests.
 use Rattle.std.proofs.Common.{◌≡◌, ◌≢◌, ◌⊎◌, ℕ, Bool, true, false, List, [], ◌∷◌, refl, sym, ap, ◌∙◌, inl, inr, Result, Ok, Err}
 use Rattle.sii_edit.specs.declared.refusal.Cause.{Cause}
 use Rattle.sii_edit.specs.declared.refusal.Cause.TheVariants.{Memory}
@@ -41,7 +41,7 @@ none_holds [] given new judged = tt
 none_holds ((true, cause) ∷ tests) given new judged = cc
 none_holds ((false, cause) ∷ tests) given new judged = (refl, none_holds tests given new judged)
 
--- want of memory is none of the causes
+-- `Memory` is none of the causes
 abbrev pub NamesNoMemory : List (Bool × Cause) → Type 0
 NamesNoMemory [] = Unit {0}
 NamesNoMemory (test ∷ tests) = (test.1 ≢ Memory) × NamesNoMemory tests

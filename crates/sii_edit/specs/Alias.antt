@@ -1,9 +1,9 @@
--- What setting the configured station alias does to the words of a slave (ETG.1000.6: word 4, and the check byte in the low
--- byte of word 7, whose high byte stays).
+-- What setting the configured station alias does to the words of a slave (ETG.1000.6): word 4 is the alias, and the low byte of
+-- word 7 the check byte; its high byte stays.
 use Rattle.std.specs.Prelude.{◌≡◌, ◌≢◌, ℕ, ◌+◌, ◌*◌, ◌/◌, ◌%◌, ◌==◌, Bool, not, List, length, slice_index, slice_set}
 use Rattle.sii_words.specs.CheckByte.{check_byte_of, IsChecked}
 
--- new is old with this alias: only word 4 and the check byte differ
+-- The new words are the old ones with this alias: they differ only at word 4 and in the low byte of word 7.
 pub record ChangesAlias (old : List ℕ) (value : ℕ) (new : List ℕ) : Type 0 where
   pub alias : slice_index new 4 ≡ value
   pub check_byte : IsChecked new
@@ -15,12 +15,12 @@ pub record ChangesAlias (old : List ℕ) (value : ℕ) (new : List ℕ) : Type 0
 abbrev pub with_low_byte : ℕ → ℕ → ℕ
 with_low_byte word byte = 256 * (word / 256) + byte
 
--- the words with another alias and the check byte that goes with it
+-- the words with this alias in word 4, and their check byte in word 7
 abbrev pub with_alias : List ℕ → ℕ → List ℕ
 with_alias words value =
     let named = slice_set words 4 value in
     slice_set named 7 (with_low_byte (slice_index words 7) (check_byte_of named))
 
--- the check byte in word 7 isn't that of words 0 to 6
+-- the low byte of word 7 isn't the check byte of words 0 to 6
 abbrev pub is_unchecked : List ℕ → Bool
 is_unchecked words = not (slice_index words 7 % 256 == check_byte_of words)

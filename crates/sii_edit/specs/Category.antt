@@ -1,4 +1,4 @@
--- What exchanging the content of the one category of a type does to the words of a slave, and what speaks against it.
+-- What a category edit does to the words of a slave, and when it is refused.
 use Rattle.std.specs.Prelude.{◌≡◌, ◌≢◌, ℕ, ◌==◌, ◌&&◌, ◌||◌, Bool, false, nat_lt, List, [], ◌∷◌, length, count_by, position, slice_get, All, Option, Some, None, Result, Ok, Err, is_err, if◌then◌else◌}
 use Rattle.sii_cats.specs.Chain.{Member, IsChain}
 use Rattle.sii_cats.specs.steps.Chain.{members_of}
@@ -6,12 +6,13 @@ use Rattle.sii_cats.specs.steps.Strings.{strings_of}
 use Rattle.sii_cats.specs.steps.Pdos.{pdos_of}
 use Rattle.sii_cats.specs.Splice.{chain_end, spliced, with_chain, IsEdit}
 
--- a content that isn't what its type asks for: strings in type 10, PDOs in types 50 and 51; other contents aren't looked into
+-- the content can't be read as its type asks: strings in type 10, PDOs in types 50 and 51; other contents aren't judged
 abbrev pub is_malformed : ℕ → List ℕ → Bool
 is_malformed kind content =
-    if kind == 10 then is_err (strings_of content) else if kind == 50 then is_err (pdos_of content) else if kind == 51 then is_err (pdos_of content) else false
+    if kind == 10 then is_err (strings_of content) else if kind == 50 then is_err (pdos_of content)
+    else if kind == 51 then is_err (pdos_of content) else false
 
--- no edit gives the end mark's type to a category
+-- a category can't be given this type and content: the type is the end mark, or the content is malformed
 abbrev pub is_unfit : ℕ → List ℕ → Bool
 is_unfit kind content = kind == 0xFFFF || is_malformed kind content
 
@@ -20,6 +21,7 @@ abbrev pub first_malformed : List Member → Option ℕ
 first_malformed [] = None
 first_malformed (m ∷ ms) = if is_malformed m.kind m.content then Some m.kind else first_malformed ms
 
+-- a category has this type
 abbrev pub has_kind : ℕ → Member → Bool
 has_kind kind m = m.kind == kind
 
@@ -27,14 +29,16 @@ has_kind kind m = m.kind == kind
 abbrev pub count_of : ℕ → List Member → ℕ
 count_of kind ms = count_by (has_kind kind) ms
 
--- a category is to be removed that the chain doesn't have
+-- a category is to be removed, and the chain has none of its type
 abbrev pub is_absent : ℕ → List ℕ → List Member → Bool
 is_absent kind content ms = length content == 0 && count_of kind ms == 0
 
+-- the chain has several categories of this type
 abbrev pub is_repeated : ℕ → List Member → Bool
 is_repeated kind ms = nat_lt 1 (count_of kind ms)
 
--- The category of the type keeps its place, or is taken out without a content; where there is none, it is added last.
+-- The chain after the edit: the category of the type is replaced in its place, or removed if the content is empty; if there is
+-- none, it is added last.
 abbrev pub exchanged : ℕ → List ℕ → List Member → List Member
 exchanged kind content ms = spliced (position (has_kind kind) ms) kind content ms
 
@@ -42,21 +46,22 @@ exchanged kind content ms = spliced (position (has_kind kind) ms) kind content m
 abbrev pub is_too_long : List ℕ → ℕ → List ℕ → List Member → Bool
 is_too_long words kind content ms = nat_lt (length words) (chain_end (exchanged kind content ms))
 
--- a test of the chain; it fails where the chain can't be read
+-- a test of the chain; false where the chain can't be read
 abbrev pub if_read : Result (List Member) (List ℕ) → (List Member → Bool) → Bool
 if_read (Ok ms) test = test ms
 if_read (Err rest) test = false
 
--- the same of words; there is none where their chain can't be read
+-- the type of the first malformed category of a chain; none where the chain can't be read
 abbrev pub malformed_in : Result (List Member) (List ℕ) → Option ℕ
 malformed_in (Ok ms) = first_malformed ms
 malformed_in (Err rest) = None
 
--- the words with the new chain
+-- the words with the new chain; the same words where the old chain can't be read
 abbrev pub rechained : ℕ → List ℕ → List ℕ → Result (List Member) (List ℕ) → List ℕ
 rechained kind content words (Ok ms) = with_chain words (exchanged kind content ms)
 rechained kind content words (Err rest) = words
 
+-- the words after a category edit
 abbrev pub with_category : List ℕ → ℕ → List ℕ → List ℕ
 with_category words kind content = rechained kind content words (members_of words)
 
@@ -66,7 +71,7 @@ IsPlaceOf kind ms None = All (λ m. m.kind ≢ kind) ms
 IsPlaceOf kind ms (Some i) = (m : Member) × (slice_get ms i ≡ Some m) × (m.kind ≡ kind)
     × ((j : ℕ) (other : Member) → slice_get ms j ≡ Some other → other.kind ≡ kind → j ≡ i)
 
--- The new words differ from the old ones in one category of this type, which is exchanged, added last or taken out.
+-- The new words differ from the old ones in the one category of this type, which is replaced, added last or removed.
 pub record ChangesCategory (old : List ℕ) (kind : ℕ) (content new : List ℕ) : Type 0 where
   pub chain : List Member
   pub place : Option ℕ

@@ -1,9 +1,9 @@
--- The contents after commands, one on the other.
+-- The contents after a list of commands, each acting on what the one before left.
 use Rattle.std.specs.Prelude.{ℕ, List, [], ◌∷◌, take, IsOk, Result, Ok, Err}
 use Rattle.sii_edit.specs.declared.command.Command.{Command}
 use Rattle.sii_edit.specs.Command.{outcome}
 
--- the plant after a command, the same one where it is refused
+-- the plant after a command; the same plant if it is refused
 abbrev pub after : List (List ℕ) → Command → List (List ℕ)
 after plant command = given plant (outcome plant command)
   where
@@ -16,7 +16,7 @@ abbrev pub contents : List (List ℕ) → List Command → List (List ℕ)
 contents base [] = base
 contents base (command ∷ commands) = contents (after base command) commands
 
--- the contents after the first of the commands, so many of them
+-- the contents after the first `count` of the commands
 abbrev pub contents_after : List (List ℕ) → List Command → ℕ → List (List ℕ)
 contents_after base commands count = contents base (take count commands)
 

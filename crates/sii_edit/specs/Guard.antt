@@ -8,7 +8,7 @@ use Rattle.sii_edit.specs.declared.command.Expect.{Expect}
 abbrev pub is_same : Expect → Identity → Bool
 is_same expect identity = expect.vendor == identity.vendor && expect.product == identity.product && expect.revision == identity.revision
 
--- the slave is another one than expected; nothing is expected of it where no identity is given
+-- the slave has another identity than expected; never, if none is expected
 abbrev pub is_other : Option Expect → List ℕ → Bool
 is_other None words = false
 is_other (Some expect) words = not (is_same expect (identity_of words))

@@ -3,8 +3,8 @@ pub mod Category
 pub mod Image
 pub mod Guard
 pub mod Refusal
-pub mod Codes
 pub mod Command
 pub mod Fold
 pub mod Draft
 pub mod steps
+pub mod Fitting

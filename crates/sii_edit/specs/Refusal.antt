@@ -1,4 +1,4 @@
--- Refusals: the first cause that applies, in their order.
+-- Refusals: the first cause that applies.
 use Rattle.std.specs.Prelude.{◌≡◌, ◌⊎◌, ℕ, Bool, List, [], ◌∷◌, Some, None, Result, Ok, Err, if◌then◌else◌}
 use Rattle.sii_cats.specs.declared.fault.ChainFault.{ChainFault}
 use Rattle.sii_cats.specs.declared.fault.ChainFault.TheVariants as chain
@@ -13,14 +13,14 @@ abbrev pub cause_of_chain : ChainFault → Cause
 cause_of_chain chain.Memory = Memory
 cause_of_chain (chain.RunsOut at) = BadChain
 
--- and what a fault of a category means
+-- what a fault of a category means for a command
 abbrev pub cause_of_category : CatFault → Cause
 cause_of_category category.Memory = Memory
 cause_of_category (category.RunsOut at) = BadChain
 cause_of_category (category.BadCategory kind) = BadCategory kind
 cause_of_category category.NoRoom = NoRoom
 
--- the first cause whose test holds, else what there is
+-- the first cause whose test holds, else the given value
 abbrev pub unless : {A : Type 0} → List (Bool × Cause) → A → Result A Cause
 unless [] given = Ok given
 unless (test ∷ tests) given = if test.0 then Err test.1 else unless tests given
@@ -29,39 +29,39 @@ unless (test ∷ tests) given = if test.0 then Err test.1 else unless tests give
 abbrev pub whole : Cause → Refusal
 whole cause = record { cause = cause; position = None }
 
--- a refusal of the edit at this place of a group; want of memory has no place
+-- a refusal of the edit at this place of a group; `Memory` has no place
 abbrev pub placed : ℕ → Cause → Refusal
 placed place Memory = whole Memory
 placed place cause = record { cause = cause; position = Some place }
 
--- what is judged, as the outcome of a command as a whole
+-- a cause as a refusal of the command as a whole
 abbrev pub of_whole : {A : Type 0} → Result A Cause → Result A Refusal
 of_whole (Ok given) = Ok given
 of_whole (Err cause) = Err (whole cause)
 
--- what is judged of the edit at this place of a group
+-- a cause as a refusal of the edit at this place of a group
 abbrev pub of_place : {A : Type 0} → ℕ → Result A Cause → Result A Refusal
 of_place place (Ok given) = Ok given
 of_place place (Err cause) = Err (placed place cause)
 
--- what comes next, where there is no refusal
+-- what is judged next, unless there is a refusal
 abbrev pub then_judged : {A B E : Type 0} → Result A E → (A → Result B E) → Result B E
 then_judged (Ok given) next = next given
 then_judged (Err refusal) next = Err refusal
 
--- A cause is answered where it is the judged one. Want of memory comes in place of any answer.
+-- The cause is the judged one, or `Memory`, which may come in place of any answer.
 abbrev pub IsCauseOf : {A : Type 0} → Result A Cause → Cause → Type 0
 IsCauseOf judged cause = (judged ≡ Err cause) ⊎ (cause ≡ Memory)
 
--- What is answered is what is judged, or want of memory.
+-- The answer is what is judged, or `Memory`.
 abbrev pub IsAnswer : {A : Type 0} → Result A Cause → Result A Cause → Type 0
 IsAnswer judged (Ok given) = judged ≡ Ok given
 IsAnswer judged (Err cause) = IsCauseOf judged cause
 
--- the same, where nothing is given
+-- The answer is the first cause whose test holds, or success if none does; or `Memory`.
 abbrev pub IsJudgement : List (Bool × Cause) → Result (Unit {0}) Cause → Type 0
 IsJudgement tests result = IsAnswer (unless tests tt) result
 
--- the same of a refusal
+-- The refusal is the judged one, or `Memory`, which may come in place of any answer.
 abbrev pub IsRefusalOf : {A : Type 0} → Result A Refusal → Refusal → Type 0
 IsRefusalOf judged refusal = (judged ≡ Err refusal) ⊎ (refusal ≡ whole Memory)

@@ -18,8 +18,12 @@ pub(crate) fn with_low_byte(word: u16, byte: u8) -> u16
     word / 256 * 256 + u16::from(byte)
 }
 
-/// Sets the configured station alias of an image, and the check byte that goes with it (ETG.1000.6, words 4 and 7). The high
-/// byte of word 7 stays. An image whose check byte is wrong is refused, and stays as it is.
+/// Sets the configured station alias of an image, and the check byte with it (ETG.1000.6, words 4 and 7). The high byte of word
+/// 7 stays.
+///
+/// # Errors
+///
+/// `BadCheck`, without a position, if the image's check byte is wrong. The image is then unchanged.
 pub fn alias_image(image: &mut ImageFile, value: u16) -> Result<(), Refusal>
     ensures accepted { IsOk result ↔ IsChecked image.old }
     ensures changed { OnOk result (ChangesAlias image.old value image.new) }
@@ -35,7 +39,7 @@ pub fn alias_image(image: &mut ImageFile, value: u16) -> Result<(), Refusal>
     Ok(())
 }
 
-/// Another alias of a slave, where its check byte is right.
+/// The new words of a slave that gets the alias `value`.
 pub(crate) fn renamed(
     expect: Option<Expect>,
     words: &SlaveWords,

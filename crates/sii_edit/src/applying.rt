@@ -1,9 +1,9 @@
 ghost use Rattle.std.specs.Prelude.{◌≡◌, All, IfOk, IfErr};
 ghost use Rattle.sii_edit.specs.Command.{carried_out, outcome};
 ghost use Rattle.sii_edit.specs.Draft.{drafted, IsCarriedOut, IsDraftOf};
-ghost use Rattle.sii_runs.specs.Redo.{redone, LiesInside};
+ghost use Rattle.sii_words.specs.Redo.{redone, LiesInside};
 ghost use Rattle.sii_edit.specs.Refusal.{IsRefusalOf};
-ghost use Rattle.sii_runs.specs.Run.{runs_between};
+ghost use Rattle.sii_words.specs.Run.{runs_between};
 ghost use Rattle.sii_image.specs.NewLayouts.{with_each};
 
 use crate::command::Command;
@@ -12,29 +12,37 @@ use crate::group::{edit_all, edit_guarded};
 use crate::layouts::judged_layouts;
 use crate::refusal::Refusal;
 use sii_image::{Layout, NewLayouts};
-use sii_runs::{Run, redo};
-use sii_words::Plant;
+use sii_words::{Plant, Run, redo};
 use std::alloc::Global;
 
-/// What a command changes: the runs, and the layouts of the slaves that it is about.
+/// What a command changes: the changed words as runs, and the new layouts of the slaves that it edits.
 #[derive(Drop)]
 pub struct Change {
-    /// The longest stretches of words that change, in rising order of slave and word. Redo of them over the plant gives the
-    /// new contents.
+    /// The longest stretches of words that change, in rising order of slave and word. Redo of them over the plant gives the new
+    /// contents.
     pub runs: Vec<Run>,
-    /// What each slave that has new words adds to the process image. The plant's layout takes them in, which takes no memory, and
-    /// is then that of the new contents.
+    /// The new layout of each slave that gets new words. The layout of the plant takes them in without memory, and is then that
+    /// of the new contents.
     pub layouts: NewLayouts,
 }
 
-/// What a command changes in a plant with this layout. It costs what the command may change: of a slave that gets another
-/// alias the words are neither read nor copied, and no categories are read; of a slave that gets a category or an image, its
-/// own words are; other slaves of the line aren't looked at.
+/// Judges a command on a plant with this layout, and gives what it changes. The plant is unchanged.
+///
+/// The cost depends on what the command may change. For a new alias no words are copied and no categories are read; for a
+/// category or an image, the words of that slave are. Other slaves aren't looked at. `layout` must be the layout of `plant`.
 ///
 /// # Errors
 ///
-/// The first cause that applies, or `Memory` in place of any answer. The last cause is `ImageOverLimit`: the new contents have
-/// no process image.
+/// The first cause that applies:
+///
+/// - alias: `NoSlave`, `BadCheck`, `WrongIdentity`;
+/// - category: `NoSlave`, `WrongIdentity`, `NoSuchCategory`, `SeveralCategories`, `BadCategory`, `NoRoom`, `BadChain`;
+/// - image: `NoSlave`, `ImageTooLong`, `BadCheck`, `WrongIdentity`, `BadCategory`, `BadChain`;
+/// - swap: `NoSlave`, `SameSlave`, `BadCheck`;
+/// - group: `EmptyGroup`, `GroupTooLong`, then the causes of its edits, edit by edit;
+/// - last of all `ImageOverLimit`: the new contents have no process image.
+///
+/// Or `Memory` in place of any answer if memory was refused.
 pub fn changes(
     alloc: Global,
     plant: &Plant,
@@ -55,11 +63,11 @@ pub fn changes(
     Ok(Change { runs, layouts })
 }
 
-/// The plant once a command is carried out, and the runs that lead there.
+/// The plant after a command, and the runs that lead there from `plant`, which is unchanged.
 ///
 /// # Errors
 ///
-/// The first cause that applies, or `Memory` in place of any answer.
+/// As for `changes`.
 pub fn apply(alloc: Global, plant: &Plant, command: &Command) -> Result<(Plant, Vec<Run>), Refusal>
     ensures plant { IfOk result (λ applied. outcome plant.now command.now ≡ Ok applied.0) }
     ensures runs { IfOk result (λ applied. applied.1.items ≡ runs_between plant.now applied.0) }
@@ -74,7 +82,7 @@ pub fn apply(alloc: Global, plant: &Plant, command: &Command) -> Result<(Plant, 
     Ok((new, change.runs))
 }
 
-/// Does a command to the draft.
+/// Makes the changes of a command in the draft.
 fn carry_out(
     draft: &mut Draft,
     alloc: Global,

@@ -14,7 +14,7 @@ use sii_cats::{CatFault, Category, ChainFault, chain, pdos, splice, strings};
 use sii_words::Words;
 use std::alloc::Global;
 
-/// Whether what was read is refused as malformed.
+/// Whether reading a content failed because it is malformed.
 fn is_refused<T: Drop>(read: Result<T, CatFault>) -> Result<bool, Cause>
     ensures refused { IfOk result (λ refused. refused ≡ is_err read) }
     ensures known { OnOk result (read ≢ Err CatFault.Memory) }
@@ -27,7 +27,8 @@ fn is_refused<T: Drop>(read: Result<T, CatFault>) -> Result<bool, Cause>
     }
 }
 
-/// Whether a content isn't what its type asks for.
+/// Whether the content can't be read as its type asks: strings in type 10, PDOs in types 50 and 51. Other contents aren't
+/// judged.
 fn is_malformed(alloc: Global, kind: u16, content: &[u16]) -> Result<bool, Cause>
     ensures answer { IfOk result (λ malformed. malformed ≡ is_malformed kind content.now) }
     ensures memory { IfErr result (λ cause. cause ≡ Cause.Memory) }
@@ -39,7 +40,7 @@ fn is_malformed(alloc: Global, kind: u16, content: &[u16]) -> Result<bool, Cause
     }
 }
 
-/// Judges the content and the type that a category is to have.
+/// Judges the type and the content that a category is to get.
 fn judge_content(alloc: Global, kind: u16, content: &[u16]) -> Result<(), Cause>
     ensures { IsJudgement ((is_unfit kind content.now, Cause.BadCategory kind) ∷ []) result }
 {
@@ -49,7 +50,7 @@ fn judge_content(alloc: Global, kind: u16, content: &[u16]) -> Result<(), Cause>
     Ok(())
 }
 
-/// Judges the contents of categories that stand among these words.
+/// Judges the contents of these categories, which stand among the words.
 fn judge_contents(alloc: Global, words: &[u16], categories: &[Category]) -> Result<(), Cause>
     requires { All (λ c. end_of c ≤ length words.now) categories.now }
     ensures { let malformed = first_malformed (map (member_of words.now) categories.now) in
@@ -65,7 +66,7 @@ fn judge_contents(alloc: Global, words: &[u16], categories: &[Category]) -> Resu
     Ok(())
 }
 
-/// Judges the chain of categories of these words, and their contents.
+/// Judges the chain of categories among these words, and their contents.
 pub(crate) fn judge_chain(alloc: Global, words: &[u16]) -> Result<(), Cause>
     requires { 64 ≤ length words.now }
     ensures { let malformed = malformed_in (members_of words.now) in
@@ -75,21 +76,22 @@ pub(crate) fn judge_chain(alloc: Global, words: &[u16]) -> Result<(), Cause>
     judge_contents(alloc, words, &categories)
 }
 
-/// How many categories have a type.
+/// The number of categories of a type.
 fn count_of(categories: &[Category], kind: u16) -> usize
     ensures { result ≡ count_by (λ c. c.kind == kind) categories.now }
 {
     categories.iter().filter(|c| c.kind == kind).count()
 }
 
-/// The first category of a type.
+/// The place of the first category of a type in the chain, from 0.
 fn place_of(categories: &[Category], kind: u16) -> Option<usize>
     ensures { result ≡ position (λ c. c.kind == kind) categories.now }
 {
     categories.iter().position(|c| c.kind == kind)
 }
 
-/// The words of a slave whose chain has these categories, with the one of a type exchanged, added last or taken out.
+/// The words of a slave with the category of type `kind` replaced, added last or removed. Its chain has been read:
+/// `categories`.
 fn exchanged(
     alloc: Global,
     words: Words,
@@ -113,8 +115,8 @@ fn exchanged(
     Ok(overwritten(words, &new))
 }
 
-/// The words of a slave with the one category of a type exchanged, added last where there is none, or taken out where the
-/// content is empty.
+/// The words of a slave with the one category of type `kind` replaced, added last if there is none, or removed if the content
+/// is empty.
 pub(crate) fn recategorized(
     alloc: Global,
     expect: Option<Expect>,

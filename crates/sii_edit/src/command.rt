@@ -5,36 +5,36 @@ ghost use Rattle.sii_edit.specs.Draft.{Renews};
 use crate::alias::renamed;
 use crate::category::recategorized;
 use crate::draft::NewWords;
+use crate::edit_lists::{EditList, GuardedEditList, copied_edits, copied_guarded};
 use crate::image::imaged;
-use crate::lists::{EditList, GuardedEditList, copied_edits, copied_guarded};
 use crate::refusal::Cause;
 use crate::slave_words::SlaveWords;
-use sii_runs::WordList;
-use sii_words::ImageFile;
+use sii_words::{ImageFile, WordList};
 use std::alloc::{AllocError, Global};
 
 /// A change of one slave's EEPROM. Slaves are numbered from 0, in the order of the line.
 #[derive(Debug, Drop)]
 pub enum Edit {
-    /// Sets the configured station alias, and the check byte that goes with it.
+    /// Sets the configured station alias of `slave` to `value`, and its check byte with it.
     Alias {
         slave: u16,
         value: u16,
     },
-    /// Exchanges the content of the one category of type `kind`, or adds it last where there is none. Without words it is removed.
+    /// Replaces the content of the one category of type `kind` of `slave` by `words`, or adds the category last if there is
+    /// none. Without words the category is removed.
     Category {
         slave: u16,
         kind: u16,
         words: WordList,
     },
-    /// Writes the words of an image. Behind them the old words stay.
+    /// Writes `image` over the first words of `slave`. The words behind it stay.
     Image {
         slave: u16,
         image: ImageFile,
     },
 }
 
-/// Who a slave is expected to be (ETG.1000.6: words 8 to 13). The serial number isn't compared.
+/// The identity that a slave is expected to have (ETG.1000.6: words 8 to 13). The serial number isn't compared.
 #[derive(Clone, Copy, Debug, PartialEq, Eq)]
 pub struct Expect {
     /// The vendor id.
@@ -45,29 +45,30 @@ pub struct Expect {
     pub revision: u32,
 }
 
-/// An edit that is refused where the slave isn't the expected one just before it.
+/// An edit that is refused unless its slave has the expected identity just before it.
 #[derive(Debug, Drop)]
 pub struct GuardedEdit {
-    /// Nothing is expected where it is `None`.
+    /// The expected identity; any if it is `None`.
     pub expect: Option<Expect>,
+    /// The edit.
     pub edit: Edit,
 }
 
-/// What a line can be asked to do, as one act.
+/// A change of the contents of a line, accepted as a whole or refused.
 #[derive(Debug, Drop)]
 pub enum Command {
-    /// One edit of one slave.
+    /// One edit.
     One(Edit),
-    /// The aliases of two slaves change places.
+    /// Exchanges the aliases of slaves `a` and `b`.
     Swap { a: u16, b: u16 },
-    /// 1 to 64 edits, each on what the earlier ones left.
+    /// Makes 1 to 64 edits, each on what the earlier ones left.
     Group(EditList),
-    /// The same of guarded edits.
+    /// Makes 1 to 64 guarded edits, each on what the earlier ones left.
     Guarded(GuardedEditList),
 }
 
 impl Edit {
-    /// The slave that it is about.
+    /// The number of the slave that is edited.
     pub(crate) fn slave(&self) -> u16
         ensures { result ≡ slave_of self.now }
     {
@@ -78,7 +79,7 @@ impl Edit {
         }
     }
 
-    /// What it makes of the words of that slave.
+    /// The new words that it gives its slave, which has `words`.
     pub(crate) fn new_words(
         &self,
         alloc: Global,
@@ -105,7 +106,11 @@ impl Edit {
         }
     }
 
-    /// A copy that asks for the same.
+    /// Copies the edit.
+    ///
+    /// # Errors
+    ///
+    /// `AllocError` if memory was refused.
     pub fn try_copy(&self) -> Result<Edit, AllocError>
         ensures { IfOk result (λ copy. copy ≡ self.now) }
     {
@@ -128,7 +133,11 @@ impl Edit {
 }
 
 impl GuardedEdit {
-    /// A copy that asks for the same.
+    /// Copies the guarded edit.
+    ///
+    /// # Errors
+    ///
+    /// `AllocError` if memory was refused.
     pub fn try_copy(&self) -> Result<GuardedEdit, AllocError>
         ensures { IfOk result (λ copy. copy ≡ self.now) }
     {
@@ -140,7 +149,11 @@ impl GuardedEdit {
 }
 
 impl Command {
-    /// A copy that asks for the same.
+    /// Copies the command.
+    ///
+    /// # Errors
+    ///
+    /// `AllocError` if memory was refused.
     pub fn try_copy(&self) -> Result<Command, AllocError>
         ensures { IfOk result (λ copy. copy ≡ self.now) }
     {

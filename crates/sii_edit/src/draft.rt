@@ -4,34 +4,36 @@ ghost use Rattle.sii_words.specs.Plant.{words_of};
 ghost use Rattle.sii_image.specs.NewLayouts.{AreRising};
 ghost use Rattle.sii_edit.specs.Draft.{drafted, named, new_for, over, renewed, renewed_slaves, with_renewal, FitsWords, IsDraftOf, IsStep};
 ghost use Rattle.sii_edit.specs.steps.Draft.{drafted_runs, place_of};
-ghost use Rattle.sii_runs.specs.Run.{runs_between, stretches};
+ghost use Rattle.sii_words.specs.Run.{runs_between, stretches};
 ghost use Rattle.sii_edit.specs.Command.{edited, swapped};
 
 use crate::command::{Edit, Expect};
 use crate::refusal::Cause;
 use crate::slave_words::{Name, SlaveWords, rename};
-use sii_runs::{Run, push_stretches, push_word};
-use sii_words::{Plant, Words};
+use sii_words::{Plant, Run, Words, push_stretches, push_word};
 use std::alloc::{AllocError, Global};
 use std::marker::Model;
 
-/// What the words of a slave will be.
+/// The new words of a slave.
 #[derive(Drop)]
 pub(crate) enum NewWords {
     /// Words 4 and 7 are new.
     Renamed(Name),
-    /// All words are given.
+    /// All words are given, as many as the slave has.
     Rewritten(Words),
 }
 
-/// A slave that gets new words.
+/// A slave with its new words.
 #[derive(Drop)]
 pub(crate) struct Renewal {
+    /// The number of the slave, from 0 in the order of the line.
     pub slave: u16,
+    /// Its new words.
     pub new: NewWords,
 }
 
-/// Changes of a plant that isn't written yet: the slaves that get new words, in rising order. Contracts see the list of these.
+/// Changes of a plant that aren't made yet: the slaves that get new words, in rising order. In contracts its value is the list
+/// of these.
 #[derive(Drop)]
 pub(crate) struct Draft {
     renewals: Vec<Renewal>,
@@ -50,7 +52,7 @@ impl Model for Draft {
     ghost invariant = { λ draft. AreRising (renewed_slaves draft.renewals.items) };
 }
 
-/// Puts another alias on top of new words.
+/// Puts a new alias over new words.
 fn rename_over(old: &mut NewWords, name: Name)
     ensures { old.new ≡ over old.old (NewWords.Renamed name) }
 {
@@ -60,7 +62,7 @@ fn rename_over(old: &mut NewWords, name: Name)
     }
 }
 
-/// Puts new words on top of others.
+/// Puts newer words over new words.
 fn put_over(old: &mut NewWords, new: NewWords)
     ensures { old.new ≡ over old.old new }
 {
@@ -70,7 +72,7 @@ fn put_over(old: &mut NewWords, new: NewWords)
     }
 }
 
-/// The new words of a slave, where it gets any.
+/// The new words of a slave, or `None` if it gets none.
 fn new_for(renewals: &[Renewal], slave: u16) -> Option<&NewWords>
     ensures { option_copied result ≡ new_for renewals.now slave }
 {
@@ -82,7 +84,7 @@ fn new_for(renewals: &[Renewal], slave: u16) -> Option<&NewWords>
     None
 }
 
-/// How many renewals are of slaves before this one.
+/// The number of renewals of slaves before this one.
 fn place_of(renewals: &[Renewal], slave: u16) -> usize
     ensures place { result ≡ place_of renewals.now slave }
     ensures most { result ≤ length renewals.now }
@@ -95,7 +97,7 @@ fn place_of(renewals: &[Renewal], slave: u16) -> usize
     renewals.len()
 }
 
-/// Gives a slave new words, on top of those that it has got.
+/// Gives a slave new words, over those that it was given before.
 fn put(renewals: &mut Vec<Renewal>, slave: u16, new: NewWords) -> Result<(), AllocError>
     ensures put { OnOk result (renewals.new.items ≡ with_renewal renewals.old.items slave new) }
     ensures kept { OnErr result (renewals.new.items ≡ renewals.old.items) }
@@ -112,7 +114,7 @@ fn put(renewals: &mut Vec<Renewal>, slave: u16, new: NewWords) -> Result<(), All
     Ok(())
 }
 
-/// The words of a slave with its new ones.
+/// The words of a slave once it has its new ones.
 fn renewed<'a>(words: &'a Words, new: &'a NewWords) -> SlaveWords<'a>
     ensures { result ≡ renewed words.now new.now }
 {
@@ -122,7 +124,7 @@ fn renewed<'a>(words: &'a Words, new: &'a NewWords) -> SlaveWords<'a>
     }
 }
 
-/// Adds the runs of a slave that gets another alias.
+/// Adds the runs of a slave that gets a new alias.
 fn push_name(
     alloc: Global,
     runs: &mut Vec<Run>,
@@ -174,7 +176,7 @@ fn push_all_runs(
 }
 
 impl Draft {
-    /// The plant as it is.
+    /// A draft that changes nothing.
     pub fn new(alloc: Global) -> Draft
         ensures { result ≡ [] }
     {
@@ -183,7 +185,7 @@ impl Draft {
         }
     }
 
-    /// The words of a slave as they will be.
+    /// The words of a slave as the draft makes them.
     fn words<'a>(&'a self, plant: &'a Plant, slave: u16) -> SlaveWords<'a>
         requires { slave < length plant.now }
         ensures { result ≡ words_of (drafted plant.now self.now) slave }
@@ -195,7 +197,12 @@ impl Draft {
         }
     }
 
-    /// One edit, of a slave that is the expected one. A draft stays as it is where the edit is refused.
+    /// Makes one edit, of a slave that must have the expected identity.
+    ///
+    /// # Errors
+    ///
+    /// The first cause that applies: `NoSlave`, then those of the edit. Or `Memory` in place of any answer. The draft is then
+    /// unchanged.
     pub fn edit(
         &mut self,
         alloc: Global,
@@ -215,7 +222,11 @@ impl Draft {
         Ok(())
     }
 
-    /// The aliases of two slaves change places. A draft stays as it is where that is refused.
+    /// Exchanges the aliases of two slaves.
+    ///
+    /// # Errors
+    ///
+    /// In this order: `NoSlave`, `SameSlave`, `BadCheck`. Or `Memory` in place of any answer. The draft is then unchanged.
     pub fn swap(&mut self, plant: &Plant, a: u16, b: u16) -> Result<(), Cause>
         requires { IsDraftOf plant.now self.old }
         ensures { IsStep plant.now (swapped (drafted plant.now self.old) a b) self.old self.new result }
@@ -246,7 +257,11 @@ impl Draft {
         &self.renewals
     }
 
-    /// The runs that lead from the plant to what it will be.
+    /// The runs that lead from the plant to the draft's.
+    ///
+    /// # Errors
+    ///
+    /// `AllocError` if memory was refused.
     pub fn runs(&self, alloc: Global, plant: &Plant) -> Result<Vec<Run>, AllocError>
         requires { IsDraftOf plant.now self.now }
         ensures { IfOk result (λ runs. runs.items ≡ runs_between plant.now (drafted plant.now self.now)) }

@@ -9,10 +9,10 @@ use crate::refusal::{Cause, Refusal};
 use sii_words::Plant;
 use std::alloc::Global;
 
-/// How many edits a group may have.
+/// The most edits of a group.
 const MOST_EDITS: usize = 64;
 
-/// Judges a group of so many edits as a whole.
+/// Judges the number of edits of a group.
 fn judge_count(count: usize) -> Result<(), Cause>
     ensures { IsJudgement (group_causes count) result }
 {
@@ -25,7 +25,7 @@ fn judge_count(count: usize) -> Result<(), Cause>
     Ok(())
 }
 
-/// The edit at a place of a group.
+/// Makes the edit at a place of a group.
 fn edit_at(
     draft: &mut Draft,
     alloc: Global,
@@ -44,7 +44,7 @@ fn edit_at(
     }
 }
 
-/// Edits of a group, each on what the earlier ones left.
+/// Makes the edits of a group, each on what the earlier ones left.
 pub(crate) fn edit_all(
     draft: &mut Draft,
     alloc: Global,
@@ -61,7 +61,7 @@ pub(crate) fn edit_all(
     Ok(())
 }
 
-/// Guarded edits of a group, each on what the earlier ones left.
+/// Makes the guarded edits of a group, each on what the earlier ones left.
 pub(crate) fn edit_guarded(
     draft: &mut Draft,
     alloc: Global,

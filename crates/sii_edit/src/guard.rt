@@ -13,7 +13,7 @@ fn is_same(expect: Expect, identity: Identity) -> bool
         && expect.revision == identity.revision
 }
 
-/// Whether the slave with these words is another one than expected.
+/// Whether the slave with these words has another identity than expected; never, if none is expected.
 pub(crate) fn is_other(expect: Option<Expect>, words: &Words) -> bool
     ensures { result ≡ is_other expect words.now }
 {

@@ -10,7 +10,7 @@ use crate::refusal::Cause;
 use sii_words::{ImageFile, Words};
 use std::alloc::Global;
 
-/// The words of a slave with others in front.
+/// The words of a slave with `front` written over the first of them. There must be at most as many as the slave has.
 pub(crate) fn overwritten(mut words: Words, front: &[u16]) -> Words
     requires { length front.now ≤ length words }
     ensures { result ≡ with_front words front.now }
@@ -21,7 +21,7 @@ pub(crate) fn overwritten(mut words: Words, front: &[u16]) -> Words
     words
 }
 
-/// The words of a slave with an image in front, behind which the old words stay.
+/// The words of a slave with an image written over the first of them. The words behind the image stay.
 pub(crate) fn imaged(
     alloc: Global,
     expect: Option<Expect>,

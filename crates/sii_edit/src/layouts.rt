@@ -10,7 +10,7 @@ use sii_image::{Layout, NewLayout, NewLayouts, SlaveLayout};
 use sii_words::{Plant, Words};
 use std::alloc::{AllocError, Global};
 
-/// The layout of a slave with its new words. Another alias doesn't touch the categories, so none is read.
+/// The layout of a slave with its new words. A new alias doesn't touch the categories, so none is read.
 fn new_layout(
     alloc: Global,
     old: &Words,
@@ -26,7 +26,7 @@ fn new_layout(
     }
 }
 
-/// The layout of each slave that has new words.
+/// The layouts of all slaves that get new words.
 fn new_layouts(
     alloc: Global,
     draft: &Draft,
@@ -50,7 +50,7 @@ fn new_layouts(
     Ok(NewLayouts::of(layouts))
 }
 
-/// The layout of each slave that has new words, where the plant with these words has a process image.
+/// The layouts of all slaves that get new words, if the plant then has a process image.
 pub(crate) fn judged_layouts(
     alloc: Global,
     draft: &Draft,

@@ -1,111 +1,73 @@
 ghost use Rattle.std.specs.Prelude.{◌≡◌};
-ghost use Rattle.sii_edit.specs.Codes.{code_of, name_of};
 ghost use Rattle.sii_edit.specs.Refusal.{placed, whole};
 
 use sii_cats::{CatFault, ChainFault};
 use std::alloc::{AllocError, AllocFailed};
 use std::fmt;
+use thiserror::Error;
 
-/// Why a command isn't carried out. It is printed as its code and its name.
-#[derive(Clone, Copy, Debug, PartialEq, Eq)]
+/// Why a command is refused.
+#[derive(Clone, Copy, Debug, PartialEq, Eq, Error)]
 pub enum Cause {
     /// The line has no such slave.
+    #[error("the line has no such slave")]
     NoSlave,
     /// Both slaves of a swap are the same.
+    #[error("both slaves of the swap are the same")]
     SameSlave,
     /// The group has no edits.
+    #[error("the group has no edits")]
     EmptyGroup,
     /// The group has more than 64 edits.
+    #[error("the group has more than 64 edits")]
     GroupTooLong,
     /// The image is longer than the device.
+    #[error("the image is longer than the device")]
     ImageTooLong,
-    /// The check byte is wrong.
+    /// The check byte in word 7 is wrong.
+    #[error("the check byte is wrong")]
     BadCheck,
-    /// The slave has another identity than expected.
+    /// The slave doesn't have the expected identity.
+    #[error("the slave has another identity than expected")]
     WrongIdentity,
     /// There is no category of this type to be removed.
+    #[error("there is no category of this type")]
     NoSuchCategory,
-    /// There are several categories of this type.
+    /// There are several categories of this type, so none is chosen.
+    #[error("there are several categories of this type")]
     SeveralCategories,
-    /// The content of a category of this type is malformed, or no category may have this type. Of an image it is the first
-    /// such category of the result.
+    /// The content of a category of type `kind` is malformed, or no category may have this type. For an image, `kind` is the
+    /// type of the first malformed category of the words that it would leave.
+    #[error("a category of type {kind} is malformed")]
     BadCategory { kind: u16 },
-    /// The categories do not fit into the device.
+    /// The categories don't fit into the device.
+    #[error("the categories do not fit into the device")]
     NoRoom,
-    /// The chain of categories can not be read.
+    /// The chain of categories can't be read.
+    #[error("the chain of categories can not be read")]
     BadChain,
-    /// The process image would be over its limits.
+    /// The process image would be over its limits: 1,486 bytes, and 8 segments in a slave.
+    #[error("the process image would be over its limits")]
     ImageOverLimit,
-    /// There was no memory.
+    /// Memory was refused.
+    #[error("there is no memory")]
     Memory,
 }
 
-/// A command that isn't carried out: why, and for an edit of a group, which edit it was, counted from 0. It is printed as the
-/// cause, and the position behind it.
+/// The refusal of a command.
 #[derive(Clone, Copy, Debug, PartialEq, Eq)]
 pub struct Refusal {
+    /// Why the command is refused.
     pub cause: Cause,
+    /// The edit of a group that is refused, 0 to 63. `None` if the command is refused as a whole, and for `Memory`.
     pub position: Option<u8>,
-}
-
-impl Cause {
-    /// The code of the table of codes: 4, 5 or 10 to 21.
-    pub fn code(self) -> u8
-        ensures { result ≡ code_of self }
-    {
-        match self {
-            Cause::BadCategory { .. } => 4,
-            Cause::NoRoom => 5,
-            Cause::NoSlave => 10,
-            Cause::SameSlave => 11,
-            Cause::EmptyGroup => 12,
-            Cause::GroupTooLong => 13,
-            Cause::ImageTooLong => 14,
-            Cause::BadCheck => 15,
-            Cause::NoSuchCategory => 16,
-            Cause::SeveralCategories => 17,
-            Cause::BadChain => 18,
-            Cause::ImageOverLimit => 19,
-            Cause::Memory => 20,
-            Cause::WrongIdentity => 21,
-        }
-    }
-
-    /// The name that goes with the code.
-    pub fn name(self) -> &'static str
-        ensures { result.now ≡ name_of self }
-    {
-        match self {
-            Cause::BadCategory { .. } => "BadCategory",
-            Cause::NoRoom => "NoRoom",
-            Cause::NoSlave => "NoSlave",
-            Cause::SameSlave => "SameSlave",
-            Cause::EmptyGroup => "EmptyGroup",
-            Cause::GroupTooLong => "GroupTooLong",
-            Cause::ImageTooLong => "ImageTooLong",
-            Cause::BadCheck => "BadCheck",
-            Cause::NoSuchCategory => "NoSuchCategory",
-            Cause::SeveralCategories => "SeveralCategories",
-            Cause::BadChain => "BadChain",
-            Cause::ImageOverLimit => "ImageOverLimit",
-            Cause::Memory => "Memory",
-            Cause::WrongIdentity => "WrongIdentity",
-        }
-    }
-}
-
-impl fmt::Display for Cause {
-    fn fmt<W: fmt::Write>(&self, f: &mut fmt::Formatter<W>) -> fmt::Result {
-        let (code, name) = (self.code(), self.name());
-        write!(f, "{code} {name}")
-    }
 }
 
 impl fmt::Display for Refusal {
     fn fmt<W: fmt::Write>(&self, f: &mut fmt::Formatter<W>) -> fmt::Result {
         let cause = self.cause;
         match self.position {
-            Some(position) => write!(f, "{cause} at {position}"),
+            Some(position) => write!(f, "{cause} (edit {position})"),
             None => write!(f, "{cause}"),
         }
     }
@@ -122,7 +84,7 @@ impl Refusal {
         }
     }
 
-    /// A refusal of the edit at this place of a group. Want of memory has no place.
+    /// A refusal of the edit at this place of a group. `Memory` has no place.
     pub(crate) fn at(place: u8, cause: Cause) -> Refusal
         ensures { result ≡ placed place cause }
     {

@@ -12,15 +12,17 @@ use sii_words::Words;
 use std::alloc::AllocError;
 use std::marker::Model;
 
-/// Another alias of a slave: word 4, and word 7 with the check byte that goes with it.
+/// A new alias of a slave: its words 4 and 7.
 #[derive(Clone, Copy)]
 pub(crate) struct Name {
+    /// Word 4: the configured station alias.
     pub alias: u16,
+    /// Word 7: the check byte in the low byte, and the old high byte.
     pub seven: u16,
 }
 
-/// The words of a slave as they will be: those that it has, but for words 4 and 7 where it gets another alias. None of them
-/// are copied. Contracts see the list of the words.
+/// The words of a slave, perhaps with a new alias in words 4 and 7. None of them are copied. In contracts its value is the list
+/// of the words.
 #[derive(Drop)]
 pub(crate) struct SlaveWords<'a> {
     words: &'a Words,
@@ -38,7 +40,7 @@ impl<'a> Model for SlaveWords<'a> {
     ghost invariant = { λ slave. 7 < length slave.words.now };
 }
 
-/// Gives the words another alias.
+/// Sets words 4 and 7 to those of a new alias.
 pub(crate) fn rename(words: &mut Words, name: Name)
     ensures { words.new ≡ named words.old name }
 {
@@ -49,7 +51,7 @@ pub(crate) fn rename(words: &mut Words, name: Name)
 }
 
 impl<'a> SlaveWords<'a> {
-    /// The words with this alias, if there is one.
+    /// These words, with the new alias if there is one.
     pub fn of(words: &'a Words, name: Option<Name>) -> Self
         ensures { result ≡ named_as words.now name }
     {
@@ -68,7 +70,7 @@ impl<'a> SlaveWords<'a> {
         }
     }
 
-    /// Whether the check byte is right.
+    /// Whether the low byte of word 7 is the check byte of words 0 to 6.
     pub fn check_ok(&self) -> bool
         ensures { IsTrue result ↔ IsChecked self.now }
     {
@@ -78,14 +80,14 @@ impl<'a> SlaveWords<'a> {
         }
     }
 
-    /// Whether the slave is another one than expected. Another alias doesn't change who it is.
+    /// Whether the slave has another identity than expected. A new alias doesn't change the identity.
     pub fn is_other(&self, expect: Option<Expect>) -> bool
         ensures { result ≡ is_other expect self.now }
     {
         is_other(expect, self.words)
     }
 
-    /// Another alias, and the check byte that goes with it.
+    /// A new alias, and word 7 with its check byte.
     pub fn with_alias(&self, alias: u16) -> Name
         ensures { named self.now result ≡ with_alias self.now alias }
     {
@@ -99,7 +101,11 @@ impl<'a> SlaveWords<'a> {
         }
     }
 
-    /// A copy of all words.
+    /// Copies all words.
+    ///
+    /// # Errors
+    ///
+    /// `AllocError` if memory was refused.
     pub fn to_words(&self) -> Result<Words, AllocError>
         ensures { IfOk result (λ words. words ≡ self.now) }
     {

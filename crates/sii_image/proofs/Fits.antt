@@ -1,4 +1,4 @@
--- Items that stand one behind the other have no more cells than there are.
+-- Items that stand one behind the other have no more cells than the list that they stand in.
 use Rattle.std.proofs.Common.{◌≡◌, ℕ, ◌+◌, ◌*◌, ◌<◌, ◌≤◌, List, [], ◌∷◌, ◌++◌, Result, Ok, Err, length, drop, map, sum_by, refl, ap, arith, length-append, length-drop}
 use Rattle.std.specs.Prelude.{IfOk}
 use Rattle.std.specs.Global.{Vec}

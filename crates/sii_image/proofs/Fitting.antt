@@ -1,4 +1,4 @@
--- The limits of a process image, judged slave by slave.
+-- The limits of a process image, judged by the weights of the slaves.
 use Rattle.std.specs.Prelude.{filter, not, nat_le, ◌&&◌}
 use Rattle.std.specs.List.{list_all}
 use Rattle.std.proofs.Common.{◌≡◌, ◌⊎◌, inl, inr, ℕ, ◌+◌, ◌*◌, ◌<◌, ◌≤◌, List, [], ◌∷◌, length, map, sum_by, Bool, cond, true, false, refl, sym, ap, ◌∙◌, arith}

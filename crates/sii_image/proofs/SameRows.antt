@@ -1,4 +1,4 @@
--- What a slave adds to the process image rests on the words of its categories alone.
+-- What a slave adds to the process image depends only on the words of its categories.
 use Rattle.std.proofs.Common.{◌≡◌, ◌-◌, ℕ, Bool, true, false, List, length, take, drop, sym, ap, ◌∙◌, Ok, arith, length-drop, nat_eq, IsTrue}
 use Rattle.std.specs.Cmp.Lexicographic.{pointwise, same_text}
 use Rattle.std.proofs.lemmas.List.{take_all}
@@ -20,7 +20,7 @@ pub same_rows : (old new : List ℕ) → drop 64 old ≡ drop 64 new → rows_of
 unfolding behind rows_of
 same_rows old new same = ap behind same
 
--- what a comparison tells
+-- words that compare equal are equal
 told : (same : Bool) (xs ys : List ℕ) → same ≡ pointwise nat_eq xs ys → IsTrue same → xs ≡ ys
 told true xs ys e h = same_text xs ys e
 told false xs ys e h = cc
@@ -28,7 +28,7 @@ told false xs ys e h = cc
 whole : (words : List ℕ) → take (length words - 64) (drop 64 words) ≡ drop 64 words
 whole words = take_all (length words - 64) (drop 64 words) (omega (arith, length-drop 64 words))
 
--- the same of all words from 64 on
+-- words that compare equal from word 64 on are equal from there on
 pub told_behind : (same : Bool) (old new : List ℕ) → same ≡ pointwise nat_eq (take (length old - 64) (drop 64 old)) (take (length new - 64) (drop 64 new)) → IsTrue same
     → drop 64 old ≡ drop 64 new
 told_behind same old new e h = sym (whole old) ∙ told same (take (length old - 64) (drop 64 old)) (take (length new - 64) (drop 64 new)) e h ∙ whole new

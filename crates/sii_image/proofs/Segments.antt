@@ -1,4 +1,4 @@
--- The offsets as sums are those of rows placed one behind the other; and what the limits decide.
+-- The segments of rows placed one behind the other are those with offsets as sums; and when the rows are within the limits.
 use Rattle.std.specs.Prelude.{take, map, nat_le, ◌&&◌}
 use Rattle.std.specs.List.{enumerate_from, list_all}
 use Rattle.std.proofs.Common.{◌≡◌, ℕ, ◌+◌, ◌-◌, ◌≤◌, List, [], ◌∷◌, ◌++◌, length, sum_by, Bool, cond, Option, Some, None, true, false, refl, sym, ap, ◌∙◌, append_assoc, arith}

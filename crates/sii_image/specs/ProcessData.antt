@@ -1,4 +1,4 @@
--- What the categories of a slave say about its process data (ETG.1000.6 and ETG.2010, SyncM, TXPDO and RXPDO categories).
+-- What the categories of a slave say of its process data (ETG.1000.6 and ETG.2010, SyncM, TXPDO and RXPDO categories).
 use Rattle.std.specs.Prelude.{ℕ, List, [], ◌∷◌, ◌++◌, Result, Ok, Err, map, filter, sum_by, take, nat_lt, ◌==◌, if◌then◌else◌}
 use Rattle.std.specs.List.{enumerate_from}
 use Rattle.sii_cats.specs.Chain.{Member}
@@ -10,7 +10,7 @@ use Rattle.sii_cats.specs.steps.Pdos.{pdos_of}
 use Rattle.sii_cats.specs.declared.managers.Manager.{Manager}
 use Rattle.sii_image.specs.declared.rows.Row.{Row}
 
--- The managers that a slave has, and the PDOs that its master sends and receives.
+-- the sync managers of a slave, its RXPDOs (outputs of the master) and its TXPDOs (inputs of the master)
 pub record Description : Type 0 where
   pub managers : List Manager
   pub outputs : List Mapping
@@ -20,18 +20,18 @@ pub record Description : Type 0 where
 abbrev pub contents_of_kind : ℕ → List Member → List (List ℕ)
 contents_of_kind kind members = map (λ m. m.content) (filter (λ m. m.kind == kind) members)
 
--- The managers of the first SyncM category, or none where there is none. Such a category can always be read.
+-- The sync managers of the first SyncM category, or none without such a category. Its content can always be read.
 abbrev pub managers_in : List (List ℕ) → Result (List Manager) (List ℕ)
 managers_in [] = Ok []
 managers_in (first ∷ others) = managers_of first
 
--- the PDOs of these categories, unless one of them can't be read
+-- the PDOs of all these contents; none can be read if one of them can't
 abbrev pub pdos_in : List (List ℕ) → Result (List Mapping) (List ℕ)
 pdos_in [] = Ok []
 pdos_in (content ∷ contents) = pdos_of content >>= λ pdos. pdos_in contents >>= λ others. Ok (pdos ++ others)
 
--- Unless the chain or one of these categories can't be read: the first 16 managers of type 41, and the PDOs of types 51
--- (RXPDO, outputs of the master) and 50 (TXPDO, inputs of the master).
+-- The first 16 sync managers of the first category of type 41, and the PDOs of all categories of types 51 (RXPDO) and 50
+-- (TXPDO). There is no description if the chain, or one of these categories, can't be read.
 abbrev pub described : List ℕ → Result Description (List ℕ)
 described words = do
   members ← members_of words
@@ -40,30 +40,33 @@ described words = do
   inputs ← pdos_in (contents_of_kind 50 members)
   Ok (record { managers = take 16 managers; outputs = outputs; inputs = inputs })
 
--- the bits of a PDO
+-- the length of a PDO in bits: the sum of the bit lengths of its entries
 abbrev pub pdo_bits : Mapping → ℕ
 pdo_bits pdo = sum_by (λ entry. entry.bit_length) pdo.entries
 
--- the bits of all PDOs that name a manager
+-- the length in bits of all PDOs that are assigned to a sync manager
 abbrev pub bits_for : List Mapping → ℕ → ℕ
 bits_for pdos number = sum_by pdo_bits (filter (λ pdo. pdo.manager == number) pdos)
 
--- RXPDOs give bits to a manager of type 3 (process data out), TXPDOs to one of type 4 (process data in).
+-- The length in bits of a sync manager's data: RXPDOs give bits to type 3 (process data out), TXPDOs to type 4 (process data
+-- in).
 abbrev pub manager_bits : Description → ℕ → Manager → ℕ
 manager_bits d number manager =
     if manager.kind == 3 then bits_for d.outputs number else if manager.kind == 4 then bits_for d.inputs number else 0
 
+-- a sync manager with its number, as a row
 abbrev pub row : Description → ℕ × Manager → Row
 row d m = record { manager = m.0; output = (m.1.kind == 3); bits = manager_bits d m.0 m.1; start = m.1.start; control = m.1.control }
 
--- the managers that have bits, numbered from 0
+-- the rows of a slave: its sync managers that have bits, numbered from 0
 abbrev pub rows_described : Description → List Row
 rows_described d = filter (λ r. nat_lt 0 r.bits) (map (row d) (enumerate_from 0 d.managers))
 
+-- the rows that were read; none where the categories can't be read
 abbrev pub rows_read : Result Description (List ℕ) → List Row
 rows_read (Ok d) = rows_described d
 rows_read (Err words) = []
 
--- the rows of a slave with these words; none where they can't be read
+-- the rows of a slave with these words; none where its categories can't be read
 unfoldable pub rows_of : List ℕ → List Row
 rows_of words = rows_read (described words)

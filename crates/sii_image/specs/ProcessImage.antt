@@ -5,29 +5,31 @@ use Rattle.sii_image.specs.declared.rows.Row.{Row}
 use Rattle.sii_image.specs.declared.process_image.Segment.{Segment}
 use Rattle.sii_image.specs.ProcessData.{rows_of}
 
--- whole bytes
+-- the size of a row: its bits in whole bytes
 abbrev pub size_of : Row → ℕ
 size_of row = (row.bits + 7) / 8
 
+-- a row is an output (true) or an input (false)
 abbrev pub is_towards : Bool → Row → Bool
 is_towards output row = if output then row.output else not row.output
 
--- the outputs or the inputs among the rows of a slave, each with the slave's number
+-- the outputs (true) or the inputs (false) among the rows of a slave, each with the slave's number
 abbrev pub slave_rows : Bool → ℕ × List Row → List (ℕ × Row)
 slave_rows output slave = map (λ row. (slave.0, row)) (filter (is_towards output) slave.1)
 
--- the outputs or the inputs of all slaves, numbered from 0: by slave and then by manager
+-- the outputs or the inputs of all slaves, numbered from 0: by slave, then by sync manager
 abbrev pub rows_towards : Bool → List (List ℕ) → List (ℕ × Row)
 rows_towards output plant = flat_map (λ slave. slave_rows output (slave.0, rows_of slave.1)) (enumerate_from 0 plant)
 
--- all rows: outputs first
+-- all rows of a line: outputs first
 abbrev pub all_rows : List (List ℕ) → List (ℕ × Row)
 all_rows plant = rows_towards true plant ++ rows_towards false plant
 
--- the bytes of rows
+-- the size of these rows together, in bytes
 abbrev pub total : List (ℕ × Row) → ℕ
 total rows = sum_by (λ r. size_of r.1) rows
 
+-- the segment of a row at this offset
 abbrev pub segment_at : ℕ → ℕ × Row → Segment
 segment_at offset r = record {
   slave = r.0;
@@ -40,7 +42,7 @@ segment_at offset r = record {
   control = r.1.control;
 }
 
--- a row's offset is the sum of the sizes of all rows before it
+-- the segments of rows: each offset is the sum of the sizes of all rows before it
 abbrev pub segments_of : List (ℕ × Row) → List Segment
 segments_of rows = map (λ r. segment_at (total (take r.0 rows)) r.1) (enumerate_from 0 rows)
 
@@ -48,21 +50,22 @@ segments_of rows = map (λ r. segment_at (total (take r.0 rows)) r.1) (enumerate
 abbrev pub counter_of : List Row → ℕ
 counter_of rows = (if list_any (is_towards true) rows then 2 else 0) + (if list_any (is_towards false) rows then 1 else 0)
 
--- A process image: its segments, the sizes of its two parts in bytes, and the working counter that is expected.
+-- A process image: its segments, the sizes of outputs and inputs in bytes, and the expected working counter.
 pub record ProcessImageParts : Type 0 where
   pub segments : List Segment
   pub outputs : ℕ
   pub inputs : ℕ
   pub counter : ℕ
 
--- a slave has 8 rows at most
+-- a slave has at most 8 rows
 abbrev pub has_few_rows : List ℕ → Bool
 has_few_rows words = nat_le (length (rows_of words)) 8
 
--- and the process image 1,486 bytes
+-- each slave has at most 8 rows, and all rows together at most 1,486 bytes
 abbrev pub is_within_limits : List (List ℕ) → Bool
 is_within_limits plant = list_all has_few_rows plant && nat_le (total (all_rows plant)) 1486
 
+-- the process image of a line that is within the limits
 abbrev pub placed : List (List ℕ) → ProcessImageParts
 placed plant = record {
   segments = segments_of (all_rows plant);

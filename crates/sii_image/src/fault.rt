@@ -8,6 +8,7 @@ use thiserror::Error;
 /// Why there is no process image.
 #[derive(Clone, Copy, Debug, PartialEq, Eq, Error)]
 pub enum ImageFault {
+    /// Memory was refused.
     #[error("out of memory")]
     Memory,
     /// The image would have more than 1,486 bytes, or a slave more than 8 segments.

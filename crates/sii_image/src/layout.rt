@@ -1,4 +1,4 @@
-//! What a process image is made from, kept up while contents change.
+//! The layout of a line, from which its process image is made.
 
 ghost use Rattle.std.specs.Prelude.{◌≡◌, ◌<◌, ◌≤◌, ◌↔◌, length, map, slice_set, sum_by, IsTrue, IsSome, IfOk, OnOk, OnErr};
 ghost use Rattle.std.specs.List.{list_all};
@@ -59,7 +59,7 @@ fn process_image_of_slaves(
     ))
 }
 
-/// Puts a new layout in the place of the old one, and answers what all slaves weigh then. A slave that isn't there changes nothing.
+/// Replaces the layout of one slave, and answers the new weight of all slaves. Nothing changes if there is no such slave.
 fn put(slaves: &mut [SlaveLayout], weight: u32, slave: usize, new: SlaveLayout) -> u32
     requires few { length slaves.old ≤ 64 }
     requires weight { weight ≡ weight_of_all slaves.old }
@@ -74,7 +74,7 @@ fn put(slaves: &mut [SlaveLayout], weight: u32, slave: usize, new: SlaveLayout) 
     changed
 }
 
-/// Puts each new layout in the place of the old one, and answers what all slaves weigh then.
+/// Replaces the layout of each slave that has a new one, and answers the new weight of all slaves.
 fn put_each(slaves: &mut [SlaveLayout], weight: u32, new: Vec<NewLayout>) -> u32
     requires few { length slaves.old ≤ 64 }
     requires weight { weight ≡ weight_of_all slaves.old }
@@ -89,8 +89,8 @@ fn put_each(slaves: &mut [SlaveLayout], weight: u32, new: Vec<NewLayout>) -> u32
     changed
 }
 
-/// What the process image of a line is made from, kept up while the contents of its slaves change. Contracts see these
-/// contents as they are now; the layout holds none of their words.
+/// The layout of a line, from which its process image is made, kept up to date as contents change. In contracts its value is
+/// the contents of the line; in memory it holds none of their words.
 #[derive(Drop)]
 pub struct Layout {
     slaves: Vec<SlaveLayout>,
@@ -109,7 +109,11 @@ impl Model for Layout {
 }
 
 impl Layout {
-    /// The layout of these contents.
+    /// Reads the layout of a line from its contents.
+    ///
+    /// # Errors
+    ///
+    /// `AllocError` if memory was refused.
     pub fn of(alloc: Global, plant: &Plant) -> Result<Layout, AllocError>
         ensures { IfOk result (λ layout. layout ≡ plant.now) }
     {
@@ -121,7 +125,7 @@ impl Layout {
         Ok(Layout { slaves, weight })
     }
 
-    /// The layout of one slave.
+    /// The layout of slave `slave`, which must exist.
     pub fn slave(&self, slave: usize) -> &SlaveLayout
         requires { slave < length self.now }
         ensures { result.now ≡ words_of self.now slave }
@@ -129,7 +133,11 @@ impl Layout {
         &self.slaves[slave]
     }
 
-    /// Takes in the new contents of one slave. A slave that isn't there changes nothing.
+    /// Takes in the new words of one slave. Nothing changes if there is no such slave.
+    ///
+    /// # Errors
+    ///
+    /// `AllocError` if memory was refused. The layout is then unchanged.
     pub fn change(&mut self, slave: u16, words: &Words) -> Result<(), AllocError>
         ensures ok { OnOk result (self.new ≡ slice_set self.old slave words.now) }
         ensures err { OnErr result (self.new ≡ self.old) }
@@ -139,23 +147,27 @@ impl Layout {
         Ok(())
     }
 
-    /// Takes in the new contents of each slave that has any. It takes no memory, and a slave that isn't there changes nothing.
+    /// Takes in the new layouts of some slaves, without taking memory. A layout of a slave that doesn't exist changes nothing.
     pub fn put_all(&mut self, new: NewLayouts)
         ensures { self.new ≡ with_each self.old new }
     {
         self.weight = put_each(&mut self.slaves, self.weight, new.items);
     }
 
-    /// The process image of the contents as they are now. `ImageOverLimit`: it would have more than 1,486 bytes, or a slave
-    /// more than 8 segments.
+    /// The process image of the contents as they are now.
+    ///
+    /// # Errors
+    ///
+    /// `ImageOverLimit` if it would have more than 1,486 bytes, or a slave more than 8 segments. Or `Memory` in place of any
+    /// answer if memory was refused.
     pub fn image(&self) -> Result<ProcessImage, ImageFault>
         ensures { GivesProcessImage result (process_image self.now) }
     {
         process_image_of_slaves(*self.slaves.allocator(), &self.slaves)
     }
 
-    /// Whether there is a process image once each slave that has new contents has them. It takes no memory, and looks at these
-    /// slaves alone.
+    /// Whether the line has a process image once these new layouts are taken in. It takes no memory, and looks only at these
+    /// slaves.
     pub fn has_process_image_with(&self, new: &NewLayouts) -> bool
         ensures { IsTrue result ↔ IsSome (process_image (with_each self.now new.now)) }
     {
@@ -163,8 +175,12 @@ impl Layout {
     }
 }
 
-/// The process image of a line with these contents. `ImageOverLimit`: it would have more than 1,486 bytes, or a slave more
-/// than 8 segments.
+/// The process image of a line with these contents.
+///
+/// # Errors
+///
+/// `ImageOverLimit` if it would have more than 1,486 bytes, or a slave more than 8 segments. Or `Memory` in place of any answer
+/// if memory was refused.
 pub fn image_of(alloc: Global, plant: &Plant) -> Result<ProcessImage, ImageFault>
     ensures { GivesProcessImage result (process_image plant.now) }
 {

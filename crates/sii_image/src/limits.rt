@@ -1,4 +1,7 @@
-//! Whether a line with some new contents stays within the limits of a process image.
+//! Whether a line with new contents of some slaves stays within the limits of a process image.
+//!
+//! The weight of a slave is the bytes that its rows take of an image, or 1,487 (one byte more than an image has) if they are
+//! more than 8 rows or more than 1,486 bytes. A line has a process image if the weights of its slaves add up to 1,486 at most.
 
 ghost use Rattle.std.specs.Prelude.{◌≡◌, ◌+◌, ◌<◌, ◌≤◌, length, sum_by, MatchOption};
 ghost use Rattle.sii_image.specs.NewLayouts.{slaves_of, with_each, AreRising};
@@ -10,7 +13,7 @@ use crate::placement::MOST_BYTES;
 use crate::rows::{MOST_ROWS, Row};
 use crate::slave_layout::SlaveLayout;
 
-/// What is left of some bytes behind these rows, if they have room.
+/// What is left of this many bytes behind these rows, or `None` if the rows don't fit.
 fn left_behind(bytes: u32, rows: &[Row]) -> Option<u32>
     ensures { MatchOption result (bytes < sum_by size_of rows.now) (λ left. left + sum_by size_of rows.now ≡ bytes) }
 {
@@ -25,7 +28,7 @@ fn left_behind(bytes: u32, rows: &[Row]) -> Option<u32>
     Some(left)
 }
 
-/// The bytes of a slave's rows, or one byte more than an image has, where no image has room for them.
+/// The weight of a slave with these rows, in bytes.
 fn weight_of_rows(rows: &[Row]) -> u32
     ensures weight { result ≡ weight_of_rows rows.now }
     ensures most { result ≤ 1487 }
@@ -39,7 +42,7 @@ fn weight_of_rows(rows: &[Row]) -> u32
     }
 }
 
-/// How many bytes a slave takes of an image, or one more than an image has, where no image has room for it.
+/// The weight of a slave, in bytes.
 fn weight_of(slave: &SlaveLayout) -> u32
     ensures weight { result ≡ weight_of slave.now }
     ensures most { weight_of slave.now ≤ 1487 }
@@ -47,7 +50,7 @@ fn weight_of(slave: &SlaveLayout) -> u32
     weight_of_rows(slave.rows())
 }
 
-/// How many bytes all slaves take. It is no more than an image has where the line has an image.
+/// The weight of all slaves together, in bytes.
 pub(crate) fn weight_of_all(slaves: &[SlaveLayout]) -> u32
     requires { length slaves.now ≤ 64 }
     ensures { result ≡ weight_of_all slaves.now }
@@ -64,8 +67,8 @@ pub(crate) fn weight_with(weight: u32, old: &SlaveLayout, new: &SlaveLayout) -> 
     weight - weight_of(old) + weight_of(new)
 }
 
-/// Whether no slave has more than 8 rows, and all rows together no more than 1,486 bytes, once these slaves have new words. The
-/// slaves weigh so much without.
+/// Whether, with these new layouts, no slave has more than 8 rows and all rows together at most 1,486 bytes. `weight` is the
+/// weight of the slaves without them.
 pub(crate) fn are_within_limits(slaves: &[SlaveLayout], weight: u32, new: &[NewLayout]) -> bool
     requires few { length slaves.now ≤ 64 }
     requires weight { weight ≡ weight_of_all slaves.now }

@@ -6,16 +6,16 @@ ghost use Rattle.sii_image.specs.NewLayouts.{slaves_of, AreRising};
 use crate::slave_layout::SlaveLayout;
 use std::marker::Model;
 
-/// What a slave with new words adds to a process image.
+/// The layout of one slave that has new words.
 #[derive(Drop)]
 pub struct NewLayout {
-    /// The position of the slave.
+    /// The number of the slave, from 0 in the order of the line.
     pub slave: u16,
-    /// Contracts see the new words.
+    /// The layout of its new words.
     pub layout: SlaveLayout,
 }
 
-/// The layouts of the slaves that have new words, in rising order of the slaves. Contracts see the list of them.
+/// The layouts of the slaves that have new words, in rising order of the slaves. In contracts its value is the list of them.
 #[derive(Drop)]
 pub struct NewLayouts {
     pub(crate) items: Vec<NewLayout>,
@@ -34,7 +34,7 @@ impl Model for NewLayouts {
 }
 
 impl NewLayouts {
-    /// These layouts.
+    /// Makes a list of new layouts. Their slaves must rise, so that none comes twice.
     pub fn of(items: Vec<NewLayout>) -> Self
         requires { AreRising (slaves_of items.items) }
         ensures { result ≡ items.items }

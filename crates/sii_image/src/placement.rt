@@ -1,4 +1,4 @@
-//! Rows placed one behind the other.
+//! Places rows one behind the other in a process image.
 
 ghost use Rattle.std.specs.Prelude.{◌≡◌, ◌≤◌, [], ◌∷◌, length};
 ghost use Rattle.sii_image.specs.ProcessImage.{slave_rows, rows_towards};
@@ -9,7 +9,7 @@ use crate::rows::Row;
 use crate::slave_layout::SlaveLayout;
 use std::alloc::Global;
 
-/// The most bytes that a process image has.
+/// The largest size of a process image in bytes.
 pub(crate) const MOST_BYTES: u32 = 1486;
 
 /// The segments of the rows placed so far, and their size in bytes.
@@ -23,7 +23,7 @@ pub(crate) struct Placement {
 impl Placement {
     ghost use Rattle.sii_image.specs.steps.Placement.{Places};
 
-    /// Nothing is placed yet.
+    /// A placement without rows.
     pub(crate) fn new(alloc: Global) -> Self
         ensures segments { result.segments.items ≡ [] }
         ensures size { result.size ≡ 0 }
@@ -34,7 +34,7 @@ impl Placement {
         }
     }
 
-    /// Places a row of this slave behind those placed so far.
+    /// Places one row of this slave behind those placed so far.
     fn add(&mut self, slave: u16, row: Row) -> Result<(), ImageFault>
         ensures { Places self.old self.new ((slave, row) ∷ []) result }
     {

@@ -2,11 +2,11 @@
 
 use crate::process_image::ProcessImage;
 
-/// What the cyclic exchange works by: a process image, and whose it is.
+/// A plan of the cyclic exchange: the process image of the contents after a prefix of commands.
 #[derive(Drop)]
 pub struct Plan {
-    /// How many commands its contents are after.
+    /// The number of commands in the prefix.
     pub prefix: u64,
-    /// Their process image.
+    /// The process image of the contents after it.
     pub image: ProcessImage,
 }

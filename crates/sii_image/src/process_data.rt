@@ -1,4 +1,4 @@
-//! What the categories of a slave say about its process data.
+//! What the categories of a slave say of its process data.
 
 ghost use Rattle.std.specs.Prelude.{◌≡◌, ◌≤◌, ◌*◌, length, map, All, IfOk, Ok};
 ghost use Rattle.sii_cats.specs.Chain.{end_of, member_of};
@@ -13,16 +13,16 @@ use sii_cats::kind::{RXPDOS, SYNC_MANAGERS, TXPDOS};
 use sii_cats::{CatFault, Category, ChainFault, Manager, Pdo, chain, pdos, syncms};
 use std::alloc::{AllocError, Global};
 
-/// The type of a sync manager with process data that the master sends.
+/// The type of a sync manager with outputs, sent by the master.
 const PROCESS_DATA_OUT: u8 = 3;
 
-/// The type of a sync manager with process data that the master receives.
+/// The type of a sync manager with inputs, received by the master.
 const PROCESS_DATA_IN: u8 = 4;
 
-/// How many sync managers a slave has at most.
+/// The most sync managers of a slave.
 const MOST_MANAGERS: usize = 16;
 
-/// The managers that a slave has, and the PDOs that its master sends and receives.
+/// The sync managers of a slave, and its PDOs: RXPDOs (outputs of the master) and TXPDOs (inputs).
 #[derive(Drop)]
 struct ProcessData {
     managers: Vec<Manager>,
@@ -33,7 +33,7 @@ struct ProcessData {
     ghost few_inputs: { 4 * entry_count (views inputs.items) ≤ 4096 },
 }
 
-/// The categories of a slave. All their contents together have no more words than the slave.
+/// The categories of a slave. Together their contents have at most as many words as the slave.
 fn categories_of(alloc: Global, words: &[u16]) -> Result<Vec<Category>, ChainFault>
     requires least { 64 ≤ length words.now }
     requires most { length words.now ≤ 4096 }
@@ -44,7 +44,7 @@ fn categories_of(alloc: Global, words: &[u16]) -> Result<Vec<Category>, ChainFau
     chain(alloc, words)
 }
 
-/// The managers of the first SyncM category.
+/// The sync managers of the first SyncM category, or none without such a category.
 fn first_managers(
     alloc: Global,
     words: &[u16],
@@ -61,7 +61,7 @@ fn first_managers(
     Ok(Vec::new(alloc))
 }
 
-/// The PDOs of all categories of a type.
+/// The PDOs of all categories of a type, in order.
 fn all_pdos(
     alloc: Global,
     kind: u16,
@@ -83,7 +83,7 @@ fn all_pdos(
     Ok(all)
 }
 
-/// The bits of a PDO.
+/// The length of a PDO in bits.
 fn bits_of_pdo(pdo: &Pdo) -> u32
     requires { length pdo.now.entries.items ≤ 1024 }
     ensures bits { result ≡ pdo_bits (view pdo.now) }
@@ -96,7 +96,7 @@ fn bits_of_pdo(pdo: &Pdo) -> u32
     bits
 }
 
-/// The bits of all PDOs that name a manager.
+/// The length in bits of all PDOs that are assigned to a sync manager.
 fn bits_of_pdos(pdos: &[Pdo], number: u8) -> u32
     requires { 4 * entry_count (views pdos.now) ≤ 4096 }
     ensures { result ≡ bits_for (views pdos.now) number }
@@ -132,7 +132,7 @@ impl ProcessData {
         })
     }
 
-    /// The bits of the manager with this number.
+    /// The length in bits of the data of the sync manager with this number.
     fn bits(&self, number: u8, manager: Manager) -> u32
         ensures { result ≡ manager_bits (as_described self.now) number manager }
     {
@@ -143,7 +143,7 @@ impl ProcessData {
         }
     }
 
-    /// The managers that have bits.
+    /// The sync managers that have data, as rows.
     fn rows(&self, alloc: Global) -> Result<Vec<Row>, AllocError>
         ensures { IfOk result (λ v. v.items ≡ rows_described (as_described self.now)) }
     {
@@ -165,7 +165,7 @@ impl ProcessData {
     }
 }
 
-/// The rows of a slave with these words; none where they can't be read.
+/// The rows of a slave with these words, or none if its categories can't be read.
 #[tactic(auto, unfolding(crate::specs::ProcessData::rows_of))]
 pub(crate) fn rows_of_words(alloc: Global, words: &[u16]) -> Result<Vec<Row>, AllocError>
     requires least { 64 ≤ length words.now }

@@ -8,26 +8,26 @@ use std::marker::Model;
 /// RXPDO categories of the slave (ETG.1000.6 and ETG.2010).
 #[derive(Clone, Copy, Debug, PartialEq, Eq)]
 pub struct Segment {
-    /// The position of its slave.
+    /// The number of the slave, from 0 in the order of the line.
     pub slave: u16,
     /// The sync manager's number, 0 to 15.
     pub manager: u8,
-    /// Whether the master sends the data.
+    /// Whether the data are outputs, sent by the master, and not inputs.
     pub output: bool,
-    /// Where it begins in the image, in bytes.
+    /// Its offset in the image, in bytes.
     pub offset: u32,
     /// Its size in bytes.
     pub size: u32,
     /// Its length in bits.
     pub bits: u32,
-    /// The sync manager's physical start address.
+    /// Physical start address of the sync manager.
     pub start: u16,
-    /// The sync manager's control register.
+    /// Control register of the sync manager.
     pub control: u8,
 }
 
-/// A process image of at most 1,486 bytes: the outputs of all slaves, then their inputs. Contracts see the list of its
-/// segments, the sizes of both parts and the working counter that is expected.
+/// A process image of at most 1,486 bytes: the outputs of all slaves, then their inputs. In contracts its value is the list of
+/// its segments, the sizes of both parts in bytes, and the expected working counter.
 #[derive(Drop)]
 pub struct ProcessImage {
     segments: Vec<Segment>,
@@ -60,7 +60,7 @@ impl ProcessImage {
         }
     }
 
-    /// The segments, in the order in which they lie in the image.
+    /// The segments in the order of the image.
     pub fn segments(&self) -> &[Segment]
         ensures { result.now ≡ self.now.segments }
     {
@@ -83,8 +83,8 @@ impl ProcessImage {
         self.inputs as usize
     }
 
-    /// The working counter of a cycle in which every slave takes part: for each slave 2 where it has an output segment, and
-    /// 1 where it has an input segment.
+    /// The working counter of a cycle in which every slave takes part: for each slave 2 if it has outputs, and 1 if it has
+    /// inputs.
     pub fn expected_counter(&self) -> u16
         ensures { result ≡ self.now.counter }
     {

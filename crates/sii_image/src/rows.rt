@@ -4,7 +4,7 @@ ghost use Rattle.std.specs.Prelude.{◌≡◌, ◌≤◌};
 ghost use Rattle.std.specs.List.{list_any};
 ghost use Rattle.sii_image.specs.ProcessImage.{counter_of, is_towards, size_of};
 
-/// How many rows a slave has at most: one for each of its FMMUs.
+/// The most rows of a slave: one for each of its FMMUs.
 pub(crate) const MOST_ROWS: usize = 8;
 
 /// A sync manager that has process data (ETG.1000.6 and ETG.2010, SyncM, TXPDO and RXPDO categories).
@@ -12,7 +12,7 @@ pub(crate) const MOST_ROWS: usize = 8;
 pub struct Row {
     /// Its number among the slave's sync managers, 0 to 15.
     pub manager: u8,
-    /// Whether the master sends its data.
+    /// Whether the data are outputs, sent by the master, and not inputs.
     pub output: bool,
     /// Length of its data in bits, above 0.
     pub bits: u32,
@@ -31,14 +31,14 @@ impl Row {
     }
 }
 
-/// Whether there are outputs, or inputs.
+/// Whether there is an output (`true`) or an input (`false`) among the rows.
 fn has_rows(rows: &[Row], output: bool) -> bool
     ensures { result ≡ list_any (is_towards output) rows.now }
 {
     rows.iter().any(|row| row.output == output)
 }
 
-/// What a slave with these rows adds to the working counter.
+/// What a slave with these rows adds to the working counter: 2 for outputs, and 1 for inputs.
 pub(crate) fn expected_counter(rows: &[Row]) -> u16
     ensures counter { result ≡ counter_of rows.now }
     ensures most { result ≤ 3 }

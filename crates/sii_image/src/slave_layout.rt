@@ -11,7 +11,7 @@ use std::alloc::{AllocError, Global};
 use std::marker::Model;
 use std::snapshot::Snapshot;
 
-/// Another alias: what words 4 and 7 are then.
+/// A new alias of a slave: the new values of words 4 and 7.
 #[derive(Clone, Copy)]
 struct Name {
     alias: u16,
@@ -19,7 +19,7 @@ struct Name {
 }
 
 /// What one slave adds to a process image, read from the SyncM, TXPDO and RXPDO categories of its EEPROM (ETG.1000.6 and
-/// ETG.2010). Contracts see the words of the slave; the layout holds none of them.
+/// ETG.2010). In contracts its value is the list of the slave's words; in memory it holds none of them.
 #[derive(Drop)]
 pub struct SlaveLayout {
     rows: Vec<Row>,
@@ -54,7 +54,11 @@ fn copied(alloc: Global, rows: &[Row]) -> Result<Vec<Row>, AllocError>
 }
 
 impl SlaveLayout {
-    /// Reads the categories among these words.
+    /// Reads the layout of a slave from its words. A slave whose categories can't be read adds nothing.
+    ///
+    /// # Errors
+    ///
+    /// `AllocError` if memory was refused.
     pub fn of(alloc: Global, words: &Words) -> Result<SlaveLayout, AllocError>
         ensures { IfOk result (λ slave. slave ≡ words.now) }
     {
@@ -65,7 +69,12 @@ impl SlaveLayout {
         })
     }
 
-    /// The layout once the slave's words are new ones. The categories are read only where they aren't the old ones.
+    /// The layout of the slave with new words. `old` must be the words of this layout. The categories are read only if they
+    /// differ from the old ones.
+    ///
+    /// # Errors
+    ///
+    /// `AllocError` if memory was refused.
     pub fn changed(
         &self,
         alloc: Global,
@@ -85,8 +94,12 @@ impl SlaveLayout {
         })
     }
 
-    /// The layout once words 4 and 7 of the slave are these: another alias, and the check byte that goes with it. No category
-    /// begins before word 64, so none is read.
+    /// The layout of the slave with a new alias in word 4 and `seven` in word 7. `old` must be the words of this layout.
+    /// Categories begin at word 64, so none is read.
+    ///
+    /// # Errors
+    ///
+    /// `AllocError` if memory was refused.
     pub fn renamed(
         &self,
         alloc: Global,

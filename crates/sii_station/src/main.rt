@@ -1,5 +1,4 @@
-//! The commissioning station's program: hands its arguments and streams to the library, and ends with the status that it
-//! answers.
+//! The program `sii_station`: passes its arguments and streams to the library, and exits with the status that the library returns.
 #![tactic(auto)]
 
 use station_serve::{FileStore, refuse_words, serve};
@@ -19,13 +18,13 @@ fn main(rt: HostRuntime) -> ExitCode {
     ExitCode::from(status)
 }
 
-/// The words of the command line, the program's name first.
+/// The arguments, the program's name first.
 fn words(rt: &HostRuntime) -> io::Result<Vec<String>> {
     let words = env::args(rt)?.collect(rt.alloc())?;
     Ok(words)
 }
 
-/// Does what the words ask for, with the output in a buffer.
+/// Carries out the arguments, with the output buffered.
 fn serve_words<H: Files<File = File> + Input + Print + Wait + Threads + Sync, E: Write>(
     rt: &H,
     alloc: Global,

@@ -1,4 +1,4 @@
--- The bits of a byte, of its double and of what two bytes differ in.
+-- The bits of a byte, of its double, and of the exclusive or of two bytes.
 use Rattle.std.proofs.Common.{◌≡◌, ℕ, zero, suc, ◌+◌, ◌*◌, ◌/◌, ◌%◌, ◌^◌, ◌==◌, ◌<◌, bit_xor, Bool, true, false, List, [], ◌∷◌, ◌++◌, map, refl, arith}
 use Rattle.std.proofs.lemmas.Nat.Bits.{bit_at_xor}
 use Rattle.std.proofs.lemmas.Bool.{agree_below_at, eqb-true}

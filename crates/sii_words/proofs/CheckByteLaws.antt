@@ -1,4 +1,4 @@
--- What those who change words need to know of the check byte.
+-- How the check byte depends on the words.
 use Rattle.std.proofs.Common.{◌≡◌, ℕ, zero, suc, ◌+◌, ◌-◌, ◌*◌, ◌%◌, ◌^◌, ◌<◌, ◌≤◌, Bool, true, false, if◌then◌else◌, List, [], ◌∷◌, ◌++◌, length, get_or, take, set, get_or-set_same, fold, flat_map, refl, sym, ap, ◌∙◌, length-append, arith}
 use Rattle.std.proofs.lemmas.List.{length-take, take-set-le, take-take}
 use Rattle.std.proofs.Math.Seq.{take-set-lt}

@@ -3,3 +3,7 @@ pub mod LongDivision
 pub mod ByteBits
 pub mod ShiftRegister
 pub mod CheckByteLaws
+pub mod RedoLaws
+mod GivenLaws
+pub mod StretchLaws
+pub mod RunLaws

@@ -1,4 +1,4 @@
--- Long division by a register: what is taken away from the bits one after the other can be taken away at once.
+-- Long division by a register: subtracting one number after the other is subtracting them at once.
 use Rattle.std.proofs.Common.{◌≡◌, ℕ, suc, ◌+◌, Bool, true, false, not, List, [], ◌∷◌, ◌++◌, length, refl, ap, ◌∙◌, append_assoc, length-append, arith}
 use Rattle.sii_words.specs.CheckByte.{minus, divisor, divided}
 use Rattle.sii_words.specs.steps.ShiftRegister.{ShiftsThrough}

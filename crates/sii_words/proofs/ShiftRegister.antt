@@ -1,4 +1,4 @@
--- What a register of eight bits does with one bit, with a byte and with a list of bytes.
+-- How a shift register of eight bits takes one bit, one byte and a list of bytes.
 use Rattle.std.proofs.Common.{◌≡◌, ℕ, ◌+◌, ◌-◌, ◌*◌, ◌/◌, ◌%◌, ◌<◌, ◌≤◌, bit_xor, false, List, [], ◌∷◌, ◌++◌, length, replicate, get_or, take, flat_map, Fits, w16, refl, ap, sym, ◌∙◌, arith}
 use Rattle.std.proofs.lemmas.Nat.{xor_comm}
 use Rattle.std.proofs.lemmas.Grind.{flat_map-append}

@@ -48,7 +48,7 @@ word_spelt words (low ∷ high ∷ more) bytes word n some count fits spelt all 
     let enough : length more ≤ n = omega arith in
     rw (bytes_of-append words (word ∷ []), spelt, low_of low high small, high_of low high small, take_all n more enough, append_assoc) all
 
--- the bytes tell the words
+-- lists of words with the same bytes are equal
 pub same_bytes : (words others : List ℕ) → bytes_of words ≡ bytes_of others → words ≡ others
 same_bytes [] [] same = refl
 same_bytes [] (other ∷ others) same = cc

@@ -3,3 +3,5 @@ pub mod Identity
 pub mod CheckByte
 pub mod Plant
 pub mod steps
+pub mod Run
+pub mod Redo

@@ -2,7 +2,7 @@ ghost use Rattle.std.specs.Prelude.{◌≡◌, ◌≤◌, length, slice_set, fal
 ghost use Rattle.sii_words.specs.CheckByte.{bits_of_byte, check_byte_of};
 ghost use Rattle.sii_words.specs.steps.ShiftRegister.{ShiftsThrough};
 
-/// The divisor `x^8 + x^2 + x + 1` without its leading one.
+/// The divisor polynomial `x^8 + x^2 + x + 1` without its leading term.
 const DIVISOR: u8 = 0x07;
 
 /// The remainder after one more zero bit.
@@ -40,7 +40,7 @@ pub(crate) fn check_byte(words: &[u16]) -> u8
     remainder
 }
 
-/// The check byte of words 0 to 6 with another word 4.
+/// The check byte of words 0 to 6 once word 4 holds `alias`.
 pub(crate) fn check_byte_with(words: &[u16], alias: u16) -> u8
     requires { 7 ≤ length words.now }
     ensures { result ≡ check_byte_of (slice_set words.now 4 alias) }

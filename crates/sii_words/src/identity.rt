@@ -1,4 +1,4 @@
-/// Who made a slave, and which one it is (ETG.1000.6: words 8 to 15).
+/// The identity of a slave (ETG.1000.6: words 8 to 15). Each number has 32 bits, the low word first.
 #[derive(Clone, Copy, Debug, PartialEq, Eq)]
 pub struct Identity {
     /// The vendor id: words 8 and 9.

@@ -10,7 +10,7 @@ use crate::{check_byte, layout};
 use std::alloc::{AllocError, Global};
 use std::marker::Model;
 
-/// The words of a file with an image of an EEPROM (ETG.1000.6, slave information interface): 64 to 4,096 of them. Contracts see
+/// The words of an EEPROM image file (ETG.1000.6, slave information interface): 64 to 4,096 of them. In contracts its value is
 /// the list of the words.
 #[derive(Debug, Drop)]
 pub struct ImageFile {
@@ -29,8 +29,12 @@ impl Model for ImageFile {
 }
 
 impl ImageFile {
-    /// The words that the bytes spell, each low byte first. An odd number of bytes is `OddLength`, fewer than 64 or more than
-    /// 4,096 words are `BadSize`, and want of memory is `Memory`.
+    /// Reads an image from the bytes of a file, two for each word, the low byte first.
+    ///
+    /// # Errors
+    ///
+    /// In this order: `OddLength` if the number of bytes is odd; `BadSize` if there are fewer than 64 or more than 4,096 words;
+    /// `Memory` if memory was refused.
     pub fn from_bytes(alloc: Global, bytes: &[u8]) -> Result<Self, WordsFault>
         ensures words { IfOk result (λ image. bytes_of image ≡ bytes.now) }
         ensures count { IfOk result (λ image. length image ≡ length bytes.now / 2) }
@@ -50,7 +54,11 @@ impl ImageFile {
         })
     }
 
-    /// A copy with the same words.
+    /// Copies the image.
+    ///
+    /// # Errors
+    ///
+    /// `AllocError` if memory was refused.
     pub fn try_copy(&self) -> Result<ImageFile, AllocError>
         ensures { IfOk result (λ copy. copy ≡ self.now) }
     {
@@ -67,7 +75,7 @@ impl ImageFile {
         &self.words
     }
 
-    /// Changes the word of this number alone.
+    /// Sets word `at` to `value`, and changes no other word. `at` must be below the number of words.
     pub fn set(&mut self, at: usize, value: u16)
         requires { at < length self.old }
         ensures { self.new ≡ slice_set self.old at value }
@@ -75,7 +83,8 @@ impl ImageFile {
         self.words[at] = value;
     }
 
-    /// Writes the bytes of the words, each low byte first. It takes no memory.
+    /// Writes the words into `out` as bytes, each word low byte first, without taking memory. `out` must have two bytes for
+    /// each word.
     pub fn as_bytes_into(&self, out: &mut [u8])
         requires { length out.old ≡ 2 * length self.now }
         ensures { out.new ≡ bytes_of self.now }
@@ -90,22 +99,22 @@ impl ImageFile {
         self.words[4]
     }
 
-    /// Who made the slave, and which one it is: words 8 to 15 (ETG.1000.6).
+    /// The identity of the slave: words 8 to 15 (ETG.1000.6).
     pub fn identity(&self) -> Identity
         ensures { result ≡ identity_of self.now }
     {
         layout::identity(&self.words)
     }
 
-    /// The check byte that words 0 to 6 want: the remainder in a division by `x^8 + x^2 + x + 1`, with the initial value 0xFF
-    /// (ETG.1000.6).
+    /// The check byte of words 0 to 6 (ETG.1000.6): their remainder in a division by `x^8 + x^2 + x + 1`, with the initial
+    /// value 0xFF.
     pub fn check_byte(&self) -> u8
         ensures { result ≡ check_byte_of self.now }
     {
         check_byte::check_byte(&self.words)
     }
 
-    /// Whether the low byte of word 7 is that check byte.
+    /// Whether the low byte of word 7 is the check byte of words 0 to 6. The high byte isn't looked at.
     pub fn check_ok(&self) -> bool
         ensures { IsTrue result ↔ IsChecked self.now }
     {

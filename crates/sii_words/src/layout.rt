@@ -1,4 +1,4 @@
-// What every list of at least 64 words of an EEPROM has, read and written in place.
+// Reads and writes what any 64 or more words of an EEPROM have: bytes, identity and check byte.
 ghost use Rattle.std.specs.Prelude.{◌≡◌, ◌+◌, ◌*◌, ◌/◌, ◌%◌, ◌<◌, ◌≤◌, ◌↔◌, length, IsTrue, IfOk};
 ghost use Rattle.sii_words.specs.Words.{bytes_of, double_word};
 ghost use Rattle.sii_words.specs.Identity.{identity_of};
@@ -8,7 +8,11 @@ use crate::check_byte::check_byte;
 use crate::identity::Identity;
 use std::alloc::{AllocError, Global};
 
-/// The words that the bytes spell, each low byte first.
+/// Reads words from bytes, each word low byte first. The number of bytes must be even.
+///
+/// # Errors
+///
+/// `AllocError` if memory was refused.
 pub fn words_of_bytes(alloc: Global, bytes: &[u8]) -> Result<Vec<u16>, AllocError>
     requires { length bytes.now % 2 ≡ 0 }
     ensures words { IfOk result (λ words. bytes_of words.items ≡ bytes.now) }
@@ -23,7 +27,11 @@ pub fn words_of_bytes(alloc: Global, bytes: &[u8]) -> Result<Vec<u16>, AllocErro
     Ok(words)
 }
 
-/// The bytes of the words, each low byte first.
+/// The bytes of these words, each word low byte first.
+///
+/// # Errors
+///
+/// `AllocError` if memory was refused.
 pub fn bytes_of_words(alloc: Global, words: &[u16]) -> Result<Vec<u8>, AllocError>
     ensures { IfOk result (λ bytes. bytes.items ≡ bytes_of words.now) }
 {
@@ -34,7 +42,7 @@ pub fn bytes_of_words(alloc: Global, words: &[u16]) -> Result<Vec<u8>, AllocErro
     Ok(bytes)
 }
 
-/// The number in two words, the low one first.
+/// The 32-bit number in words `at` and `at + 1`, the low word first.
 fn read_double_word(words: &[u16], at: usize) -> u32
     requires { at + 1 < length words.now }
     ensures { result ≡ double_word words.now at }
@@ -54,7 +62,7 @@ pub(crate) fn identity(words: &[u16]) -> Identity
     }
 }
 
-/// Whether the low byte of word 7 is the check byte.
+/// Whether the low byte of word 7 is the check byte of words 0 to 6.
 pub(crate) fn check_ok(words: &[u16]) -> bool
     requires { 64 ≤ length words.now }
     ensures { IsTrue result ↔ IsChecked words.now }
@@ -62,7 +70,7 @@ pub(crate) fn check_ok(words: &[u16]) -> bool
     words[7] % 256 == u16::from(check_byte(words))
 }
 
-/// Writes the bytes of the words, each low byte first.
+/// Writes the words into `out` as bytes, each word low byte first.
 pub(crate) fn write_bytes(words: &[u16], out: &mut [u8])
     requires { length out.old ≡ 2 * length words.now }
     ensures { out.new ≡ bytes_of words.now }

@@ -5,7 +5,8 @@ use crate::words::Words;
 use std::alloc::AllocError;
 use std::marker::Model;
 
-/// The contents of a whole line: the words of 1 to 64 slaves. Contracts see the list of these lists of words.
+/// The contents of a line: the EEPROM words of its 1 to 64 slaves. In contracts its value is the list of the slaves' word
+/// lists.
 #[derive(Debug, Drop)]
 pub struct Plant {
     slaves: Vec<Words>,
@@ -22,7 +23,7 @@ impl Model for Plant {
 }
 
 impl Plant {
-    /// The plant of these slaves, numbered from 0 in their order.
+    /// Makes a plant of these slaves, numbered from 0 in their order. There must be 1 to 64 of them.
     pub fn of(slaves: Vec<Words>) -> Self
         requires some { 1 ≤ vec_len slaves }
         requires most { vec_len slaves ≤ 64 }
@@ -31,7 +32,7 @@ impl Plant {
         Plant { slaves }
     }
 
-    /// How many slaves there are.
+    /// The number of slaves, 1 to 64.
     pub fn len(&self) -> usize
         ensures len { result ≡ length self.now }
         ensures some { 1 ≤ length self.now }
@@ -40,7 +41,7 @@ impl Plant {
         self.slaves.len()
     }
 
-    /// The words of one slave.
+    /// The words of slave `slave`, which must exist.
     pub fn slave(&self, slave: usize) -> &Words
         requires { slave < length self.now }
         ensures { result.now ≡ words_of self.now slave }
@@ -48,7 +49,7 @@ impl Plant {
         &self.slaves[slave]
     }
 
-    /// Changes one word of one slave alone.
+    /// Sets word `at` of slave `slave` to `value`, and changes no other word. The slave and its word must exist.
     pub fn set(&mut self, slave: usize, at: usize, value: u16)
         requires slave { slave < length self.old }
         requires word { at < length (words_of self.old slave) }
@@ -57,7 +58,11 @@ impl Plant {
         self.slaves[slave].set(at, value);
     }
 
-    /// A copy with the same words.
+    /// Copies the words of all slaves.
+    ///
+    /// # Errors
+    ///
+    /// `AllocError` if memory was refused.
     pub fn try_copy(&self) -> Result<Plant, AllocError>
         ensures { IfOk result (λ copy. copy ≡ self.now) }
     {

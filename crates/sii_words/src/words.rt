@@ -10,8 +10,8 @@ use crate::{check_byte, layout};
 use std::alloc::{AllocError, Global};
 use std::marker::Model;
 
-/// All words of a device's EEPROM (ETG.1000.6, slave information interface): 64 to 4,096 of them, a multiple of 64. Contracts
-/// see the list of the words.
+/// All words of a device's EEPROM (ETG.1000.6, slave information interface): 64 to 4,096 of them, a multiple of 64. In
+/// contracts its value is the list of the words.
 #[derive(Debug, Drop)]
 pub struct Words {
     words: Vec<u16>,
@@ -29,8 +29,12 @@ impl Model for Words {
 }
 
 impl Words {
-    /// The words that the bytes spell, each low byte first. An odd number of bytes is `OddLength`, a number of words that no
-    /// device has is `BadSize`, and want of memory is `Memory`.
+    /// Reads the words of a device from bytes, two for each word, the low byte first.
+    ///
+    /// # Errors
+    ///
+    /// In this order: `OddLength` if the number of bytes is odd; `BadSize` if no device has this many words (64 to 4,096, a
+    /// multiple of 64); `Memory` if memory was refused.
     pub fn from_bytes(alloc: Global, bytes: &[u8]) -> Result<Self, WordsFault>
         ensures words { IfOk result (λ words. bytes_of words ≡ bytes.now) }
         ensures count { IfOk result (λ words. length words ≡ length bytes.now / 2) }
@@ -50,14 +54,22 @@ impl Words {
         })
     }
 
-    /// The bytes of a file with these words, each low byte first.
+    /// The bytes of a file with these words, each word low byte first.
+    ///
+    /// # Errors
+    ///
+    /// `AllocError` if memory was refused.
     pub fn to_bytes(&self) -> Result<Vec<u8>, AllocError>
         ensures { IfOk result (λ bytes. bytes.items ≡ bytes_of self.now) }
     {
         layout::bytes_of_words(*self.words.allocator(), &self.words)
     }
 
-    /// A copy with the same words.
+    /// Copies the words.
+    ///
+    /// # Errors
+    ///
+    /// `AllocError` if memory was refused.
     pub fn try_copy(&self) -> Result<Words, AllocError>
         ensures { IfOk result (λ copy. copy ≡ self.now) }
     {
@@ -66,7 +78,7 @@ impl Words {
         })
     }
 
-    /// How many words there are.
+    /// The number of words: 64 to 4,096, a multiple of 64.
     pub fn len(&self) -> usize
         ensures len { result ≡ length self.now }
         ensures size { IsDeviceSize (length self.now) }
@@ -74,7 +86,7 @@ impl Words {
         self.words.len()
     }
 
-    /// The word of this number.
+    /// The value of word `at`, which must be below `len`.
     pub fn get(&self, at: usize) -> u16
         requires { at < length self.now }
         ensures { result ≡ slice_index self.now at }
@@ -82,7 +94,7 @@ impl Words {
         self.words[at]
     }
 
-    /// Changes the word of this number alone.
+    /// Sets word `at` to `value`, and changes no other word. `at` must be below `len`.
     pub fn set(&mut self, at: usize, value: u16)
         requires { at < length self.old }
         ensures { self.new ≡ slice_set self.old at value }
@@ -105,29 +117,29 @@ impl Words {
         self.words[4]
     }
 
-    /// Who made the slave, and which one it is: words 8 to 15 (ETG.1000.6).
+    /// The identity of the slave: words 8 to 15 (ETG.1000.6).
     pub fn identity(&self) -> Identity
         ensures { result ≡ identity_of self.now }
     {
         layout::identity(&self.words)
     }
 
-    /// The check byte that words 0 to 6 want: the remainder in a division by `x^8 + x^2 + x + 1`, with the initial value 0xFF
-    /// (ETG.1000.6).
+    /// The check byte of words 0 to 6 (ETG.1000.6): their remainder in a division by `x^8 + x^2 + x + 1`, with the initial
+    /// value 0xFF.
     pub fn check_byte(&self) -> u8
         ensures { result ≡ check_byte_of self.now }
     {
         check_byte::check_byte(&self.words)
     }
 
-    /// The check byte that words 0 to 6 would want with this alias in word 4.
+    /// The check byte of words 0 to 6 once word 4 holds `alias`.
     pub fn check_byte_with(&self, alias: u16) -> u8
         ensures { result ≡ check_byte_of (slice_set self.now 4 alias) }
     {
         check_byte::check_byte_with(&self.words, alias)
     }
 
-    /// Whether the low byte of word 7 is that check byte.
+    /// Whether the low byte of word 7 is the check byte of words 0 to 6. The high byte isn't looked at.
     pub fn check_ok(&self) -> bool
         ensures { IsTrue result ↔ IsChecked self.now }
     {

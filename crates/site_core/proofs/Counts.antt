@@ -1,4 +1,4 @@
--- How many halves there are, and how many words each has.
+-- The number of halves, and the number of words of each: calls and a power cut keep both.
 use Rattle.std.proofs.Common.{◌≡◌, ◌≢◌, ℕ, zero, suc, List, [], ◌∷◌, length, map, Some, slice_get, slice_set, Result, Ok, Err, refl, sym, ap, subst, ◌∙◌, inl, inr}
 use Rattle.std.specs.List.{AllByRecursion}
 use Rattle.ecat_frame.specs.Frame.{Pdu}
@@ -97,7 +97,7 @@ counts-set (h ∷ hs) zero half later here same =
     let e : h ≡ half = cc in ap (λ (n : ℕ). n ∷ word_counts hs) (same ∙ ap (λ (x : SlaveHalf). length x.words) (sym e))
 counts-set (h ∷ hs) (suc slave) half later here same = ap (λ (ns : List ℕ). length h.words ∷ ns) (counts-set hs slave half later here same)
 
--- a datagram changes no number of words, nor does coming to rest before it
+-- a datagram changes no number of words, nor does becoming idle before it
 serves-length : (half rested later : SlaveHalf) (datagram : Pdu) → MayRest half rested → later ≡ (served_datagram rested datagram).half → length later.words ≡ length half.words
 serves-length half rested later datagram rests is =
     ap (λ (h : SlaveHalf). length h.words) is

@@ -1,4 +1,4 @@
--- What device calls add to what a stop may leave.
+-- What device calls add to what a power cut may leave.
 use Rattle.std.proofs.Common.{◌≡◌, ◌≢◌, ◌⊎◌, ℕ, ◌≤◌, Bool, true, false, IsTrue, List, [], length, Result, Ok, Err, refl, sym, ap, subst, ◌∙◌, inl, inr}
 use Rattle.std.specs.List.{AllByRecursion}
 use Rattle.ecat_frame.specs.Frame.{Pdu}
@@ -25,7 +25,7 @@ pub is_true_or : (b : Bool) → IsTrue b ⊎ (IsTrue b → ⊥)
 is_true_or true = inl refl
 is_true_or false = inr (λ e. absurd cc)
 
--- what a state leaves alone, a stop of it does too
+-- what holds of each pair that a state leaves, holds of each pair that is left after a power cut in it
 pub LeavesOnly-stopped : (Q : Pair → Type 0) (state later : State) → Stopped state later → LeavesOnly Q state → LeavesOnly Q later
 LeavesOnly-stopped Q state later stopped only pair leaves = only pair (Leaves-stopped state later pair stopped leaves)
 
@@ -58,7 +58,7 @@ CyclesFrame-adds_nothing old sent result answer new cycles =
     (Reads-passes (Leaves old.state) old result new cycles.call
     (λ not. same_leaves (Leaves old.state) old.state new.state (cycles.same not) (all_of_it old.state)) (all_of_it old.state))
 
--- a sync leaves the disk's bytes alone, which are an image
+-- after a sync only the disk's bytes are left, which are an image of the disk before
 pub Leaves-synced : (state : State) (pair : Pair) → Leaves (record state { disk = synced state.disk }) pair → Leaves state pair
 Leaves-synced state pair leaves = record {
   disk = let is : pair.disk ≡ state.disk.bytes = StopImage-synced state.disk pair.disk leaves.disk in
@@ -99,7 +99,7 @@ after_write old at bytes (Err faults.Disk) new within writes not =
 after_write old at bytes (Err faults.Lost) new within writes not = absurd (writes.not_lost refl)
 after_write old at bytes (Err faults.Stopped) new within writes not = absurd (not refl)
 
--- A write, all the way, leaves only what a stop in its middle leaves.
+-- At every point of a write, a power cut leaves only what one in its middle leaves.
 pub WritesDisk-passes : (old : Seen) (at : ℕ) (bytes : List ℕ) (result : Result (Unit {0}) DeviceFault) (new : Seen) → at ≤ length old.state.disk.bytes
     → WritesDisk old at bytes result new → Passes (LeavesOnly (Leaves (begin_write old.state at (length bytes)))) old new
 WritesDisk-passes old at bytes result new within writes =

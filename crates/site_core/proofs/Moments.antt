@@ -1,4 +1,4 @@
--- What a stop may leave of a state, and of the moments that have passed.
+-- What a power cut may leave of a state, and could have left since a time.
 use Rattle.std.proofs.Common.{◌≡◌, ◌⊎◌, ℕ, zero, suc, ◌<◌, List, [], ◌∷◌, ◌++◌, length, drop, Any, Some, slice_get, refl, sym, ap, subst, ◌∙◌, inl, inr, arith}
 use Rattle.std.proofs.Math.Seq.{drop-append_seam}
 use Rattle.esc_model.specs.SlaveHalf.{SlaveHalf, MayLeave}
@@ -6,14 +6,14 @@ use Rattle.site_core.specs.State.{State, Pair, Leaves, Stopped, Moment, Seen, cl
 use Rattle.site_core.proofs.StopImages.{StopImage-stopped}
 use Rattle.site_core.proofs.Halves.{EachMayLeave-stopped, EachMayLeave-less}
 
--- a stop adds nothing that a stop may leave
+-- a power cut adds nothing to what a later one may leave
 pub Leaves-stopped : (state later : State) (pair : Pair) → Stopped state later → Leaves later pair → Leaves state pair
 Leaves-stopped state later pair stopped leaves = record {
   disk = StopImage-stopped state.disk later.disk pair.disk stopped.disk leaves.disk;
   words = EachMayLeave-stopped state.halves later.halves pair.words stopped.halves leaves.words;
 }
 
--- nor does a slave of which a stop leaves no more than before
+-- nor does a slave of which a power cut leaves no more than before
 pub Leaves-less : (state : State) (slave : ℕ) (half later : SlaveHalf) (pair : Pair) → slice_get state.halves slave ≡ Some half
     → ((left : List ℕ) → MayLeave later left → MayLeave half left) → Leaves (with_half state slave later) pair → Leaves state pair
 Leaves-less state slave half later pair here less leaves = record {

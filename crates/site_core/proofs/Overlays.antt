@@ -1,4 +1,4 @@
--- Bytes laid over others leave those outside of their range as they are.
+-- Bytes that are laid over others keep those outside of their range.
 use Rattle.std.proofs.Common.{◌≡◌, ℕ, zero, suc, ◌+◌, ◌-◌, ◌<◌, ◌≤◌, min, List, [], ◌∷◌, ◌++◌, length, take, drop, slice_get, refl, sym, ap, ◌∙◌, inl, inr, arith, append_assoc, length-append, length-take, length-drop}
 use Rattle.std.proofs.Math.Seq.{drop-nil}
 use Rattle.site_core.specs.Disk.{Disk, IsOutside, IsSynced, StopImage, overlaid, write_begun, written, WriteFailed}

@@ -1,4 +1,4 @@
--- What holds all the way, over calls in a row.
+-- What holds at every point of a sequence of device calls.
 use Rattle.std.proofs.Common.{List, [], ◌∷◌, ◌++◌, Any, Result, sym, ap, ◌∙◌, inl, inr, append_assoc}
 use Rattle.std.specs.List.{AllByRecursion}
 use Rattle.std.proofs.lemmas.List.{append-nil}
@@ -50,7 +50,7 @@ Passes-weaker P Q old new weaker passes = record {
   now = weaker new.state passes.now;
 }
 
--- a pair that some state leaves is one of those that all leave alone
+-- a pair that some state leaves has what holds of all pairs that each of them leaves
 any_left : (Q : Pair → Type 0) (states : List State) (pair : Pair) → AllByRecursion (LeavesOnly Q) states → Any (λ state. Leaves state pair) states → Q pair
 any_left Q [] pair all any = absurd (Any-nil (λ (s : State). Leaves s pair) any)
 any_left Q (state ∷ states) pair all any =
@@ -72,7 +72,7 @@ moments_left Q (moment ∷ moments) pair all any =
       | inr there ↦ moments_left Q moments pair all.1 there
     ]
 
--- where a stop leaves such pairs alone all the way, no other was left since
+-- where a power cut leaves only such pairs at every point, no other could have been left since
 pub Passes-left : (Q : Pair → Type 0) (old new : Seen) → Passes (LeavesOnly Q) old new → LeftOnly Q old new
 Passes-left Q old new passes pair since =
     elim (LeftSince-added old new passes.calls pair passes.past since) [

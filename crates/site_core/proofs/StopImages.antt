@@ -1,4 +1,4 @@
--- What a stop may leave of a disk.
+-- What a power cut may leave of a disk.
 use Rattle.std.proofs.Common.{◌≡◌, ℕ, suc, List, [], ◌∷◌, Some, None, slice_get, refl, sym, subst, arith}
 use Rattle.site_core.specs.Disk.{Disk, StopImage, write_begun, synced, DiskStopped}
 
@@ -24,7 +24,7 @@ StopImage-write_begun disk at count image stop = record { bytes = λ place is. s
 pub StopImage-synced : (disk : Disk) (image : List ℕ) → StopImage (synced disk) image → image ≡ disk.bytes
 StopImage-synced disk image stop = equal_by_elements image disk.bytes (λ at. stop.bytes at tt)
 
--- a stop adds no image
+-- a power cut adds no image
 pub StopImage-stopped : (disk later : Disk) (image : List ℕ) → DiskStopped disk later → StopImage later image → StopImage disk image
 StopImage-stopped disk later image stopped stop =
     let all : StopImage (synced later) image = subst (λ (d : Disk). StopImage d image) stopped.all_synced stop in

@@ -1,4 +1,4 @@
--- What was left since a time, over calls in a row.
+-- What a power cut could have left since a time, over two sequences of calls.
 use Rattle.std.proofs.Common.{◌≡◌, ◌⊎◌, List, [], ◌∷◌, ◌++◌, drop, Any, Option, slice_get, sym, ap, subst, ◌∙◌, inl, inr, append_assoc}
 use Rattle.std.proofs.Math.Seq.{drop-append_seam}
 use Rattle.std.specs.Prelude.{unwrap_or}

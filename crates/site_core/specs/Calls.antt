@@ -1,4 +1,4 @@
--- What each device call does to a site. Each adds its moment to the past, also one that fails.
+-- What each device call does to a site. Each one, also one that fails, is added to the past.
 use Rattle.std.specs.Prelude.{◌≡◌, ◌≢◌, ℕ, ◌+◌, ◌↔◌, ◌++◌, List, [], ◌∷◌, length, map, slice_range, slice_get, Some, Result, Ok, Err, IsErrOf, IfOk, OnOk, OnErr, IsTrue}
 use Rattle.ecat_frame.specs.Frame.{Pdu}
 use Rattle.esc_model.specs.SlaveHalf.{SlaveHalf}
@@ -8,15 +8,15 @@ use Rattle.site_core.specs.Disk.{write_begun, written, synced, WriteFailed}
 use Rattle.site_core.specs.State.{State, Seen, Stopped, with_half, last_of}
 use Rattle.site_core.specs.Exchange.{GoesThrough, AreReplies}
 
--- a fault of the disk or of the line is counted, and a stop isn't
+-- `Disk` and `Lost` count as one fault each, `Stopped` as none.
 abbrev pub faults_of : {T : Type 0} → Result T DeviceFault → ℕ
 faults_of (Ok value) = 0
 faults_of (Err faults.Disk) = 1
 faults_of (Err faults.Lost) = 1
 faults_of (Err faults.Stopped) = 0
 
--- One device call with these states in its middle. The past keeps it, with the faults that were counted before it. A stop comes
--- behind the last of these states, and after it nothing changes any more.
+-- One device call with these states in its middle. The past keeps it, with the number of faults before it. If the site stops in the
+-- call, it does so after the last of these states. From then on nothing changes.
 pub record Calls {T : Type 0} (old : Seen) (middle : List State) (result : Result T DeviceFault) (new : Seen) : Type 0 where
   pub past : new.past ≡ old.past ++ record { before = old.state; faults = old.faults; middle = middle } ∷ []
   pub counted : new.faults ≡ old.faults + faults_of result
@@ -30,33 +30,34 @@ pub record Reads {T : Type 0} (old : Seen) (result : Result T DeviceFault) (new 
   pub same : result ≢ Err faults.Stopped → new.state ≡ old.state
   pub turns : new.turns ≡ old.turns
 
--- the disk's length
+-- Gives the length of the disk, in bytes.
 pub record GivesLength (old : Seen) (result : Result ℕ DeviceFault) (new : Seen) : Type 0 where
   pub reads : Reads old result new
   pub length : IfOk result (λ len. len ≡ length old.state.disk.bytes)
   pub not_lost : result ≢ Err faults.Lost
 
--- bytes of the disk from this place on
+-- Gives `count` bytes of the disk from `at` on.
 pub record ReadsDisk (old : Seen) (at count : ℕ) (result : Result (Unit {0}) DeviceFault) (bytes : List ℕ) (new : Seen) : Type 0 where
   pub reads : Reads old result new
   pub bytes_read : OnOk result (bytes ≡ slice_range old.state.disk.bytes at (at + count))
   pub not_lost : result ≢ Err faults.Lost
 
--- a write of so many bytes to the disk begins
+-- A write of `count` bytes to the disk begins.
 abbrev pub begin_write : State → ℕ → ℕ → State
 begin_write state at count = record state { disk = write_begun state.disk at count }
 
--- A write: in its middle it has begun, and the range is unsynced. It is done, or has failed, from there.
+-- A write. In its middle it has begun, and its range is unsynced. From there it is done, or fails.
 pub record WritesDisk (old : Seen) (at : ℕ) (bytes : List ℕ) (result : Result (Unit {0}) DeviceFault) (new : Seen) : Type 0 where
   pub middle : List State
   pub call : Calls old middle result new
   pub begun : ¬ IsTrue old.is_stopped → middle ≡ begin_write old.state at (length bytes) ∷ []
   pub ok : OnOk result (new.state ≡ record old.state { disk = written (write_begun old.state.disk at (length bytes)) at bytes })
-  pub failed : IsErrOf result faults.Disk → WriteFailed (write_begun old.state.disk at (length bytes)) at (length bytes) new.state.disk × (new.state.halves ≡ old.state.halves)
+  pub failed : IsErrOf result faults.Disk
+      → WriteFailed (write_begun old.state.disk at (length bytes)) at (length bytes) new.state.disk × (new.state.halves ≡ old.state.halves)
   pub not_lost : result ≢ Err faults.Lost
   pub turns : new.turns ≡ old.turns
 
--- A sync: at Ok what a read gives is all that a stop leaves of the disk.
+-- A sync. If it succeeds, no range is unsynced any more: a power cut leaves what a read gives. If it fails, nothing changes.
 pub record SyncsDisk (old : Seen) (result : Result (Unit {0}) DeviceFault) (new : Seen) : Type 0 where
   pub call : Calls old [] result new
   pub ok : OnOk result (new.state ≡ record old.state { disk = synced old.state.disk })
@@ -64,12 +65,13 @@ pub record SyncsDisk (old : Seen) (result : Result (Unit {0}) DeviceFault) (new 
   pub not_lost : result ≢ Err faults.Lost
   pub turns : new.turns ≡ old.turns
 
--- A frame for the half of one slave, which alone changes. Of a frame that is lost or cut off by a stop the half took the first
--- datagrams, some, all or none, and the frame comes back as it was sent.
-pub record ExchangesFrame (old : Seen) (slave : ℕ) (sent : List Pdu) (result : Result (Unit {0}) DeviceFault) (answer : List Pdu) (new : Seen) : Type 0 where
+-- A frame for the EEPROM half of one slave. Nothing else changes. If the frame is lost, or the site stops, the half took the first
+-- datagrams of it (none, some or all), and the caller's frame is as it was sent.
+pub record ExchangesFrame
+    (old : Seen) (slave : ℕ) (sent : List Pdu) (result : Result (Unit {0}) DeviceFault) (answer : List Pdu) (new : Seen) : Type 0 where
   pub half : SlaveHalf
   pub here : slice_get old.state.halves slave ≡ Some half
-  -- the datagrams that the half took, and those that it didn't
+  -- the datagrams that the half took, and those that didn't reach it
   pub passed : List Pdu
   pub left : List Pdu
   pub split : sent ≡ passed ++ left
@@ -84,12 +86,12 @@ pub record ExchangesFrame (old : Seen) (slave : ℕ) (sent : List Pdu) (result :
   pub no_disk : result ≢ Err faults.Disk
   pub turns : new.turns ≡ old.turns
 
--- what a call gave, as a clause on the whole frame sees it
+-- the result of a call, with the frame that came back if it succeeded
 abbrev pub told : {A : Type 0} → Result (Unit {0}) DeviceFault → A → Result A DeviceFault
 told (Ok done) answer = Ok answer
 told (Err fault) answer = Err fault
 
--- A frame for the process halves of all slaves: neither the disk nor an EEPROM has a part in it.
+-- A frame for the process halves of all slaves. Neither the disk nor an EEPROM changes, unless the site stops.
 pub record CyclesFrame (old : Seen) (sent : List Pdu) (result : Result (Unit {0}) DeviceFault) (answer : List Pdu) (new : Seen) : Type 0 where
   pub call : Calls old [] result new
   pub same : result ≢ Err faults.Stopped → new.state ≡ old.state

@@ -1,8 +1,8 @@
-//! Laws of every site, over what it may be and do. A function here does nothing: its contract is the law.
+//! Laws that hold for every site. The functions here do nothing: the contract of each is the law.
 
 ghost use Rattle.site_core.specs.Laws.{LengthAddsNothing, ReadAddsNothing, SyncAddsNothing, CycleAddsNothing, SyncLeavesBytes, WriteLeavesBegun, BegunLeavesMore, StopAddsNothing, SinceIsUnion, IdleLeavesWords, LeavesCounts, StopKeepsCounts, LengthKeepsCounts, ReadKeepsCounts, WriteKeepsCounts, SyncKeepsCounts, ExchangeKeepsCounts, CycleKeepsCounts};
 
-/// Calls that only read, a sync and a cycle add nothing to what a stop may leave.
+/// Calls that only read, a sync and a cycle never add to what a power cut may leave.
 pub fn reading_adds_nothing()
     ensures length { LengthAddsNothing }
     ensures read { ReadAddsNothing }
@@ -10,35 +10,35 @@ pub fn reading_adds_nothing()
     ensures cycle { CycleAddsNothing }
 {}
 
-/// A write adds what a stop in its middle may leave, and a stop may leave then what it could leave before.
+/// Before, in and after a write, a power cut leaves only what one in its middle may leave. That includes all it could leave before.
 pub fn write_leaves_begun()
     ensures only { WriteLeavesBegun }
     ensures more { BegunLeavesMore }
 {}
 
-/// Once a sync has succeeded, a stop leaves of the disk what a read gives.
+/// After a successful sync, a power cut leaves of the disk exactly the bytes that a read gives.
 pub fn sync_leaves_bytes()
     ensures { SyncLeavesBytes }
 {}
 
-/// A stop adds nothing to what a stop may leave. Where all halves are idle it leaves just their words.
+/// A power cut never adds to what a later one may leave. If all EEPROM halves are idle, it leaves exactly their words.
 pub fn stop_adds_nothing()
     ensures nothing { StopAddsNothing }
     ensures idle { IdleLeavesWords }
 {}
 
-/// What a stop could have left since a time is, over calls in a row, what it could have left in the first or in the second.
+/// What a power cut could have left over two sequences of calls, one after the other, is what it could have left over either of them.
 pub fn since_is_union()
     ensures { SinceIsUnion }
 {}
 
-/// A stop keeps the number of halves, and of the words of each.
+/// A power cut keeps the number of EEPROM halves, and the number of words of each.
 pub fn stop_keeps_counts()
     ensures left { LeavesCounts }
     ensures state { StopKeepsCounts }
 {}
 
-/// So does each device call.
+/// Each device call keeps the number of EEPROM halves, and the number of words of each.
 pub fn calls_keep_counts()
     ensures length { LengthKeepsCounts }
     ensures read { ReadKeepsCounts }

@@ -1,4 +1,4 @@
-//! What a line of slaves and a disk are to those who call them: the device calls, and what a stop may leave at each moment.
+//! The interface to a line of slaves and a disk: its device calls, and what a power cut may leave at each point of time.
 #![tactic(auto)]
 
 mod answers;

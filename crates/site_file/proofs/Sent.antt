@@ -1,4 +1,4 @@
--- A site over files may go to another thread where its files may be shared.
+-- A site on files may be sent to another thread if its files may be shared between threads.
 use denote.RattleType.{RattleType}
 use denote.Ref.{NamedLft}
 use denote.Param.Send.{IsSend, IsSync, sendable}

@@ -1,34 +1,34 @@
-//! What a line asks of an open file.
+//! The calls on an open file that a line needs.
 
 use std::io;
 
-/// A file that is open for reading and writing at places. No contract says what a file gives, so the methods have no clauses.
+/// An open file that is read and written at byte offsets. No contract says what a file holds, so the methods have no clauses.
 pub trait RandomAccessFile {
-    /// How many bytes the file has.
+    /// Returns the length of the file, in bytes.
     ///
     /// # Errors
     ///
-    /// Where the system can't tell.
+    /// If the system can't tell it.
     fn len(&self) -> io::Result<u64>;
 
-    /// Fills `bytes` with those that begin at the byte `at`.
+    /// Fills `bytes` with those of the file from byte `at` on.
     ///
     /// # Errors
     ///
-    /// Where they can't be read, or the file ends before.
+    /// If they can't be read, or the file ends before them.
     fn read_exact_at(&self, bytes: &mut [u8], at: u64) -> io::Result<()>;
 
-    /// Writes all of `bytes`, the first at the byte `at`. The file grows where they reach past its end.
+    /// Writes all of `bytes` from byte `at` on. The file grows if they reach past its end.
     ///
     /// # Errors
     ///
-    /// Where they can't be written. Some of them may be written then.
+    /// If they can't be written. Some of them may have been written then.
     fn write_all_at(&self, bytes: &[u8], at: u64) -> io::Result<()>;
 
-    /// Brings all that was written, and the length, to the medium, so that a power cut keeps it.
+    /// Makes all written bytes and the file's length durable, so that they survive a power cut.
     ///
     /// # Errors
     ///
-    /// Where that failed. What was written since the last sync may be lost then, also where a later sync succeeds.
+    /// If that failed. What was written since the last sync may be lost then, even if a later sync succeeds.
     fn sync_data(&self) -> io::Result<()>;
 }

@@ -1,4 +1,4 @@
-//! The journal and the EEPROM images as files.
+//! The journal and the EEPROM images of a line as files.
 
 use crate::access::RandomAccessFile;
 use ecat_frame::Frame;
@@ -7,27 +7,30 @@ use site_shadow::{Device, Passing, Pattern, Resting, ShadowSite};
 use std::alloc::AllocError;
 use std::io;
 
-/// How many bytes of the journal are compared at a time.
+/// The number of bytes of the journal that are compared at a time.
 const PIECE: usize = 512;
 
-/// The open files of a line. The journal has the disk's bytes, and the image of a slave its words, the low byte of each first.
+/// The open files of a line. The journal holds the disk's bytes. The image of a slave holds its words, the low byte of each first.
 #[derive(Drop)]
 pub struct OpenFiles<F> {
     /// The journal's file.
     pub journal: F,
-    /// The file of each slave, in order.
+    /// The EEPROM image of each slave, in line order.
     pub images: Vec<F>,
 }
 
-/// The files of a line as the device behind a shadow. They have what the shadow has, synced, as work on them begins, and nobody else
-/// writes them. A copy of it works on the same files, so that each part of a line may have one.
+/// The open files of a line, as the device behind a shadow.
 ///
-/// An error of the system makes the call fail that met it, with `Disk`, and from then on the site is stopped: a later sync that
-/// succeeds would prove nothing. It is stopped too where a file has other bytes than the shadow.
+/// At the start the files must hold what the shadow holds, synced, and nobody else may write them. A copy of the device works on the same
+/// files, so that each part of a line can have one.
+///
+/// If the system reports an error, the call on the journal that met it fails with `Disk`, and the next call stops the site; an error on an
+/// image stops the site at once. A later sync that succeeds would prove nothing. The site also stops if the journal has other bytes than
+/// the shadow.
 #[derive(Drop)]
 pub struct FileDevice<'f, F> {
     files: &'f OpenFiles<F>,
-    /// Whether a call on a file has failed. No file is written after that.
+    /// Whether a call on a file has failed. From then on no file is written.
     has_failed: bool,
 }
 
@@ -47,7 +50,7 @@ impl<'f, F> Clone for FileDevice<'f, F> {
 }
 
 impl<'f, F: RandomAccessFile> FileDevice<'f, F> {
-    /// These files have what the shadow has, synced.
+    /// Makes the device of these files. They must hold what the shadow holds, synced.
     pub fn new(files: &'f OpenFiles<F>) -> FileDevice<'f, F> {
         FileDevice {
             files,
@@ -55,7 +58,7 @@ impl<'f, F: RandomAccessFile> FileDevice<'f, F> {
         }
     }
 
-    /// A call on the journal that ended so.
+    /// The outcome of a call on the journal. Remembers a failure.
     fn end_call(&mut self, ended: io::Result<()>) -> Passing {
         match ended {
             Ok(()) => Passing::Passes,
@@ -66,7 +69,7 @@ impl<'f, F: RandomAccessFile> FileDevice<'f, F> {
         }
     }
 
-    /// The word is written at its place and synced. Answers whether it is.
+    /// Writes a word to the slave's image and syncs it. Returns whether both succeeded.
     fn write_word(&self, slave: usize, word: u16, value: u16) -> bool {
         let Some(image) = self.files.images.get(slave) else {
             return false;
@@ -76,7 +79,7 @@ impl<'f, F: RandomAccessFile> FileDevice<'f, F> {
     }
 }
 
-/// What came of a call that compares what a file has with what the shadow has.
+/// The outcome of a call in which the journal was compared with the shadow.
 fn compared(same: bool) -> Passing {
     if same {
         Passing::Passes
@@ -85,11 +88,11 @@ fn compared(same: bool) -> Passing {
     }
 }
 
-/// Whether the file has these bytes there.
+/// Whether the file has these bytes from `at` on.
 ///
 /// # Errors
 ///
-/// They can't be read.
+/// If they can't be read.
 fn has_bytes<F: RandomAccessFile>(file: &F, at: usize, bytes: &[u8]) -> io::Result<bool> {
     let mut buffer = [0u8; PIECE];
     let mut place = at as u64;
@@ -149,8 +152,8 @@ impl<'f, F: RandomAccessFile> Device for FileDevice<'f, F> {
         Passing::Passes
     }
 
-    /// A word in flight is written to its file and synced, and then the half comes to rest: until then a stop may leave anything in
-    /// it. Where that fails the half stays busy, and the site is stopped at once.
+    /// Writes a word in flight to its image and syncs it; then the half becomes idle. Until then a power cut may leave anything in the
+    /// word. If that fails, the half stays busy, and the site stops at once.
     fn rest(&mut self, slave: usize, half: &RomHalf, _k: usize) -> Resting {
         let Some(write) = half.in_flight() else {
             return Resting::Well;

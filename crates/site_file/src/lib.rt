@@ -1,4 +1,4 @@
-//! A line whose journal and EEPROM images are files that stay open: the device behind the shadow.
+//! A site on files: the device behind a shadow whose journal and EEPROM images are files that stay open.
 #![tactic(auto)]
 
 mod access;

@@ -4,7 +4,7 @@ use Rattle.std.proofs.lemmas.List.{length-replicate, replicate-append-replicate}
 use Rattle.jrn_format.specs.declared.journal.Form.TheVariants.{Two}
 use Rattle.jrn_format.specs.Area.{IsClosed}
 use Rattle.jrn_format.specs.Header.{HasHeader, IsCapacity}
-use Rattle.jrn_laws.specs.Migration.{IsEmptyJournal}
+use Rattle.jrn_format.specs.Migration.{IsEmptyJournal}
 use Rattle.site_journal.specs.Formatting.{formatted, HasClosedHalves}
 
 zeros_closed : (count : ℕ) → 0 < count → IsClosed (replicate count 0)

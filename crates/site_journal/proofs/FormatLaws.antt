@@ -1,4 +1,4 @@
--- The gate of a file is closed, an area laid behind it, and the gate opened: what a stop leaves on the way, and in the end.
+-- The file gate is closed, an area is written behind it, and the gate is opened: what a stop leaves on the way, and in the end.
 use Rattle.std.proofs.Common.{◌≡◌, ℕ, ◌+◌, ◌≤◌, suc, List, [], ◌∷◌, ◌++◌, length, drop, replicate, slice_get, Some, Result, Ok, Err, refl, sym, ap, subst, ◌∙◌, inl, inr, arith, append_assoc, length-append}
 use Rattle.std.proofs.lemmas.List.{drop-drop, length-replicate}
 use Rattle.esc_model.specs.SlaveHalf.{SlaveHalf}
@@ -9,7 +9,7 @@ use Rattle.site_core.specs.Disk.{StopImage, overlaid, write_begun, written}
 use Rattle.site_core.specs.State.{State, Pair, Seen, Leaves}
 use Rattle.site_core.specs.Calls.{begin_write}
 use Rattle.site_core.proofs.StopImages.{StopImage-synced, equal_by_elements}
-use Rattle.site_journal.specs.Runs.{Runs, with_synced}
+use Rattle.site_journal.specs.Runs.{MakesCalls, with_synced}
 use Rattle.site_journal.specs.Formatting.{formatted, behind_gate, pieces, PutsDown, IsPairOnTheWay, Formats}
 use Rattle.site_journal.proofs.Laying.{made}
 use Rattle.site_journal.proofs.Running.{runs_weaker, runs_then}
@@ -92,13 +92,13 @@ third_on_the_way slaves capacity a c pair is leaves =
 
 -- the gate is closed, or not
 pub first_runs : (slaves capacity most : ℕ) (a b : Seen) (result : Result (Unit {0}) DeviceFault) → 2 ≤ most → PutsDown a 0 (0 ∷ []) 2 result b
-    → Runs (IsPairOnTheWay slaves capacity a.state) a most result b
+    → MakesCalls (IsPairOnTheWay slaves capacity a.state) a most result b
 first_runs slaves capacity most a b result few puts =
     runs_weaker (Leaves (begin_write a.state 0 1)) (IsPairOnTheWay slaves capacity a.state) a 2 most result b few (λ pair leaves. first_on_the_way slaves capacity a.state pair leaves) puts.runs
 
 -- the area is laid behind it, or not
 pub second_runs : (slaves capacity most : ℕ) (a b c : Seen) (result : Result (Unit {0}) DeviceFault) → 4 + pieces capacity ≤ most → PutsDown a 0 (0 ∷ []) 2 (Ok tt) b
-    → PutsDown b 1 (behind_gate slaves capacity) (2 + pieces capacity) result c → Runs (IsPairOnTheWay slaves capacity a.state) a most result c
+    → PutsDown b 1 (behind_gate slaves capacity) (2 + pieces capacity) result c → MakesCalls (IsPairOnTheWay slaves capacity a.state) a most result c
 second_runs slaves capacity most a b c result few first second =
     let n : ℕ = 2 + pieces capacity in
     let count : ℕ = length (behind_gate slaves capacity) in
@@ -109,7 +109,7 @@ second_runs slaves capacity most a b c result few first second =
 -- the gate is opened, or not
 pub third_runs : (slaves capacity : ℕ) (a b c d : Seen) (result : Result (Unit {0}) DeviceFault) → PutsDown a 0 (0 ∷ []) 2 (Ok tt) b
     → PutsDown b 1 (behind_gate slaves capacity) (2 + pieces capacity) (Ok tt) c → PutsDown c 0 (0xA5 ∷ []) 2 result d
-    → Runs (IsPairOnTheWay slaves capacity a.state) a (6 + pieces capacity) result d
+    → MakesCalls (IsPairOnTheWay slaves capacity a.state) a (6 + pieces capacity) result d
 third_runs slaves capacity a b c d result first second third =
     let m : ℕ = 4 + pieces capacity in
     let Q : Pair → Type 0 = IsPairOnTheWay slaves capacity a.state in
@@ -118,12 +118,12 @@ third_runs slaves capacity a b c d result first second third =
     (runs_weaker (Leaves (begin_write c.state 0 1)) Q c 2 2 result d (omega arith) (λ pair leaves. third_on_the_way slaves capacity a.state c.state pair all.third leaves) third.runs)
 
 pub formats_cut : (slaves capacity : ℕ) (a b : Seen) (fault : DeviceFault) (result : Result (Unit {0}) DeviceFault) → result ≡ Err fault
-    → Runs {T = Unit {0}} (IsPairOnTheWay slaves capacity a.state) a (6 + pieces capacity) (Err fault) b → Formats slaves capacity a result b
+    → MakesCalls {T = Unit {0}} (IsPairOnTheWay slaves capacity a.state) a (6 + pieces capacity) (Err fault) b → Formats slaves capacity a result b
 formats_cut slaves capacity a b fault result is runs =
     subst (λ (r : Result (Unit {0}) DeviceFault). Formats slaves capacity a r b) (sym is) (record { runs = runs; bytes = tt; only = tt; halves = tt })
 
 formats_so : (slaves capacity : ℕ) (a c d : Seen) (result : Result (Unit {0}) DeviceFault) → c.state ≡ made (0 ∷ drop 1 (formatted slaves capacity a.state.disk.bytes)) a.state.halves
-    → PutsDown c 0 (0xA5 ∷ []) 2 result d → Runs (IsPairOnTheWay slaves capacity a.state) a (6 + pieces capacity) result d → Formats slaves capacity a result d
+    → PutsDown c 0 (0xA5 ∷ []) 2 result d → MakesCalls (IsPairOnTheWay slaves capacity a.state) a (6 + pieces capacity) result d → Formats slaves capacity a result d
 formats_so slaves capacity a c d (Ok done) is third runs =
     let bytes : List ℕ = formatted slaves capacity a.state.disk.bytes in
     let end : d.state ≡ made bytes a.state.halves = put_state d.state c.state 0 (0xA5 ∷ []) (0 ∷ drop 1 bytes) a.state.halves is third.put in

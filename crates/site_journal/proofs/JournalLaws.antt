@@ -1,4 +1,4 @@
--- What was read of a disk is taken for a journal.
+-- The bytes that were read from a disk are read as a journal.
 use Rattle.std.proofs.Common.{◌≡◌, ℕ, ◌≤◌, List, ◌++◌, length, Result, Ok, Err, refl, sym, ap, subst, ◌∙◌, arith, length-append}
 use Rattle.std.specs.Int.{w32}
 use Rattle.jrn_format.specs.declared.fault.JournalFault.{JournalFault}
@@ -10,9 +10,7 @@ use Rattle.site_core.specs.State.{Seen}
 use Rattle.site_journal.specs.declared.fault.ReadFault.{ReadFault}
 use Rattle.site_journal.specs.declared.fault.ReadFault.TheVariants as read
 use Rattle.site_journal.specs.Reading.{ReadsAll, ReadsJournal}
-
-header_long : (version slaves capacity : ℕ) → length (header_bytes version slaves capacity) ≡ 8
-header_long version slaves capacity = refl
+use Rattle.book_laws.proofs.StopLaws.{header_long}
 
 -- a journal has a header
 pub has_header : (file sizes : List ℕ) (found : Journal) → IsJournal file sizes found → 8 ≤ length file

@@ -1,4 +1,4 @@
--- Bytes are laid over those of a disk, in one write after another.
+-- Bytes are written to a disk in one write after another.
 use Rattle.std.proofs.Common.{◌≡◌, IsTrue, OnOk, ℕ, ◌+◌, ◌≤◌, min, List, [], ◌++◌, length, take, drop, slice_get, Result, Ok, Err, refl, sym, ap, subst, ◌∙◌, inl, inr, arith, append_assoc, length-append, length-take}
 use Rattle.std.proofs.lemmas.List.{append-nil, take-append-drop, drop-drop}
 use Rattle.std.proofs.Math.Seq.{take-append_seam, drop-append-add}
@@ -9,7 +9,7 @@ use Rattle.site_core.specs.State.{State, Pair, Seen, Leaves, EachMayLeave}
 use Rattle.site_core.specs.Calls.{WritesDisk, SyncsDisk, begin_write}
 use Rattle.site_core.proofs.DeviceCalls.{WritesDisk-left, Leaves-begun}
 use Rattle.site_core.proofs.Overlays.{overlaid-outside, length-overlaid}
-use Rattle.site_journal.specs.Runs.{Runs, with_synced}
+use Rattle.site_journal.specs.Runs.{MakesCalls, with_synced}
 use Rattle.site_journal.specs.Formatting.{LiesOver, LaysDown, PutsDown}
 use Rattle.site_journal.proofs.Running.{runs_none, runs_one, runs_weaker, runs_then}
 use Rattle.site_journal.proofs.ReadLaws.{sync_runs}
@@ -100,13 +100,13 @@ begun_within old mid at over more count image within fits lies stop = record {
 
 -- one write
 pub one_write : (a b : Seen) (at : ℕ) (over : List ℕ) (result : Result (Unit {0}) DeviceFault) → at ≤ length a.state.disk.bytes → WritesDisk a at over result b
-    → Runs (Leaves (begin_write a.state at (length over))) a 1 result b
+    → MakesCalls (Leaves (begin_write a.state at (length over))) a 1 result b
 one_write a b at over result within writes =
     runs_one (Leaves (begin_write a.state at (length over))) a writes.middle result b writes.call (WritesDisk-left a at over result b within writes) writes.not_lost writes.turns
 
--- so much is laid down, of what a stop in one write of so many bytes leaves
+-- `over` was written, and a stop leaves only what it may leave in one write of `count` bytes
 pub record Laid (a : Seen) (at : ℕ) (over : List ℕ) (count most : ℕ) (b : Seen) : Type 0 where
-  pub runs : Runs {T = Unit {0}} (Leaves (begin_write a.state at count)) a most (Ok tt) b
+  pub runs : MakesCalls {T = Unit {0}} (Leaves (begin_write a.state at count)) a most (Ok tt) b
   pub lies : LiesOver a.state.disk at over b.state.disk
   pub halves : b.state.halves ≡ a.state.halves
 
@@ -127,7 +127,7 @@ laid_none a at count within going = record {
 
 -- one write more
 pub write_runs : (a b c : Seen) (at : ℕ) (over more : List ℕ) (count m : ℕ) (result : Result (Unit {0}) DeviceFault) → at ≤ length a.state.disk.bytes → length over + length more ≤ count
-    → Laid a at over count m b → WritesDisk b (at + length over) more result c → Runs (Leaves (begin_write a.state at count)) a (m + 1) result c
+    → Laid a at over count m b → WritesDisk b (at + length over) more result c → MakesCalls (Leaves (begin_write a.state at count)) a (m + 1) result c
 write_runs a b c at over more count m result within fits laid writes =
     let there : at + length over ≤ length b.state.disk.bytes = subst (λ (l : List ℕ). at + length over ≤ length l) (sym laid.lies.bytes) (long_enough a.state.disk.bytes over at within) in
     runs_then (Leaves (begin_write a.state at count)) a b c m 1 (m + 1) tt result (omega arith) laid.runs
@@ -158,19 +158,19 @@ laid_one a b at over within writes =
 -- the whole is laid
 pub laid_all : (a b : Seen) (at : ℕ) (over bytes : List ℕ) (count most : ℕ) → over ≡ bytes → count ≡ length bytes → Laid a at over count most b → LaysDown a at bytes most (Ok tt) b
 laid_all a b at over bytes count most is long laid = record {
-  runs = subst (λ (n : ℕ). Runs {T = Unit {0}} (Leaves (begin_write a.state at n)) a most (Ok tt) b) long laid.runs;
+  runs = subst (λ (n : ℕ). MakesCalls {T = Unit {0}} (Leaves (begin_write a.state at n)) a most (Ok tt) b) long laid.runs;
   lies = subst (λ (l : List ℕ). LiesOver a.state.disk at l b.state.disk) is laid.lies;
   halves = laid.halves;
 }
 
 -- or a write failed
 pub laid_cut : (a b : Seen) (at : ℕ) (bytes : List ℕ) (count n most : ℕ) (fault : DeviceFault) (result : Result (Unit {0}) DeviceFault) → result ≡ Err fault → count ≡ length bytes → n ≤ most
-    → Runs {T = Unit {0}} (Leaves (begin_write a.state at count)) a n (Err fault) b → LaysDown a at bytes most result b
+    → MakesCalls {T = Unit {0}} (Leaves (begin_write a.state at count)) a n (Err fault) b → LaysDown a at bytes most result b
 laid_cut a b at bytes count n most fault result is long few runs =
     let Q : Pair → Type 0 = Leaves (begin_write a.state at (length bytes)) in
     subst (λ (r : Result (Unit {0}) DeviceFault). LaysDown a at bytes most r b) (sym is) (record {
       runs = runs_weaker Q Q a n most (Err fault) b few (λ pair leaves. leaves)
-          (subst (λ (k : ℕ). Runs {T = Unit {0}} (Leaves (begin_write a.state at k)) a n (Err fault) b) long runs);
+          (subst (λ (k : ℕ). MakesCalls {T = Unit {0}} (Leaves (begin_write a.state at k)) a n (Err fault) b) long runs);
       lies = tt;
       halves = tt;
     })
@@ -202,7 +202,7 @@ put_down a b c at over n result laid syncs = record {
     put_so (Err fault) s = tt
 
 pub put_cut : (a b : Seen) (at : ℕ) (over : List ℕ) (n most : ℕ) (fault : DeviceFault) (result : Result (Unit {0}) DeviceFault) → result ≡ Err fault → n ≤ most
-    → Runs {T = Unit {0}} (Leaves (begin_write a.state at (length over))) a n (Err fault) b → PutsDown a at over most result b
+    → MakesCalls {T = Unit {0}} (Leaves (begin_write a.state at (length over))) a n (Err fault) b → PutsDown a at over most result b
 put_cut a b at over n most fault result is few runs =
     let Q : Pair → Type 0 = Leaves (begin_write a.state at (length over)) in
     subst (λ (r : Result (Unit {0}) DeviceFault). PutsDown a at over most r b) (sym is)

@@ -1,4 +1,4 @@
--- A disk is synced, and all of it is read.
+-- A disk is synced, and all its bytes are read.
 use Rattle.std.proofs.Common.{◌≡◌, ◌≢◌, ℕ, ◌+◌, ◌≤◌, List, [], length, slice_range, Result, Ok, Err, IsErrAnd, refl, sym, ap, subst, ◌∙◌, inl, inr, arith}
 use Rattle.std.proofs.lemmas.List.{take_rest}
 use Rattle.jrn_format.specs.declared.fault.JournalFault.TheVariants as journal
@@ -9,7 +9,7 @@ use Rattle.site_core.specs.Calls.{Reads, GivesLength, ReadsDisk, SyncsDisk}
 use Rattle.site_core.proofs.DeviceCalls.{SyncsDisk-adds_nothing, Reads-adds_nothing}
 use Rattle.site_journal.specs.declared.fault.ReadFault.{ReadFault}
 use Rattle.site_journal.specs.declared.fault.ReadFault.TheVariants as read
-use Rattle.site_journal.specs.Runs.{Runs, with_synced}
+use Rattle.site_journal.specs.Runs.{MakesCalls, with_synced}
 use Rattle.site_journal.specs.Reading.{SyncsFirst, ReadsAll}
 use Rattle.site_journal.proofs.Running.{runs_one, runs_weaker, runs_then, runs_ok, runs_err}
 
@@ -20,15 +20,15 @@ handed_on (Err other) fault is = ap Err is
 
 -- ---- the calls
 
-pub sync_runs : (a b : Seen) (result : Result (Unit {0}) DeviceFault) → SyncsDisk a result b → Runs (Leaves a.state) a 1 result b
+pub sync_runs : (a b : Seen) (result : Result (Unit {0}) DeviceFault) → SyncsDisk a result b → MakesCalls (Leaves a.state) a 1 result b
 sync_runs a b result syncs = runs_one (Leaves a.state) a [] result b syncs.call (SyncsDisk-adds_nothing a result b syncs) syncs.not_lost syncs.turns
 
-reading_runs : {T : Type 0} (a b : Seen) (result : Result T DeviceFault) → Reads a result b → result ≢ Err faults.Lost → Runs (Leaves a.state) a 1 result b
+reading_runs : {T : Type 0} (a b : Seen) (result : Result T DeviceFault) → Reads a result b → result ≢ Err faults.Lost → MakesCalls (Leaves a.state) a 1 result b
 reading_runs a b result reads not_lost = runs_one (Leaves a.state) a [] result b reads.call (Reads-adds_nothing a result b reads) not_lost reads.turns
 
 -- behind calls that added nothing
 quiet_then : {A B : Type 0} (a b c : Seen) (m : ℕ) (value : A) (result : Result B DeviceFault)
-    → Runs {T = A} (Leaves a.state) a m (Ok value) b → Runs {T = B} (Leaves b.state) b 1 result c → Runs {T = B} (Leaves a.state) a (m + 1) result c
+    → MakesCalls {T = A} (Leaves a.state) a m (Ok value) b → MakesCalls {T = B} (Leaves b.state) b 1 result c → MakesCalls {T = B} (Leaves a.state) a (m + 1) result c
 quiet_then {A} {B} a b c m value result first second =
     runs_then {A = A} {B = B} (Leaves a.state) a b c m 1 (m + 1) value result (omega arith) first
     (runs_weaker (Leaves b.state) (Leaves a.state) b 1 1 result c (omega arith) first.stays.passes.now second)
@@ -48,7 +48,7 @@ first_of_reading a b c faults.Stopped is reads not_lost = tt
 
 -- the whole with a fault of the disk
 fails : {T : Type 0} (bytes_of : T → List ℕ) (a b : Seen) (most : ℕ) (fault : DeviceFault) (result : Result T ReadFault) → most ≤ 3 → result ≡ Err (read.Device fault)
-    → Runs {T = Unit {0}} (Leaves a.state) a most (Err fault) b → SyncsFirst a.state (Err fault) b.state → ReadsAll bytes_of a result b
+    → MakesCalls {T = Unit {0}} (Leaves a.state) a most (Err fault) b → SyncsFirst a.state (Err fault) b.state → ReadsAll bytes_of a result b
 fails {T} bytes_of a b most fault result few is runs first =
     subst (λ (r : Result T ReadFault). ReadsAll bytes_of a r b) (sym is)
     (record { syncs = record { runs = runs_weaker (Leaves a.state) (Leaves a.state) a most 3 (Err fault) b few (λ pair leaves. leaves) runs; first = first }; gives = tt })
@@ -68,7 +68,7 @@ length_fails bytes_of a b c fault result is syncs gives =
 
 -- ---- the length is known
 
-length_runs : (a b c : Seen) (count : ℕ) → SyncsDisk a (Ok tt) b → GivesLength b (Ok count) c → Runs {T = ℕ} (Leaves a.state) a (1 + 1) (Ok count) c
+length_runs : (a b c : Seen) (count : ℕ) → SyncsDisk a (Ok tt) b → GivesLength b (Ok count) c → MakesCalls {T = ℕ} (Leaves a.state) a (1 + 1) (Ok count) c
 length_runs a b c count syncs gives =
     quiet_then {A = Unit {0}} {B = ℕ} a b c 1 tt (Ok count) (sync_runs a b (Ok tt) syncs) (reading_runs b c (Ok count) gives.reads gives.not_lost)
 

@@ -7,11 +7,11 @@ use Rattle.site_core.specs.Calls.{Calls, faults_of}
 use Rattle.site_core.specs.Passes.{LeavesOnly, StaysWithin}
 use Rattle.site_core.proofs.Runs.{Passes-none, Passes-then, Passes-weaker, Passes-stays}
 use Rattle.site_core.proofs.Times.{Follows-same, Follows-then, Calls-follows, Calls-clock}
-use Rattle.site_journal.specs.Runs.{Runs}
+use Rattle.site_journal.specs.Runs.{MakesCalls}
 
 -- one call
 pub runs_one : {T : Type 0} (Q : Pair → Type 0) (old : Seen) (middle : List State) (result : Result T DeviceFault) (new : Seen)
-    → Calls old middle result new → StaysWithin Q old new → result ≢ Err faults.Lost → new.turns ≡ old.turns → Runs Q old 1 result new
+    → Calls old middle result new → StaysWithin Q old new → result ≢ Err faults.Lost → new.turns ≡ old.turns → MakesCalls Q old 1 result new
 runs_one Q old middle result new call stays not_lost turns = record {
   stays = stays;
   follows = Calls-follows old middle result new call;
@@ -24,7 +24,7 @@ runs_one Q old middle result new call stays not_lost turns = record {
 
 -- of which less is said
 pub runs_weaker : {T : Type 0} (P Q : Pair → Type 0) (old : Seen) (few most : ℕ) (result : Result T DeviceFault) (new : Seen) → few ≤ most
-    → ((pair : Pair) → P pair → Q pair) → Runs P old few result new → Runs Q old most result new
+    → ((pair : Pair) → P pair → Q pair) → MakesCalls P old few result new → MakesCalls Q old most result new
 runs_weaker P Q old few most result new more weaker runs = record {
   stays = Passes-stays Q old new (Passes-weaker (LeavesOnly P) (LeavesOnly Q) old new (λ state only pair leaves. weaker pair (only pair leaves)) runs.stays.passes);
   follows = runs.follows;
@@ -37,7 +37,7 @@ runs_weaker P Q old few most result new more weaker runs = record {
 
 -- one run after another
 pub runs_then : {A B : Type 0} (Q : Pair → Type 0) (a b c : Seen) (m n most : ℕ) (value : A) (result : Result B DeviceFault) → m + n ≤ most
-    → Runs {T = A} Q a m (Ok value) b → Runs Q b n result c → Runs Q a most result c
+    → MakesCalls {T = A} Q a m (Ok value) b → MakesCalls Q b n result c → MakesCalls Q a most result c
 runs_then Q a b c m n most value result more first second = record {
   stays = Passes-stays Q a c (Passes-then (LeavesOnly Q) a b c first.stays.passes second.stays.passes);
   follows = Follows-then a b c first.follows second.follows;
@@ -49,7 +49,7 @@ runs_then Q a b c m n most value result more first second = record {
 }
 
 -- the value doesn't matter, nor the type that it would have
-pub runs_ok : {A B : Type 0} (Q : Pair → Type 0) (old : Seen) (most : ℕ) (value : A) (other : B) (new : Seen) → Runs {T = A} Q old most (Ok value) new → Runs {T = B} Q old most (Ok other) new
+pub runs_ok : {A B : Type 0} (Q : Pair → Type 0) (old : Seen) (most : ℕ) (value : A) (other : B) (new : Seen) → MakesCalls {T = A} Q old most (Ok value) new → MakesCalls {T = B} Q old most (Ok other) new
 runs_ok Q old most value other new runs = record {
   stays = runs.stays;
   follows = runs.follows;
@@ -65,7 +65,7 @@ same_faults A B faults.Disk = refl
 same_faults A B faults.Lost = refl
 same_faults A B faults.Stopped = refl
 
-pub runs_err : {A B : Type 0} (Q : Pair → Type 0) (old : Seen) (most : ℕ) (fault : DeviceFault) (new : Seen) → Runs {T = A} Q old most (Err fault) new → Runs {T = B} Q old most (Err fault) new
+pub runs_err : {A B : Type 0} (Q : Pair → Type 0) (old : Seen) (most : ℕ) (fault : DeviceFault) (new : Seen) → MakesCalls {T = A} Q old most (Err fault) new → MakesCalls {T = B} Q old most (Err fault) new
 runs_err {A} {B} Q old most fault new runs = record {
   stays = runs.stays;
   follows = runs.follows;
@@ -77,7 +77,7 @@ runs_err {A} {B} Q old most fault new runs = record {
 }
 
 -- nothing done yet, on a site that goes on
-pub runs_none : (Q : Pair → Type 0) (seen : Seen) → ¬ IsTrue seen.is_stopped → LeavesOnly Q seen.state → Runs {T = Unit {0}} Q seen 0 (Ok tt) seen
+pub runs_none : (Q : Pair → Type 0) (seen : Seen) → ¬ IsTrue seen.is_stopped → LeavesOnly Q seen.state → MakesCalls {T = Unit {0}} Q seen 0 (Ok tt) seen
 runs_none Q seen going only = record {
   stays = Passes-stays Q seen seen (Passes-none (LeavesOnly Q) seen only);
   follows = Follows-same seen;
@@ -89,7 +89,7 @@ runs_none Q seen going only = record {
 }
 
 -- where a call went well the site goes on
-pub still_going : {T : Type 0} (Q : Pair → Type 0) (old : Seen) (most : ℕ) (value : T) (new : Seen) → Runs {T = T} Q old most (Ok value) new → ¬ IsTrue new.is_stopped
+pub still_going : {T : Type 0} (Q : Pair → Type 0) (old : Seen) (most : ℕ) (value : T) (new : Seen) → MakesCalls {T = T} Q old most (Ok value) new → ¬ IsTrue new.is_stopped
 still_going Q old most value new runs = λ stopped. let e = runs.stopped.0 stopped in absurd cc
 
 -- the fault that is handed on

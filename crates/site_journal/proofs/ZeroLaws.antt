@@ -1,18 +1,18 @@
--- Zeros are laid down piece by piece, and an area behind the rest of a header.
+-- Zeros are written piece by piece, and so is an area behind the rest of a header.
 use Rattle.std.proofs.Common.{◌≡◌, ℕ, ◌+◌, ◌*◌, ◌-◌, ◌<◌, ◌≤◌, min, List, ◌++◌, length, replicate, Result, Ok, IsTrue, sym, ap, subst, ◌∙◌, inl, inr, arith, length-append}
 use Rattle.std.proofs.lemmas.List.{length-replicate, replicate-append-replicate}
 use Rattle.site_core.specs.declared.fault.DeviceFault.{DeviceFault}
 use Rattle.site_core.specs.Disk.{IsOutside, write_begun, written}
 use Rattle.site_core.specs.State.{State, Pair, Seen, Leaves}
 use Rattle.site_core.specs.Calls.{WritesDisk, begin_write}
-use Rattle.site_journal.specs.Runs.{Runs}
+use Rattle.site_journal.specs.Runs.{MakesCalls}
 use Rattle.site_journal.specs.Formatting.{LiesOver, LaysDown, PutsDown}
 use Rattle.site_journal.proofs.Running.{runs_weaker, runs_then}
 use Rattle.site_journal.proofs.Laying.{Laid, lies_written, lies_then, leaves_within, laid_none, one_write, write_runs, laid_more, laid_all}
 
 -- ---- zeros
 
--- so many pieces of 4,096, or all
+-- the zeros in the first `pieces` pieces of 4,096, at most `total`
 abbrev pub zeros_in : (pieces total : ℕ) → List ℕ
 zeros_in pieces total = replicate (min (4096 * pieces) total) 0
 
@@ -27,7 +27,7 @@ zeros_none a at total within going =
 -- one piece more, which is written or not
 pub zeros_runs : (a b c : Seen) (at total n place size : ℕ) (bytes : List ℕ) (result : Result (Unit {0}) DeviceFault) → at ≤ length a.state.disk.bytes
     → place ≡ at + 4096 * n → bytes ≡ replicate size 0 → size ≡ min 4096 (total - 4096 * n) → 4096 * n < total → Laid a at (zeros_in n total) total n b
-    → WritesDisk b place bytes result c → Runs (Leaves (begin_write a.state at total)) a (n + 1) result c
+    → WritesDisk b place bytes result c → MakesCalls (Leaves (begin_write a.state at total)) a (n + 1) result c
 zeros_runs a b c at total n place size bytes result within place_is bytes_are size_is below laid writes =
     let here : place ≡ at + length (zeros_in n total) = omega (arith, place_is, zeros_long n total, below) in
     let size_more : length (replicate {A = ℕ} size 0) ≡ size = length-replicate {A = ℕ} size 0 in
@@ -70,7 +70,7 @@ leaves_longer state at few many pair more leaves = record {
     narrow place (inr behind) = inr (omega arith)
 
 pub area_first : (a b : Seen) (front zeros : List ℕ) (result : Result (Unit {0}) DeviceFault) → 1 ≤ length a.state.disk.bytes → WritesDisk a 1 front result b
-    → Runs (Leaves (begin_write a.state 1 (length (front ++ zeros)))) a 1 result b
+    → MakesCalls (Leaves (begin_write a.state 1 (length (front ++ zeros)))) a 1 result b
 area_first a b front zeros result within writes =
     let more : length front ≤ length (front ++ zeros) = omega (arith, length-append front zeros) in
     runs_weaker (Leaves (begin_write a.state 1 (length front))) (Leaves (begin_write a.state 1 (length (front ++ zeros)))) a 1 1 result b (omega arith)
@@ -86,7 +86,7 @@ front_laid a b front zeros within writes =
     }
 
 pub area_runs : (a b c : Seen) (front zeros : List ℕ) (m : ℕ) (result : Result (Unit {0}) DeviceFault) → 1 ≤ length a.state.disk.bytes → WritesDisk a 1 front (Ok tt) b
-    → LaysDown b (1 + length front) zeros m result c → Runs (Leaves (begin_write a.state 1 (length (front ++ zeros)))) a (1 + m) result c
+    → LaysDown b (1 + length front) zeros m result c → MakesCalls (Leaves (begin_write a.state 1 (length (front ++ zeros)))) a (1 + m) result c
 area_runs a b c front zeros m result within writes lays =
     let Q : Pair → Type 0 = Leaves (begin_write a.state 1 (length (front ++ zeros))) in
     let fits : length front + length zeros ≤ length (front ++ zeros) = omega (arith, length-append front zeros) in

@@ -1,13 +1,13 @@
--- An action of a journal, as the call of a site that does it.
+-- An action that a book hands out for the disk, as the device call that carries it out.
 use Rattle.std.specs.Prelude.{◌≡◌, ◌≤◌, [], ◌∷◌, length, Result, Ok}
 use Rattle.site_core.specs.declared.fault.DeviceFault.{DeviceFault}
 use Rattle.site_core.specs.State.{Seen}
 use Rattle.site_core.specs.Calls.{WritesDisk, SyncsDisk}
 use Rattle.book_model.specs.declared.next.DiskNext.{DiskNext}
 use Rattle.book_model.specs.declared.next.DiskNext.TheVariants as next
-use Rattle.disk_laws.specs.Events.{gate_byte}
+use Rattle.book_laws.specs.Events.{gate_byte}
 
--- what is written begins inside the disk, or right behind it
+-- What is written begins inside the disk, or right behind its last byte.
 abbrev pub BeginsInside : DiskNext → Seen → Type 0
 BeginsInside (next.Write at bytes) old = at ≤ length old.state.disk.bytes
 BeginsInside (next.Gate at closed) old = at ≤ length old.state.disk.bytes
@@ -15,12 +15,12 @@ BeginsInside next.Sync old = Unit {0}
 BeginsInside next.Idle old = Unit {0}
 BeginsInside next.Stop old = Unit {0}
 
--- no call is made
+-- No device call is made.
 pub record DoesNothing (old : Seen) (result : Result (Unit {0}) DeviceFault) (new : Seen) : Type 0 where
   pub ok : result ≡ Ok tt
   pub same : new ≡ old
 
--- the one call that is made
+-- The one device call of each action.
 abbrev pub DoesAction : DiskNext → Seen → Result (Unit {0}) DeviceFault → Seen → Type 0
 DoesAction (next.Write at bytes) old result new = WritesDisk old at bytes result new
 DoesAction (next.Gate at closed) old result new = WritesDisk old at (gate_byte closed ∷ []) result new

@@ -1,4 +1,4 @@
--- Device calls in a row, by which a station does something with its disk.
+-- Device calls in a row on the disk.
 use Rattle.std.specs.Prelude.{◌≡◌, ◌≢◌, ◌↔◌, ℕ, ◌+◌, ◌≤◌, Result, Err, IsErrOf, IsTrue}
 use Rattle.site_core.specs.declared.fault.DeviceFault.{DeviceFault}
 use Rattle.site_core.specs.declared.fault.DeviceFault.TheVariants as faults
@@ -8,8 +8,9 @@ use Rattle.site_core.specs.Times.{Follows}
 use Rattle.site_core.specs.Calls.{faults_of}
 use Rattle.site_core.specs.Passes.{StaysWithin}
 
--- So many calls at most, of which none but the last failed. All the way a stop could have left such pairs alone. None is a frame.
-pub record Runs {T : Type 0} (Q : Pair → Type 0) (old : Seen) (most : ℕ) (result : Result T DeviceFault) (new : Seen) : Type 0 where
+-- At most `most` device calls were made, and only the last may have failed. At each moment a stop could have left only pairs with the
+-- property Q. No process data was exchanged.
+pub record MakesCalls {T : Type 0} (Q : Pair → Type 0) (old : Seen) (most : ℕ) (result : Result T DeviceFault) (new : Seen) : Type 0 where
   pub stays : StaysWithin Q old new
   pub follows : Follows old new
   pub within : clock new ≤ clock old + most
@@ -18,6 +19,6 @@ pub record Runs {T : Type 0} (Q : Pair → Type 0) (old : Seen) (most : ℕ) (re
   pub not_lost : result ≢ Err faults.Lost
   pub turns : new.turns ≡ old.turns
 
--- the same, and all that a read gives of the disk is synced: a stop leaves no other bytes
+-- The state with its disk synced: a stop leaves no other bytes than a read gives.
 abbrev pub with_synced : State → State
 with_synced state = record state { disk = synced state.disk }

@@ -1,25 +1,27 @@
-//! One action of a journal.
+//! The actions that a book hands out for the disk.
 
 ghost use Rattle.std.specs.Prelude.{◌≡◌, IsTrue};
-ghost use Rattle.disk_laws.specs.Events.{gate_byte};
+ghost use Rattle.book_laws.specs.Events.{gate_byte};
 ghost use Rattle.site_journal.specs.Action.{BeginsInside, DoesAction};
 
 use book_model::DiskNext;
 use jrn_format::{CLOSED, OPEN};
 use site_core::{DeviceFault, Site};
 
-/// The byte of a gate.
+/// The byte that closes or opens a gate.
 fn gate_byte(closed: bool) -> u8
     ensures { result ≡ gate_byte closed }
 {
     if closed { CLOSED } else { OPEN }
 }
 
-/// Does with the disk what is to be done next. Where nothing is, no call is made.
+/// Carries out an action that a book handed out for the disk: one write, or one sync. `Idle` and `Stop` make no device call.
+///
+/// The site must have a disk, and a write must begin inside it or right behind its last byte.
 ///
 /// # Errors
 ///
-/// `Disk` and `Stopped`, as the disk answers.
+/// `Disk` or `Stopped`, as `disk_write` and `disk_sync` answer.
 pub fn do_action<S: Site>(site: &mut S, action: &DiskNext) -> Result<(), DeviceFault>
     requires disk { IsTrue (S.line site.old).has_disk }
     requires inside { BeginsInside action.now (S.seen site.old) }

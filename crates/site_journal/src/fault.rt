@@ -10,10 +10,10 @@ use thiserror::Error;
 /// Why a journal can't be read from a disk.
 #[derive(Clone, Copy, Debug, PartialEq, Eq, Error)]
 pub enum ReadFault {
-    /// The disk didn't give its bytes.
+    /// The disk failed, or the site has stopped.
     #[error("{0}")]
     Device(DeviceFault),
-    /// What it holds can't be read, or there isn't the memory for it.
+    /// The disk holds no journal of this line, or memory was refused.
     #[error("{0}")]
     Journal(JournalFault),
 }

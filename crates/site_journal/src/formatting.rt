@@ -1,4 +1,4 @@
-//! Making a disk an empty journal.
+//! Formatting a disk as an empty journal.
 
 ghost use Rattle.std.specs.Prelude.{◌≡◌, ◌+◌, ◌≤◌, ◌∷◌, [], length, replicate, IsTrue};
 ghost use Rattle.jrn_format.specs.Header.{IsCapacity};
@@ -7,10 +7,10 @@ ghost use Rattle.site_journal.specs.Formatting.{behind_gate, pieces, PutsDown, L
 use jrn_format::{AREA_START, CLOSED, OPEN, header};
 use site_core::{DeviceFault, Site};
 
-/// The zeros of an area are written in pieces of so many bytes.
+/// The zeros of an area are written in pieces of at most this many bytes.
 const PIECE: usize = 4096;
 
-/// Writes the gate of the file, and syncs it.
+/// Writes the file gate, and syncs it.
 fn put_gate<S: Site>(site: &mut S, gate: u8) -> Result<(), DeviceFault>
     requires { IsTrue (S.line site.old).has_disk }
     ensures puts { PutsDown (S.seen site.old) 0 (gate ∷ []) 2 result (S.seen site.new) }
@@ -20,7 +20,7 @@ fn put_gate<S: Site>(site: &mut S, gate: u8) -> Result<(), DeviceFault>
     site.disk_sync()
 }
 
-/// Writes so many zeros from a place on, piece by piece.
+/// Writes `count` zeros from byte `at` on, piece by piece.
 fn lay_zeros<S: Site>(site: &mut S, at: usize, count: u32) -> Result<(), DeviceFault>
     requires disk { IsTrue (S.line site.old).has_disk }
     requires inside { at ≤ length (S.seen site.old).state.disk.bytes }
@@ -39,7 +39,7 @@ fn lay_zeros<S: Site>(site: &mut S, at: usize, count: u32) -> Result<(), DeviceF
     Ok(())
 }
 
-/// Writes the rest of the header and an area of zeros, and syncs them.
+/// Writes the header behind the file gate and an area of zeros, and syncs both.
 fn put_area<S: Site>(site: &mut S, slaves: u16, capacity: u32) -> Result<(), DeviceFault>
     requires disk { IsTrue (S.line site.old).has_disk }
     requires some { 1 ≤ length (S.seen site.old).state.disk.bytes }
@@ -52,15 +52,16 @@ fn put_area<S: Site>(site: &mut S, slaves: u16, capacity: u32) -> Result<(), Dev
     site.disk_sync()
 }
 
-/// Makes the disk an empty journal of version 2, whose area has `capacity` bytes, 4,096 to 4,194,304, for the slaves of the site.
-/// What stands behind it stays.
+/// Formats the disk as an empty journal of version 2 for the slaves of the site. Bytes behind the journal's area stay.
 ///
-/// The gate is closed first, and opened last. So what a stop leaves on the way is what was there, but for its first byte; or a
-/// file with a closed gate; or the journal.
+/// The area has `capacity` bytes, which must be 4,096 to 4,194,304. The site must have a disk.
+///
+/// The file gate is closed first and opened last. So a power cut on the way leaves one of these: the old bytes, except for the first
+/// byte; a file with a closed gate; or the new journal, except for the first byte.
 ///
 /// # Errors
 ///
-/// `Disk` and `Stopped`, as the disk answers.
+/// `Disk` or `Stopped`, as `disk_write` and `disk_sync` answer. A power cut leaves what it may leave on the way.
 pub fn format<S: Site>(site: &mut S, capacity: u32) -> Result<(), DeviceFault>
     requires disk { IsTrue (S.line site.old).has_disk }
     requires capacity { IsCapacity capacity }

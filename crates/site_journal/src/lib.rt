@@ -1,4 +1,5 @@
-//! What a station does with its disk, over any site that owns one. Each call says what a stop may leave on the way.
+//! What a station does with its disk, on any site that owns one: it formats a journal, reads it, and carries out the book's actions.
+//! Each contract says what a power cut may leave on the way.
 #![tactic(auto)]
 
 mod action;

@@ -1,4 +1,4 @@
-//! Reading the journal of a disk.
+//! Reading the journal on a disk.
 
 ghost use Rattle.std.specs.Prelude.{◌≡◌, IfOk, IsTrue};
 ghost use Rattle.site_journal.specs.Reading.{ReadsAll, ReadsJournal};
@@ -21,15 +21,14 @@ fn read_disk<S: Site>(alloc: Global, site: &mut S) -> Result<Vec<u8>, ReadFault>
     Ok(bytes)
 }
 
-/// What is live in the journal on the disk, for a line whose slaves have `sizes` words, and how many bytes the journal's area
-/// has.
+/// Reads the journal on the disk, for slaves with `sizes` words. Returns the length of its area in bytes, and what is live in it.
 ///
-/// The disk is synced first. So a stop leaves what was read, whatever had been written.
+/// The disk is synced first, so that a power cut leaves just the bytes that were read. The site must have a disk.
 ///
 /// # Errors
 ///
-/// `Device` with `Disk` and `Stopped`, as the disk answers; `Journal` as for `scan`, with `Memory` also where there isn't the
-/// memory for the disk's bytes.
+/// `Device` with `Disk` or `Stopped`, as the disk answers; `Journal` with `Memory` if memory is refused for the disk's bytes; then
+/// `Journal` as for `scan`. A power cut leaves nothing that it couldn't leave before.
 pub fn read_journal<S: Site>(
     alloc: Global,
     site: &mut S,

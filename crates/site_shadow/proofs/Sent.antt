@@ -1,13 +1,13 @@
--- A site may go to another thread where its device may.
+-- A site may be sent to another thread if its device may.
 use denote.RattleType.{RattleType}
 use denote.Struct.Struct.{Struct}
 use denote.Struct.Declared.{shape}
 use denote.Param.Send.{IsSend, struct_send, sendable}
 use Rattle.std.proofs.Crossing.{crosses}
-use Rattle.history.proofs.History.TheLaws.TheKnot.{send-History}
+use Rattle.lists.proofs.history.History.TheLaws.TheKnot.{send-History}
 use Rattle.esc_model.specs.contracts.process_half.ProcessHalf as ProcessHalf
 use Rattle.esc_model.specs.contracts.rom_half.RomHalf as RomHalf
-use Rattle.disk_mem.specs.contracts.disk.MemDisk as MemDisk
+use Rattle.site_shadow.specs.contracts.disk.MemDisk as MemDisk
 use Rattle.site_shadow.specs.contracts.shadow.Shadow as Shadow
 use Rattle.site_shadow.specs.contracts.shadow.Shadow.TheInside as Inside
 use Rattle.site_shadow.specs.contracts.site.ShadowSite as ShadowSite

@@ -1,4 +1,4 @@
--- An action of the disk, as it is carried out.
+-- Carrying out an action for the disk.
 use Rattle.std.proofs.Common.{◌≡◌, refl, sym, ◌∙◌, ap, subst, Option, Some, None, Result}
 use Rattle.site_core.specs.declared.fault.DeviceFault.{DeviceFault}
 use Rattle.site_core.specs.Line.{Line}

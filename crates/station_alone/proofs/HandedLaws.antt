@@ -9,7 +9,7 @@ use Rattle.book_model.specs.declared.next.RomNext.TheVariants as rom
 use Rattle.book_model.specs.Book.{Book, Doing, Resting, Payload, PayloadSync, OpenGate, OpenSync, CloseGate, CloseSync, FarGate, Mark, MarkSync, Version, VersionSync, Errand, Free, Issuing, Unsettled, Settling, slave_at}
 use Rattle.book_model.specs.DiskSteps.{action_of, doing_next, disk_next}
 use Rattle.book_model.specs.RomSteps.{to_do, with_errand, with_issue, without_work, rom_next}
-use Rattle.up_laws.proofs.SlaveEventLaws.{IsNothing}
+use Rattle.book_laws.proofs.SlaveEventLaws.{IsNothing}
 use Rattle.runner_laws.proofs.DiskRuns.{IsAction, idle-or-stop}
 
 -- ---- for the disk

@@ -8,7 +8,7 @@ use Rattle.site_core.specs.Passes.{LeavesOnly, StaysWithin}
 use Rattle.site_core.proofs.Runs.{Passes-none, Passes-weaker, Passes-stays}
 use Rattle.book_model.specs.Book.{base_of}
 use Rattle.book_model.specs.Machine.{Machine}
-use Rattle.disk_laws.specs.Keeping.{IsOfBook}
+use Rattle.book_laws.specs.Keeping.{IsOfBook}
 use Rattle.runner_laws.specs.Running.{KeepsAll, KeepsWith, KeptWith, with_commands}
 use Rattle.runner_laws.proofs.GoLaws.{stays-then, keeps-all_with, keeps-more}
 use Rattle.station_alone.specs.Station.{Station}
@@ -23,7 +23,7 @@ pub keeps-none : (m : Machine) (old new : Seen) → KeepsAll m old new → Keeps
 keeps-none m old new keeps =
     keeps-all_with m [] m.acknowledged old new (omega arith) (subst (λ (n : Machine). KeepsAll n old new) (sym (with-none m m.acknowledged)) keeps)
 
--- so many are acknowledged already
+-- `count` commands are acknowledged already
 pub acknowledged-so : (m : Machine) (count : ℕ) (state : State) → m.acknowledged ≡ count → LeavesOnly (KeptFor m) state → LeavesOnly (KeptFor (record m { acknowledged = count })) state
 acknowledged-so m count state so kept = subst (λ (n : ℕ). LeavesOnly (KeptFor (record m { acknowledged = n })) state) so kept
 

@@ -7,3 +7,8 @@ pub mod DiskLaws
 pub mod RunLaws
 pub mod OpenLaws
 pub mod SettledLaws
+pub mod RowLaws
+pub mod RecoveryDiskLaws
+pub mod SlaveLaws
+pub mod RoundLaws
+pub mod EndLaws

@@ -1,17 +1,17 @@
--- A station that is opened.
+-- What opening a station gives.
 use Rattle.std.proofs.Common.{◌≡◌, ℕ, ◌+◌, ◌^◌, ◌<◌, ◌≤◌, Bool, false, List, [], ◌∷◌, length, get_or, map, take, drop, refl, sym, ◌∙◌, ap, subst, arith, length-append, Result, Ok, Err, Vec, Global}
 use Rattle.std.specs.Prelude.{IsTrue, IfErr, IsErrAnd}
 use Rattle.std.proofs.lemmas.List.{length-map, take-append-drop}
 use Rattle.std.proofs.lemmas.List.Concat.{flat_map-append}
 use Rattle.std.proofs.lemmas.Result.{err_from_is_err_and}
 use Rattle.sii_words.specs.declared.words.Words.{Words}
-use Rattle.edit_laws.specs.Fitting.{PlantFits}
+use Rattle.sii_edit.specs.Fitting.{PlantFits}
 use Rattle.jrn_format.specs.declared.journal.Entry.{Entry}
 use Rattle.jrn_format.specs.declared.journal.Batch.{Batch}
 use Rattle.jrn_format.specs.declared.journal.Journal.{Journal}
 use Rattle.jrn_format.specs.Journal.{IsJournal}
-use Rattle.jrn_laws.specs.Live.{CanBeLive}
-use Rattle.jrn_laws.proofs.OpenLaws.{journal-can-be-live}
+use Rattle.jrn_format.specs.Live.{CanBeLive}
+use Rattle.jrn_format.proofs.OpenLaws.{journal-can-be-live}
 use Rattle.esc_model.specs.SlaveHalf.{SlaveHalf}
 use Rattle.esc_model.proofs.Resting.{MayLeave-same}
 use Rattle.esc_rom.specs.declared.fault.RomFault.{RomFault}
@@ -23,23 +23,23 @@ use Rattle.site_core.specs.Line.{Line}
 use Rattle.site_core.specs.State.{State, Pair, Leaves, EachMayLeave, Seen, word_counts}
 use Rattle.site_core.specs.Disk.{Disk, synced}
 use Rattle.site_core.proofs.StopImages.{StopImage-same}
-use Rattle.site_journal.specs.Runs.{Runs, with_synced}
+use Rattle.site_journal.specs.Runs.{MakesCalls, with_synced}
 use Rattle.site_journal.specs.Reading.{ReadsJournal}
-use Rattle.site_line.specs.Owned.{OwnsAll, AreSizes}
-use Rattle.site_line.specs.Reading.{AreRead, ReadsLine, most_calls}
+use Rattle.esc_rom.specs.Owned.{OwnsAll, AreSizes}
+use Rattle.esc_rom.specs.Reading.{AreRead, ReadsLine, most_calls}
 use Rattle.book_model.specs.Entries.{entries_of, sizes_of}
 use Rattle.book_model.specs.Book.{Book, contents_of}
 use Rattle.book_model.specs.Open.{open_book}
 use Rattle.book_model.specs.Machine.{reopened}
 use Rattle.book_core.proofs.FoundLaws.{entries-more}
-use Rattle.disk_laws.specs.Keeping.{IsOfBook}
-use Rattle.up_laws.specs.Opening.{words_in, capacity_in, IsSynced, IsFound, book_on}
-use Rattle.up_laws.proofs.LineLaws.{up-kept}
-use Rattle.up_laws.proofs.OpeningLaws.{up-opens}
+use Rattle.book_laws.specs.Keeping.{IsOfBook}
+use Rattle.book_laws.specs.Opening.{words_in, capacity_in, IsAllSynced, IsFound, book_on}
+use Rattle.book_laws.proofs.LineLaws.{up-kept}
+use Rattle.book_laws.proofs.OpeningLaws.{up-opens}
 use Rattle.runner_laws.specs.Ready.{IsReady}
 use Rattle.runner_laws.proofs.GoLaws.{keeps-still}
 use Rattle.runner_laws.proofs.ReadyLaws.{opened-ready}
-use Rattle.recovery_laws.proofs.OpenLaws.{little-found}
+use Rattle.runner_laws.proofs.OpenLaws.{little-found}
 use Rattle.station_alone.specs.declared.fault.OpenFault.TheVariants as faults
 use Rattle.station_alone.specs.declared.opening.Reading.{Reading}
 use Rattle.station_alone.specs.Station.{Station, station, Stands}
@@ -63,7 +63,7 @@ count-within batches k =
 -- ---- calls in a row
 
 -- those of the disk are quiet
-runs-quiet : (old : Seen) (most : ℕ) (result : Result (Unit {0}) DeviceFault) (new : Seen) → Runs (Leaves old.state) old most result new → Quiet old most new
+runs-quiet : (old : Seen) (most : ℕ) (result : Result (Unit {0}) DeviceFault) (new : Seen) → MakesCalls (Leaves old.state) old most result new → Quiet old most new
 runs-quiet old most result new runs =
     let counted = runs.counted in
     record { adds = runs.stays; follows = runs.follows; within = runs.within; never_fewer = omega (arith, counted); turns = runs.turns }
@@ -110,7 +110,7 @@ module _ (sizes : List ℕ) (its : Line) (old mid new : Seen) (capacity : ℕ) (
   pub found-is : IsFound journal new.state
   found-is = record {
     is_journal = subst (λ (b : List ℕ). IsJournal b (sizes_of (words_in new.state.halves)) journal) (sym bytes-are) (subst (λ (s : List ℕ). IsJournal old.state.disk.bytes s journal) halves-are reads.finds.0);
-    synced = subst IsSynced (sym disk-is) (record { all = refl; whole = omega arith });
+    synced = subst IsAllSynced (sym disk-is) (record { all = refl; whole = omega arith });
     idle = read.idle;
   }
 

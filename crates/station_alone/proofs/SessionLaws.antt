@@ -1,4 +1,4 @@
--- Each call of the book leaves what it was opened with and what it has accepted, but for a command that is accepted.
+-- No call changes what the book was opened with, and only an accepted command changes what it has accepted.
 use Rattle.std.proofs.Common.{◌≡◌, ℕ, ◌≤◌, Bool, true, false, List, refl, sym, ◌∙◌, ap, subst, arith, Result, Ok, Err}
 use Rattle.std.specs.Prelude.{◌||◌}
 use Rattle.sii_edit.specs.declared.command.Command.{Command}
@@ -6,7 +6,7 @@ use Rattle.jrn_format.specs.declared.journal.Entry.{Entry}
 use Rattle.site_core.specs.declared.fault.DeviceFault.{DeviceFault}
 use Rattle.site_core.specs.declared.fault.DeviceFault.TheVariants as device
 use Rattle.site_core.specs.declared.answers.Settled.TheVariants.{Written, Again, Dead}
-use Rattle.slave_queue.specs.Cells.{cell_of}
+use Rattle.book_model.specs.Cells.{cell_of}
 use Rattle.book_model.specs.declared.next.DiskNext.{DiskNext}
 use Rattle.book_model.specs.declared.next.RomNext.{RomNext}
 use Rattle.book_model.specs.declared.next.RomOutcome.{RomOutcome}

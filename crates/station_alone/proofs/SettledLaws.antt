@@ -1,19 +1,19 @@
--- Slaves that owe nothing hold the contents.
+-- Slaves with no pending writes hold the contents.
 use Rattle.std.proofs.Common.{List, [], ◌++◌, sym, ◌∙◌, ap, subst, arith}
 use Rattle.std.proofs.lemmas.List.{append-nil, take_all}
 use Rattle.sii_edit.specs.declared.command.Command.{Command}
 use Rattle.sii_edit.specs.Fold.{contents}
-use Rattle.sii_runs.specs.declared.run.Run.{Run}
-use Rattle.sii_runs.specs.Redo.{redone}
-use Rattle.sii_runs.proofs.RedoLaws.{redone-nil}
-use Rattle.jrn_laws.specs.Halves.{live}
+use Rattle.sii_words.specs.declared.run.Run.{Run}
+use Rattle.sii_words.specs.Redo.{redone}
+use Rattle.sii_words.proofs.RedoLaws.{redone-nil}
+use Rattle.jrn_format.specs.Halves.{live}
 use Rattle.book_model.specs.Entries.{live_runs}
 use Rattle.book_model.specs.Book.{all_cells, base_of}
 use Rattle.book_laws.specs.Plants.{AllFit}
 use Rattle.book_laws.proofs.CommandLaws.{entries-contents}
 use Rattle.book_laws.proofs.PlantLaws.{plant-leads-retired}
 use Rattle.book_laws.proofs.SettledLaws.{retire-settled}
-use Rattle.up_laws.proofs.LineLaws.{holds-all}
+use Rattle.book_laws.proofs.LineLaws.{holds-all}
 use Rattle.station_alone.specs.Station.{Station, Stands}
 use Rattle.station_alone.specs.Settled.{HasSettled, HoldsContents}
 

@@ -1,11 +1,11 @@
--- What a station needs for its next step, and that it has it again behind each step.
+-- What a station's invariant needs, and that each step gives it again.
 use Rattle.std.proofs.Common.{◌≡◌, ℕ, ◌<◌, Bool, List, length, sym, ◌∙◌, ap, subst, arith, Result}
 use Rattle.std.specs.Prelude.{IsTrue, is_some, false}
-use Rattle.edit_laws.specs.Fitting.{PlantFits}
+use Rattle.sii_edit.specs.Fitting.{PlantFits}
 use Rattle.site_core.specs.declared.fault.DeviceFault.{DeviceFault}
 use Rattle.site_core.specs.Line.{Line, Owns}
 use Rattle.site_core.specs.State.{State, Seen}
-use Rattle.site_line.specs.Owned.{OwnsAll}
+use Rattle.esc_rom.specs.Owned.{OwnsAll}
 use Rattle.site_journal.specs.Action.{BeginsInside, DoesAction}
 use Rattle.book_model.specs.declared.next.DiskNext.{DiskNext}
 use Rattle.book_model.specs.declared.next.DiskNext.TheVariants as disk
@@ -13,9 +13,9 @@ use Rattle.book_model.specs.Book.{Book, contents_of}
 use Rattle.book_model.specs.DiskSteps.{disk_next}
 use Rattle.book_model.specs.Machine.{Machine}
 use Rattle.book_laws.proofs.BookLaws.{length-all_cells}
-use Rattle.disk_laws.specs.Frame.{Frame}
-use Rattle.disk_laws.specs.Keeping.{IsOfBook}
-use Rattle.up_laws.specs.Up.{Up}
+use Rattle.book_laws.specs.Frame.{JournalFrame}
+use Rattle.book_laws.specs.Keeping.{IsOfBook}
+use Rattle.book_laws.specs.Up.{Up}
 use Rattle.runner_laws.specs.Running.{CallsDisk}
 use Rattle.runner_laws.specs.Ready.{IsReady}
 use Rattle.runner_laws.proofs.DiskRuns.{IsAction}
@@ -25,7 +25,7 @@ use Rattle.station_alone.proofs.HandedLaws.{open-still}
 use Rattle.station_alone.proofs.SessionLaws.{SameOrMore, same-contents}
 
 -- a station that is up is so as each machine that its book is to its callers
-pub up-for : (frame : Frame) (book : Book) (state : State) (took : List Bool) (some m : Machine) → Up frame book state took some → IsOfBook book m → Up frame book state took m
+pub up-for : (frame : JournalFrame) (book : Book) (state : State) (took : List Bool) (some m : Machine) → Up frame book state took some → IsOfBook book m → Up frame book state took m
 up-for frame book state took some m up of = record {
   line = up.line;
   of = of;

@@ -1,4 +1,4 @@
--- Each step of a station leaves it standing, and what a stop may leave of it on the way is kept.
+-- Each step keeps the station's invariant, and what a stop may leave on the way is kept.
 use Rattle.std.proofs.Common.{◌≡◌, ℕ, ◌+◌, ◌≤◌, Bool, true, false, List, [], ◌∷◌, length, refl, sym, ◌∙◌, ap, subst, arith, length-append, Result, Ok, Err}
 use Rattle.std.specs.Prelude.{◌||◌, is_some}
 use Rattle.std.proofs.lemmas.List.{append-nil}
@@ -6,8 +6,8 @@ use Rattle.sii_edit.specs.declared.command.Command.{Command}
 use Rattle.sii_edit.specs.declared.refusal.Cause.{Cause}
 use Rattle.sii_edit.specs.declared.refusal.Cause.TheVariants as causes
 use Rattle.sii_edit.proofs.FoldLaws.{contents-push}
-use Rattle.edit_laws.specs.Fitting.{PlantFits, CommandFits}
-use Rattle.edit_laws.proofs.PlantLaws.{fit-after}
+use Rattle.sii_edit.specs.Fitting.{PlantFits, CommandFits}
+use Rattle.sii_edit.proofs.PlantLaws.{fit-after}
 use Rattle.site_core.specs.declared.fault.DeviceFault.{DeviceFault}
 use Rattle.site_core.specs.declared.fault.DeviceFault.TheVariants as device
 use Rattle.site_core.specs.Line.{Line}
@@ -27,13 +27,13 @@ use Rattle.book_model.specs.DiskSteps.{disk_next, disk_done}
 use Rattle.book_model.specs.RomSteps.{rom_next, rom_done}
 use Rattle.book_model.specs.Open.{migrate}
 use Rattle.book_model.specs.Machine.{Machine, accepts}
-use Rattle.disk_laws.specs.Frame.{Frame}
-use Rattle.disk_laws.specs.Keeping.{IsOfBook}
-use Rattle.up_laws.specs.Steps.{acknowledged_by}
-use Rattle.up_laws.proofs.LineLaws.{up-kept}
-use Rattle.up_laws.proofs.CallLaws.{up-migrates}
-use Rattle.up_laws.proofs.SubmitLaws.{up-submits}
-use Rattle.up_laws.proofs.SlaveEventLaws.{IsNothing}
+use Rattle.book_laws.specs.Frame.{JournalFrame}
+use Rattle.book_laws.specs.Keeping.{IsOfBook}
+use Rattle.book_laws.specs.Steps.{acknowledged_by}
+use Rattle.book_laws.proofs.LineLaws.{up-kept}
+use Rattle.book_laws.proofs.CallLaws.{up-migrates, or-second}
+use Rattle.book_laws.proofs.SubmitLaws.{up-submits}
+use Rattle.book_laws.proofs.SlaveEventLaws.{IsNothing}
 use Rattle.runner_laws.specs.Running.{CallsDisk, KeepsAll, UpAfterDisk}
 use Rattle.runner_laws.specs.Ready.{IsReady, issue_outcome, settle_outcome}
 use Rattle.runner_laws.proofs.DiskRuns.{IsAction, disk-runs}
@@ -58,7 +58,7 @@ pub record Goes (commands : List Command) (most : ℕ) (old new : Station) : Typ
   pub goes_on : GoesOn commands most old new
   pub keeps : Keeps commands old new
 
--- nothing is accepted, and no more is done than so many calls
+-- nothing is accepted, with at most `most` device calls
 goes-on : (most : ℕ) (old new : Station) → new.line ≡ old.line → SameOrMore old.book new.book → clock new.seen ≤ clock old.seen + most → GoesOn [] most old new
 goes-on most old new line s within = record { line = line; words = s.0; found = s.1; accepted = s.2 ∙ sym (append-nil old.book.accepted); durable = s.3; within = within }
 
@@ -93,7 +93,7 @@ disk-clock disk.Idle old new result call = absurd call
 disk-clock disk.Stop old new result call = absurd call
 
 -- what is durable then is acknowledged
-disk-last : (frame : Frame) (book : Book) (took : List Bool) (m : Machine) (old new : Seen) (result : Result (Unit {0}) DeviceFault) → m.acknowledged ≡ book.durable → KeepsAll m old new
+disk-last : (frame : JournalFrame) (book : Book) (took : List Bool) (m : Machine) (old new : Seen) (result : Result (Unit {0}) DeviceFault) → m.acknowledged ≡ book.durable → KeepsAll m old new
     → UpAfterDisk frame book took m new result → LeavesOnly (KeptFor (record m { acknowledged = (disk_done book result).durable })) new.state
 disk-last frame book took m old new (Ok done) of keeps up = λ pair leaves. up-kept frame (disk_done book (Ok tt)) new.state took (acknowledged_by (disk_done book (Ok tt)) m) pair up leaves
 disk-last frame book took m old new (Err device.Disk) of keeps up =
@@ -180,11 +180,6 @@ module _ (old new : Station) (answer : Answer) (i : ℕ) (stands : Stands old) (
   served rom.Stop is does = nothing-goes _ 10001 old answer new stands does
 
 -- ---- a command
-
--- one that is accepted finds no fault
-or-second : (a b : Bool) → b ≡ true → (a || b) ≡ true
-or-second true b is = refl
-or-second false b is = is
 
 accepted-open : (book : Book) (command : Command) (number : ℕ) (failed : Bool) → is_some book.fault ≡ failed → submit book command ≡ Ok number → is_some book.fault ≡ false
 accepted-open book command number false fault is = fault

@@ -1,11 +1,11 @@
--- What a stop may leave of a station while it goes on is kept, for the machine that it is to its callers.
+-- While a station makes steps, a stop at any moment leaves only what is kept: redo gives a prefix with every acknowledged command.
 use Rattle.std.specs.Prelude.{◌≡◌, ℕ, ◌+◌, ◌≤◌, List, [], ◌∷◌, ◌++◌}
 use Rattle.sii_edit.specs.declared.command.Command.{Command}
 use Rattle.site_core.specs.State.{Pair, clock}
 use Rattle.site_core.specs.Passes.{LeavesOnly}
 use Rattle.book_model.specs.Machine.{Machine}
 use Rattle.book_model.specs.Kept.{Kept}
-use Rattle.disk_laws.specs.Keeping.{IsOfBook}
+use Rattle.book_laws.specs.Keeping.{IsOfBook}
 use Rattle.runner_laws.specs.Running.{KeepsWith, with_commands}
 use Rattle.station_alone.specs.declared.choice.Choice.{Choice}
 use Rattle.station_alone.specs.declared.choice.Choice.TheVariants.{Submit}
@@ -14,17 +14,18 @@ use Rattle.station_alone.specs.declared.choice.Answer.TheVariants.{Accepted}
 use Rattle.station_alone.specs.Station.{Station}
 use Rattle.station_alone.specs.Steps.{Steps, most_calls}
 
--- the commands that are accepted
+-- The command that a step has accepted, if any.
 abbrev pub accepted_by : Choice → Answer → List Command
 accepted_by (Submit command) (Accepted number) = command ∷ []
 accepted_by choice answer = []
 
+-- The commands that steps in a row have accepted.
 abbrev pub accepted_in : List Choice → List Answer → List Command
 accepted_in [] answers = []
 accepted_in (choice ∷ choices) [] = []
 accepted_in (choice ∷ choices) (answer ∷ answers) = accepted_by choice answer ++ accepted_in choices answers
 
--- The same session goes on, with these commands accepted, and in so many device calls at most.
+-- The same session goes on: these commands were accepted, with at most `most` device calls.
 pub record GoesOn (commands : List Command) (most : ℕ) (old new : Station) : Type 0 where
   pub line : new.line ≡ old.line
   pub words : new.book.words ≡ old.book.words
@@ -33,20 +34,22 @@ pub record GoesOn (commands : List Command) (most : ℕ) (old new : Station) : T
   pub durable : old.book.durable ≤ new.book.durable
   pub within : clock new.seen ≤ clock old.seen + most
 
+-- The disk image and the words of a pair are kept for the machine.
 abbrev pub KeptFor : Machine → Pair → Type 0
 KeptFor machine pair = Kept pair.disk pair.words machine
 
--- At each moment on the way a stop could have left only what is kept with the first of the commands accepted, so many. And in the end
--- what it may leave is kept with all of them accepted, and all that are durable acknowledged.
+-- At each moment on the way, a stop could have left only what is kept with a prefix of the commands accepted. In the end, what it may
+-- leave is kept with all of them accepted and all durable ones acknowledged.
 pub record KeepsFor (machine : Machine) (commands : List Command) (old new : Station) : Type 0 where
   pub on_the_way : KeepsWith machine commands old.seen new.seen
   pub at_last : LeavesOnly (KeptFor (with_commands machine commands new.book.durable)) new.seen.state
 
--- For each machine that the book is to its callers: where all that a stop may leave is kept, it stays so.
+-- For each machine that the book is to its callers: if all that a stop may leave was kept before, it stays kept.
 abbrev pub Keeps : List Command → Station → Station → Type 0
-Keeps commands old new = (machine : Machine) → IsOfBook old.book machine → LeavesOnly (KeptFor machine) old.seen.state → KeepsFor machine commands old new
+Keeps commands old new = (machine : Machine) → IsOfBook old.book machine → LeavesOnly (KeptFor machine) old.seen.state
+    → KeepsFor machine commands old new
 
--- A step was made, and went so.
+-- A step was made with this answer, and everything that is claimed of a step holds.
 pub record Went (choice : Choice) (old : Station) (answer : Answer) (new : Station) : Type 0 where
   pub steps : Steps choice old answer new
   pub goes_on : GoesOn (accepted_by choice answer) (most_calls choice) old new

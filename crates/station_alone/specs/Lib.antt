@@ -3,3 +3,5 @@ pub mod Steps
 pub mod Keeping
 pub mod Opening
 pub mod Settled
+pub mod Recovery
+pub mod Rounds

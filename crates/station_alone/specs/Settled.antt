@@ -1,20 +1,20 @@
--- When all that was found and accepted is settled.
+-- A station with everything settled that was found at the open or accepted since.
 use Rattle.std.specs.Prelude.{◌≡◌, true, false, [], is_some, length}
 use Rattle.site_core.specs.State.{Pair}
 use Rattle.site_core.specs.Passes.{LeavesOnly}
-use Rattle.jrn_laws.specs.Halves.{live}
+use Rattle.jrn_format.specs.Halves.{live}
 use Rattle.book_model.specs.Entries.{live_runs}
 use Rattle.book_model.specs.Reading.{runs_settled}
 use Rattle.book_model.specs.Book.{Book, all_cells, contents_of}
 use Rattle.station_alone.specs.Station.{Station}
 
--- No fault has closed the book, all accepted commands are durable, and every word that a live batch names is in place. What is live no
--- more was settled before.
+-- The book has no fault, all accepted commands are durable, and every word that a live batch names is in place. What is retired was
+-- settled before.
 pub record HasSettled (book : Book) : Type 0 where
   pub no_fault : is_some book.fault ≡ false
   pub durable : book.durable ≡ length book.accepted
   pub live : runs_settled (all_cells book.slaves) [] (live_runs (live book.halves)) ≡ true
 
--- whatever a stop leaves, each slave holds the contents after all accepted commands
+-- A stop leaves the slaves with the contents after all accepted commands, and with no others.
 abbrev pub HoldsContents : Station → Type 0
 HoldsContents s = LeavesOnly (λ (pair : Pair). pair.words ≡ contents_of s.book) s.seen.state

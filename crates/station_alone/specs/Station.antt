@@ -1,23 +1,24 @@
--- A station on one thread: its book, and the site on which the steps of the book are carried out.
+-- A station on one thread, as contracts see it: its book, and the site on which the book's actions are carried out.
 use Rattle.std.specs.Prelude.{◌≡◌, length, IsTrue}
-use Rattle.edit_laws.specs.Fitting.{PlantFits}
+use Rattle.sii_edit.specs.Fitting.{PlantFits}
 use Rattle.site_core.specs.Line.{Line}
 use Rattle.site_core.specs.State.{Seen}
-use Rattle.site_line.specs.Owned.{OwnsAll}
+use Rattle.esc_rom.specs.Owned.{OwnsAll}
 use Rattle.book_model.specs.Book.{Book, contents_of}
 use Rattle.runner_laws.specs.Ready.{IsReady}
 
+-- The book, what the site is made of, and the site's state and past.
 pub record Station : Type 0 where
   pub book : Book
-  -- what the site is made of, and what it holds and has seen
   pub line : Line
   pub seen : Seen
 
+-- The station of these three.
 abbrev pub station : Book → Line → Seen → Station
 station book line seen = record { book = book; line = line; seen = seen }
 
--- What holds of every station: the site has a disk and all slaves, the book has as many slaves as the line, its contents are words
--- of 16 bits, and the next step can be carried out.
+-- The invariant of a station: the site has a disk and all slaves, the book has as many slaves as the line, its contents are words of
+-- 16 bits, and the book's next actions can be carried out on the site.
 pub record Stands (s : Station) : Type 0 where
   pub disk : IsTrue s.line.has_disk
   pub owned : OwnsAll s.line

@@ -14,8 +14,9 @@ use site_core::Site;
 use std::alloc::{AllocError, Global};
 use std::marker::Model;
 
-/// A station on one thread: a book of commands, and the site on which its steps are carried out. Contracts see the book, and what the
-/// site is made of, holds and has seen.
+/// A station on one thread: a book, and the site on which its actions are carried out.
+///
+/// Contracts see the book, what the site is made of, and the site's state and past.
 #[derive(Drop)]
 pub struct Alone<S: Site> {
     alloc: Global,
@@ -35,18 +36,20 @@ impl<S: Site> Model for Alone<S> {
 
 impl<S: Site> Alone<S> {
     ghost use Rattle.book_model.specs.RomSteps.{rom_next};
-    ghost use Rattle.site_line.specs.Owned.{OwnsAll};
+    ghost use Rattle.esc_rom.specs.Owned.{OwnsAll};
     ghost use Rattle.station_alone.specs.Station.{Stands};
     ghost use Rattle.station_alone.specs.Steps.{Steps, Serves, StepsInOrder, most_calls, most_calls_of};
     ghost use Rattle.station_alone.specs.Keeping.{GoesOn, Keeps, Went, accepted_by, accepted_in};
     ghost use Rattle.station_alone.specs.Opening.{Opens, OpensCounted, FailsToOpen, KeepsOpening, BeginsSession};
 
-    /// Opens a station on a site that has a disk and all slaves of its line: the disk is synced and its journal read, and then each
-    /// slave is opened and read.
+    /// Opens a station on a site: syncs the disk and reads its journal, and then opens and reads each slave.
+    ///
+    /// The site must have a disk and own the EEPROM of every slave of its line.
     ///
     /// # Errors
     ///
-    /// Why the journal or a slave can't be read, or want of memory. The site is handed back as the calls so far left it.
+    /// `Journal` as for `read_journal`, then `Slave` as for `read_slaves`; `Memory` before the first device call or after the last one.
+    /// The site is handed back as the calls so far left it; a power cut leaves nothing that it couldn't leave before.
     pub fn open(alloc: Global, site: S) -> Result<Alone<S>, (S, OpenFault)>
         requires disk { IsTrue (S.line site).has_disk }
         requires slaves { OwnsAll (S.line site) }
@@ -60,7 +63,7 @@ impl<S: Site> Alone<S> {
         Ok(alone)
     }
 
-    /// The same, and counts what was live in the journal.
+    /// Like `open`, but also counts the live batches of the journal and their commands.
     ///
     /// # Errors
     ///
@@ -81,7 +84,7 @@ impl<S: Site> Alone<S> {
         }
     }
 
-    /// Makes one step: a command is submitted, or one action that the book hands out is carried out.
+    /// Makes one step: submits a command, asks for a migration, or carries out one action that the book hands out.
     pub fn step(&mut self, choice: Choice) -> Answer
         ensures steps { Steps choice self.old result self.new }
         ensures goes_on { GoesOn (accepted_by choice result) (most_calls choice) self.old self.new }
@@ -90,7 +93,7 @@ impl<S: Site> Alone<S> {
         self.act(&choice)
     }
 
-    /// The same of a choice that stays the caller's.
+    /// Like `step`, but borrows the choice.
     pub fn act(&mut self, choice: &Choice) -> Answer
         ensures steps { Steps choice.now self.old result self.new }
         ensures goes_on { GoesOn (accepted_by choice.now result) (most_calls choice.now) self.old self.new }
@@ -99,7 +102,7 @@ impl<S: Site> Alone<S> {
         self.go(choice)
     }
 
-    /// Serves one slave, as a step does, and tells what was handed out.
+    /// Like `step` with `Choice::Rom`, but also returns what the book handed out for the slave.
     pub fn serve(&mut self, slave: u16) -> (RomNext, Answer)
         ensures next { result.0 ≡ (rom_next self.old.book slave).0 }
         ensures serves { Serves (rom_next self.old.book slave).0 slave self.old result.1 self.new }
@@ -120,7 +123,7 @@ impl<S: Site> Alone<S> {
         }
     }
 
-    /// Submits a command that stays the caller's, as a step does.
+    /// Like `step` with `Choice::Submit`, but borrows the command.
     pub fn submit(&mut self, command: &Command) -> Answer
         ensures { Went (Choice.Submit command.now) self.old result self.new }
     {
@@ -146,11 +149,11 @@ impl<S: Site> Alone<S> {
         ask_migration(&mut self.core)
     }
 
-    /// Makes these steps, one after another. The answers stand in the order of the choices.
+    /// Makes these steps one after another. Returns one answer for each choice, in their order.
     ///
     /// # Errors
     ///
-    /// Want of memory for the answers, before anything is done. Within a step it is answered by `NoMemory`.
+    /// Memory was refused for the answers; then no step was made. Memory refused within a step is its answer `NoMemory`.
     pub fn run(&mut self, choices: &[Choice]) -> Result<Vec<Answer>, AllocError>
         ensures steps { IfOk result (λ answers. StepsInOrder choices.now self.old answers.items self.new) }
         ensures goes_on { IfOk result (λ answers. GoesOn (accepted_in choices.now answers.items) (most_calls_of choices.now) self.old self.new) }
@@ -172,7 +175,7 @@ impl<S: Site> Alone<S> {
         &self.core
     }
 
-    /// The book and the site, as they are.
+    /// Takes the station apart into its book and its site, both unchanged.
     pub fn into_parts(self) -> (Core, S)
         ensures book { result.0 ≡ self.book }
         ensures line { S.line result.1 ≡ self.line }

@@ -1,34 +1,34 @@
 use book_model::{Fault, SubmitRefusal};
 use sii_edit::Command;
 
-/// What a station is to do next.
+/// A step of a station, as its caller chooses it.
 #[derive(Drop)]
 pub enum Choice {
-    /// A command is submitted.
+    /// Submit this command.
     Submit(Command),
-    /// The next action of the disk is carried out.
+    /// Carry out the book's next action for the disk.
     Disk,
-    /// The next word of this slave, numbered from 0, is issued, or the word that was issued is settled.
+    /// Carry out the book's next action for this slave, numbered from 0: issue its next word, or settle the word that was issued.
     Rom(u16),
-    /// The journal, if it is an old one, is to be migrated to version 2 once nothing is live.
+    /// Ask for the migration of an old journal to version 2, which begins once nothing is live.
     Migrate,
 }
 
-/// What came of it.
+/// The outcome of a step.
 #[derive(Clone, Copy, Debug, PartialEq, Eq)]
 pub enum Answer {
-    /// The command is accepted, and has this number.
+    /// The command was accepted. Its number is counted from 0 at the open.
     Accepted(u64),
-    /// The command isn't accepted.
+    /// The command was refused for this reason.
     Refused(SubmitRefusal),
-    /// It is done.
+    /// The action was carried out, or the migration was asked for.
     Did,
-    /// There was nothing to do now.
+    /// There was nothing to do now, or no migration to ask for.
     Idle,
-    /// There is nothing to do any more: a fault has closed the book, or there is no such slave.
+    /// There is nothing more to do: the book is closed, or there is no such slave.
     Ended,
-    /// It failed, and the book is closed.
+    /// The action failed, and this fault has closed the book.
     Failed(Fault),
-    /// There was no memory for it, and nothing has changed.
+    /// Memory was refused, and nothing has changed.
     NoMemory,
 }

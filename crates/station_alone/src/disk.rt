@@ -8,7 +8,7 @@ use book_model::{CoreFault, DiskNext};
 use site_core::Site;
 use site_journal::do_action;
 
-/// What is told where nothing is to be done with the disk.
+/// The answer if there is no action for the disk; `None` if there is one.
 fn told_at_once(action: &DiskNext) -> Option<Answer>
     ensures { result ≡ told_at_once action.now }
 {
@@ -19,7 +19,7 @@ fn told_at_once(action: &DiskNext) -> Option<Answer>
     }
 }
 
-/// Carries out the next action of the disk: it is handed out, done, and told to the book.
+/// Carries out the book's next action for the disk, and reports its outcome to the book.
 pub(crate) fn do_disk<S: Site>(core: &mut Core, site: &mut S) -> Answer
     requires { Stands (station core.old (S.line site.old) (S.seen site.old)) }
     ensures steps { StepsDisk (station core.old (S.line site.old) (S.seen site.old)) result (station core.new (S.line site.new) (S.seen site.new)) }
@@ -37,7 +37,7 @@ pub(crate) fn do_disk<S: Site>(core: &mut Core, site: &mut S) -> Answer
     outcome(core)
 }
 
-/// What came of an action that was carried out: the fault that it met, if any.
+/// The answer after an action was carried out: the fault of the book, if it has one now.
 pub(crate) fn outcome(core: &Core) -> Answer
     ensures { result ≡ done_with core.now.fault }
 {

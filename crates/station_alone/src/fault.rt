@@ -7,7 +7,7 @@ use thiserror::Error;
 /// Why a station can't be opened.
 #[derive(Clone, Copy, Debug, PartialEq, Eq, Error)]
 pub enum OpenFault {
-    /// The journal can't be read from the disk, or the disk holds none of this line.
+    /// The disk can't be read, or it holds no journal of this line.
     #[error("{0}")]
     Journal(ReadFault),
     /// A slave can't be opened or read.

@@ -1,4 +1,4 @@
-//! A station on one thread, over any site that has a disk and all its slaves: the book of commands, with each of its steps carried out.
+//! A station on one thread, over any site: commands, steps, recovery after a power cut, and migration of an old journal.
 #![tactic(auto)]
 
 mod alone;
@@ -8,11 +8,15 @@ mod fault;
 pub mod laws;
 mod migration;
 mod opening;
+mod recovery;
 mod rom;
+mod rounds;
+mod step;
 mod submit;
 
 pub use alone::Alone;
 pub use choice::{Answer, Choice};
 pub use fault::OpenFault;
 pub use opening::Found;
+pub use recovery::{Recovered, recover};
 pub use site_journal::format;

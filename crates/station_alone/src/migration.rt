@@ -6,7 +6,7 @@ ghost use Rattle.station_alone.specs.Steps.{AsksMigration};
 use crate::choice::Answer;
 use book_core::Core;
 
-/// Asks for a migration of an old journal. Whatever the site is, it has no part in it.
+/// Asks for the migration of an old journal. The site has no part in it.
 pub(crate) fn ask_migration(core: &mut Core) -> Answer
     ensures { (line : Line) (seen : Seen) → AsksMigration (station core.old line seen) result (station core.new line seen) }
 {

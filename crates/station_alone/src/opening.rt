@@ -1,41 +1,41 @@
 ghost use Rattle.std.specs.Prelude.{◌≡◌, ◌+◌, ◌<◌, ◌^◌, All, length, IfOk, IfErr, IsTrue};
-ghost use Rattle.edit_laws.specs.Fitting.{IsWord, WordsFit, PlantFits};
+ghost use Rattle.sii_edit.specs.Fitting.{IsWord, WordsFit, PlantFits};
 ghost use Rattle.book_model.specs.Entries.{entries_of};
-ghost use Rattle.site_line.specs.Owned.{OwnsAll};
+ghost use Rattle.esc_rom.specs.Owned.{OwnsAll};
 ghost use Rattle.station_alone.specs.Station.{station, Stands};
-ghost use Rattle.station_alone.specs.Opening.{Counts, FailsToOpen, OpensCounted, ReadsFound};
+ghost use Rattle.station_alone.specs.Opening.{CountsFound, FailsToOpen, OpensCounted, ReadsFound};
 
 use crate::fault::OpenFault;
 use book_core::Core;
+use esc_rom::{line_sizes, read_slaves};
 use jrn_format::{Batch, Journal};
 use sii_words::{Plant, Words};
 use site_core::Site;
 use site_journal::read_journal;
-use site_line::{line_sizes, read_slaves};
 use std::alloc::Global;
 
-/// What was live in a journal as a station was opened on it.
+/// What was live in the journal when a station was opened on it.
 #[derive(Clone, Copy, Debug, PartialEq, Eq)]
 pub struct Found {
-    /// How many batches.
+    /// Number of live batches.
     pub batches: u64,
-    /// How many commands they have.
+    /// Number of commands in these batches.
     pub commands: u64,
 }
 
-/// What was read: how many bytes the journal's area has, the journal, and the words of all slaves.
+/// What was read at the open: the length of the journal's area in bytes, the journal, and the words of all slaves.
 struct Reading {
     capacity: u32,
     journal: Journal,
     words: Vec<Words>,
 }
 
-/// Words of 16 bits.
+/// The words have 16 bits.
 fn words_fit(words: &[u16])
     ensures { All IsWord words.now }
 {}
 
-/// The words of a slave are such.
+/// The words of a slave have 16 bits, and their number too.
 fn slave_fits(words: &Words)
     ensures { WordsFit words.now }
 {
@@ -43,7 +43,7 @@ fn slave_fits(words: &Words)
     words_fit(words.as_slice());
 }
 
-/// So are those of a line.
+/// This holds of each slave of a line.
 fn plant_fits(plant: &Plant)
     ensures { PlantFits plant.now }
 {
@@ -52,7 +52,7 @@ fn plant_fits(plant: &Plant)
     }
 }
 
-/// How many batches these are, and how many commands they have.
+/// CountsFound the batches and their commands.
 fn count_found(batches: &[Batch]) -> Found
     requires { length batches.now + length (entries_of batches.now) < 2 ^ 64 }
     ensures batches { result.batches ≡ length batches.now }
@@ -68,7 +68,7 @@ fn count_found(batches: &[Batch]) -> Found
     }
 }
 
-/// Reads the journal of the disk, and then the words of the slaves.
+/// Reads the journal from the disk, and then the words of the slaves.
 fn read_found<S: Site>(alloc: Global, site: &mut S) -> Result<Reading, OpenFault>
     requires disk { IsTrue (S.line site.old).has_disk }
     requires slaves { OwnsAll (S.line site.old) }
@@ -86,11 +86,12 @@ fn read_found<S: Site>(alloc: Global, site: &mut S) -> Result<Reading, OpenFault
     })
 }
 
-/// Opens the book on the journal of the disk, and on the words of the slaves.
+/// Reads the disk and the slaves, and opens a book on what they hold.
 pub(crate) fn open_core<S: Site>(alloc: Global, site: &mut S) -> Result<(Core, Found), OpenFault>
     requires disk { IsTrue (S.line site.old).has_disk }
     requires slaves { OwnsAll (S.line site.old) }
-    ensures opens { IfOk result (λ opened. OpensCounted (S.line site.old) (S.seen site.old) (station opened.0 (S.line site.new) (S.seen site.new)) opened.1) }
+    ensures opens { IfOk result
+        (λ opened. OpensCounted (S.line site.old) (S.seen site.old) (station opened.0 (S.line site.new) (S.seen site.new)) opened.1) }
     ensures stands { IfOk result (λ opened. Stands (station opened.0 (S.line site.new) (S.seen site.new))) }
     ensures fails { IfErr result (λ fault. FailsToOpen (S.line site.old) (S.seen site.old) fault (S.line site.new) (S.seen site.new)) }
 {

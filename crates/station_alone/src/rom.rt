@@ -11,7 +11,7 @@ use book_model::{RomNext, RomOutcome};
 use esc_rom::{issue, settle};
 use site_core::{DeviceFault, Issued, Settled, Site};
 
-/// What the book is told of an issue.
+/// The outcome of an issue that is reported to the book.
 fn issue_outcome(came: Result<Issued, DeviceFault>) -> RomOutcome
     ensures { result ≡ issue_outcome came }
 {
@@ -21,7 +21,7 @@ fn issue_outcome(came: Result<Issued, DeviceFault>) -> RomOutcome
     }
 }
 
-/// What the book is told of a settle.
+/// The outcome of a settle that is reported to the book.
 fn settle_outcome(came: Result<Settled, DeviceFault>) -> RomOutcome
     ensures { result ≡ settle_outcome came }
 {
@@ -31,12 +31,12 @@ fn settle_outcome(came: Result<Settled, DeviceFault>) -> RomOutcome
     }
 }
 
-/// Carries out what is to be done next with a slave: it is handed out, done, and told to the book. What was handed out comes with the
-/// answer.
+/// Carries out the book's next action for a slave, and reports its outcome to the book. Also returns what was handed out.
 pub(crate) fn do_rom<S: Site>(core: &mut Core, site: &mut S, slave: u16) -> (RomNext, Answer)
     requires { Stands (station core.old (S.line site.old) (S.seen site.old)) }
     ensures next { result.0 ≡ (rom_next core.old slave).0 }
-    ensures serves { Serves (rom_next core.old slave).0 slave (station core.old (S.line site.old) (S.seen site.old)) result.1 (station core.new (S.line site.new) (S.seen site.new)) }
+    ensures serves { Serves (rom_next core.old slave).0 slave (station core.old (S.line site.old) (S.seen site.old)) result.1
+        (station core.new (S.line site.new) (S.seen site.new)) }
     ensures line { S.line site.new ≡ S.line site.old }
 {
     let next = core.rom_next(slave);

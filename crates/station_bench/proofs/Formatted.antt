@@ -1,4 +1,4 @@
--- A line that was formatted, as its files hold it.
+-- What the files of a line hold once its journal was formatted.
 use Rattle.std.proofs.Common.{◌≡◌, ℕ, List, [], ◌∷◌, Result, Ok, Err, OnOk, IfErr, length, map, sym, ap, ◌∙◌, subst, inl, inr}
 use Rattle.std.proofs.lemmas.List.{length-map}
 use Rattle.sii_words.specs.Words.{bytes_of}
@@ -13,7 +13,7 @@ use Rattle.station_bench.specs.Init.{Formats, HoldsEmpty, IsOfFormatting, IsUnfo
 use Rattle.station_bench.specs.Site.{files_of, switched_on, HoldsSite}
 use Rattle.station_bench.proofs.SwitchedOn.{with_words}
 
--- what is saved of it is an empty journal, and the words as they were
+-- the saved files are an empty journal, and the words as they were
 pub saves_empty : {T E : Type 0} (result : Result T E) (files : Known) (line : LineFile) (slaves : List (List ℕ)) (old new : Seen) (sizes : List ℕ) → sizes ≡ map length slaves → old ≡ switched_on slaves []
     → new.state.disk.bytes ≡ formatted (length sizes) line.area old.state.disk.bytes → new.state.halves ≡ old.state.halves → OnOk result (HoldsSite files line new.state) → OnOk result (HoldsEmpty files line slaves)
 saves_empty (Err fault) files line slaves old new sizes sized on bytes same held = tt
@@ -27,7 +27,7 @@ saves_empty (Ok done) files line slaves old new sizes sized on bytes same held =
     let Q : List (List ℕ) → Type 0 = λ words. HoldsAll files (files_of line) (formatted (length slaves) line.area [] ∷ words) in
     subst Q kept (subst P written held)
 
--- what became of the files
+-- how the files changed
 pub formats : (done : Type 0) (old mid new : Known) (name : List ℕ) (line : LineFile) (plant : List (List ℕ)) → IsUnformatted old name line plant → mid ≡ old → ChangesAmong mid new (files_of line) → (done → HoldsEmpty new line plant) → Formats done old new name
 formats done old mid new name line plant given same changes saved =
     let P : Known → Type 0 = λ files. ChangesAmong files new (files_of line) in

@@ -30,7 +30,7 @@ line_refused files name BadLine refused = refused
 line_refused files name (BadScript command) refused = refused
 line_refused files name Busy refused = refused
 
--- a file that was read is there
+-- a file that was read exists
 pub is_there : (old new : Known) (name spelt : List ℕ) (found : Option (Vec ℕ Global)) (bytes : Vec ℕ Global) → new ≡ old → spelt ≡ name → found ≡ Some bytes
     → IfSome (new spelt) (λ held. option_map (λ (b : Vec ℕ Global). b.items) found ≡ held) → Holds old name (λ b. ⊤)
 is_there old new name spelt found bytes same named is held =

@@ -3,7 +3,7 @@ use Rattle.std.proofs.Common.{◌≡◌, ◌≢◌, ℕ, List, [], ◌∷◌, Op
 use Rattle.std.proofs.lemmas.List.Elements.{Contains-append_left, Contains-append_right}
 use Rattle.station_files.specs.Files.{Known, HasBytes, ChangesOnly, ChangesAmong, HoldsAll}
 
--- the journal is there still, unless a slave's file has its name
+-- the journal's file keeps its bytes, unless a slave's file has the same name
 pub holds_line : (mid new : Known) (journal bytes : List ℕ) (names contents : List (List ℕ)) → HasBytes mid journal bytes → ChangesAmong mid new names → HoldsAll new names contents → HoldsAll new (journal ∷ names) (bytes ∷ contents)
 holds_line mid new journal bytes names contents here changes held =
     let P : Option (Option (List ℕ)) → Type 0 = λ found. IfSome found (λ h. IsSomeAnd h (λ there. bytes ≡ there)) in

@@ -6,19 +6,19 @@ use Rattle.std.specs.List.{AllByRecursion}
 use Rattle.sii_words.specs.Words.{bytes_of, IsDeviceSize}
 use Rattle.esc_model.specs.SlaveHalf.{SlaveHalf, powered_up}
 use Rattle.site_core.specs.State.{Seen, word_counts}
-use Rattle.site_line.specs.Owned.{OwnsAll}
+use Rattle.esc_rom.specs.Owned.{OwnsAll}
 use Rattle.site_shadow.specs.Line.{half_of, halves_of, owned}
 use Rattle.site_shadow.specs.Site.{IsWhole, SiteValue, value_of}
-use Rattle.disk_mem.specs.Unsynced.{of_bytes}
+use Rattle.site_shadow.specs.Unsynced.{of_bytes}
 use Rattle.station_bench.specs.Site.{powered_up_from, IsSiteOf}
 
--- one more slave behind the others
+-- one more slave after the others
 powered_up-append : (station place : ℕ) (slaves : List (List ℕ)) (words : List ℕ) → place ≡ station + length slaves → powered_up_from station (slaves ++ words ∷ []) ≡ powered_up_from station slaves ++ powered_up words place ∷ []
 powered_up-append station place [] words is = ap (λ at. powered_up words at ∷ []) (omega (arith, is))
 powered_up-append station place (first ∷ slaves) words is =
     ap (λ halves. powered_up first station ∷ halves) (powered_up-append (station + 1) place slaves words (omega (arith, is)))
 
--- the next of them
+-- the next slave is switched on
 pub powers_up_one_more : (halves : List (Option SlaveHalf)) (half : Option SlaveHalf) (slaves : List (List ℕ)) (place : ℕ) (words : List ℕ) (station : ℕ) → place < length slaves → words ≡ get_or slaves place words → station ≡ 4097 + place
     → halves_of halves ≡ powered_up_from 4097 (take place slaves) → half_of half ≡ powered_up words station → halves_of (halves ++ half ∷ []) ≡ powered_up_from 4097 (take (place + 1) slaves)
 powers_up_one_more halves half slaves place words station inside is at before here =
@@ -27,7 +27,7 @@ powers_up_one_more halves half slaves place words station inside is at before he
     ∙ sym (powered_up-append 4097 station (take place slaves) words (rw counted at))
     ∙ ap (λ all. powered_up_from 4097 all) (rw (take_more slaves place words inside, ← is) refl)
 
--- all of them are there, with their words
+-- there is one half for each slave, with its words
 pub as_many : (station : ℕ) (slaves : List (List ℕ)) → length (powered_up_from station slaves) ≡ length slaves
 as_many station [] = refl
 as_many station (words ∷ slaves) = ap suc (as_many (station + 1) slaves)
@@ -61,7 +61,7 @@ owned-at [] slave all below = absurd (omega arith)
 owned-at (n ∷ sizes) zero all below = ap Some (is_owned n all.0.0)
 owned-at (n ∷ sizes) (suc slave) all below = owned-at sizes slave all.1 (omega arith)
 
--- so many words each half has
+-- each half has as many words as its slave
 pub counted : (halves : List SlaveHalf) (slaves : List (List ℕ)) (sizes : List ℕ) → halves ≡ powered_up_from 4097 slaves → sizes ≡ map length slaves → word_counts halves ≡ sizes
 counted halves slaves sizes on sized = ap word_counts on ∙ with_counts 4097 slaves ∙ sym sized
 

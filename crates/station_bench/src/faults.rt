@@ -1,4 +1,4 @@
-//! The faults of devices, as they are printed.
+//! The program's faults for those of device calls.
 
 ghost use Rattle.std.specs.Prelude.{◌≡◌};
 ghost use Rattle.station_bench.specs.Faults.{of_device};
@@ -6,7 +6,7 @@ ghost use Rattle.station_bench.specs.Faults.{of_device};
 use site_core::DeviceFault;
 use station_files::Fault;
 
-/// The fault of a device call.
+/// The program's fault for a fault of a device call.
 pub fn of_device(fault: DeviceFault) -> Fault
     ensures { result ≡ of_device fault }
 {

@@ -15,15 +15,21 @@ use station_text::LineFile;
 use std::alloc::Global;
 use std::io::Write;
 
-/// What a journal is made for.
+/// A line without a journal, and the contents of its slaves.
 #[derive(Drop)]
 struct Unformatted {
     line: LineFile,
     slaves: Vec<Words>,
 }
 
-/// Makes an empty journal for the line whose line file has this name. The journal's file must not be there. The slaves' files are
-/// written as they were. Nothing is written where something couldn't be read.
+/// Makes an empty journal for the line whose line file is `name`, and prints the size of its area. The journal's file must not exist yet.
+/// The slaves' image files keep their words.
+///
+/// # Errors
+///
+/// As for `load_line` and `load_slaves`; `File` where the store can't tell whether the journal's file exists; `Exists` where it does. Nothing
+/// is written up to there. Then `Disk` or `Stopped`, as the disk in memory answers; the files are saved nevertheless. Then `File` or
+/// `Memory`, where a file can't be written or the output fails.
 pub fn init_line<S: Store, W: Write>(
     alloc: Global,
     name: &str,
@@ -48,7 +54,7 @@ fn print_formatted<W: Write>(area: u32, output: &mut W) -> Result<(), Fault>
     Ok(())
 }
 
-/// Reads the files in order: line, slaves. The journal's file must not be there.
+/// Reads the line file and then the images of the slaves. The journal's file must not exist.
 fn load_unformatted<S: Store>(
     alloc: Global,
     name: &str,
@@ -67,7 +73,7 @@ fn load_unformatted<S: Store>(
     }
 }
 
-/// Makes an empty journal for a line, and saves it with the slaves' words, also after a fault of the disk.
+/// Makes an empty journal in memory, and saves it with the words of the slaves, also after a fault of the disk.
 fn format_line<S: Store>(
     alloc: Global,
     line: &LineFile,

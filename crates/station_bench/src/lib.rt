@@ -1,4 +1,4 @@
-//! A line on which the program works: made of files, and saved to them.
+//! A line made of what its files hold, in memory or on open files, and saved to them; and `init`.
 #![tactic(auto)]
 
 mod faults;

@@ -1,4 +1,4 @@
-//! The files of a line are opened, for work on them in place.
+//! Opens the files of a line, for work on them in place.
 ghost use Rattle.std.specs.Prelude.{◌≡◌, map, string_bytes, IfErr};
 ghost use Rattle.station_files.specs.Faults.{IsOfStream};
 ghost use Rattle.station_files.specs.Files.{ChangesAmong};
@@ -9,11 +9,12 @@ use station_files::{Fault, Store};
 use station_text::LineFile;
 use std::alloc::Global;
 
-/// Opens the journal's file, and then the slaves' files in order.
+/// Opens the journal's file, and then the image files of the slaves in order. Each is synced as it is opened.
 ///
 /// # Errors
 ///
-/// `File` where one isn't there or can't be opened for reading and writing; `Memory`.
+/// `File` where one is absent, or can't be opened for reading and writing, or can't be synced; `Memory` at any point. The files opened
+/// before are closed.
 pub fn open_files<S: Store>(
     alloc: Global,
     line: &LineFile,
@@ -27,7 +28,7 @@ pub fn open_files<S: Store>(
     Ok(OpenFiles { journal, images })
 }
 
-/// Opens these files, one after the other.
+/// Opens the files `names`, in order.
 fn open_images<S: Store>(
     alloc: Global,
     names: &[String],

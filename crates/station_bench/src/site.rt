@@ -1,4 +1,4 @@
-//! A line made of the words and the bytes that its files hold, and saved to them.
+//! Makes a line in memory of the words and bytes that its files hold, and saves a line to its files.
 ghost use Rattle.std.specs.Prelude.{◌≡◌, ◌∷◌, ◌≤◌, length, map, string_bytes, IfErr, IfOk, IsTrue, OnOk};
 ghost use Rattle.std.specs.List.{AllByRecursion};
 ghost use Rattle.sii_words.specs.Words.{bytes_of, IsDeviceSize};
@@ -7,7 +7,7 @@ ghost use Rattle.station_files.specs.Faults.{IsOfStream};
 ghost use Rattle.station_files.specs.Files.{ChangesAmong, HoldsAll};
 ghost use Rattle.station_bench.specs.Site.{IsSiteOf, powered_up_from, files_of, HoldsSite};
 
-use esc_model::RomHalf;
+use esc_model::{FIRST_STATION, RomHalf};
 use sii_words::Words;
 use site_core::Site;
 use site_shadow::{Device, Parts, ShadowSite};
@@ -16,13 +16,14 @@ use station_text::LineFile;
 use std::alloc::{AllocError, Global};
 use std::io;
 
-/// The station address of the first slave. The others follow in order.
-const FIRST_STATION: u16 = 0x1001;
-
-/// For how many datagrams a slave stays busy with a command.
+/// How many datagrams a slave stays busy with an EEPROM command.
 const DELAY: u32 = 1;
 
-/// A line, just switched on, whose slaves have these words and whose disk has these bytes, with this device behind it.
+/// Makes a line, just switched on, of slaves with these words and a disk with these bytes, and `device` behind it. Requires 1 to 64 slaves.
+///
+/// # Errors
+///
+/// Memory was refused. The disk's bytes and the device are dropped.
 pub fn site_of<D: Device + Drop>(
     alloc: Global,
     slaves: &[Words],
@@ -44,7 +45,7 @@ pub fn site_of<D: Device + Drop>(
     Ok(ShadowSite::of_parts(alloc, parts, device))
 }
 
-/// How many words each slave has.
+/// The number of words of each slave.
 fn sizes_of(alloc: Global, slaves: &[Words]) -> Result<Vec<u16>, AllocError>
     ensures counts { IfOk result (λ sizes. sizes.items ≡ map length slaves.now) }
     ensures devices { IfOk result (λ sizes. AllByRecursion IsDeviceSize sizes.items) }
@@ -56,7 +57,7 @@ fn sizes_of(alloc: Global, slaves: &[Words]) -> Result<Vec<u16>, AllocError>
     Ok(sizes)
 }
 
-/// The halves of the slaves, just switched on.
+/// The EEPROM halves of the slaves, just switched on.
 fn power_up(alloc: Global, slaves: &[Words]) -> Result<Vec<Option<RomHalf>>, AllocError>
     requires { length slaves.now ≤ 64 }
     ensures { IfOk result (λ halves. halves_of halves.items ≡ powered_up_from 4097 slaves.now) }
@@ -69,8 +70,13 @@ fn power_up(alloc: Global, slaves: &[Words]) -> Result<Vec<Option<RomHalf>>, All
     Ok(halves)
 }
 
-/// Writes the journal, and each slave's words, to their files. A word in flight is saved as it was before. All memory is taken
-/// before the first file is written.
+/// Writes the bytes of the disk to the journal's file, and the words of each slave to its image file. A word in flight is saved with its
+/// old value. Requires a site with a disk and one slave for each image of the line file.
+///
+/// # Errors
+///
+/// `Memory` before any file is written; then `File` or `Memory`, as the store answers, with the files before that one written. The site is
+/// dropped.
 pub fn save_site<S: Store, D: Device + Drop>(
     alloc: Global,
     line: &LineFile,
@@ -95,7 +101,7 @@ pub fn save_site<S: Store, D: Device + Drop>(
     save_parts(alloc, line, &journal, &halves, store)
 }
 
-/// Writes these bytes to the journal's file, and the words of these halves to the slaves' files.
+/// Writes these bytes to the journal's file, and the words of these EEPROM halves to the slaves' image files.
 fn save_parts<S: Store>(
     alloc: Global,
     line: &LineFile,
@@ -104,7 +110,8 @@ fn save_parts<S: Store>(
     store: &mut S,
 ) -> Result<(), Fault>
     requires { length line.now.images.items ≡ length halves.now }
-    ensures saved { OnOk result (HoldsAll (S.files store.new) (files_of line.now) (journal.now ∷ map (λ half. bytes_of half.words) (halves_of halves.now))) }
+    ensures saved { OnOk result (HoldsAll (S.files store.new) (files_of line.now)
+        (journal.now ∷ map (λ half. bytes_of half.words) (halves_of halves.now))) }
     ensures others { ChangesAmong (S.files store.old) (S.files store.new) (files_of line.now) }
     ensures failed { IfErr result IsOfStream }
 {
@@ -113,7 +120,7 @@ fn save_parts<S: Store>(
     Ok(())
 }
 
-/// Makes these the bytes of the journal's file and of the slaves' files.
+/// Writes these bytes to the journal's file and to the slaves' image files.
 fn write_line<S: Store>(
     line: &LineFile,
     journal: &[u8],
@@ -139,7 +146,7 @@ fn spell_halves(alloc: Global, halves: &[Option<RomHalf>]) -> Result<Vec<Vec<u8>
     Ok(files)
 }
 
-/// The bytes of a slave's words: none where its half isn't there.
+/// The bytes of a slave's words; none where its half is absent.
 fn spell_half(alloc: Global, half: &Option<RomHalf>) -> Result<Vec<u8>, AllocError>
     ensures { IfOk result (λ file. file.items ≡ bytes_of (half_of half.now).words) }
 {

@@ -1,4 +1,4 @@
--- What is loaded from files one by one.
+-- Values that are loaded from files one by one.
 use Rattle.std.proofs.Common.{◌≡◌, ℕ, zero, suc, ◌+◌, ◌<◌, List, [], ◌∷◌, ◌++◌, Result, Ok, Err, IfErr, IfSome, IsSomeAnd, Option, Some, None, length, map, take, drop, get_or, String, Global, string_bytes, refl, sym, ap, ◌∙◌, subst, inl, inr, arith}
 use Rattle.std.proofs.lemmas.List.{take_more}
 use Rattle.std.specs.List.{AllZip}
@@ -15,14 +15,14 @@ AllZip-snoc R [] (b ∷ ys) x y all here = absurd all
 AllZip-snoc R (a ∷ xs) [] x y all here = absurd all
 AllZip-snoc R (a ∷ xs) (b ∷ ys) x y all here = (all.0, AllZip-snoc R xs ys x y all.1 here)
 
--- one more item is loaded, from files that are still the same
+-- one more item is loaded, from unchanged files
 pub loads_one_more : {A B : Type 0} (R : Known → A → B → Type 0) (old new : Known) (xs : List A) (i : ℕ) (item : A) (ys : List B) (y : B) → i < length xs → item ≡ get_or xs i item → new ≡ old → AllZip (R old) (take i xs) ys → R new item y → AllZip (R old) (take (i + 1) xs) (ys ++ y ∷ [])
 loads_one_more {A} {B} R old new xs i item ys y inside same still all here =
     let P : A → Type 0 = λ v. R old v y in
     let Q : Known → Type 0 = λ files. R files item y in
     rw (take_more xs i item inside) (AllZip-snoc (R old) (take i xs) ys (get_or xs i item) y all (subst P same (subst Q still here)))
 
--- the names before an item, its own, and those behind it
+-- the names before an item, its own name, and those after it
 split_at : {A B : Type 0} (f : A → B) (xs : List A) (i : ℕ) (d : A) → i < length xs → map f xs ≡ map f (take i xs) ++ f (get_or xs i d) ∷ map f (drop (suc i) xs)
 split_at f [] i d inside = absurd (omega (arith, inside))
 split_at f (x ∷ xs) zero d inside = refl
@@ -48,7 +48,7 @@ first_refused old new images i item name plant fault inside same named still goo
       bad = subst Q (named ∙ ap (λ image. string_bytes image) same) (subst P still refused);
     })
 
--- what is so of the bytes is so of what the file holds
+-- a property of the bytes that were read is a property of the file
 pub of_held : (P : List ℕ → Type 0) (files : Known) (name bytes : List ℕ) → HasBytes files name bytes → P bytes → Holds files name P
 of_held P files name bytes same here = of_found (files name) same where
   of_found : (found : Option (Option (List ℕ))) → IfSome found (λ held. IsSomeAnd held (λ there. bytes ≡ there)) → IfSome found (λ held. IsSomeAnd held P)
@@ -79,7 +79,7 @@ plant_refused files name Unserved refused = refused
 plant_refused files name Exists refused = refused
 plant_refused files name Busy refused = refused
 
--- the error of a call that is handed on
+-- the error of a call that is passed on
 pub handed_on : {A : Type 0} (P : Fault → Type 0) (result : Result A Fault) (fault : Fault) → IsErrAnd result (λ error. error ≡ fault) → P fault → IfErr result P
 handed_on P (Ok x) fault gave holds = absurd gave
 handed_on P (Err error) fault gave holds = subst P (sym gave) holds

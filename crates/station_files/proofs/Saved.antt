@@ -31,7 +31,7 @@ write_step old new images files i image file name bytes in_images in_files is_im
     rw (map_more (λ (n : String Global). string_bytes n) images i image in_images, map_more (λ (f : Vec ℕ Global). f.items) files i file in_files, ← e1, ← e2)
     (holds_one_more old new (map (λ n. string_bytes n) (take i images)) (map (λ f. f.items) (take i files)) name bytes held changes here)
 
--- what isn't named stays as it was
+-- a file that isn't named stays as it was
 pub others_step : (start old new : Known) (images : List (String Global)) (i : ℕ) (image : String Global) (name : List ℕ) → i < length images → image ≡ get_or images i image → name ≡ string_bytes image
     → ChangesAmong start old (map (λ n. string_bytes n) images) → ChangesOnly old new name → ChangesAmong start new (map (λ n. string_bytes n) images)
 others_step start old new images i image name inside is_image named before changes = λ other absent.

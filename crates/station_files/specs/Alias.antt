@@ -1,4 +1,4 @@
--- What `alias` does to an image, and when it does nothing.
+-- What `alias` writes, and why it refuses an image.
 use Rattle.std.specs.Prelude.{◌≡◌, ℕ, Bool, List, Option, IfSome}
 use Rattle.std.specs.Io.KnownBytes.{Appends}
 use Rattle.sii_words.specs.CheckByte.{IsChecked}
@@ -10,8 +10,8 @@ use Rattle.station_files.specs.declared.faults.Failure.{Failure}
 use Rattle.station_files.specs.declared.faults.Failure.TheVariants.{Fault, Refused}
 use Rattle.station_files.specs.ImageText.{RefusesInput, Spells, SpellsLower}
 
--- The image that the input spells is written with this alias and the check byte that goes with it, and else as it was. Its
--- check byte was right.
+-- The input spells an image with a right check byte. What is appended to the output spells the same image with this alias and its new
+-- check byte.
 pub record Renames (hex : Bool) (value : ℕ) (input before after : Option (List ℕ)) : Type 0 where
   pub old : List ℕ
   pub new : List ℕ
@@ -22,7 +22,7 @@ pub record Renames (hex : Bool) (value : ℕ) (input before after : Option (List
   pub spelt : SpellsLower hex text (bytes_of new)
   pub written : Appends before after text
 
--- why an image isn't renamed: it can't be read, or its check byte is wrong
+-- why the alias isn't set: the image can't be read, or its check byte is wrong
 abbrev pub RefusesAlias : Bool → List ℕ → Failure → Type 0
 RefusesAlias hex input (Fault fault) = RefusesInput hex input fault
 RefusesAlias hex input (Refused refusal) =

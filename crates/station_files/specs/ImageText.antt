@@ -1,4 +1,4 @@
--- The bytes of an image as the program reads and writes them: as they are, or with `--hex` as hexadecimal text.
+-- An image as the program reads and writes it: as bytes, or with `--hex` as hexadecimal text.
 use Rattle.std.specs.Prelude.{◌≡◌, ◌⊎◌, ◌/◌, ◌%◌, ℕ, Bool, true, List, length, Ok, IsErr, MatchBool, IsUtf8, ⊤}
 use Rattle.hex.specs.Hex.{decode_of, encode_lower}
 use Rattle.sii_words.specs.Words.{IsImageSize}
@@ -6,25 +6,25 @@ use Rattle.station_text.specs.Hexadecimal.{without_whitespace}
 use Rattle.station_files.specs.declared.faults.Fault.{Fault}
 use Rattle.station_files.specs.declared.faults.Fault.TheVariants.{OddLength, BadSize, BadHex, Memory, File}
 
--- an input that spells these bytes, with digits of either case
+-- the input spells these bytes; hexadecimal digits may be of either case
 abbrev pub Spells : Bool → List ℕ → List ℕ → Type 0
 Spells hex input bytes = MatchBool hex (decode_of (without_whitespace input) ≡ Ok bytes) (bytes ≡ input)
 
--- an output that spells these bytes, with lower case digits
+-- the output spells these bytes; hexadecimal digits are lower case
 abbrev pub SpellsLower : Bool → List ℕ → List ℕ → Type 0
 SpellsLower hex output bytes = MatchBool hex (without_whitespace output ≡ encode_lower bytes) (output ≡ bytes)
 
--- a text that is not pairs of hexadecimal digits
+-- the text is not pairs of hexadecimal digits
 abbrev pub IsNoHex : List ℕ → Type 0
 IsNoHex text = (¬ IsUtf8 text) ⊎ IsErr (decode_of (without_whitespace text))
 
--- the bytes of an image that isn't read, by its fault
+-- these bytes are not an image, for the reason that the fault names
 abbrev pub IsNoImage : Fault → List ℕ → Type 0
 IsNoImage OddLength bytes = length bytes % 2 ≡ 1
 IsNoImage BadSize bytes = (length bytes % 2 ≡ 0) × ¬ IsImageSize (length bytes / 2)
 IsNoImage _ bytes = ⊥
 
--- the fault of an input from which no image is read
+-- the input may be refused with this fault
 abbrev pub RefusesInput : Bool → List ℕ → Fault → Type 0
 RefusesInput hex input File = ⊤
 RefusesInput hex input Memory = ⊤

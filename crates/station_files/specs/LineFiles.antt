@@ -1,4 +1,4 @@
--- The line that files spell: the line file, and the files of the slaves that it names.
+-- A line in files: the line file, and the image files that it names.
 use Rattle.std.specs.Prelude.{◌≡◌, ◌⊎◌, ◌/◌, ◌%◌, ℕ, List, ◌∷◌, ◌++◌, length, map, IsSomeAnd, IsUtf8, None, string_bytes, ⊤}
 use Rattle.std.specs.List.{AllZip}
 use Rattle.toml.specs.Parse.{parse_document}
@@ -12,7 +12,7 @@ use Rattle.station_files.specs.Files.{Known, Holds, HasBytes}
 use Rattle.station_files.specs.declared.faults.Fault.{Fault}
 use Rattle.station_files.specs.declared.faults.Fault.TheVariants.{OddLength, BadSize, ImageOverLimit, BadLine, Memory, File}
 
--- the file of this name spells these words
+-- the file of this name has these words, low byte first
 abbrev pub SpellsWords : Known → List ℕ → List ℕ → Type 0
 SpellsWords files name words = HasBytes files name (bytes_of words)
 
@@ -24,31 +24,31 @@ DescribesLine text line = IsSomeAnd (parse_document text) (λ document. Describe
 abbrev pub SpellsLine : Known → List ℕ → LineFile → Type 0
 SpellsLine files name line = Holds files name (λ text. DescribesLine text line)
 
--- a text that describes no line
+-- the text describes no line
 abbrev pub IsNoLine : List ℕ → Type 0
 IsNoLine text = (¬ IsUtf8 text) ⊎ ((line : LineFile) → ¬ DescribesLine text line)
 
--- the names of the slaves' files, in order
+-- the names of the slaves' image files, in order
 abbrev pub names_of : LineFile → List (List ℕ)
 names_of line = map (λ name. string_bytes name) line.images.items
 
--- the file of each slave of a line spells its words
+-- the image file of each slave has the words of the plant
 abbrev pub SpellsSlaves : Known → LineFile → List (List ℕ) → Type 0
 SpellsSlaves files line plant = AllZip (SpellsWords files) (names_of line) plant
 
--- the line file of this name, and the files of the slaves that it names, spell these contents
+-- the line file of this name and the image files that it names spell this plant
 pub record SpellsPlant (files : Known) (name : List ℕ) (plant : List (List ℕ)) : Type 0 where
   pub line : LineFile
   pub described : SpellsLine files name line
   pub slaves : SpellsSlaves files line plant
 
--- the listing of the process image of the contents that these files spell
+-- this is the listing of the process image of the plant that the files spell
 pub record ListsFiles (files : Known) (name : List ℕ) (listing : LayoutListing) : Type 0 where
   pub plant : List (List ℕ)
   pub spelt : SpellsPlant files name plant
   pub image : IsSomeAnd (process_image plant) (λ image. Lists image listing)
 
--- the fault of a file: it can't be read, memory is refused, or its bytes are not the words of a device
+-- the fault for an image file: it can't be read, memory was refused, or its bytes are not the words of a device
 abbrev pub RefusesWords : Known → List ℕ → Fault → Type 0
 RefusesWords files name File = ⊤
 RefusesWords files name Memory = ⊤
@@ -56,7 +56,7 @@ RefusesWords files name OddLength = Holds files name (λ bytes. length bytes % 2
 RefusesWords files name BadSize = Holds files name (λ bytes. (length bytes % 2 ≡ 0) × ¬ IsDeviceSize (length bytes / 2))
 RefusesWords files name _ = ⊥
 
--- the fault of the first of these files that is refused
+-- this is the fault of the first bad file: all files before it spell words
 pub record RefusesFirst (files : Known) (names : List (List ℕ)) (fault : Fault) : Type 0 where
   pub before : List (List ℕ)
   pub name : List ℕ
@@ -66,25 +66,24 @@ pub record RefusesFirst (files : Known) (names : List (List ℕ)) (fault : Fault
   pub good : AllZip (SpellsWords files) before words
   pub bad : RefusesWords files name fault
 
--- the fault of slaves' files: memory is refused, or the first file that is refused has it
+-- the fault for the image files: memory was refused, or it is the fault of the first bad file
 abbrev pub RefusesSlaves : Known → List (List ℕ) → Fault → Type 0
 RefusesSlaves files names Memory = ⊤
 RefusesSlaves files names fault = RefusesFirst files names fault
 
--- the fault of a line file: it can't be read, memory is refused, or its text describes no line
+-- the fault for a line file: it can't be read, memory was refused, or its text describes no line
 abbrev pub RefusesLine : Known → List ℕ → Fault → Type 0
 RefusesLine files name File = ⊤
 RefusesLine files name Memory = ⊤
 RefusesLine files name BadLine = Holds files name IsNoLine
 RefusesLine files name _ = ⊥
 
--- the fault of a line: of its line file, or of the first slave's file that is refused
+-- the fault for a line: that of its line file, or that of its image files
 abbrev pub RefusesPlant : Known → List ℕ → Fault → Type 0
 RefusesPlant files name fault =
     RefusesLine files name fault ⊎ ((line : LineFile) × SpellsLine files name line × RefusesSlaves files (names_of line) fault)
 
--- the fault of a line whose process image isn't listed: its files are refused, there is no image, or the listing couldn't be
--- made or written
+-- the fault for a listing of the process image: a file is bad, there is no process image, memory was refused, or the output failed
 abbrev pub RefusesLayout : Known → List ℕ → Fault → Type 0
 RefusesLayout files name ImageOverLimit = (plant : List (List ℕ)) × SpellsPlant files name plant × (process_image plant ≡ None)
 RefusesLayout files name File = ⊤

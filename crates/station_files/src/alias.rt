@@ -8,8 +8,13 @@ use sii_edit::alias_image;
 use std::alloc::Global;
 use std::io::{Read, Write};
 
-/// Reads an image, sets its alias and check byte, and writes it. An image whose check byte is wrong is refused. Nothing is
-/// written where it is refused or can't be read.
+/// Reads an EEPROM image, sets its configured station alias to `value`, updates the check byte, and writes the image. With `hex` input
+/// and output are hexadecimal text.
+///
+/// # Errors
+///
+/// As for `read_image`; then the refusal `BadCheck`, where the check byte of the image is wrong; then as for `write_image`. Nothing is
+/// written before the image is read and accepted.
 pub fn set_alias<R: Read, W: Write>(
     alloc: Global,
     value: u16,

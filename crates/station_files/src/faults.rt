@@ -1,85 +1,110 @@
-//! Why the program ends early or doesn't carry a command out, as it is printed, and the status it ends with.
-ghost use Rattle.std.specs.Prelude.{◌≡◌, ◌≢◌};
-ghost use Rattle.station_files.specs.Faults.{IsFaultless, IsOfStream, of_hex, of_line, of_process_image, of_words};
+//! Faults and refusals as the program prints them, and the exit status for each.
+ghost use Rattle.std.specs.Prelude.{◌≡◌, ◌≢◌, ◌≤◌, ◌⊎◌};
+ghost use Rattle.station_files.specs.Faults.{IsFaultless, IsOfStream, code_of, number_of, of_hex, of_line, of_process_image, of_words, status_of};
 
 use sii_edit::{Cause, Refusal};
 use sii_image::ImageFault;
 use sii_words::WordsFault;
-use station_codes::Code;
+use station_listing::Code;
 use station_text::{HexFault, LineFault, ScriptFault};
 use std::alloc::{AllocError, AllocFailed};
 use std::{fmt, io};
 
-/// What ends the program early.
+/// A fault that ends the program early. `Code` has the number and the name that it is printed with.
 #[derive(Clone, Copy)]
 pub enum Fault {
+    /// An image has an odd number of bytes.
     OddLength,
+    /// An image has a wrong number of words.
     BadSize,
+    /// The line has no process image: more than 1,486 bytes in all, or more than 8 segments in one slave.
     ImageOverLimit,
+    /// Memory was refused.
     Memory,
+    /// A read, a write or a sync of the disk failed.
     Disk,
+    /// A frame was lost.
     Lost,
+    /// The site has stopped, as at a power cut.
     Stopped,
-    /// The place of the slave that is dead.
+    /// The station gave up a slave; `slave` is its position on the line, from 0.
     SlaveDead { slave: u16 },
+    /// The file is shorter than a journal's header, or its file gate isn't 0xA5.
     NotAJournal,
-    /// The version byte.
+    /// The journal's version is unknown; `found` is its version byte.
     BadVersion { found: u8 },
-    /// The byte of the journal from which on it can't be read.
+    /// The journal is damaged; `at` is the first byte of its file that can't be read.
     BadJournal { at: usize },
+    /// The journal belongs to another line.
     WrongLine,
+    /// Work was left undone, and no other fault says why.
     Unserved,
+    /// A file or a stream can't be read or written.
     File,
+    /// The input is not hexadecimal text.
     BadHex,
+    /// The text is not a line file.
     BadLine,
-    /// The place of the first bad command of a script, counted from 0; 0 where the text as a whole is bad.
+    /// The text is not a script; `command` is the place of the first bad command, from 0, and 0 where the text as a whole is bad.
     BadScript { command: usize },
-    /// There is a journal's file already.
+    /// The journal's file exists already.
     Exists,
-    /// Another station works on the journal.
+    /// Another station has locked the journal.
     Busy,
 }
 
-/// A refused command, as it is printed: why, and for an edit of a group which edit it was, counted from 0.
+/// A refused command, as it is printed.
 #[derive(Clone, Copy)]
 pub struct Refused {
+    /// The cause.
     pub code: Code,
+    /// The position of the refused edit in its group, from 0; `None` where the command as a whole is refused.
     pub position: Option<u8>,
 }
 
-/// Why a subcommand's work wasn't done.
+/// Why a subcommand failed.
 #[derive(Clone, Copy)]
 pub enum Failure {
+    /// A fault ended it.
     Fault(Fault),
+    /// Its command was refused.
     Refused(Refusal),
 }
 
-/// What the program ends with. The highest that applies wins.
+/// The exit status of the program. The highest that applies wins.
 #[derive(Clone, Copy, PartialEq, PartialOrd)]
-pub enum Status {
+pub enum ExitStatus {
+    /// Everything was done.
     Done = 0,
+    /// A command was refused.
     Refused = 1,
+    /// The arguments are wrong.
     Usage = 2,
+    /// A file can't be read or written, or its content is wrong.
     File = 3,
+    /// A device failed, or the power was cut.
     Device = 4,
+    /// Memory was refused.
     Memory = 5,
 }
 
-/// The one that wins where both apply.
-pub fn worse(one: Status, other: Status) -> Status
-    ensures done { result ≡ Status.Done → (one ≡ Status.Done) × (other ≡ Status.Done) }
+/// The higher of two statuses, which wins where both apply.
+pub fn worse(one: ExitStatus, other: ExitStatus) -> ExitStatus
+    ensures one { (result ≡ one) ⊎ (result ≡ other) }
+    ensures highest { (number_of one ≤ number_of result) × (number_of other ≤ number_of result) }
+    ensures done { result ≡ ExitStatus.Done → (one ≡ ExitStatus.Done) × (other ≡ ExitStatus.Done) }
     ensures faultless { IsFaultless result → IsFaultless one × IsFaultless other }
 {
     match (one, other) {
-        (Status::Done, _) => other,
-        (_, Status::Done) => one,
+        (ExitStatus::Done, _) => other,
+        (_, ExitStatus::Done) => one,
         _ if one < other => other,
         _ => one,
     }
 }
 
 impl Fault {
-    /// The code that it is printed with.
+    /// The code that the fault is printed with.
     pub fn code(self) -> Code {
         match self {
             Fault::OddLength => Code::OddLength,
@@ -104,23 +129,24 @@ impl Fault {
         }
     }
 
-    /// The status that the program ends with.
-    pub fn status(self) -> Status
-        ensures done { result ≢ Status.Done }
+    /// The exit status for this fault: `File`, `Device` or `Memory`.
+    pub fn status(self) -> ExitStatus
+        ensures exact { result ≡ status_of self }
+        ensures done { result ≢ ExitStatus.Done }
         ensures fault { ¬ IsFaultless result }
     {
         match self {
-            Fault::Memory => Status::Memory,
+            Fault::Memory => ExitStatus::Memory,
             Fault::Disk
             | Fault::Lost
             | Fault::Stopped
             | Fault::SlaveDead { .. }
-            | Fault::Unserved => Status::Device,
-            _ => Status::File,
+            | Fault::Unserved => ExitStatus::Device,
+            _ => ExitStatus::File,
         }
     }
 
-    /// The number that is printed behind its code, if there is one.
+    /// The number that is printed after the code, if there is one.
     fn detail(self) -> Option<usize> {
         match self {
             Fault::SlaveDead { slave } => Some(usize::from(slave)),
@@ -133,21 +159,21 @@ impl Fault {
 }
 
 impl Refused {
-    /// The status that the program ends with.
-    pub fn status(self) -> Status
-        ensures { result ≢ Status.Done }
+    /// The exit status for this refusal: `Memory` where memory was refused, `Refused` otherwise.
+    pub fn status(self) -> ExitStatus
+        ensures { result ≢ ExitStatus.Done }
     {
         match self.code {
-            Code::Memory => Status::Memory,
-            _ => Status::Refused,
+            Code::Memory => ExitStatus::Memory,
+            _ => ExitStatus::Refused,
         }
     }
 }
 
 impl Failure {
-    /// The status that the program ends with.
-    pub fn status(self) -> Status
-        ensures { result ≢ Status.Done }
+    /// The exit status for this failure, which is never `Done`.
+    pub fn status(self) -> ExitStatus
+        ensures { result ≢ ExitStatus.Done }
     {
         match self {
             Failure::Fault(fault) => fault.status(),
@@ -279,8 +305,10 @@ impl From<Refusal> for Refused {
     }
 }
 
-/// The code of what speaks against a command.
-fn code_of(cause: Cause) -> Code {
+/// The code of the cause of a refusal.
+fn code_of(cause: Cause) -> Code
+    ensures { result ≡ code_of cause }
+{
     match cause {
         Cause::BadCategory { .. } => Code::BadCategory,
         Cause::NoRoom => Code::NoRoom,

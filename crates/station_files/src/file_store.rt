@@ -1,4 +1,4 @@
-//! The system's files.
+//! The files of the operating system as a store.
 
 use crate::reading::read_to_end;
 use crate::replacing::{holds, replace, sync_folder};
@@ -9,29 +9,29 @@ use std::fs::{File, Files, OpenOptions, TryLockError};
 use std::os::unix::fs::{FileExt, MetadataExt};
 use std::{fs, io};
 
-/// The system's files. A name without a leading slash is relative to the current folder.
+/// The files of the operating system. A name without a leading slash is relative to the current folder.
 #[derive(Drop)]
 pub struct FileStore<'r, R> {
     files: &'r R,
     alloc: Global,
-    /// The files that were put in place of others, locked, so that the lock of a journal that is replaced lasts.
+    /// The files that replaced others, kept open: each is locked, so the lock of a journal survives its replacement.
     replaced: Vec<File>,
 }
 
-/// A file of the system, open for reading and writing.
+/// A file of the operating system, open for reading and writing at byte offsets.
 #[derive(Drop)]
 pub struct SystemFile {
     file: File,
 }
 
-/// The lock of a file of the system.
+/// A lock (`flock`) on a file of the operating system, held until it is dropped.
 #[derive(Drop)]
 pub struct SystemLock {
     _file: File,
 }
 
 impl<'r, R> FileStore<'r, R> {
-    /// The files that are reached by this handle.
+    /// A store over the files that `files` gives access to.
     pub fn new(alloc: Global, files: &'r R) -> Self {
         FileStore {
             files,
@@ -89,7 +89,7 @@ impl<R: Files<File = File>> Store for FileStore<'_, R> {
     }
 }
 
-/// Whether this is still the file of this name: another station may have replaced it since it was opened.
+/// Whether `name` still names the open file: another station may have replaced it in the meantime.
 fn is_in_place<R: Files>(files: &R, file: &File, name: &str) -> io::Result<bool> {
     let found = fs::metadata(files, name)?;
     let opened = file.metadata()?;

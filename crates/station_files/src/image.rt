@@ -1,4 +1,4 @@
-//! One image between standard input and standard output, as bytes or as hexadecimal text.
+//! Reads one EEPROM image from a stream and writes one, as bytes or as hexadecimal text.
 ghost use Rattle.std.specs.Prelude.{◌≡◌, List, ℕ, IfOk, IfErr, IfSome, OnOk};
 ghost use Rattle.std.specs.Io.KnownBytes.{Appends};
 ghost use Rattle.sii_words.specs.Words.{bytes_of};
@@ -13,7 +13,12 @@ use station_text::{hex_lines, read_hex};
 use std::alloc::{AllocError, Global};
 use std::io::{Read, Write};
 
-/// Reads an image of 64 to 4,096 words, to the reader's end.
+/// Reads an EEPROM image of 64 to 4,096 words from a reader, up to its end. With `hex` the input is hexadecimal text.
+///
+/// # Errors
+///
+/// `File` where the input can't be read; with `hex`, `BadHex` where it is not pairs of hexadecimal digits; `OddLength` for an odd number
+/// of bytes; `BadSize` for a wrong number of words. `Memory` may come at any point.
 pub fn read_image<R: Read>(alloc: Global, hex: bool, input: &mut R) -> Result<ImageFile, Fault>
     ensures read { IfOk result (λ image. IfSome (R.remaining input.old) (λ text. Spells hex text (bytes_of image))) }
     ensures refused { IfErr result (λ fault. IfSome (R.remaining input.old) (λ text. RefusesInput hex text fault)) }
@@ -22,7 +27,7 @@ pub fn read_image<R: Read>(alloc: Global, hex: bool, input: &mut R) -> Result<Im
     spelt_image(alloc, hex, &bytes)
 }
 
-/// The image that these bytes spell.
+/// The image that `input` holds: its bytes, or with `hex` their hexadecimal text.
 fn spelt_image(alloc: Global, hex: bool, input: &[u8]) -> Result<ImageFile, Fault>
     ensures read { IfOk result (λ image. Spells hex input.now (bytes_of image)) }
     ensures refused { IfErr result (RefusesInput hex input.now) }
@@ -37,7 +42,11 @@ fn spelt_image(alloc: Global, hex: bool, input: &[u8]) -> Result<ImageFile, Faul
     Ok(ImageFile::from_bytes(alloc, &spelt)?)
 }
 
-/// Writes an image. Nothing is written where memory is refused.
+/// Writes an EEPROM image and flushes the output. With `hex` it writes lower case digits, 16 bytes a line.
+///
+/// # Errors
+///
+/// `Memory` before anything is written; then `File` or `Memory`, as the output answers, with part of the image written.
 pub fn write_image<W: Write>(
     alloc: Global,
     hex: bool,
@@ -52,7 +61,7 @@ pub fn write_image<W: Write>(
     write_whole(&text, output)
 }
 
-/// What an image's bytes are written as.
+/// The output for an image: its bytes, or with `hex` their hexadecimal text.
 fn spell_image(alloc: Global, hex: bool, image: &ImageFile) -> Result<Vec<u8>, AllocError>
     ensures { IfOk result (λ text. SpellsLower hex text.items (bytes_of image.now)) }
 {

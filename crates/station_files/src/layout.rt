@@ -11,8 +11,13 @@ use station_listing::{LayoutListing, list_layout};
 use std::alloc::Global;
 use std::io::Write;
 
-/// Reads a line and its slaves' files as they are, and prints the line's process image. The journal isn't read, and no file
-/// is written. Nothing is printed where there is no image, or where memory is refused.
+/// Prints the process image of the line whose line file is `line`, from the images of its slaves. The journal isn't read, and no file
+/// is written.
+///
+/// # Errors
+///
+/// As for `load_plant`; then `ImageOverLimit`, where the line has no process image, or `Memory`; then as for `print_listing`. Nothing is
+/// printed before the listing is complete.
 pub fn show_layout<S: Store, W: Write>(
     alloc: Global,
     line: &str,
@@ -28,7 +33,7 @@ pub fn show_layout<S: Store, W: Write>(
     Ok(())
 }
 
-/// Lists the process image of a line whose line file has this name.
+/// Lists the process image of the line whose line file is `name`.
 fn list_line<S: Store>(alloc: Global, name: &str, store: &mut S) -> Result<LayoutListing, Fault>
     ensures listing { IfOk result (ListsFiles (S.files store.old) name.now) }
     ensures refused { IfErr result (RefusesLayout (S.files store.old) name.now) }

@@ -1,5 +1,5 @@
-//! The files of a line and of a script as values, and back; the faults that they end in; and what the program does without a
-//! journal.
+//! Reads the files of a line and of a script into values and writes them back, prints faults, and does the subcommands that need no
+//! journal: `alias`, `show` and `layout`.
 #![tactic(auto)]
 
 mod alias;
@@ -19,7 +19,7 @@ mod show;
 mod store;
 
 pub use alias::set_alias;
-pub use faults::{Failure, Fault, Refused, Status, worse};
+pub use faults::{ExitStatus, Failure, Fault, Refused, worse};
 pub use file_store::{FileStore, SystemFile, SystemLock};
 pub use layout::show_layout;
 pub use line::{load_line, load_slaves};

@@ -1,4 +1,4 @@
-//! A line, from the files that say what it is and what its slaves hold.
+//! Reads the files of a line: the line file, and the EEPROM image of each slave.
 ghost use Rattle.std.specs.Prelude.{◌≡◌, IfOk, IfErr, vec_len};
 ghost use Rattle.station_files.specs.LineFiles.{names_of, RefusesLine, RefusesPlant, RefusesSlaves, RefusesWords, SpellsLine, SpellsPlant, SpellsSlaves, SpellsWords};
 
@@ -8,7 +8,11 @@ use sii_words::{Plant, Words};
 use station_text::{LineFile, read_line};
 use std::alloc::Global;
 
-/// Reads the line file of this name.
+/// Reads the line file `name`.
+///
+/// # Errors
+///
+/// `File` where it is absent or can't be read; `BadLine` where it is not UTF-8 or not a line file; `Memory` at any point.
 pub fn load_line<S: Store>(alloc: Global, name: &str, store: &mut S) -> Result<LineFile, Fault>
     ensures line { IfOk result (SpellsLine (S.files store.old) name.now) }
     ensures refused { IfErr result (RefusesLine (S.files store.old) name.now) }
@@ -21,7 +25,12 @@ pub fn load_line<S: Store>(alloc: Global, name: &str, store: &mut S) -> Result<L
     Ok(read_line(alloc, text)?)
 }
 
-/// Reads each slave's file, in the line's order. Each is judged before the next is read.
+/// Reads the EEPROM image of each slave, in the order of the line. Each file is judged before the next one is read.
+///
+/// # Errors
+///
+/// The fault of the first bad file: `File` where it is absent or can't be read; `OddLength`; `BadSize` where its words are not 64 to
+/// 4,096, a multiple of 64. `Memory` may come at any point.
 pub fn load_slaves<S: Store>(
     alloc: Global,
     line: &LineFile,
@@ -51,7 +60,11 @@ fn load_slave<S: Store>(alloc: Global, name: &str, store: &mut S) -> Result<Word
     Ok(Words::from_bytes(alloc, &bytes)?)
 }
 
-/// The contents of a line whose line file has this name.
+/// Reads the contents of the line whose line file is `name`.
+///
+/// # Errors
+///
+/// As for `load_line`, then as for `load_slaves`.
 pub fn load_plant<S: Store>(alloc: Global, name: &str, store: &mut S) -> Result<Plant, Fault>
     ensures plant { IfOk result (SpellsPlant (S.files store.old) name.now) }
     ensures refused { IfErr result (RefusesPlant (S.files store.old) name.now) }

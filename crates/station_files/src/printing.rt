@@ -8,7 +8,11 @@ use std::alloc::Global;
 use std::fmt::Display;
 use std::io::Write;
 
-/// Prints a listing. Nothing is printed where memory is refused.
+/// Prints a listing and flushes the output.
+///
+/// # Errors
+///
+/// `Memory` before anything is printed; then `File` or `Memory`, as the output answers, with part of the listing printed.
 pub fn print_listing<L: Display, W: Write>(
     alloc: Global,
     listing: &L,
@@ -20,7 +24,11 @@ pub fn print_listing<L: Display, W: Write>(
     write_whole(text.as_bytes(), output)
 }
 
-/// Writes these bytes, with nothing left in a buffer.
+/// Writes all of `bytes` and flushes the output.
+///
+/// # Errors
+///
+/// `File` or `Memory`, as the output answers. Part of the bytes may be written.
 pub fn write_whole<W: Write>(bytes: &[u8], output: &mut W) -> Result<(), Fault>
     ensures written { OnOk result (Appends (W.contents output.old) (W.contents output.new) bytes.now) }
     ensures failed { IfErr result IsOfStream }

@@ -1,4 +1,4 @@
-//! Reading a stream to its end.
+//! Reads a stream to its end.
 ghost use Rattle.std.specs.Prelude.{◌≡◌, IfOk, IfSome, OnOk};
 ghost use Rattle.std.specs.Io.KnownBytes.{IsAtEnd};
 
@@ -6,8 +6,11 @@ use std::alloc::Global;
 use std::io;
 use std::io::Read;
 
-/// All bytes that a reader still has. A read that was interrupted is tried again. A reader that gives no end within 1,048,576
-/// reads is an error.
+/// Reads all remaining bytes of a reader. An interrupted read is tried again.
+///
+/// # Errors
+///
+/// The error of the reader; or memory was refused; or the reader reported no end within 1,048,576 reads. What was read is lost.
 pub fn read_to_end<R: Read>(alloc: Global, input: &mut R) -> io::Result<Vec<u8>>
     ensures all { IfOk result (λ bytes. IfSome (R.remaining input.old) (λ rest. bytes.items ≡ rest)) }
     ensures end { OnOk result (IsAtEnd (R.remaining input.new)) }

@@ -1,11 +1,11 @@
-//! Files of the system that are replaced as a whole, so that a power cut leaves the old one or the new one.
+//! Replaces a file of the operating system as a whole, so that a power cut leaves the old file or the new one.
 
 use crate::reading::read_to_end;
 use std::alloc::Global;
 use std::fs::{File, Files, Permissions};
 use std::{fs, io};
 
-/// The file of this name, opened for reading, if it has these bytes.
+/// Opens the file `name` for reading if it has exactly these bytes.
 pub(crate) fn holds<R: Files<File = File>>(
     files: &R,
     alloc: Global,
@@ -21,8 +21,8 @@ pub(crate) fn holds<R: Files<File = File>>(
     }
 }
 
-/// Puts a new file with these bytes in the place of the one of this name, which need not be there. A link stays, and the file that it
-/// leads to is replaced. The new file has the old one's permissions; it is given locked, where the system can lock it.
+/// Replaces the file `name` by a new file with these bytes, or creates it. A symbolic link stays, and the file that it points to is
+/// replaced. The new file has the permissions of the old one, and is returned locked where the system can lock it.
 pub(crate) fn replace<R: Files<File = File>>(
     files: &R,
     alloc: Global,
@@ -38,7 +38,7 @@ pub(crate) fn replace<R: Files<File = File>>(
     }
 }
 
-/// The same for a name that leads to the file itself.
+/// Like `replace`, for a name that is not a symbolic link.
 fn replace_at<R: Files<File = File>>(
     files: &R,
     alloc: Global,
@@ -56,7 +56,7 @@ fn replace_at<R: Files<File = File>>(
     Ok(file)
 }
 
-/// The name of the new file, in the same folder.
+/// The name of the temporary file, `.NAME.new` in the same folder.
 fn name_beside(alloc: Global, name: &str) -> io::Result<String> {
     let spelt = match name.rsplit_once('/') {
         Some((folder, last)) => format!(in alloc; "{folder}/.{last}.new")?,
@@ -65,8 +65,8 @@ fn name_beside(alloc: Global, name: &str) -> io::Result<String> {
     Ok(spelt)
 }
 
-/// A new file with these bytes, on the medium. One of this name that an earlier run left is removed before, and this one where it
-/// can't be written.
+/// Creates a file with these bytes and syncs it. A file of this name from an earlier run is removed first. If writing fails, the new
+/// file is removed.
 fn write_new<R: Files<File = File>>(
     files: &R,
     name: &str,
@@ -82,7 +82,7 @@ fn write_new<R: Files<File = File>>(
     Ok(file)
 }
 
-/// Writes these bytes to a new file, and syncs it.
+/// Sets the permissions of a new file, locks it where the system can, writes these bytes and syncs it.
 fn fill(file: &mut File, permissions: Option<Permissions>, bytes: &[u8]) -> io::Result<()> {
     if let Some(permissions) = permissions {
         file.set_permissions(permissions)?;
@@ -92,7 +92,7 @@ fn fill(file: &mut File, permissions: Option<Permissions>, bytes: &[u8]) -> io::
     file.sync_all()
 }
 
-/// Brings the names of the folder in which this file is to the medium.
+/// Syncs the folder of the file `name`, so that a power cut keeps the names in it.
 pub(crate) fn sync_folder<R: Files<File = File>>(files: &R, name: &str) -> io::Result<()> {
     let folder = match name.rsplit_once('/') {
         Some(("", _)) => "/",

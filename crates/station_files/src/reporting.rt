@@ -1,35 +1,35 @@
-//! Why the work wasn't done, as it is printed.
+//! Prints failures and faults, and gives the exit status for each.
 
 ghost use Rattle.std.specs.Prelude.{◌≡◌, ◌≢◌, OnErr, OnOk};
 ghost use Rattle.station_files.specs.Faults.{IsFaultless};
 
-use crate::faults::{Failure, Fault, Status};
+use crate::faults::{ExitStatus, Failure, Fault};
 use std::io::Write;
 
-/// Prints why the work wasn't done, and answers the status for it.
-pub fn report<E: Write>(failure: Failure, faults: &mut E) -> Status
-    ensures { result ≢ Status.Done }
+/// Prints a failure as one line, and returns its exit status. An error of `faults` is ignored.
+pub fn report<E: Write>(failure: Failure, faults: &mut E) -> ExitStatus
+    ensures { result ≢ ExitStatus.Done }
 {
     let _ = writeln!(faults, "{failure}");
     failure.status()
 }
 
-/// The same of a fault.
-pub fn report_fault<E: Write>(fault: Fault, faults: &mut E) -> Status
-    ensures done { result ≢ Status.Done }
+/// Prints a fault as one line, and returns its exit status. An error of `faults` is ignored.
+pub fn report_fault<E: Write>(fault: Fault, faults: &mut E) -> ExitStatus
+    ensures done { result ≢ ExitStatus.Done }
     ensures fault { ¬ IsFaultless result }
 {
     let _ = writeln!(faults, "{fault}");
     fault.status()
 }
 
-/// The status of work that is done, or that ended in a fault, which is printed.
-pub fn status_of<E: Write>(ended: Result<(), Fault>, faults: &mut E) -> Status
-    ensures done { OnOk ended (result ≡ Status.Done) }
+/// The exit status for a result: `Done`, or that of the fault, which is printed.
+pub fn status_of<E: Write>(ended: Result<(), Fault>, faults: &mut E) -> ExitStatus
+    ensures done { OnOk ended (result ≡ ExitStatus.Done) }
     ensures fault { OnErr ended (¬ IsFaultless result) }
 {
     match ended {
-        Ok(()) => Status::Done,
+        Ok(()) => ExitStatus::Done,
         Err(fault) => report_fault(fault, faults),
     }
 }

@@ -1,4 +1,4 @@
-//! Saving the contents of a line to the slaves' files.
+//! Saves the contents of a line to its slaves' image files.
 ghost use Rattle.std.specs.Prelude.{◌≡◌, length, map, string_bytes, IfErr, IfOk, OnOk};
 ghost use Rattle.sii_words.specs.Words.{bytes_of};
 ghost use Rattle.station_files.specs.Faults.{IsOfStream};
@@ -10,7 +10,11 @@ use sii_words::Plant;
 use std::alloc::{AllocError, Global};
 use std::io;
 
-/// Writes every slave's contents to its file. All memory is taken before the first is written.
+/// Writes the contents of each slave to its image file, in order. Requires one file name for each slave.
+///
+/// # Errors
+///
+/// `Memory` before any file is written; then `File` or `Memory`, as the store answers, with the files before that one written.
 pub fn save_slaves<S: Store>(
     alloc: Global,
     images: &[String],
@@ -27,7 +31,7 @@ pub fn save_slaves<S: Store>(
     Ok(())
 }
 
-/// The bytes of each slave's file.
+/// The bytes of each slave's image file.
 fn spell_slaves(alloc: Global, contents: &Plant) -> Result<Vec<Vec<u8>>, AllocError>
     ensures { IfOk result (λ files. map (λ file. file.items) files.items ≡ map bytes_of contents.now) }
 {
@@ -38,7 +42,11 @@ fn spell_slaves(alloc: Global, contents: &Plant) -> Result<Vec<Vec<u8>>, AllocEr
     Ok(files)
 }
 
-/// Makes these the bytes of these files, one after the other.
+/// Writes `files` to the names `images`, each as a whole, one after the other. Requires one name for each file.
+///
+/// # Errors
+///
+/// The first error of the store. The files before that one are written.
 pub fn write_files<S: Store>(images: &[String], files: &[Vec<u8>], store: &mut S) -> io::Result<()>
     requires { length images.now ≡ length files.now }
     ensures written { OnOk result (HoldsAll (S.files store.new) (map (λ name. string_bytes name) images.now) (map (λ file. file.items) files.now)) }

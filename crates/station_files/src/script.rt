@@ -1,4 +1,4 @@
-//! The commands of a script, from the files that say what they are.
+//! Reads a script file and the images that it names into commands.
 ghost use Rattle.std.specs.Prelude.{◌≡◌, IfOk};
 ghost use Rattle.station_files.specs.ScriptFiles.{SpellsCommands};
 ghost use Rattle.station_text.specs.ScriptText.{SpellsScriptFile};
@@ -10,7 +10,12 @@ use sii_edit::Command;
 use station_text::{ScriptCommand, read_script};
 use std::alloc::Global;
 
-/// The commands of the script file of this name. The images that it names are read once all of its text is judged.
+/// Reads the commands of the script file `name`. The whole text is judged before the first image is read.
+///
+/// # Errors
+///
+/// `File` where the script is absent or can't be read; `BadScript` where it is not UTF-8 or not a script; then as for `load_commands`.
+/// `Memory` may come at any point.
 pub fn load_script<S: Store>(
     alloc: Global,
     name: &str,
@@ -24,7 +29,7 @@ pub fn load_script<S: Store>(
     load_commands(alloc, &script, store)
 }
 
-/// The commands of a script of these bytes.
+/// The commands of a script with these bytes.
 fn spelt_script(alloc: Global, bytes: &[u8]) -> Result<Vec<ScriptCommand>, Fault>
     ensures { IfOk result (λ script. SpellsScriptFile bytes.now script.items) }
 {

@@ -1,4 +1,4 @@
-//! The images that a script's commands name.
+//! Loads the images that the commands of a script name.
 ghost use Rattle.std.specs.Prelude.{◌≡◌, ◌↔◌, All, IfOk, IsTrue};
 ghost use Rattle.std.specs.List.{AllZip};
 ghost use Rattle.station_files.specs.ScriptFiles.{IsPlain, LoadsCommand, LoadsEdit, LoadsGroup, LoadsGuarded};
@@ -10,8 +10,13 @@ use sii_words::ImageFile;
 use station_text::{ScriptCommand, ScriptEdit, ScriptGroupEdit};
 use std::alloc::Global;
 
-/// The commands of a script, with the images from their files. The files are read in the commands' order, each judged
-/// before the next.
+/// Turns the commands of a script into commands with the words of their images. The files are read in the order of the commands, each
+/// judged before the next one is read.
+///
+/// # Errors
+///
+/// The fault of the first bad image: `File` where it is absent or can't be read; `OddLength`; `BadSize` where its words are not 64 to
+/// 4,096. `Memory` may come at any point.
 pub fn load_commands<S: Store>(
     alloc: Global,
     script: &[ScriptCommand],
@@ -42,7 +47,7 @@ fn load_command<S: Store>(
     }
 }
 
-/// A group in which no edit is guarded is a plain one.
+/// Loads a group: a plain one where no edit is guarded, a guarded one otherwise.
 fn load_group<S: Store>(
     alloc: Global,
     edits: &[ScriptGroupEdit],

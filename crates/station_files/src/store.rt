@@ -1,4 +1,4 @@
-//! Files by their names.
+//! What the program asks of a store of named files.
 ghost use Rattle.std.specs.Prelude.{◌≡◌, ℕ, List, Option, None, option_map, IfOk, IfErr, IfSome, OnOk};
 ghost use Rattle.station_files.specs.Faults.{IsOfLock, IsOfStream};
 ghost use Rattle.station_files.specs.Files.{HasBytes, ChangesOnly};
@@ -8,53 +8,62 @@ use site_file::RandomAccessFile;
 use std::alloc::Global;
 use std::io;
 
-/// Named files, read and written whole, or opened and written at places.
+/// A store of named files, which are read and written as a whole, or opened for access at byte offsets.
 pub trait Store {
-    /// A file that is open for reading and writing at places.
+    /// A file that is open for reading and writing at byte offsets.
     type File: RandomAccessFile + Send + Sync + Drop;
 
-    /// Held while a station works on a journal: no other station gets it meanwhile.
+    /// The lock of a journal's file. No other station gets it while this value lives.
     type Lock: Drop;
 
-    // What a file holds, by its name, as far as it is known. None claims nothing, and Some None says that there is no such file.
+    // The contents of each file, by its name, as far as they are known. None: nothing is known. Some None: there is no such file.
     ghost files: { Self → List ℕ → Option (Option (List ℕ)) } = { λ _ _. None };
 
-    /// The bytes of a file; None where there is no such file.
+    /// Reads a whole file; `None` where there is no such file.
+    ///
+    /// # Errors
+    ///
+    /// The file can't be read, or memory was refused.
     fn read(&mut self, alloc: Global, name: &str) -> io::Result<Option<Vec<u8>>>
         ensures bytes { IfOk result (λ found. IfSome (files self.old name.now) (λ held.
             option_map (λ bytes. bytes.items) found ≡ held)) }
         ensures same { files self.new ≡ files self.old };
 
-    /// Makes these the bytes of a file, whether it was there or not. A file that holds them already is left as it is. Any other is
-    /// replaced as a whole: a power cut leaves either the old file or the new one. Once the call is done a power cut keeps the new
-    /// one. After an error the bytes may be any, to what is known; a store of the system's files has the old ones then, or the new ones.
+    /// Makes `bytes` the contents of the file `name`, which is created where it is absent. A file that has these bytes already stays.
+    /// Any other is replaced as a whole: a power cut during the call leaves the old file or the new one. Once the call succeeds, the new
+    /// contents survive a power cut.
+    ///
+    /// # Errors
+    ///
+    /// The file can't be written or synced, or memory was refused. The contract then claims nothing of this file; a file of the
+    /// operating system has the old bytes or the new ones.
     fn write(&mut self, name: &str, bytes: &[u8]) -> io::Result<()>
         ensures written { OnOk result (HasBytes (files self.new) name.now bytes.now) }
         ensures others { ChangesOnly (files self.old) (files self.new) name.now };
 
-    /// Opens a file that is there. What was read of it before is kept by a power cut from then on, also where another process wrote it
-    /// last. Nothing is known of what it holds until it is written whole.
+    /// Opens an existing file for access at byte offsets, and syncs it, so that what was read of it before survives a power cut from then
+    /// on, also if another process wrote it. Contracts know nothing of its contents until it is written as a whole.
     ///
     /// # Errors
     ///
-    /// Where the file isn't there, or can't be opened for reading and writing, or synced.
+    /// The file is absent, or can't be opened for reading and writing, or can't be synced.
     fn open(&mut self, name: &str) -> io::Result<Self::File>
         ensures others { ChangesOnly (files self.old) (files self.new) name.now };
 
-    /// Takes the lock of a journal's file, which ends as it is dropped, and with the process. None where the file isn't there or can't be
-    /// opened: reading it tells why. Whoever can read it nevertheless must not write it.
+    /// Locks a journal's file without waiting. The lock lasts until it is dropped, or until the process ends. `None` where the file is
+    /// absent or can't be opened; reading it then gives the error. Without the lock the file must not be written, even if it can be read.
     ///
     /// # Errors
     ///
-    /// `Busy` where another station has the lock, without waiting for it; `Io` where the system can't lock the file.
+    /// `Busy` where another station has the lock; `Io` where the system can't lock the file.
     fn lock(&mut self, name: &str) -> Result<Option<Self::Lock>, LockFault>
         ensures same { files self.new ≡ files self.old };
 }
 
-/// Why the lock of a journal wasn't taken.
+/// Why the lock of a journal was not taken.
 #[derive(Drop)]
 pub enum LockFault {
-    /// Another station has it.
+    /// Another station has the lock.
     Busy,
     /// The system can't lock the file.
     Io(io::Error),
@@ -77,7 +86,11 @@ impl From<LockFault> for Fault {
     }
 }
 
-/// The bytes of a file that has to be there. Where it isn't, the fault is `File`.
+/// Reads a whole file that must exist.
+///
+/// # Errors
+///
+/// `File` where it is absent or can't be read; `Memory`.
 pub fn read_file<S: Store>(alloc: Global, name: &str, store: &mut S) -> Result<Vec<u8>, Fault>
     ensures bytes { IfOk result (λ bytes. HasBytes (S.files store.old) name.now bytes.items) }
     ensures refused { IfErr result IsOfStream }

@@ -1,4 +1,4 @@
--- One action of the disk.
+-- One action on the disk: its device call and its events.
 use Rattle.std.proofs.Common.{◌≡◌, ◌≤◌, ℕ, List, [], ◌∷◌, length, Some, Result, Ok, Err, refl, ap, ◌∙◌, arith}
 use Rattle.std.specs.Prelude.{IsTrue}
 use Rattle.esc_model.specs.SlaveHalf.{SlaveHalf}
@@ -12,7 +12,7 @@ use Rattle.site_core.proofs.Overlays.{length-overlaid}
 use Rattle.site_core.proofs.DeviceCalls.{WritesDisk-left, SyncsDisk-adds_nothing}
 use Rattle.book_model.specs.declared.next.DiskNext.{DiskNext}
 use Rattle.book_model.specs.declared.next.DiskNext.TheVariants as next
-use Rattle.runner_laws.specs.Below.{gate_byte, begun_on, ended_on, FailsOn}
+use Rattle.book_laws.specs.Events.{gate_byte, begun_on, ended_on, FailsOn}
 use Rattle.site_journal.specs.Action.{BeginsInside, DoesAction as DoesJournal}
 use Rattle.station_jobs.specs.declared.log.Assignment.{Assignment}
 use Rattle.station_jobs.specs.Jobs.{DoneInTurn, Led}
@@ -54,7 +54,7 @@ action-returns next.Sync result old new does going = sync-returns result old new
 action-returns next.Idle result old new does going = absurd does
 action-returns next.Stop result old new does going = absurd does
 
--- each began, and came back
+-- each action began and returned
 pub actions-came-back : (log : List (Assignment DiskNext (Result (Unit {0}) DeviceFault))) (old new : Seen) → DoneInTurn DoesAction log old new → CameBackInTurn ActionReturns log old.state new.state
 actions-came-back log old new turn = left.came-back DoesAction ActionReturns LeftInAction action-stays action-returns log old new turn
 
@@ -62,9 +62,9 @@ actions-came-back log old new turn = left.came-back DoesAction ActionReturns Lef
 pub flushed : (log : List (Assignment DiskNext (Result (Unit {0}) DeviceFault))) (old new : Seen) → Led DoesAction log old new → IsFlushed log old new
 flushed log old new led = left.served DoesAction ActionReturns LeftInAction action-stays action-returns log old new led
 
--- ---- behind an action
+-- ---- after an action
 
--- the site has stopped only where it says so
+-- the site has stopped only if the outcome says so
 pub action-goes : (action : DiskNext) (result : Result (Unit {0}) DeviceFault) (old new : Seen) → DoesAction action result old new → (result ≡ Err device.Stopped → ⊥) → IsTrue new.is_stopped → ⊥
 action-goes (next.Write at bytes) result old new does not stopped = let w = does.writes in not (w.call.stopped.0 stopped)
 action-goes (next.Gate at closed) result old new does not stopped = let w = does.writes in not (w.call.stopped.0 stopped)

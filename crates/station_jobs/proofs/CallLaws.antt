@@ -1,4 +1,4 @@
--- One word of a slave, issued or settled.
+-- One word of a slave, issued or settled: its device calls and its events.
 use Rattle.std.proofs.Common.{◌≡◌, ℕ, Bool, true, false, List, Result, Ok, Err, inl, inr, refl, sym, ap, subst, ◌∙◌}
 use Rattle.std.specs.Prelude.{IsTrue}
 use Rattle.esc_model.specs.SlaveHalf.{SlaveHalf, Activity, Idle, Reading, Writing, in_flight, MayRest, MayEnd, MayHold, with_errors, settled}
@@ -30,7 +30,7 @@ use Rattle.station_jobs.proofs.LeftLaws as left
 rested-words : (half rested later : SlaveHalf) → later.station ≡ half.station → rested.station ≡ half.station → rested.activity ≡ Idle → IsIdle later → later.words ≡ rested.words → OnlyRests rested later
 rested-words half rested later station same idle is words = record { station = station ∙ sym same; words = inl (words, ap in_flight is ∙ sym (ap in_flight idle)) }
 
--- what only rested, and is idle, came to rest before
+-- a half that is idle, and could only come to rest, had come to rest before
 rest-first : (activity : Activity) (half later : SlaveHalf) → half.activity ≡ activity → OnlyRests half later → IsIdle later → (rested : SlaveHalf) × MayRest half rested × IsIdle rested × OnlyRests rested later
 rest-first Idle half later is rests idle = (half, inl refl, is, rests)
 rest-first Reading half later is rests idle =
@@ -94,7 +94,7 @@ module _ (slave : ℕ) where
       record { half = goes.half; here = goes.here; later = goes.later; new_is = goes.new_is; goes = settle-half taken settled old new goes.half goes.later goes.goes }
   settle-returns taken (Err fault) old new settles going = let only = settles.only_stopped in absurd (going (settles.stopped.1 (ap Err only)))
 
-  -- ---- either
+  -- ---- an issue or a settle
 
   call-returns : (job : RomNext) (outcome : RomOutcome) (old new : Seen) → CallsSlave slave job outcome old new → (IsTrue new.is_stopped → ⊥) → SlaveReturns slave job outcome old.state new.state
   call-returns (next.Issue word value) outcome old new calls going =
@@ -104,7 +104,7 @@ module _ (slave : ℕ) where
   call-returns next.Idle outcome old new calls going = absurd calls
   call-returns next.Stop outcome old new calls going = absurd calls
 
-  -- each began, and came back
+  -- each job began and returned
   pub calls-came-back : (log : List (Assignment RomNext RomOutcome)) (old new : Seen) → DoneInTurn (CallsSlave slave) log old new → CameBackInTurn (SlaveReturns slave) log old.state new.state
   calls-came-back log old new turn = left.came-back (CallsSlave slave) (SlaveReturns slave) (LeftInCall slave) call-stays call-returns log old new turn
 
@@ -112,7 +112,7 @@ module _ (slave : ℕ) where
   pub worked : (log : List (Assignment RomNext RomOutcome)) (old new : Seen) → Led (CallsSlave slave) log old new → IsWorked slave log old new
   worked log old new led = left.served (CallsSlave slave) (SlaveReturns slave) (LeftInCall slave) call-stays call-returns log old new led
 
-  -- the site has stopped only where it is said
+  -- the site has stopped only if the outcome says so
   pub call-goes : (job : RomNext) (outcome : RomOutcome) (old new : Seen) → CallsSlave slave job outcome old new → (outcome ≡ outcomes.Stopped → ⊥) → IsTrue new.is_stopped → ⊥
   call-goes (next.Issue word value) outcome old new calls not stopped = let i = calls.issues in not (calls.outcome_is ∙ ap issue_outcome (i.stopped.0 stopped))
   call-goes (next.Settle taken) outcome old new calls not stopped = let s = calls.settles in not (calls.outcome_is ∙ ap settle_outcome (s.stopped.0 stopped))

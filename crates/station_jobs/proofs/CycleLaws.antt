@@ -1,11 +1,11 @@
--- The frames of the cycle, job by job.
+-- The frames that the process data thread sends, job by job.
 use Rattle.std.proofs.Common.{◌≡◌, ℕ, ◌+◌, List, [], ◌∷◌, ◌++◌, length, replicate, append_assoc, take, filter, Option, Some, None, Result, Ok, Err, refl, sym, ap, subst, ◌∙◌, inl, inr, length-append}
 use Rattle.std.specs.Prelude.{IsTrue}
 use Rattle.std.specs.List.{AllByRecursion, enumerate_from, flat_map, range_with_len}
 use Rattle.std.proofs.lemmas.List.{append-nil, length-replicate}
 use Rattle.std.proofs.Math.Nat.{eq-zero-or-pos}
 use Rattle.ecat_frame.specs.Frame.{Pdu}
-use Rattle.site_core.specs.State.{State, Leaves, Seen, Turn}
+use Rattle.site_core.specs.State.{State, Leaves, Seen, CycleTurn}
 use Rattle.site_core.specs.Passes.{LeavesOnly, StaysWithin, AddsNothing}
 use Rattle.site_core.proofs.Runs.{all_append, Passes-none, Passes-then, Passes-stays}
 use Rattle.sii_image.specs.declared.process_image.Segment.{Segment}
@@ -21,14 +21,14 @@ use Rattle.station_jobs.specs.Setting.{Exchanges, GoesOn, TakesJob}
 use Rattle.sii_image.specs.declared.plan.Plan.{Plan}
 use Rattle.station_jobs.specs.Cycling.{IsWrite, IsSetting, SendsTurn, SendsTurns, IsCycled}
 
--- ---- one behind the other
+-- ---- one after another
 
-pub sends-snoc : (log : List CycleNote) (note : CycleNote) (turns more : List Turn) → SendsTurns log turns → SendsTurn note more → SendsTurns (log ++ note ∷ []) (turns ++ more)
-sends-snoc [] note turns more none one = (more, [], ap (λ (l : List Turn). l ++ more) none ∙ sym (append-nil more), one, refl)
+pub sends-snoc : (log : List CycleNote) (note : CycleNote) (turns more : List CycleTurn) → SendsTurns log turns → SendsTurn note more → SendsTurns (log ++ note ∷ []) (turns ++ more)
+sends-snoc [] note turns more none one = (more, [], ap (λ (l : List CycleTurn). l ++ more) none ∙ sym (append-nil more), one, refl)
 sends-snoc (first ∷ log) note turns more sends one =
-    (sends.0, sends.1 ++ more, ap (λ (l : List Turn). l ++ more) sends.2 ∙ append_assoc sends.0 sends.1 more, sends.3, sends-snoc log note sends.1 more sends.4 one)
+    (sends.0, sends.1 ++ more, ap (λ (l : List CycleTurn). l ++ more) sends.2 ∙ append_assoc sends.0 sends.1 more, sends.3, sends-snoc log note sends.1 more sends.4 one)
 
--- ---- what sets the line writes to registers
+-- ---- what configures the line writes registers
 
 all-flat_map : {A B : Type 0} (P : B → Type 0) (f : A → List B) (xs : List A) → ((x : A) → AllByRecursion P (f x)) → AllByRecursion P (flat_map f xs)
 all-flat_map P f [] each = tt
@@ -45,7 +45,7 @@ reconfiguring-writes slaves old new = all-flat_map IsWrite (slave_orders new) (f
 
 -- ---- and so do the frames that go out
 
-taken-settings : (orders : List Pdu) (turns : List Turn) → AllByRecursion IsWrite orders → AreTaken orders turns → AllByRecursion IsSetting turns
+taken-settings : (orders : List Pdu) (turns : List CycleTurn) → AllByRecursion IsWrite orders → AreTaken orders turns → AllByRecursion IsSetting turns
 taken-settings [] [] writes taken = tt
 taken-settings (order ∷ orders) (turn ∷ turns) writes taken =
     let first = taken.0 in (record { order = order; sent = first.sent; writes = writes.0 }, taken-settings orders turns writes.1 taken.1)
@@ -56,13 +56,13 @@ all-front : (P : Pdu → Type 0) (xs : List Pdu) (y : Pdu) (ys : List Pdu) → A
 all-front P [] y ys all = (tt, all.0)
 all-front P (x ∷ xs) y ys all = let rest = all-front P xs y ys all.1 in ((all.0, rest.0), rest.1)
 
-sent-settings : (orders : List Pdu) (turns : List Turn) (result : Result (Unit {0}) CycleFault) → AllByRecursion IsWrite orders → AreSent orders turns result → AllByRecursion IsSetting turns
+sent-settings : (orders : List Pdu) (turns : List CycleTurn) (result : Result (Unit {0}) CycleFault) → AllByRecursion IsWrite orders → AreSent orders turns result → AllByRecursion IsSetting turns
 sent-settings orders turns (Ok done) writes sent = taken-settings orders turns writes sent
 sent-settings orders turns (Err fault) writes sent =
     let split = all-front IsWrite sent.first sent.next sent.rest (subst (λ (l : List Pdu). AllByRecursion IsWrite l) sent.orders_are writes) in
     let meets = sent.meets in
     let last : AllByRecursion IsSetting (sent.last ∷ []) = (record { order = sent.next; sent = meets.sent; writes = split.1 }, tt) in
-    subst (λ (l : List Turn). AllByRecursion IsSetting l) (sym sent.turns_are) (all_append IsSetting sent.taken (sent.last ∷ []) (taken-settings sent.first sent.taken split.0 sent.are_taken) last)
+    subst (λ (l : List CycleTurn). AllByRecursion IsSetting l) (sym sent.turns_are) (all_append IsSetting sent.taken (sent.last ∷ []) (taken-settings sent.first sent.taken split.0 sent.are_taken) last)
 
 pub settings : (orders : List Pdu) (old new : Seen) (result : Result (Unit {0}) CycleFault) → AllByRecursion IsWrite orders → (sends : SendsInOrder orders old result new) → AllByRecursion IsSetting sends.turns
 settings orders old new result writes sends = sent-settings orders sends.turns result writes sends.are_sent
@@ -71,7 +71,7 @@ settings orders old new result writes sends = sent-settings orders sends.turns r
 
 -- What a job adds. It changes nothing of the state, unless the site stopped in it.
 pub record Ran (note : CycleNote) (result : Result ℕ CycleFault) (old new : Seen) : Type 0 where
-  pub more : List Turn
+  pub more : List CycleTurn
   pub added : new.turns ≡ old.turns ++ more
   pub sends : SendsTurn note more
   pub adds_nothing : AddsNothing old new
@@ -84,7 +84,7 @@ adds-then a b c first same second =
     let then : StaysWithin (Leaves a.state) b c = subst (λ (s : State). StaysWithin (Leaves s) b c) same second in
     Passes-stays (Leaves a.state) a c (Passes-then (LeavesOnly (Leaves a.state)) a b c first.passes then.passes)
 
--- a fault of a setting is told as that of the turn
+-- a fault of the configuration is reported as the cycle's
 same-fault : {A B : Type 0} {a b : CycleFault} → ◌≡◌ {A = Result A CycleFault} (Err a) (Err b) → ◌≡◌ {A = Result B CycleFault} (Err a) (Err b)
 same-fault is = cc
 
@@ -96,7 +96,7 @@ abbrev pub note_of : CycleJob → CycleNote
 note_of job = record { prefix = job.plan.prefix; size = job.plan.image.outputs + job.plan.image.inputs }
 
 module _ (job : CycleJob) (orders : List Pdu) (old mid new : Seen) (writes : AllByRecursion IsWrite orders) where
-  -- the setting failed, and nothing more was sent
+  -- the configuration failed, and nothing more was sent
   set-failed : (fault : CycleFault) → SendsInOrder orders old (Err fault) mid → new ≡ mid → Ran (note_of job) (Err fault) old new
   set-failed fault sends same =
       let leaves = sends.leaves in
@@ -136,10 +136,10 @@ module _ (job : CycleJob) (orders : List Pdu) (old mid new : Seen) (writes : All
         let before = sends.leaves in
         let leaves = takes.leaves in
         let image = job.plan.image in
-        let turn : Turn = record { sent = turn_order image job.outputs.items ∷ []; answer = takes.answer } in
+        let turn : CycleTurn = record { sent = turn_order image job.outputs.items ∷ []; answer = takes.answer } in
         record {
           more = sends.turns ++ turn ∷ [];
-          added = takes.turn ∙ (ap (λ (l : List Turn). l ++ turn ∷ []) sends.added ∙ append_assoc old.turns sends.turns (turn ∷ []));
+          added = takes.turn ∙ (ap (λ (l : List CycleTurn). l ++ turn ∷ []) sends.added ∙ append_assoc old.turns sends.turns (turn ∷ []));
           sends = record {
             settings = sends.turns;
             exchange = turn ∷ [];
@@ -157,7 +157,7 @@ module _ (job : CycleJob) (orders : List Pdu) (old mid new : Seen) (writes : All
           stopped = leaves.stopped;
         }
 
--- either
+-- both cases
 exchanges-ran : (job : CycleJob) (orders : List Pdu) (old mid new : Seen) (outcome : CycleOutcome) → AllByRecursion IsWrite orders → SendsInOrder orders old (Ok tt) mid → Exchanges job mid outcome new
     → Ran (note_of job) outcome.result old new
 exchanges-ran job orders old mid new outcome writes sends exchanges =
@@ -205,7 +205,7 @@ cycled-then log job start now new result runs one =
     let before = runs.cycled in
     record {
       turns = before.turns ++ one.more;
-      added = one.added ∙ (ap (λ (l : List Turn). l ++ one.more) before.added ∙ append_assoc start.turns before.turns one.more);
+      added = one.added ∙ (ap (λ (l : List CycleTurn). l ++ one.more) before.added ∙ append_assoc start.turns before.turns one.more);
       sends = sends-snoc log (note_of job) before.turns one.more before.sends one.sends;
       adds_nothing = adds-then start now new before.adds_nothing runs.same one.adds_nothing;
       same = λ going. one.same (λ is. going (one.stopped is)) ∙ runs.same;

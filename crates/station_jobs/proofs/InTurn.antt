@@ -1,4 +1,4 @@
--- One more job behind those that were done.
+-- One more job after those that were done.
 use Rattle.std.proofs.Common.{◌≡◌, List, [], ◌∷◌, ◌++◌, Some, None, refl, ap, subst}
 use Rattle.site_core.specs.State.{Seen}
 use Rattle.station_jobs.specs.declared.log.Assignment.{Assignment}

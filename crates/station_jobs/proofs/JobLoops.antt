@@ -9,7 +9,7 @@ use Rattle.station_jobs.specs.Jobs.{DoneInTurn, Led}
 use Rattle.station_jobs.proofs.InTurn.{in-turn-snoc, told-last}
 
 module _ {J O : Type 0} (Does : J → O → Seen → Seen → Type 0) where
-  -- one more job was done, and told
+  -- one more job was done, and its outcome reported
   pub told-turn : (log : List (Assignment J O)) (job : J) (outcome : O) (old mid new : Seen) → DoneInTurn Does log old mid → Does job outcome mid new → (IsTrue new.is_stopped → ⊥)
       → DoneInTurn Does (with_outcome (log ++ record { job = job; outcome = None } ∷ []) outcome) old new
   told-turn log job outcome old mid new turn does going =
@@ -20,7 +20,7 @@ module _ {J O : Type 0} (Does : J → O → Seen → Seen → Type 0) where
   pub led-all : (log : List (Assignment J O)) (old new : Seen) → DoneInTurn Does log old new → Led Does log old new
   led-all log old new turn = record { done = log; last = []; log_is = sym (append-nil log); mid = new; in_turn = turn; ends = refl }
 
-  -- the last job was told
+  -- the last job's outcome was reported
   pub led-told : (log : List (Assignment J O)) (job : J) (outcome : O) (old mid new : Seen) → DoneInTurn Does log old mid → Does job outcome mid new
       → Led Does (with_outcome (log ++ record { job = job; outcome = None } ∷ []) outcome) old new
   led-told log job outcome old mid new turn does = record {
@@ -32,7 +32,7 @@ module _ {J O : Type 0} (Does : J → O → Seen → Seen → Type 0) where
     ends = record { outcome = outcome; told = inl refl; does = does };
   }
 
-  -- the last job is out still
+  -- the last job is still out
   pub led-untold : (log : List (Assignment J O)) (job : J) (outcome : O) (old mid new : Seen) → DoneInTurn Does log old mid → Does job outcome mid new
       → Led Does (log ++ record { job = job; outcome = None } ∷ []) old new
   led-untold log job outcome old mid new turn does = record {

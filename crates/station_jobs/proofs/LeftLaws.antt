@@ -1,4 +1,4 @@
--- What a stop may leave while jobs are done one after another, by what it may leave while one of them is.
+-- What a power cut may leave while several jobs are done in order, derived from what it may leave during one job.
 use Rattle.std.proofs.Common.{◌≡◌, List, [], ◌∷◌, ◌++◌, refl, sym, ◌∙◌, ap, subst}
 use Rattle.std.specs.Prelude.{IsTrue}
 use Rattle.site_core.specs.State.{State, Pair, Seen}
@@ -6,7 +6,7 @@ use Rattle.site_core.specs.Passes.{Passes, LeavesOnly, StaysWithin}
 use Rattle.site_core.proofs.Runs.{Passes-none, Passes-then, Passes-weaker, Passes-left}
 use Rattle.station_jobs.specs.declared.log.Assignment.{Assignment}
 use Rattle.station_jobs.specs.Jobs.{DoneInTurn, MayEnd, Led}
-use Rattle.station_jobs.specs.Left.{CameBackInTurn, LeftBy, Served}
+use Rattle.station_jobs.specs.Left.{CameBackInTurn, LeftBy, ServedJobs}
 
 module _ {J O : Type 0} (Does : J → O → Seen → Seen → Type 0) (Returns : J → O → State → State → Type 0) (InProgress : J → State → Pair → Type 0)
     (stays : (job : J) (outcome : O) (old new : Seen) → Does job outcome old new → StaysWithin (InProgress job old.state) old new)
@@ -14,7 +14,7 @@ module _ {J O : Type 0} (Does : J → O → Seen → Seen → Type 0) (Returns :
   abbrev Left : List (Assignment J O) → State → Pair → Type 0
   Left log old pair = LeftBy Returns InProgress log old pair
 
-  -- jobs that were done began and came back
+  -- jobs that were done have begun and returned
   pub came-back : (log : List (Assignment J O)) (old new : Seen) → DoneInTurn Does log old new → CameBackInTurn Returns log old.state new.state
   came-back [] old new same = ap (λ (s : Seen). s.state) same
   came-back (first ∷ log) old new turn =
@@ -57,7 +57,7 @@ module _ {J O : Type 0} (Does : J → O → Seen → Seen → Type 0) (Returns :
       })
       (passes-left done last next mid new turn.2 ends))
 
-  pub served : (log : List (Assignment J O)) (old new : Seen) → Led Does log old new → Served Does Returns InProgress log old new
+  pub served : (log : List (Assignment J O)) (old new : Seen) → Led Does log old new → ServedJobs Does Returns InProgress log old new
   served log old new led =
       let passes = subst (λ (l : List (Assignment J O)). Passes (LeavesOnly (Left l old.state)) old new) (sym led.log_is) (passes-left led.done led.last old led.mid new led.in_turn led.ends) in
       record { led = led; left = Passes-left (Left log old.state) old new passes }

@@ -5,3 +5,4 @@ pub mod ActionLaws
 pub mod CallLaws
 pub mod TakingLaws
 pub mod CycleLaws
+pub mod NoteLaws

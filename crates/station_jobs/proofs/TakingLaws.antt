@@ -1,4 +1,4 @@
--- A turn that is taken with a buffer for its inputs.
+-- A process data cycle with a buffer for its inputs.
 use Rattle.std.proofs.Common.{◌≡◌, ℕ, List, ◌++◌, length, take, drop, Result, Ok, Err, refl, sym, ap, subst, ◌∙◌}
 use Rattle.std.specs.List.{refill}
 use Rattle.std.proofs.Math.Seq.{take-append_seam}
@@ -16,7 +16,7 @@ ok-of (Err fault) not = absurd (not fault refl)
 refill-all : (bytes written : List ℕ) → length written ≡ length bytes → refill (length bytes) bytes written ≡ written
 refill-all bytes written same = ap (λ (n : ℕ). take n (written ++ drop (length written) bytes)) (sym same) ∙ take-append_seam written (drop (length written) bytes)
 
--- the turn as told of the buffer itself
+-- the same cycle, stated of the buffer itself
 pub turn-in : (image : ProcessImageParts) (lent outputs inputs zeros buffer written : List ℕ) (old new : Seen) (result : Result ℕ CycleFault) → lent ≡ outputs → inputs ≡ buffer → buffer ≡ zeros → length written ≡ length inputs
     → TakesTurn image lent inputs old result written new → TakesTurn image outputs zeros old result (refill (length buffer) buffer written) new
 turn-in image lent outputs inputs zeros buffer written old new result sent same filled long takes =

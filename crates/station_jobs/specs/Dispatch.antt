@@ -1,22 +1,22 @@
--- What a dispatch's log becomes as a job is handed out and its outcome is told.
+-- The log of a dispatch, as jobs are handed out and their outcomes reported.
 use Rattle.std.specs.Prelude.{List, [], ◌∷◌, Some}
 use Rattle.station_jobs.specs.declared.dispatch.Turn.{Turn}
 use Rattle.station_jobs.specs.declared.dispatch.Turn.TheVariants.{Work, Again, Stop}
 use Rattle.station_jobs.specs.declared.log.Assignment.{Assignment}
 
--- the log behind this answer: a job that is handed out is added to it, and nothing else is
+-- the log after this answer: a job that is handed out is added, and nothing else
 abbrev pub log_behind : {L J : Type 0} → (L → J → L) → L → Turn J → L
 log_behind handed log (Work job) = handed log job
 log_behind handed log Again = log
 log_behind handed log Stop = log
 
--- of a job that is handed out this holds
+-- If a job is handed out, this holds of it.
 abbrev pub IfWork : {J : Type 0} → Turn J → (J → Type 0) → Type 0
 IfWork (Work job) P = P job
 IfWork Again P = Unit {0}
 IfWork Stop P = Unit {0}
 
--- the last job has this outcome
+-- the log with this outcome of its last job
 abbrev pub with_outcome : {J O : Type 0} → List (Assignment J O) → O → List (Assignment J O)
 with_outcome [] outcome = []
 with_outcome (last ∷ []) outcome = record last { outcome = Some outcome } ∷ []

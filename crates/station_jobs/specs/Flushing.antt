@@ -1,16 +1,16 @@
--- What a flusher does: actions of the disk, one after another, as the events of the law have them.
+-- What the disk's thread does: actions on the disk, one after another, as the events of the main law describe them.
 use Rattle.std.specs.Prelude.{◌≡◌, ◌≤◌, List, length, Result, Ok, Err, Some}
 use Rattle.site_core.specs.declared.fault.DeviceFault.{DeviceFault}
 use Rattle.site_core.specs.Disk.{Disk}
 use Rattle.site_core.specs.State.{State, Pair, Seen, Leaves}
 use Rattle.book_model.specs.declared.next.DiskNext.{DiskNext}
 use Rattle.book_model.specs.declared.next.DiskNext.TheVariants as next
-use Rattle.runner_laws.specs.Below.{begun_on, ended_on, FailsOn}
+use Rattle.book_laws.specs.Events.{begun_on, ended_on, FailsOn}
 use Rattle.runner_laws.specs.Running.{CallsDisk}
 use Rattle.station_jobs.specs.declared.log.Assignment.{Assignment}
-use Rattle.station_jobs.specs.Left.{Served}
+use Rattle.station_jobs.specs.Left.{ServedJobs}
 
--- there is something to do, and a write begins inside the disk or right behind it
+-- This is an action, and if it writes, it begins inside the disk or right behind its end.
 abbrev pub CanBegin : DiskNext → Disk → Type 0
 CanBegin (next.Write at bytes) disk = at ≤ length disk.bytes
 CanBegin (next.Gate at closed) disk = at ≤ length disk.bytes
@@ -18,7 +18,7 @@ CanBegin next.Sync disk = Unit {0}
 CanBegin next.Idle disk = ⊥
 CanBegin next.Stop disk = ⊥
 
--- the one device call that the action is
+-- The action is done by one device call.
 abbrev pub DoesAction : DiskNext → Result (Unit {0}) DeviceFault → Seen → Seen → Type 0
 DoesAction action result old new = CallsDisk action old result new
 
@@ -26,15 +26,16 @@ DoesAction action result old new = CallsDisk action old result new
 abbrev pub begun : DiskNext → State → State
 begun action state = record state { disk = begun_on (Some action) state.disk }
 
--- the action began, and came back so
+-- The action began, and returned with this result.
 abbrev pub ActionReturns : DiskNext → Result (Unit {0}) DeviceFault → State → State → Type 0
 ActionReturns action (Ok done) old new = new ≡ record old { disk = ended_on (Some action) (begun_on (Some action) old.disk) }
-ActionReturns action (Err fault) old new = (disk : Disk) × FailsOn (Some action) (begun_on (Some action) old.disk) disk × (new ≡ record old { disk = disk })
+ActionReturns action (Err fault) old new =
+    (disk : Disk) × FailsOn (Some action) (begun_on (Some action) old.disk) disk × (new ≡ record old { disk = disk })
 
--- what a stop may leave while it is in progress
+-- what a power cut may leave while the action is in progress
 abbrev pub LeftInAction : DiskNext → State → Pair → Type 0
 LeftInAction action state pair = Leaves (begun action state) pair
 
--- the actions of a log, one after another
+-- the actions of a log, done one after another
 abbrev pub IsFlushed : List (Assignment DiskNext (Result (Unit {0}) DeviceFault)) → Seen → Seen → Type 0
-IsFlushed log old new = Served DoesAction ActionReturns LeftInAction log old new
+IsFlushed log old new = ServedJobs DoesAction ActionReturns LeftInAction log old new

@@ -3,31 +3,31 @@ use Rattle.std.specs.Prelude.{◌≡◌, ◌⊎◌, List, [], ◌∷◌, ◌++�
 use Rattle.site_core.specs.State.{Seen}
 use Rattle.station_jobs.specs.declared.log.Assignment.{Assignment}
 
--- The job was done, its outcome was told, and the site goes on.
+-- The job was done and its outcome reported, and the site has not stopped.
 pub record IsDone {J O : Type 0} (Does : J → O → Seen → Seen → Type 0) (entry : Assignment J O) (old new : Seen) : Type 0 where
   pub outcome : O
   pub told : entry.outcome ≡ Some outcome
   pub does : Does entry.job outcome old new
   pub going : ¬ IsTrue new.is_stopped
 
--- so was each, one after another, and nothing else
+-- Each job of the log was done so, in order, and nothing else was done.
 abbrev pub DoneInTurn : {J O : Type 0} → (J → O → Seen → Seen → Type 0) → List (Assignment J O) → Seen → Seen → Type 0
 DoneInTurn Does [] old new = new ≡ old
 DoneInTurn Does (first ∷ jobs) old new = (mid : Seen) × IsDone Does first old mid × DoneInTurn Does jobs mid new
 
--- The last job was done. The site may have stopped in it, and its outcome may not be told.
+-- The last job was done. The site may have stopped in it, and its outcome may be unreported.
 pub record IsLast {J O : Type 0} (Does : J → O → Seen → Seen → Type 0) (entry : Assignment J O) (old new : Seen) : Type 0 where
   pub outcome : O
   pub told : (entry.outcome ≡ Some outcome) ⊎ (entry.outcome ≡ None)
   pub does : Does entry.job outcome old new
 
--- there may be such a last job
+-- There is at most one such last job.
 abbrev pub MayEnd : {J O : Type 0} → (J → O → Seen → Seen → Type 0) → List (Assignment J O) → Seen → Seen → Type 0
 MayEnd Does [] old new = new ≡ old
 MayEnd Does (last ∷ []) old new = IsLast Does last old new
 MayEnd Does jobs old new = ⊥
 
--- These jobs, in order, led from the one to the other, with no other call of the site.
+-- The jobs of the log, in order, led the site from `old` to `new`, with no other call of the site.
 pub record Led {J O : Type 0} (Does : J → O → Seen → Seen → Type 0) (log : List (Assignment J O)) (old new : Seen) : Type 0 where
   pub done : List (Assignment J O)
   pub last : List (Assignment J O)

@@ -6,3 +6,4 @@ pub mod Working
 pub mod Setting
 pub mod Cycling
 pub mod Ends
+pub mod Noted

@@ -1,4 +1,4 @@
--- One turn of the cycle: the line is set for the plan, and its process data is exchanged.
+-- One process data cycle: the line is configured for the plan, and the process data is exchanged.
 use Rattle.std.specs.Prelude.{◌≡◌, ℕ, ◌+◌, ◌<◌, replicate, Option, Some, None, Result, Ok, Err}
 use Rattle.cyclic.specs.declared.fault.CycleFault.{CycleFault}
 use Rattle.cyclic.specs.Configuration.{configuring, reconfiguring}
@@ -9,24 +9,26 @@ use Rattle.site_core.specs.State.{Seen}
 use Rattle.station_jobs.specs.declared.cycle.CycleJob.{CycleJob}
 use Rattle.station_jobs.specs.declared.cycle.CycleOutcome.{CycleOutcome}
 
--- All of the line is set, or where the last setting was for this plan and went well, the slaves whose segments differ.
+-- The whole line is configured, or, if it is configured for `last`, only the slaves whose segments differ.
 abbrev pub SetsLine : ℕ → Option Plan → Plan → Seen → Result (Unit {0}) CycleFault → Seen → Type 0
 SetsLine slaves None plan old result new = SendsInOrder (configuring slaves plan.image.segments) old result new
 SetsLine slaves (Some last) plan old result new = SendsInOrder (reconfiguring slaves last.image.segments plan.image.segments) old result new
 
--- The process data is exchanged; an image without bytes sends nothing.
+-- The process data is exchanged. For an image without bytes nothing is sent.
 pub record Exchanges (job : CycleJob) (old : Seen) (outcome : CycleOutcome) (new : Seen) : Type 0 where
   pub nothing : job.plan.image.outputs + job.plan.image.inputs ≡ 0 → (outcome.result ≡ Ok 0) × (new ≡ old)
   pub turn : 0 < job.plan.image.outputs + job.plan.image.inputs
       → TakesTurn job.plan.image job.outputs.items (replicate job.plan.image.inputs 0) old outcome.result outcome.inputs.items new
 
--- so once the line is set; where that failed nothing more is sent, and the inputs are zeros
+-- Once the line is configured, the process data is exchanged. If that failed, nothing more is sent and the inputs are zeros.
 abbrev pub GoesOn : Result (Unit {0}) CycleFault → CycleJob → Seen → CycleOutcome → Option Plan → Seen → Type 0
 GoesOn (Ok done) job mid outcome later new = (later ≡ Some job.plan) × Exchanges job mid outcome new
-GoesOn (Err fault) job mid outcome later new = (later ≡ None) × (outcome.result ≡ Err fault) × (outcome.inputs.items ≡ replicate job.plan.image.inputs 0) × (new ≡ mid)
+GoesOn (Err fault) job mid outcome later new = (later ≡ None) × (outcome.result ≡ Err fault)
+    × (outcome.inputs.items ≡ replicate job.plan.image.inputs 0) × (new ≡ mid)
 
--- The job was done. `later`: the plan that the line is set for, if the setting went well.
-pub record TakesJob (slaves : ℕ) (last : Option Plan) (job : CycleJob) (old : Seen) (outcome : CycleOutcome) (later : Option Plan) (new : Seen) : Type 0 where
+-- The job was done. `later` is the plan that the line is configured for then, if the configuration succeeded.
+pub record TakesJob (slaves : ℕ) (last : Option Plan) (job : CycleJob) (old : Seen) (outcome : CycleOutcome)
+    (later : Option Plan) (new : Seen) : Type 0 where
   pub set : Result (Unit {0}) CycleFault
   pub mid : Seen
   pub sets : SetsLine slaves last job.plan old set mid

@@ -1,36 +1,36 @@
-//! The jobs of the cycle.
+//! The jobs of the process data thread.
 
 ghost use Rattle.std.specs.Prelude.{◌≡◌, length};
 
 use arrayvec::ArrayVec;
-use cyclic::CycleFault;
+use cyclic::{CycleFault, IMAGE_BYTES};
 use sii_image::Plan;
 
-/// The most bytes of a process image.
-pub const IMAGE_BYTES: usize = 1486;
-
-/// One turn of the cycle: by this plan, with these outputs, one byte for each that the image has.
+/// One process data cycle to do.
 #[derive(Drop)]
 pub struct CycleJob {
+    /// The process image to exchange.
     pub plan: Plan,
+    /// The outputs: exactly as many bytes as the image has outputs.
     pub outputs: ArrayVec<u8, IMAGE_BYTES>,
+    /// As many output bytes as the image has.
     pub ghost whole: { length outputs.items ≡ plan.image.outputs },
 }
 
-/// What came of it.
+/// The outcome of a process data cycle.
 #[derive(Drop)]
 pub struct CycleOutcome {
-    /// What the slaves sent, one byte for each input of the image; zeros after a fault.
+    /// The inputs that the slaves sent: as many bytes as the image has inputs, and all zero after a fault.
     pub inputs: ArrayVec<u8, IMAGE_BYTES>,
-    /// The working counter.
+    /// The working counter, or why the line wasn't configured or the process data not exchanged. 0 for an image without bytes.
     pub result: Result<u16, CycleFault>,
 }
 
-/// What a log keeps of a turn.
+/// What a log keeps of a process data cycle.
 #[derive(Clone, Copy, Debug, PartialEq, Eq, Drop)]
 pub struct CycleNote {
-    /// How many commands the plan's contents are after.
+    /// The prefix of the plan: its image is that of the contents after this many commands.
     pub prefix: u64,
-    /// How many bytes its image has.
+    /// How many bytes its process image has, outputs and inputs together.
     pub size: usize,
 }

@@ -1,21 +1,21 @@
-//! Serving the process data.
+//! The loop of the process data thread.
 
 ghost use Rattle.std.specs.Prelude.{◌≡◌, ◌≤◌, [], length, replicate, IsTrue};
 ghost use Rattle.station_jobs.specs.Setting.{SetsLine, TakesJob};
 
-use crate::cycle::{CycleJob, CycleOutcome, IMAGE_BYTES};
+use crate::cycle::{CycleJob, CycleOutcome};
 use crate::dispatch::{Dispatch, Turn};
 use crate::end::End;
 use crate::log::CycleLog;
 use arrayvec::ArrayVec;
-use cyclic::{CycleFault, configure, reconfigure, turn};
+use cyclic::{CycleFault, IMAGE_BYTES, configure, reconfigure, turn};
 use sii_image::Plan;
 use site_core::Site;
 use std::snapshot::Snapshot;
 use std::sync::Wait;
 
-/// So many zeros.
-fn zeros(count: usize) -> ArrayVec<u8, IMAGE_BYTES>
+/// `count` zero bytes.
+pub fn zero_bytes(count: usize) -> ArrayVec<u8, IMAGE_BYTES>
     requires { count ≤ 1486 }
     ensures { result.items ≡ replicate count 0 }
 {
@@ -24,7 +24,7 @@ fn zeros(count: usize) -> ArrayVec<u8, IMAGE_BYTES>
     bytes
 }
 
-/// Sets the line for a plan: all of it, or where the last setting of it was for a plan and went well, the slaves whose segments differ.
+/// Configures the line for a plan: only the slaves whose segments differ, if it is configured for `last`, and otherwise all of it.
 fn set_line<S: Site>(site: &mut S, last: &Option<Plan>, plan: &Plan) -> Result<(), CycleFault>
     requires { IsTrue (S.line site.old).has_process }
     ensures sends { SetsLine (length (S.line site.old).sizes) last.now plan.now (S.seen site.old) result (S.seen site.new) }
@@ -36,14 +36,14 @@ fn set_line<S: Site>(site: &mut S, last: &Option<Plan>, plan: &Plan) -> Result<(
     }
 }
 
-/// Sets the line for the job's plan, and exchanges its process data.
+/// Configures the line for the job's plan, and exchanges its process data. `last` is the plan that the line is configured for.
 fn take_turn<S: Site>(site: &mut S, last: &mut Option<Plan>, job: CycleJob) -> CycleOutcome
     requires { IsTrue (S.line site.old).has_process }
     ensures takes { TakesJob (length (S.line site.old).sizes) last.old job (S.seen site.old) result last.new (S.seen site.new) }
     ensures line { S.line site.new ≡ S.line site.old }
 {
     let CycleJob { plan, outputs } = job;
-    let mut inputs = zeros(plan.image.inputs());
+    let mut inputs = zero_bytes(plan.image.inputs());
     if let Err(fault) = set_line(site, last, &plan) {
         *last = None;
         return CycleOutcome {
@@ -56,11 +56,13 @@ fn take_turn<S: Site>(site: &mut S, last: &mut Option<Plan>, job: CycleJob) -> C
     CycleOutcome { inputs, result }
 }
 
-/// Exchanges process data, turn by turn, as the dispatch hands them out, and tells what came of each, until the dispatch says `Stop` or
-/// the site has stopped. After a lost frame or a wrong working counter it goes on. It waits with the dispatch, and asks again at `Again`.
+/// Exchanges process data, once for each job of the dispatch, until the dispatch answers `Stop` or the site has stopped.
 ///
-/// Where the image isn't the one that the line was set for last, or the last setting didn't go well, the line is set for it first: by
-/// `reconfigure` where the last setting went well, else by `configure`. A turn whose setting fails exchanges nothing.
+/// It reports each outcome to the dispatch, and asks again after `Again`. After a lost frame or a wrong working counter it goes on.
+/// Before each exchange the line is configured for the job's plan: by `reconfigure` if the last configuration succeeded, else by
+/// `configure`. If this fails, nothing is exchanged.
+///
+/// The site has to own the process halves of all slaves, and the dispatch must have handed out nothing yet.
 pub fn cycle_loop<S: Site, D: Dispatch<CycleLog>, R: Wait>(
     rt: &R,
     mut site: S,

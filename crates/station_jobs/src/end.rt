@@ -1,4 +1,4 @@
-//! What one who served a dispatch gives back.
+//! What a thread returns at its end: its site and the log of its jobs.
 
 ghost use Rattle.std.specs.Prelude.{◌≡◌};
 ghost use Rattle.site_core.specs.State.{Seen};
@@ -11,9 +11,9 @@ use site_core::Site;
 use std::marker::Model;
 use std::snapshot::Snapshot;
 
-/// A log that says how a site got from one state to another.
+/// A log of jobs that took a site from one state to another.
 pub trait Leads {
-    /// Its jobs led from the one to the other, in order, and nothing else was done.
+    /// The jobs of the log, in order and with nothing in between, led from the first state to the second.
     ghost leads: { Self → Seen → Seen → Type 0 };
 }
 
@@ -29,8 +29,9 @@ impl Leads for CycleLog {
     ghost leads = { IsCycled };
 }
 
-/// A site at the end of its work, with the log of it. By its type, the site is where the jobs of the log lead from where it was when
-/// the work began.
+/// The site of a thread that has ended, with the log of its jobs.
+///
+/// The type guarantees that the jobs of the log led the site from where it was at the start to where it is now.
 #[derive(Drop)]
 pub struct End<S: Site, L: Leads> {
     site: S,
@@ -50,7 +51,7 @@ impl<S: Site, L: Leads> Model for End<S, L> {
 }
 
 impl<S: Site, L: Leads> End<S, L> {
-    /// The end of a work that led from the start to this site.
+    /// The end of a thread whose jobs led from the start to this site.
     pub(crate) fn new(site: S, log: L, start: Snapshot<S>) -> Self
         requires line { S.line site ≡ S.line start.value }
         requires leads { L.leads log (S.seen start.value) (S.seen site) }
@@ -61,7 +62,7 @@ impl<S: Site, L: Leads> End<S, L> {
         End { site, log, start }
     }
 
-    /// The log.
+    /// The log of the jobs.
     pub fn log(&self) -> &L
         ensures log { result.now ≡ self.now.log }
         ensures line { S.line self.now.site ≡ S.line self.now.start }
@@ -70,7 +71,7 @@ impl<S: Site, L: Leads> End<S, L> {
         &self.log
     }
 
-    /// The site and the log.
+    /// The site, and the log of its jobs.
     pub fn into_parts(self) -> (S, L)
         ensures site { result.0 ≡ self.site }
         ensures log { result.1 ≡ self.log }

@@ -1,4 +1,4 @@
-//! Serving the disk.
+//! The loop of the disk's thread.
 
 ghost use Rattle.std.specs.Prelude.{◌≡◌, [], IsTrue};
 ghost use Rattle.station_jobs.specs.Flushing.{CanBegin, DoesAction};
@@ -12,7 +12,7 @@ use site_journal::do_action;
 use std::snapshot::Snapshot;
 use std::sync::Wait;
 
-/// Does an action.
+/// Does one action on the disk.
 fn act<S: Site>(site: &mut S, action: DiskNext) -> Result<(), DeviceFault>
     requires disk { IsTrue (S.line site.old).has_disk }
     requires begins { CanBegin action (S.seen site.old).state.disk }
@@ -22,10 +22,10 @@ fn act<S: Site>(site: &mut S, action: DiskNext) -> Result<(), DeviceFault>
     do_action(site, &action)
 }
 
-/// Does one action after another with the disk, as the dispatch hands them out, and tells what came of each, until the dispatch says
-/// `Stop` or the site has stopped. It waits with the dispatch, and asks again at `Again`.
+/// Does the disk actions that the dispatch hands out, one after another, until the dispatch answers `Stop` or the site has stopped.
 ///
-/// Each action that the dispatch may hand out has to begin inside the disk, or right behind its end.
+/// It reports each outcome to the dispatch, and asks again after `Again`. The site has to own the disk. The dispatch must have handed out
+/// nothing yet, and may hand out only actions that begin inside the disk or right behind its end.
 pub fn flush<S: Site, D: Dispatch<DiskLog>, R: Wait>(
     rt: &R,
     mut site: S,

@@ -12,12 +12,14 @@ ghost use Rattle.station_jobs.specs.Left.{CameBackInTurn};
 ghost use Rattle.station_jobs.specs.Flushing.{DoesAction, ActionReturns};
 ghost use Rattle.station_jobs.specs.Working.{CallsSlave, SlaveReturns};
 
-/// What the actions of a flusher made of the disk is what the events of the law make of it.
+/// The actions of a flusher, done one after another, changed the disk as the events of the main law do.
 pub fn actions_are_events()
-    ensures { (log : List (Assignment DiskNext (Result (Unit {0}) DeviceFault))) (old new : Seen) → DoneInTurn DoesAction log old new → CameBackInTurn ActionReturns log old.state new.state }
+    ensures { (log : List (Assignment DiskNext (Result (Unit {0}) DeviceFault))) (old new : Seen) → DoneInTurn DoesAction log old new
+        → CameBackInTurn ActionReturns log old.state new.state }
 {}
 
-/// What the calls of a worker made of the slave is what the events of the law make of it.
+/// The calls of a worker, done one after another, changed its slave as the events of the main law do.
 pub fn calls_are_events()
-    ensures { (slave : ℕ) (log : List (Assignment RomNext RomOutcome)) (old new : Seen) → DoneInTurn (CallsSlave slave) log old new → CameBackInTurn (SlaveReturns slave) log old.state new.state }
+    ensures { (slave : ℕ) (log : List (Assignment RomNext RomOutcome)) (old new : Seen) → DoneInTurn (CallsSlave slave) log old new
+        → CameBackInTurn (SlaveReturns slave) log old.state new.state }
 {}

@@ -1,7 +1,4 @@
-//! What serves a book from threads of its own: one for the disk, one for each slave, and one for the process data. Each takes jobs
-//! from a dispatch, does them on a site of its own, and gives at its end the site and the log of what it did.
-//!
-//! The crate starts no thread and takes no lock: a dispatch may wait, and these loops wait with it.
+//! The jobs of the disk thread, of a slave's thread and of the cyclic thread: the loops that do them, the records of them, and their outcomes.
 #![tactic(auto)]
 
 mod cycle;
@@ -9,16 +6,22 @@ mod cycling;
 mod dispatch;
 mod end;
 mod flushing;
-mod gate;
+mod hook;
 pub mod laws;
 mod log;
+mod matching;
+mod notes;
+mod sameness;
 mod working;
 
-pub use cycle::{CycleJob, CycleNote, CycleOutcome, IMAGE_BYTES};
-pub use cycling::cycle_loop;
+pub use cycle::{CycleJob, CycleNote, CycleOutcome};
+pub use cycling::{cycle_loop, zero_bytes};
 pub use dispatch::{Dispatch, Turn};
 pub use end::{End, Leads};
 pub use flushing::flush;
-pub use gate::{Gate, NoGate};
+pub use hook::{Hook, NoHook};
 pub use log::{Assignment, CycleLog, DiskLog, Log, RomLog, SlaveLog};
+pub use matching::{DiskEntry, RomEntry, are_same_actions, are_same_calls, are_same_turns};
+pub use notes::Notes;
+pub use sameness::is_same_command;
 pub use working::work;

@@ -1,34 +1,38 @@
-//! What is kept of the jobs that were handed out.
+//! The logs of the jobs that were handed out.
 
 ghost use Rattle.std.specs.Prelude.{◌≡◌, ◌+◌, ◌++◌, ◌∷◌, [], None};
 ghost use Rattle.station_jobs.specs.Dispatch.{with_outcome};
 
 use crate::cycle::{CycleJob, CycleNote, CycleOutcome};
 use book_model::{DiskNext, RomNext, RomOutcome};
-use item_list::ItemList;
+use lists::ItemList;
 use site_core::DeviceFault;
 
-/// A job that was handed out, and its outcome once it was told.
+/// A job that was handed out, with its outcome once it is reported.
 #[derive(Drop)]
 pub struct Assignment<J, O> {
+    /// What was to be done.
     pub job: J,
+    /// How it ended. `None` until this is reported.
     pub outcome: Option<O>,
 }
 
-/// The log of a dispatch: what it keeps of each job, in the order in which they were handed out.
+/// What a dispatch keeps of its jobs, in the order in which they were handed out.
 pub trait Log {
+    /// What is handed out.
     type Job;
 
+    /// What is reported of a job.
     type Outcome;
 
-    /// The log with one more job.
+    /// The log with one more job, which has no outcome yet.
     ghost handed: { Self → Self.Job → Self };
 
-    /// The log once this was told of the last job.
+    /// The log once this outcome of the last job is reported.
     ghost told: { Self → Self.Outcome → Self };
 }
 
-/// The actions of the disk, each with its outcome.
+/// The disk's actions, each with its outcome.
 pub type DiskLog = ItemList<Assignment<DiskNext, Result<(), DeviceFault>>>;
 
 impl Log for DiskLog {
@@ -41,7 +45,7 @@ impl Log for DiskLog {
     ghost told = { with_outcome };
 }
 
-/// What was done with one slave.
+/// The issues and settles of one slave, each with its outcome.
 pub type RomLog = ItemList<Assignment<RomNext, RomOutcome>>;
 
 impl Log for RomLog {
@@ -54,7 +58,7 @@ impl Log for RomLog {
     ghost told = { with_outcome };
 }
 
-/// The turns of the cycle: of each the prefix and the size of the image.
+/// The process data cycles: of each, the prefix of its plan and the size of its image. Outcomes aren't kept.
 pub type CycleLog = ItemList<CycleNote>;
 
 impl Log for CycleLog {
@@ -67,9 +71,11 @@ impl Log for CycleLog {
     ghost told = { λ log outcome. log };
 }
 
-/// What was done with one slave, and which slave it was.
+/// The log of one slave's jobs, with the slave's number.
 #[derive(Drop)]
 pub struct SlaveLog {
+    /// The slave's number, from 0 in the order of the line.
     pub slave: u16,
+    /// Its issues and settles, each with its outcome.
     pub jobs: RomLog,
 }

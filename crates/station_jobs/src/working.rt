@@ -1,4 +1,4 @@
-//! Serving one slave.
+//! The loop of a slave's thread.
 
 ghost use Rattle.std.specs.Prelude.{◌≡◌, []};
 ghost use Rattle.site_core.specs.Line.{Owns};
@@ -6,7 +6,7 @@ ghost use Rattle.station_jobs.specs.Working.{CallsSlave, IsCall};
 
 use crate::dispatch::{Dispatch, Turn};
 use crate::end::End;
-use crate::gate::Gate;
+use crate::hook::Hook;
 use crate::log::{RomLog, SlaveLog};
 use book_model::{RomNext, RomOutcome};
 use esc_rom::{issue, settle};
@@ -14,7 +14,7 @@ use site_core::Site;
 use std::snapshot::Snapshot;
 use std::sync::Wait;
 
-/// Issues or settles a word of a slave.
+/// Issues or settles one word of a slave.
 fn call<S: Site>(site: &mut S, slave: u16, job: RomNext) -> RomOutcome
     requires owns { Owns (S.line site.old) slave }
     requires call { IsCall job }
@@ -34,15 +34,17 @@ fn call<S: Site>(site: &mut S, slave: u16, job: RomNext) -> RomOutcome
     }
 }
 
-/// Issues and settles the words of one slave, one after another, as the dispatch hands them out, and tells what came of each, until
-/// the dispatch says `Stop`, the site has stopped, or the gate isn't passed: the last outcome isn't told then. It waits with the
-/// dispatch and at the gate, and asks again at `Again`.
-pub fn work<S: Site, D: Dispatch<RomLog>, G: Gate, R: Wait>(
+/// Issues and settles the words of one slave that the dispatch hands out, one after another.
+///
+/// It ends when the dispatch answers `Stop`, the site has stopped, or the hook answers false. It reports each outcome to the dispatch,
+/// except the one for which the hook answers false, and asks again after `Again`. The site has to own the slave's EEPROM half. The
+/// dispatch must have handed out nothing yet, and may hand out only issues and settles.
+pub fn work<S: Site, D: Dispatch<RomLog>, G: Hook, R: Wait>(
     rt: &R,
     mut site: S,
     slave: u16,
     mut dispatch: D,
-    gate: &G,
+    hook: &G,
 ) -> End<S, SlaveLog>
     requires owns { Owns (S.line site) slave }
     requires fresh { D.log dispatch ≡ [] }
@@ -57,7 +59,7 @@ pub fn work<S: Site, D: Dispatch<RomLog>, G: Gate, R: Wait>(
             Turn::Stop => break,
             Turn::Work(job) => {
                 let outcome = call(&mut site, slave, job);
-                if !gate.pass(slave) {
+                if !hook.pass(slave) {
                     break;
                 }
                 dispatch.done(rt, outcome);

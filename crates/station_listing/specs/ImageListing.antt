@@ -1,4 +1,4 @@
--- What an EEPROM image says: whether its check byte is right, and by its chain how many items each category has.
+-- The listing of an EEPROM image: whether its check byte is right, and the categories of its chain with their numbers of items.
 use Rattle.std.specs.Prelude.{◌≡◌, ◌≢◌, ◌%◌, ◌⊎◌, ℕ, List, length, slice_index, All}
 use Rattle.std.specs.List.{AllZip}
 use Rattle.sii_words.specs.CheckByte.{IsChecked, check_byte_of}
@@ -18,11 +18,11 @@ use Rattle.station_listing.specs.declared.listing.ListedChain.{ListedChain}
 use Rattle.station_listing.specs.declared.listing.ListedChain.TheVariants.{Whole, RunsOut}
 use Rattle.station_listing.specs.declared.listing.Listing.{Listing}
 
--- these bytes spell so many items
-abbrev pub Counts : {X : Type 0} → (List ℕ → List X → Type 0) → List ℕ → ℕ → Type 0
-Counts {X} Spell words count = (items : List X) × Spell (bytes_of words) items × (count ≡ length items)
+-- the bytes of these words spell this number of items
+abbrev pub CountsItems : {X : Type 0} → (List ℕ → List X → Type 0) → List ℕ → ℕ → Type 0
+CountsItems {X} Spell words count = (items : List X) × Spell (bytes_of words) items × (count ≡ length items)
 
--- these bytes spell no items
+-- the bytes of these words spell no list of items
 abbrev pub SpellsNone : {X : Type 0} → (List ℕ → List X → Type 0) → List ℕ → Type 0
 SpellsNone {X} Spell words = (items : List X) → Spell (bytes_of words) items → ⊥
 
@@ -30,32 +30,32 @@ SpellsNone {X} Spell words = (items : List X) → Spell (bytes_of words) items �
 abbrev pub IsPdoType : ℕ → Type 0
 IsPdoType kind = (kind ≡ 50) ⊎ (kind ≡ 51)
 
--- what the content of a category of this type says
+-- this is the listing of the content of a category of this type
 abbrev pub SaysContent : ℕ → List ℕ → Content → Type 0
-SaysContent kind words (Strings count) = (kind ≡ 10) × Counts AreStrings words count
-SaysContent kind words (Units count) = (kind ≡ 40) × Counts AreUnits words count
-SaysContent kind words (Managers count) = (kind ≡ 41) × Counts AreManagers words count
-SaysContent kind words (Pdos count) = IsPdoType kind × Counts ArePdos words count
+SaysContent kind words (Strings count) = (kind ≡ 10) × CountsItems AreStrings words count
+SaysContent kind words (Units count) = (kind ≡ 40) × CountsItems AreUnits words count
+SaysContent kind words (Managers count) = (kind ≡ 41) × CountsItems AreManagers words count
+SaysContent kind words (Pdos count) = IsPdoType kind × CountsItems ArePdos words count
 SaysContent kind words Malformed = ((kind ≡ 10) × SpellsNone AreStrings words) ⊎ (IsPdoType kind × SpellsNone ArePdos words)
 SaysContent kind words Opaque = (kind ≢ 10) × (kind ≢ 40) × (kind ≢ 41) × (kind ≢ 50) × (kind ≢ 51)
 
--- a category: its type, how many words its content has, and what that says
+-- this is the listing of a category: its type, the number of words of its content, and the content's listing
 pub record SaysMember (member : Member) (listed : ListedCategory) : Type 0 where
   pub kind : listed.kind ≡ member.kind
   pub count : listed.count ≡ length member.content
   pub content : SaysContent member.kind member.content listed.content
 
--- the chain, or the header from which it can't be read
+-- this is the listing of the chain: its categories, or the header from which on it can't be read
 abbrev pub SaysChain : List ℕ → ListedChain → Type 0
 SaysChain words (Whole listed) = (members : List Member) × IsChain words members × AllZip SaysMember members listed.items
 SaysChain words (RunsOut at) = IsCutAt words at
 
--- the low byte of word 7, against the check byte
+-- this is the listing of the check byte: the low byte of word 7 is right, or differs from the check byte of the words
 abbrev pub SaysCheck : List ℕ → CheckByte → Type 0
 SaysCheck words Right = IsChecked words
 SaysCheck words (Wrong found expected) = (found ≡ slice_index words 7 % 256) × (expected ≡ check_byte_of words) × (found ≢ expected)
 
--- what an image says
+-- this is the listing of an image
 pub record SaysImage (words : List ℕ) (listing : Listing) : Type 0 where
   pub count : listing.count ≡ length words
   pub alias : listing.alias ≡ alias_of words

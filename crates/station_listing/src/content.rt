@@ -1,4 +1,4 @@
-//! What the content of a category says, by the category's type.
+//! Counts the items in the content of a category, by the type of the category.
 ghost use Rattle.std.specs.Prelude.{◌≡◌, ◌↔◌, IfOk, IsTrue};
 ghost use Rattle.station_listing.specs.ImageListing.{IsPdoType, SaysContent};
 
@@ -6,24 +6,28 @@ use sii_cats::{CatFault, fmmus, pdos, strings, syncms};
 use std::alloc::{AllocError, Global};
 use std::fmt;
 
-/// The content of a category, by how many items of its type it has.
+/// The content of a category, as the number of items that it has.
 #[derive(Clone, Copy, PartialEq, Eq)]
 pub enum Content {
-    /// STRINGS (type 10).
+    /// Strings of a category STRINGS (type 10).
     Strings(usize),
-    /// FMMU (type 40).
+    /// FMMU units of a category FMMU (type 40).
     Units(usize),
-    /// SyncM (type 41).
+    /// Sync managers of a category SyncM (type 41).
     Managers(usize),
-    /// TXPDO and RXPDO (types 50 and 51).
+    /// PDOs of a category TXPDO or RXPDO (types 50 and 51).
     Pdos(usize),
     /// A content of type 10, 50 or 51 that can't be read.
     Malformed,
-    /// A type whose content is words without a meaning.
+    /// A content of any other type, which is not read.
     Opaque,
 }
 
-/// Reads the content of a category of type `kind`.
+/// Counts the items in the content of a category of type `kind`.
+///
+/// # Errors
+///
+/// Memory was refused.
 pub fn read_content(alloc: Global, kind: u16, words: &[u16]) -> Result<Content, AllocError>
     ensures { IfOk result (SaysContent kind words.now) }
 {
@@ -58,6 +62,7 @@ fn count_pdos(alloc: Global, kind: u16, words: &[u16]) -> Result<Content, AllocE
 }
 
 impl Content {
+    /// Whether the content can't be read.
     pub fn is_malformed(self) -> bool
         ensures { IsTrue result ↔ (self ≡ Content.Malformed) }
     {

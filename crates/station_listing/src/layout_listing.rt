@@ -1,4 +1,4 @@
-//! The process image of a line, as `layout` prints it.
+//! Lists the process image of a line, as `layout` prints it.
 ghost use Rattle.std.specs.Prelude.{◌≡◌, IfOk, map};
 ghost use Rattle.sii_image.specs.ProcessImage.{process_image};
 ghost use Rattle.station_listing.specs.LayoutListing.{GivesListing, direction_of, listed_segment};
@@ -8,46 +8,51 @@ use sii_words::Plant;
 use std::alloc::{AllocError, Global};
 use std::fmt;
 
-/// The process image of a line.
+/// The listing of the process image of a line.
 #[derive(Drop)]
 pub struct LayoutListing {
     /// The segments, in the order in which they lie in the image.
     pub segments: Vec<ListedSegment>,
-    /// The size of all outputs in bytes.
+    /// The size of all outputs, in bytes.
     pub outputs: usize,
-    /// The size of all inputs in bytes.
+    /// The size of all inputs, in bytes.
     pub inputs: usize,
-    /// The working counter of a cycle in which every slave takes part.
+    /// The expected working counter of a cycle, in which every slave takes part.
     pub counter: u16,
 }
 
 /// The process data of one sync manager: where it lies in the image, and its length.
 #[derive(Clone, Copy)]
 pub struct ListedSegment {
-    /// The position of the slave.
+    /// The slave's position on the line, from 0.
     pub slave: u16,
-    /// The sync manager's number.
+    /// The number of the sync manager in its slave, from 0.
     pub manager: u8,
+    /// Outputs or inputs.
     pub direction: Direction,
-    /// Where it begins in the image, in bytes.
+    /// Where the data begin in the process image, in bytes.
     pub offset: u32,
-    /// Its size in bytes.
+    /// The size of the data in whole bytes.
     pub size: u32,
-    /// Its length in bits.
+    /// The length of the data in bits.
     pub bits: u32,
 }
 
-/// Which way process data goes.
+/// The direction of process data, seen from the master.
 #[derive(Clone, Copy)]
 pub enum Direction {
-    /// The master sends it.
+    /// Outputs: the master sends them.
     Out,
-    /// The master receives it.
+    /// Inputs: the master receives them.
     In,
 }
 
-/// Lists the process image of a line with these contents. `ImageOverLimit`: there is none, since it would have more than
-/// 1,486 bytes, or a slave more than 8 segments.
+/// Lists the process image of a line with these contents.
+///
+/// # Errors
+///
+/// `ImageOverLimit` where the line has no process image: more than 1,486 bytes in all, or more than 8 segments in one slave. `Memory` at any
+/// point.
 pub fn list_layout(alloc: Global, plant: &Plant) -> Result<LayoutListing, ImageFault>
     ensures { GivesListing result (process_image plant.now) }
 {

@@ -1,10 +1,12 @@
-//! What an EEPROM image says, and what the process image of a line is, as the program prints them.
+//! What the program prints: the code, name and explanation of each fault and refusal, and the listings of `show` and `layout`.
 #![tactic(auto)]
 
+mod codes;
 mod content;
 mod layout_listing;
 mod listing;
 
+pub use codes::{CODES, Code, CodeEntry, find_code};
 pub use content::Content;
 pub use layout_listing::{Direction, LayoutListing, ListedSegment, list_layout};
 pub use listing::{CheckByte, ListedCategory, ListedChain, Listing, list_image};

@@ -1,4 +1,4 @@
-//! What an EEPROM image says, as `show` prints it.
+//! Lists the content of an EEPROM image, as `show` prints it.
 ghost use Rattle.std.specs.Prelude.{◌≡◌, ◌≤◌, ◌↔◌, IfOk, IsTrue, length, map};
 ghost use Rattle.std.specs.List.{AllZip};
 ghost use Rattle.sii_cats.specs.Chain.{ArePlaced, end_of, member_of};
@@ -10,43 +10,55 @@ use sii_words::{Identity, ImageFile};
 use std::alloc::{AllocError, Global};
 use std::fmt;
 
-/// What an image says.
+/// The listing of an EEPROM image.
 #[derive(Drop)]
 pub struct Listing {
-    /// The number of words.
+    /// The number of words of the image: 64 to 4,096.
     pub count: usize,
     /// The configured station alias.
     pub alias: u16,
+    /// Whether the check byte is right.
     pub check: CheckByte,
+    /// The identity: vendor, product, revision and serial number.
     pub identity: Identity,
+    /// The chain of categories.
     pub chain: ListedChain,
 }
 
-/// What stands at the check byte's place.
+/// The low byte of word 7, compared with the check byte of words 0 to 6 (ETG.1000.6, SII).
 #[derive(Clone, Copy, PartialEq, Eq)]
 pub enum CheckByte {
+    /// The two are equal.
     Right,
+    /// The image has `found`, and its words 0 to 6 give `expected`.
     Wrong { found: u8, expected: u8 },
 }
 
-/// The chain of categories.
+/// The chain of categories of an image.
 #[derive(Drop)]
 pub enum ListedChain {
     /// The categories, in order.
     Whole(Vec<ListedCategory>),
-    /// The header at word `at`, or its content, isn't whole.
+    /// The chain can't be read: the header at word `at`, or the content after it, goes on past the last word.
     RunsOut { at: usize },
 }
 
-/// A category: its type, the number of words of its content, and what the content says.
+/// The listing of a category.
 #[derive(Clone, Copy)]
 pub struct ListedCategory {
+    /// The type of the category.
     pub kind: u16,
+    /// The number of words of its content.
     pub count: usize,
+    /// The number of items in its content.
     pub content: Content,
 }
 
-/// Lists what an image says.
+/// Lists the content of an EEPROM image.
+///
+/// # Errors
+///
+/// Memory was refused.
 pub fn list_image(alloc: Global, image: &ImageFile) -> Result<Listing, AllocError>
     ensures { IfOk result (SaysImage image.now) }
 {
@@ -115,7 +127,7 @@ fn list_category(
 }
 
 impl Listing {
-    /// Whether the check byte is right and the chain and all contents can be read.
+    /// Whether the check byte is right, and the chain and all contents can be read.
     pub fn is_sound(&self) -> bool
         ensures { IsTrue result ↔ IsSound self.now }
     {

@@ -1,11 +1,15 @@
 //! The subcommand `explain`.
 
-use station_codes::{CODES, Code};
 use station_files::Fault;
+use station_listing::{CODES, Code};
 use std::alloc::{AllocError, Global};
 use std::io::Write;
 
-/// Prints what a code means, why it comes and what to do, or that of all codes. Nothing is printed where memory is refused.
+/// Prints what a code means, why it occurs and what to do about it; without a code, prints this for all codes.
+///
+/// # Errors
+///
+/// `Memory` before anything is printed; then `File` or `Memory`, as the output answers.
 pub fn explain<W: Write>(alloc: Global, code: Option<Code>, output: &mut W) -> Result<(), Fault> {
     let text = match code {
         Some(code) => paragraph(alloc, code)?,
@@ -16,13 +20,14 @@ pub fn explain<W: Write>(alloc: Global, code: Option<Code>, output: &mut W) -> R
     Ok(())
 }
 
+/// What the program prints of one code.
 fn paragraph(alloc: Global, code: Code) -> Result<String, AllocError> {
     let entry = code.entry();
     let (meaning, reason, remedy) = (entry.meaning, entry.reason, entry.remedy);
     format!(in alloc; "{code}: {meaning} {reason} {remedy}\n")
 }
 
-/// The paragraphs of all codes, with an empty line between two.
+/// The paragraphs of all codes, separated by empty lines.
 fn all_paragraphs(alloc: Global) -> Result<String, AllocError> {
     let mut text = String::new(alloc);
     for code in CODES {

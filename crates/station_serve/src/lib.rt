@@ -1,9 +1,11 @@
-//! The program as a library: `serve` does what a command line asks for, over streams and named files.
+//! The program as a library: its command line, and its subcommands over any files and streams.
 #![tactic(auto)]
 
+mod arguments;
 mod explain;
 mod serving;
 
+pub use arguments::{Task, read_arguments};
 pub use serving::{refuse_words, serve};
 pub use station_files::{FileStore, LockFault, Store};
 pub use station_text::{read_hex, read_line, read_script};

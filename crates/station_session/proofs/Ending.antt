@@ -1,26 +1,26 @@
--- What the files hold in the end.
+-- What the files of a line hold after a run or a recovery.
 use Rattle.std.proofs.Common.{◌≡◌, ℕ, Bool, true, false, List, [], length, sym, ◌∙◌, ap, subst, inr, Result, Ok, Err}
 use Rattle.std.specs.Prelude.{IfErr, IfOk, IsTrue, MatchResult, OnErr, OnOk, string_bytes}
 use Rattle.std.proofs.lemmas.List.{length-map}
 use Rattle.sii_edit.specs.declared.command.Command.{Command}
 use Rattle.site_core.specs.Line.{Line}
 use Rattle.site_core.specs.State.{State, Seen}
-use Rattle.site_line.specs.Owned.{OwnsAll}
+use Rattle.esc_rom.specs.Owned.{OwnsAll}
 use Rattle.site_shadow.specs.Site.{SiteValue}
 use Rattle.book_model.specs.Book.{Book}
 use Rattle.station_alone.specs.Station.{Station}
-use Rattle.station_recovery.specs.Recovery.{IsRecovered, BeginsRecovered}
+use Rattle.station_alone.specs.Recovery.{HasRecovered, BeginsRecovered}
 use Rattle.station_text.specs.declared.line_file.LineFile.{LineFile}
 use Rattle.station_files.specs.Faults.{IsFaultless}
 use Rattle.station_files.specs.Files.{Known, HasBytes, ChangesAmong}
 use Rattle.station_files.specs.LineFiles.{SpellsLine, SpellsSlaves}
 use Rattle.station_files.specs.ScriptFiles.{SpellsCommands}
 use Rattle.station_files.specs.declared.faults.Fault.{Fault}
-use Rattle.station_files.specs.declared.faults.Status.{Status}
-use Rattle.station_files.specs.declared.faults.Status.TheVariants.{Done}
+use Rattle.station_files.specs.declared.faults.ExitStatus.{ExitStatus}
+use Rattle.station_files.specs.declared.faults.ExitStatus.TheVariants.{Done}
 use Rattle.station_bench.specs.Site.{IsSiteOf, files_of, HoldsSite}
-use Rattle.station_rounds.specs.Rounds.{ServesSo}
-use Rattle.station_session.specs.Session.{is_old, EndsRecovery, EndsRun, EndsStation, IsOpened, Loads, Recovers, Runs, SavesRecovered, SavesRun, SavesServed, StartsFrom}
+use Rattle.script_session.specs.Rounds.{ServesSo}
+use Rattle.station_session.specs.Session.{is_old, EndsRecovery, EndsRun, EndsStation, IsOpened, Loads, Recovers, RunsScript, SavesRecovered, SavesRun, SavesServed, StartsFrom}
 
 -- ---- what was read
 
@@ -49,17 +49,17 @@ owns old new same owned = subst OwnsAll (sym same) owned
 pub as-many : (old new : Line) (count : ℕ) → new ≡ old → length old.sizes ≡ count → length new.sizes ≡ count
 as-many old new count same is = ap (λ (l : Line). length l.sizes) same ∙ is
 
--- whatever came of it
+-- for either result of a call
 pub came-line : {T E : Type 0} (result : Result T E) (one : T → Line) (other : E → Line) (line : Line) → IfOk result (λ value. one value ≡ line) → IfErr result (λ error. other error ≡ line) → MatchResult result (λ value. one value ≡ line) (λ error. other error ≡ line)
 came-line (Ok value) one other line ok err = ok
 came-line (Err error) one other line ok err = err
 
 -- ---- a station that was opened
 
-done-faultless : (status : Status) → status ≡ Done → IsFaultless status
+done-faultless : (status : ExitStatus) → status ≡ Done → IsFaultless status
 done-faultless status done = subst IsFaultless (sym done) tt
 
-saves-by : (new : Known) (line : LineFile) (commands : List Command) (opened left : Station) (served saved : Result (Unit {0}) Fault) (state : State) (status one other final : Status) → ServesSo commands served Done status opened left
+saves-by : (new : Known) (line : LineFile) (commands : List Command) (opened left : Station) (served saved : Result (Unit {0}) Fault) (state : State) (status one other final : ExitStatus) → ServesSo commands served Done status opened left
     → state ≡ left.seen.state → OnOk saved (HoldsSite new line state) → OnErr served (¬ IsFaultless one) → OnErr saved (¬ IsFaultless other) → IsFaultless one → IsFaultless other → (final ≡ Done → status ≡ Done)
     → SavesServed new line opened commands final
 saves-by new line commands opened left (Ok done) (Ok kept) state status one other final so is held no_fault no_other good well done_too = record {
@@ -74,7 +74,7 @@ saves-by new line commands opened left (Ok done) (Ok kept) state status one othe
 saves-by new line commands opened left (Ok done) (Err fault) state status one other final so is held no_fault no_other good well done_too = absurd (no_other well)
 saves-by new line commands opened left (Err fault) saved state status one other final so is held no_fault no_other good well done_too = absurd (no_fault good)
 
-pub ends-station : (old new : Known) (line : LineFile) (commands : List Command) (opened left : Station) (served saved : Result (Unit {0}) Fault) (state : State) (status one other ended final : Status) → ServesSo commands served Done status opened left
+pub ends-station : (old new : Known) (line : LineFile) (commands : List Command) (opened left : Station) (served saved : Result (Unit {0}) Fault) (state : State) (status one other ended final : ExitStatus) → ServesSo commands served Done status opened left
     → state ≡ left.seen.state → OnOk saved (HoldsSite new line state) → ChangesAmong old new (files_of line) → OnErr served (¬ IsFaultless one) → OnErr saved (¬ IsFaultless other)
     → (IsFaultless ended → IsFaultless one × IsFaultless other) → (final ≡ Done → (status ≡ Done) × (ended ≡ Done)) → (IsFaultless final → IsFaultless status × IsFaultless ended) → EndsStation true old new line opened commands final
 ends-station old new line commands opened left served saved state status one other ended final so is held others no_fault no_other each done_too faultless_too = record {
@@ -84,8 +84,8 @@ ends-station old new line commands opened left served saved state status one oth
       saves-by new line commands opened left served saved state status one other final so is held no_fault no_other both.0 both.1 (λ done. (done_too done).0);
 }
 
--- it was served, and no fault was told
-pub ends-alone : (old new : Known) (line : LineFile) (commands : List Command) (opened left : Station) (served saved : Result (Unit {0}) Fault) (state : State) (status other final : Status) → served ≡ Ok tt → ServesSo commands served Done status opened left
+-- the station was served without a fault
+pub ends-alone : (old new : Known) (line : LineFile) (commands : List Command) (opened left : Station) (served saved : Result (Unit {0}) Fault) (state : State) (status other final : ExitStatus) → served ≡ Ok tt → ServesSo commands served Done status opened left
     → state ≡ left.seen.state → OnOk saved (HoldsSite new line state) → ChangesAmong old new (files_of line) → OnErr saved (¬ IsFaultless other) → (final ≡ Done → (status ≡ Done) × (other ≡ Done)) → (IsFaultless final → IsFaultless status × IsFaultless other)
     → EndsStation true old new line opened commands final
 ends-alone old new line commands opened left served saved state status other final told so is held others no_other done_too faultless_too = record {
@@ -95,15 +95,15 @@ ends-alone old new line commands opened left served saved state status other fin
       saves-by new line commands opened left (Ok tt) saved state status Done other final served_so is held tt no_other tt (faultless_too good).1 (λ done. (done_too done).0);
 }
 
-pub ends-opened : (is_cut : Bool) (old new : Known) (line : LineFile) (site : SiteValue) (was_old : Bool) (opened : Station) (commands : List Command) (status : Status) → was_old ≡ is_old site.seen.state.disk.bytes → StartsFrom was_old site opened
+pub ends-opened : (is_cut : Bool) (old new : Known) (line : LineFile) (site : SiteValue) (was_old : Bool) (opened : Station) (commands : List Command) (status : ExitStatus) → was_old ≡ is_old site.seen.state.disk.bytes → StartsFrom was_old site opened
     → EndsStation is_cut old new line opened commands status → EndsRun is_cut old new line site commands status
 ends-opened is_cut old new line site was_old opened commands status by_version starts ends = record {
   others = ends.others;
   saved = λ good. record { opened = opened; starts = subst (λ (b : Bool). StartsFrom b site opened) by_version starts; serves = ends.saved good };
 }
 
--- it was opened on what a recovery left
-pub starts-behind : (was_old : Bool) (site : SiteValue) (its : Line) (left : Seen) (r s : Station) → was_old ≡ true → IsRecovered r → BeginsRecovered site.seen r → its ≡ r.line → left ≡ r.seen → IsOpened its left s → StartsFrom was_old site s
+-- the station was opened after a recovery
+pub starts-behind : (was_old : Bool) (site : SiteValue) (its : Line) (left : Seen) (r s : Station) → was_old ≡ true → HasRecovered r → BeginsRecovered site.seen r → its ≡ r.line → left ≡ r.seen → IsOpened its left s → StartsFrom was_old site s
 starts-behind was_old site its left r s old is_recovered begins same is opens = subst (λ (b : Bool). StartsFrom b site s) (sym old) (record {
   r = r;
   recovered = is_recovered;
@@ -117,43 +117,43 @@ old-by slaves bytes site was_old made is = is ∙ ap (λ (seen : Seen). is_old s
 
 -- ---- on files that were opened
 
--- the same after the line's files were opened, and the device behind the site was another
-pub ends-run-opened : (old mid new : Known) (line : LineFile) (site on_files : SiteValue) (commands : List Command) (status : Status) → ChangesAmong old mid (files_of line) → on_files ≡ site
+-- a run ends so, also if the line's files were opened before and the site got another device
+pub ends-run-opened : (old mid new : Known) (line : LineFile) (site on_files : SiteValue) (commands : List Command) (status : ExitStatus) → ChangesAmong old mid (files_of line) → on_files ≡ site
     → EndsRun false mid new line on_files commands status → EndsRun false old new line site commands status
 ends-run-opened old mid new line site on_files commands status opened same ends = record {
   others = λ other out. ends.others other out ∙ opened other out;
   saved = λ good. subst (λ (s : SiteValue). SavesRun false new line s commands status) same (ends.saved good);
 }
 
-pub ends-recovery-opened : (old mid new : Known) (line : LineFile) (site on_files : SiteValue) (status : Status) → ChangesAmong old mid (files_of line) → on_files ≡ site → EndsRecovery mid new line on_files.seen status → EndsRecovery old new line site.seen status
+pub ends-recovery-opened : (old mid new : Known) (line : LineFile) (site on_files : SiteValue) (status : ExitStatus) → ChangesAmong old mid (files_of line) → on_files ≡ site → EndsRecovery mid new line on_files.seen status → EndsRecovery old new line site.seen status
 ends-recovery-opened old mid new line site on_files status opened same ends = record {
   others = λ other out. ends.others other out ∙ opened other out;
   saved = λ done. subst (λ (s : SiteValue). SavesRecovered new line s.seen) same (ends.saved done);
 }
 
--- what holds of a site holds of it with another device
+-- what holds for a site holds for an equal one with another device
 pub of-site : (P : SiteValue → Type 0) (site on_files : SiteValue) → on_files ≡ site → P site → P on_files
 of-site P site on_files same holds = subst P (sym same) holds
 
 -- the other way of running isn't taken
-pub run-cut : (is_cut way : Bool) (old new : Known) (line : LineFile) (site : SiteValue) (commands : List Command) (status : Status) → is_cut ≡ way → EndsRun way old new line site commands status → EndsRun is_cut old new line site commands status
+pub run-cut : (is_cut way : Bool) (old new : Known) (line : LineFile) (site : SiteValue) (commands : List Command) (status : ExitStatus) → is_cut ≡ way → EndsRun way old new line site commands status → EndsRun is_cut old new line site commands status
 run-cut is_cut way old new line site commands status is ends = subst (λ (b : Bool). EndsRun b old new line site commands status) (sym is) ends
 
--- ---- one that was given up
+-- ---- a station that couldn't be opened
 
-pub ends-unopened : (is_cut : Bool) (old new : Known) (line : LineFile) (site : SiteValue) (commands : List Command) (status : Status) → ChangesAmong old new (files_of line) → ¬ IsFaultless status → EndsRun is_cut old new line site commands status
+pub ends-unopened : (is_cut : Bool) (old new : Known) (line : LineFile) (site : SiteValue) (commands : List Command) (status : ExitStatus) → ChangesAmong old new (files_of line) → ¬ IsFaultless status → EndsRun is_cut old new line site commands status
 ends-unopened is_cut old new line site commands status others bad = record { others = others; saved = λ good. absurd (bad good) }
 
-pub ends-unrecovered : (old new : Known) (line : LineFile) (before : Seen) (status : Status) → ChangesAmong old new (files_of line) → ¬ IsFaultless status → EndsRecovery old new line before status
+pub ends-unrecovered : (old new : Known) (line : LineFile) (before : Seen) (status : ExitStatus) → ChangesAmong old new (files_of line) → ¬ IsFaultless status → EndsRecovery old new line before status
 ends-unrecovered old new line before status others bad = record { others = others; saved = λ done. absurd (bad (done-faultless status done)) }
 
--- ---- one that was recovered
+-- ---- a station that was recovered
 
-pub saved-still : (new : Known) (line : LineFile) (saved : Result (Unit {0}) Fault) (state : State) (one : Status) → OnOk saved (HoldsSite new line state) → OnErr saved (¬ IsFaultless one) → IsFaultless one → HoldsSite new line state
+pub saved-still : (new : Known) (line : LineFile) (saved : Result (Unit {0}) Fault) (state : State) (one : ExitStatus) → OnOk saved (HoldsSite new line state) → OnErr saved (¬ IsFaultless one) → IsFaultless one → HoldsSite new line state
 saved-still new line (Ok kept) state one held bad good = held
 saved-still new line (Err fault) state one held bad good = absurd (bad good)
 
-pub ends-recovered : (old new : Known) (line : LineFile) (before : Seen) (s : Station) (saved : Result (Unit {0}) Fault) (state : State) (one other final : Status) → IsRecovered s → BeginsRecovered before s → state ≡ s.seen.state
+pub ends-recovered : (old new : Known) (line : LineFile) (before : Seen) (s : Station) (saved : Result (Unit {0}) Fault) (state : State) (one other final : ExitStatus) → HasRecovered s → BeginsRecovered before s → state ≡ s.seen.state
     → OnOk saved (HoldsSite new line state) → ChangesAmong old new (files_of line) → OnErr saved (¬ IsFaultless one) → (final ≡ Done → (one ≡ Done) × (other ≡ Done)) → EndsRecovery old new line before final
 ends-recovered old new line before s saved state one other final is_recovered begins is held others bad done_too = record {
   others = others;
@@ -167,13 +167,13 @@ ends-recovered old new line before s saved state one other final is_recovered be
 
 -- ---- the whole
 
-pub runs : (is_cut : Bool) (old loaded new : Known) (name script : List ℕ) (line : LineFile) (site : SiteValue) (commands : List Command) (status : Status) → Loads old name line site → SpellsCommands old script commands → loaded ≡ old
-    → EndsRun is_cut loaded new line site commands status → Runs is_cut old new name script status
+pub runs : (is_cut : Bool) (old loaded new : Known) (name script : List ℕ) (line : LineFile) (site : SiteValue) (commands : List Command) (status : ExitStatus) → Loads old name line site → SpellsCommands old script commands → loaded ≡ old
+    → EndsRun is_cut loaded new line site commands status → RunsScript is_cut old new name script status
 runs is_cut old loaded new name script line site commands status given spelt same ends =
     let P : Known → Type 0 = λ files. EndsRun is_cut files new line site commands status in
     inr (record { line = line; site = site; loaded = given; commands = commands; spelt = spelt; ends = subst P same ends })
 
-pub recovers : (old loaded new : Known) (name : List ℕ) (line : LineFile) (site : SiteValue) (status : Status) → Loads old name line site → loaded ≡ old → EndsRecovery loaded new line site.seen status → Recovers old new name status
+pub recovers : (old loaded new : Known) (name : List ℕ) (line : LineFile) (site : SiteValue) (status : ExitStatus) → Loads old name line site → loaded ≡ old → EndsRecovery loaded new line site.seen status → Recovers old new name status
 recovers old loaded new name line site status given same ends =
     let P : Known → Type 0 = λ files. EndsRecovery files new line site.seen status in
     inr (record { line = line; site = site; loaded = given; ends = subst P same ends })

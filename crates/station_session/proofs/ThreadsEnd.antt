@@ -1,4 +1,4 @@
--- What the files hold behind a run by threads.
+-- What the files of a line hold after a run by threads.
 use Rattle.std.proofs.Common.{◌≡◌, ℕ, Bool, true, false, List, refl, sym, subst, Result, Ok, Err}
 use Rattle.std.specs.Prelude.{MatchResult, OnErr, OnOk}
 use Rattle.sii_edit.specs.declared.command.Command.{Command}
@@ -6,17 +6,17 @@ use Rattle.site_core.specs.Line.{Line}
 use Rattle.site_core.specs.State.{State, Seen}
 use Rattle.site_shadow.specs.Site.{SiteValue}
 use Rattle.station_alone.specs.Station.{Station}
-use Rattle.station_recovery.specs.Recovery.{IsRecovered, BeginsRecovered}
+use Rattle.station_alone.specs.Recovery.{HasRecovered, BeginsRecovered}
 use Rattle.station_text.specs.declared.line_file.LineFile.{LineFile}
 use Rattle.station_files.specs.Faults.{IsFaultless}
 use Rattle.station_files.specs.Files.{Known, ChangesAmong}
 use Rattle.station_files.specs.declared.faults.Fault.{Fault}
-use Rattle.station_files.specs.declared.faults.Status.{Status}
-use Rattle.station_files.specs.declared.faults.Status.TheVariants.{Done}
+use Rattle.station_files.specs.declared.faults.ExitStatus.{ExitStatus}
+use Rattle.station_files.specs.declared.faults.ExitStatus.TheVariants.{Done}
 use Rattle.station_bench.specs.Site.{files_of, HoldsSite}
-use Rattle.line_session.specs.declared.threads.Left.{Left}
-use Rattle.line_session.specs.AtDesk.{IsServedAtDesk, IsStoppedAtDesk, LeavesSo}
-use Rattle.line_session.specs.Parts.{IsLineOf}
+use Rattle.script_session.specs.declared.threads.Left.{Left}
+use Rattle.script_session.specs.AtDesk.{IsServedAtDesk, IsStoppedAtDesk, LeavesSo}
+use Rattle.script_session.specs.Parts.{IsLineOf}
 use Rattle.station_session.specs.Session.{EndsStation, HoldsBehind, SavesBehind, SavesLeft, SavesServed}
 use Rattle.station_session.proofs.Ending.{saved-still}
 
@@ -24,15 +24,15 @@ pub line-of : (line : Line) (slaves count : ℕ) → slaves ≡ count → IsLine
 line-of line slaves count same is = subst (λ (n : ℕ). IsLineOf n line) same is
 
 -- nothing was served, and nothing is saved
-pub ends-unserved : (is_cut : Bool) (files : Known) (line : LineFile) (opened : Station) (commands : List Command) (status : Status) → ¬ IsFaultless status → EndsStation is_cut files files line opened commands status
+pub ends-unserved : (is_cut : Bool) (files : Known) (line : LineFile) (opened : Station) (commands : List Command) (status : ExitStatus) → ¬ IsFaultless status → EndsStation is_cut files files line opened commands status
 ends-unserved is_cut files line opened commands status bad = record { others = λ other out. refl; saved = λ good. absurd (bad good) }
 
-served-of : (opened : Station) (commands : List Command) (is_driven is_matched : Bool) (status : Status) (site : SiteValue) (ended : Result (Unit {0}) Fault) → ended ≡ Ok tt
+served-of : (opened : Station) (commands : List Command) (is_driven is_matched : Bool) (status : ExitStatus) (site : SiteValue) (ended : Result (Unit {0}) Fault) → ended ≡ Ok tt
     → MatchResult ended (λ done. IsServedAtDesk opened commands is_driven status site) (λ fault. IsStoppedAtDesk opened is_matched site) → IsServedAtDesk opened commands is_driven status site
 served-of opened commands is_driven is_matched status site (Ok done) is served = served
 served-of opened commands is_driven is_matched status site (Err fault) is served = absurd cc
 
-pub ends-left : (old new : Known) (line : LineFile) (opened : Station) (commands : List Command) (left : Left SiteValue) (status : Status) → LeavesSo opened commands left.ending left.site → ChangesAmong old new (files_of line)
+pub ends-left : (old new : Known) (line : LineFile) (opened : Station) (commands : List Command) (left : Left SiteValue) (status : ExitStatus) → LeavesSo opened commands left.ending left.site → ChangesAmong old new (files_of line)
     → (IsFaultless status → SavesLeft new line left commands status) → EndsStation false old new line opened commands status
 ends-left old new line opened commands left status served others saved = record {
   others = others;
@@ -48,15 +48,15 @@ ends-left old new line opened commands left status served others saved = record 
       };
 }
 
-serves-worse : (files : Known) (line : LineFile) (opened : Station) (commands : List Command) (one final : Status) → (final ≡ Done → one ≡ Done) → SavesServed files line opened commands one → SavesServed files line opened commands final
+serves-worse : (files : Known) (line : LineFile) (opened : Station) (commands : List Command) (one final : ExitStatus) → (final ≡ Done → one ≡ Done) → SavesServed files line opened commands one → SavesServed files line opened commands final
 serves-worse files line opened commands one final done_too saves = record { s = saves.s; accepted = saves.accepted; goes = saves.goes; among = saves.among; all = λ done. saves.all (done_too done); served = saves.served; held = saves.held }
 
-holds-worse : (is_driven : Bool) (files : Known) (line : LineFile) (r : Station) (commands : List Command) (one final : Status) → (final ≡ Done → one ≡ Done) → HoldsBehind is_driven files line r commands one → HoldsBehind is_driven files line r commands final
+holds-worse : (is_driven : Bool) (files : Known) (line : LineFile) (r : Station) (commands : List Command) (one final : ExitStatus) → (final ≡ Done → one ≡ Done) → HoldsBehind is_driven files line r commands one → HoldsBehind is_driven files line r commands final
 holds-worse true files line r commands one final done_too holds = holds
 holds-worse false files line r commands one final done_too holds = serves-worse files line r commands one final done_too holds
 
--- the answers were no worse than the whole
-pub saves-left : (files : Known) (line : LineFile) (left : Left SiteValue) (commands : List Command) (saved final : Status) → left.ending.ended ≡ Ok tt → (final ≡ Done → (left.ending.status ≡ Done) × (saved ≡ Done)) → SavesBehind files line left.site.seen left.ending.is_driven commands saved
+-- the status of the answers is at most that of the run
+pub saves-left : (files : Known) (line : LineFile) (left : Left SiteValue) (commands : List Command) (saved final : ExitStatus) → left.ending.ended ≡ Ok tt → (final ≡ Done → (left.ending.status ≡ Done) × (saved ≡ Done)) → SavesBehind files line left.site.seen left.ending.is_driven commands saved
     → SavesLeft files line left commands final
 saves-left files line left commands saved final ended done_too behind = record {
   worst = λ done. (done_too done).0;
@@ -64,16 +64,16 @@ saves-left files line left commands saved final ended done_too behind = record {
   behind = record { r = behind.r; recovered = behind.recovered; begins = behind.begins; holds = holds-worse left.ending.is_driven files line behind.r commands saved final (λ done. (done_too done).1) behind.holds };
 }
 
--- the files hold what is left behind it
-pub saves_behind : (files : Known) (line : LineFile) (before : Seen) (r : Station) (is_driven : Bool) (commands : List Command) (status : Status) → IsRecovered r → BeginsRecovered before r
+-- the files hold the line after its recovery
+pub saves_behind : (files : Known) (line : LineFile) (before : Seen) (r : Station) (is_driven : Bool) (commands : List Command) (status : ExitStatus) → HasRecovered r → BeginsRecovered before r
     → (IsFaultless status → HoldsBehind is_driven files line r commands status) → IsFaultless status → SavesBehind files line before is_driven commands status
 saves_behind files line before r is_driven commands status recovered begins holds good = record { r = r; recovered = recovered; begins = begins; holds = holds good }
 
 -- what was recovered is saved
-pub holds-driven : (is_driven : Bool) (files : Known) (line : LineFile) (r : Station) (commands : List Command) (saved : Result (Unit {0}) Fault) (state : State) (status : Status) → is_driven ≡ true → state ≡ r.seen.state → OnOk saved (HoldsSite files line state)
+pub holds-driven : (is_driven : Bool) (files : Known) (line : LineFile) (r : Station) (commands : List Command) (saved : Result (Unit {0}) Fault) (state : State) (status : ExitStatus) → is_driven ≡ true → state ≡ r.seen.state → OnOk saved (HoldsSite files line state)
     → OnErr saved (¬ IsFaultless status) → IsFaultless status → HoldsBehind is_driven files line r commands status
 holds-driven is_driven files line r commands saved state status driven is held bad good =
     subst (λ (b : Bool). HoldsBehind b files line r commands status) (sym driven) (subst (λ (s : State). HoldsSite files line s) is (saved-still files line saved state status held bad good))
 
-pub holds-undriven : (is_driven : Bool) (files : Known) (line : LineFile) (r : Station) (commands : List Command) (status : Status) → is_driven ≡ false → SavesServed files line r commands status → HoldsBehind is_driven files line r commands status
+pub holds-undriven : (is_driven : Bool) (files : Known) (line : LineFile) (r : Station) (commands : List Command) (status : ExitStatus) → is_driven ≡ false → SavesServed files line r commands status → HoldsBehind is_driven files line r commands status
 holds-undriven is_driven files line r commands status undriven saves = subst (λ (b : Bool). HoldsBehind b files line r commands status) (sym undriven) saves

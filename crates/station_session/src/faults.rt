@@ -1,4 +1,4 @@
-//! The faults of a line and of its journal, as they are printed.
+//! The program's faults for those of opening and recovering a line.
 
 use esc_rom::RomFault;
 use jrn_format::JournalFault;
@@ -7,7 +7,7 @@ use station_alone::OpenFault;
 use station_bench::of_device;
 use station_files::Fault;
 
-/// The fault of a station that can't be opened or recovered.
+/// The program's fault for a station that can't be opened or recovered.
 pub(crate) fn of_open(fault: OpenFault) -> Fault {
     match fault {
         OpenFault::Memory => Fault::Memory,

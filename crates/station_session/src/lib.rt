@@ -1,4 +1,4 @@
-//! What the program does with a line and its journal.
+//! The subcommands `run` and `recover`, which work on a line and its journal.
 #![tactic(auto)]
 
 mod faults;

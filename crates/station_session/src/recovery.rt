@@ -1,10 +1,10 @@
 //! The subcommand `recover`.
 ghost use Rattle.std.specs.Prelude.{◌≡◌, length, IsTrue};
-ghost use Rattle.site_line.specs.Owned.{OwnsAll};
+ghost use Rattle.esc_rom.specs.Owned.{OwnsAll};
 ghost use Rattle.site_core.specs.State.{Seen};
 ghost use Rattle.station_alone.specs.Station.{Station};
 ghost use Rattle.station_files.specs.Files.{ChangesAmong};
-ghost use Rattle.station_recovery.specs.Recovery.{BeginsRecovered, IsRecovered};
+ghost use Rattle.station_alone.specs.Recovery.{BeginsRecovered, HasRecovered};
 ghost use Rattle.station_bench.specs.Site.{files_of, HoldsSite};
 ghost use Rattle.station_session.specs.Session.{Recovers, EndsRecovery};
 
@@ -12,22 +12,25 @@ use crate::faults::of_open;
 use crate::session::{Session, load_session};
 use site_file::FileDevice;
 use site_shadow::{Device, ShadowSite};
+use station_alone::{Recovered, recover};
 use station_bench::{open_files, save_site};
-use station_files::{Fault, Status, Store, report_fault, status_of, worse};
-use station_recovery::{Recovered, recover};
+use station_files::{ExitStatus, Fault, Store, report_fault, status_of, worse};
 use station_text::LineFile;
 use std::alloc::Global;
 use std::io::Write;
 
-/// Reads a line with its slaves and its journal, and recovers it on its files. Nothing is written where something couldn't be read, or
-/// the journal is refused. After a fault the files have what was done on them, and a further recovery completes it.
+/// Recovers the line whose line file is `name`, on its files, and prints what was recovered. Returns the exit status.
+///
+/// The files are read in this order: line file, images of the slaves, journal. The first fault is printed and ends the recovery. No file is
+/// written where one can't be read, or where the journal is refused. After any later fault the files hold what was written so far, and
+/// another recovery completes it.
 pub fn recover_line<S: Store, W: Write, E: Write>(
     alloc: Global,
     name: &str,
     store: &mut S,
     output: &mut W,
     faults: &mut E,
-) -> Status
+) -> ExitStatus
     ensures { Recovers (S.files store.old) (S.files store.new) name.now result }
 {
     match load_session(alloc, name, store) {
@@ -36,14 +39,14 @@ pub fn recover_line<S: Store, W: Write, E: Write>(
     }
 }
 
-/// Opens the files of a line that was read, and recovers it on them.
+/// Opens the files of a line that was read, and recovers the line on them.
 fn recover_session<S: Store, W: Write, E: Write>(
     alloc: Global,
     session: Session<S::Lock>,
     store: &mut S,
     output: &mut W,
     faults: &mut E,
-) -> Status
+) -> ExitStatus
     requires disk { IsTrue session.site.line.has_disk }
     requires owned { OwnsAll session.site.line }
     requires slaves { length session.site.line.sizes ≡ length session.line.images.items }
@@ -67,7 +70,7 @@ fn recover_session<S: Store, W: Write, E: Write>(
     }
 }
 
-/// Recovers a line on its files, and sees to it that they hold what it leaves.
+/// Recovers a line, and saves what it holds to its files.
 fn recover_site<D: Device + Drop, S: Store, W: Write, E: Write>(
     alloc: Global,
     line: &LineFile,
@@ -75,7 +78,7 @@ fn recover_site<D: Device + Drop, S: Store, W: Write, E: Write>(
     store: &mut S,
     output: &mut W,
     faults: &mut E,
-) -> Status
+) -> ExitStatus
     requires disk { IsTrue site.line.has_disk }
     requires owned { OwnsAll site.line }
     requires slaves { length site.line.sizes ≡ length line.now.images.items }
@@ -95,12 +98,12 @@ fn recover_site<D: Device + Drop, S: Store, W: Write, E: Write>(
     }
 }
 
-/// Prints what a recovery found and did.
+/// Prints the counts of a recovery: batches and commands that were live, and words that were written.
 fn print_recovered<W: Write, E: Write>(
     recovered: Recovered,
     output: &mut W,
     faults: &mut E,
-) -> Status {
+) -> ExitStatus {
     let Recovered {
         batches,
         commands,
@@ -112,7 +115,7 @@ fn print_recovered<W: Write, E: Write>(
     )
     .and_then(|()| output.flush());
     match printed {
-        Ok(()) => Status::Done,
+        Ok(()) => ExitStatus::Done,
         Err(error) => report_fault(Fault::from(error), faults),
     }
 }

@@ -1,48 +1,50 @@
 //! The subcommand `run`.
 ghost use Rattle.std.specs.Prelude.{◌≡◌, length, is_some, false, true, IfOk, IsTrue, MatchResult};
-ghost use Rattle.site_line.specs.Owned.{OwnsAll};
+ghost use Rattle.esc_rom.specs.Owned.{OwnsAll};
 ghost use Rattle.station_files.specs.ScriptFiles.{SpellsCommands};
-ghost use Rattle.station_session.specs.Session.{is_old, EndsRun, EndsStation, IsOpened, Loads, Runs, StartsFrom};
+ghost use Rattle.station_session.specs.Session.{is_old, EndsRun, EndsStation, IsOpened, Loads, RunsScript, StartsFrom};
 
 use crate::faults::of_open;
 use crate::session::{Session, give_up, load_session};
 use crate::threads::run_threads;
+use script_session::serve_commands;
 use sii_edit::Command;
 use site_file::FileDevice;
 use site_mem::{FaultPlan, Pattern};
 use site_shadow::{Device, ShadowSite};
-use station_alone::{Alone, OpenFault};
+use station_alone::{Alone, OpenFault, recover};
 use station_bench::{open_files, save_site};
-use station_files::{Fault, Status, Store, load_script, report_fault, status_of, worse};
-use station_recovery::recover;
-use station_rounds::serve_commands;
+use station_files::{ExitStatus, Fault, Store, load_script, report_fault, status_of, worse};
 use station_text::LineFile;
 use std::alloc::Global;
 use std::io::Write;
 use std::sync::Wait;
 use std::thread::Threads;
 
-/// A stop that is to come.
+/// A planned power cut of a run.
 #[derive(Clone, Copy)]
 pub struct Fuse {
-    /// How many device writes pass before it, once the station is open.
+    /// How many writes succeed before the power cut, once the station is open: disk writes, syncs, and words that a slave takes.
     pub writes: u32,
-    /// What a word that is torn holds after it, and in its low byte what each unsynced byte holds.
+    /// The value of a torn word after the power cut. Its low byte is the value of each unsynced byte of the journal.
     pub left: u16,
 }
 
-/// What a run begins with.
+/// What was read for a run: the line, and the commands of the script.
 #[derive(Drop)]
 struct Given<L> {
     session: Session<L>,
     commands: Vec<Command>,
 }
 
-/// Reads a line with its slaves, its journal and a script, submits the script's commands in order, and serves them by threads on the
-/// line's files. Nothing is written where something couldn't be read, or the journal is refused. After a fault the files have what was
-/// done on them, and a recovery completes it.
+/// RunsScript the script file `script` on the line whose line file is `name`: submits its commands in order, serves them by threads on the line's
+/// files, and prints the answer to each command and the totals. Returns the exit status.
 ///
-/// Where a stop is to come, the commands are served on one thread on the line in memory, and what it leaves is saved.
+/// The files are read in this order: line file, images of the slaves, journal, script, images that the script names. The first fault is
+/// printed and ends the run. No file is written where one can't be read, or where the journal is refused. After any later fault the files
+/// hold what was written so far, and a recovery completes it.
+///
+/// With a fuse, the commands are served on one thread on a copy of the line in memory, and what the power cut leaves is saved.
 pub fn run_script<S: Store, W: Write, E: Write, R: Wait + Threads + Sync>(
     rt: &R,
     alloc: Global,
@@ -52,8 +54,8 @@ pub fn run_script<S: Store, W: Write, E: Write, R: Wait + Threads + Sync>(
     store: &mut S,
     output: &mut W,
     faults: &mut E,
-) -> Status
-    ensures { Runs (is_some fuse) (S.files store.old) (S.files store.new) name.now script.now result }
+) -> ExitStatus
+    ensures { RunsScript (is_some fuse) (S.files store.old) (S.files store.new) name.now script.now result }
 {
     match load(alloc, name, script, store) {
         Ok(given) => run_given(rt, alloc, given, fuse, store, output, faults),
@@ -61,7 +63,7 @@ pub fn run_script<S: Store, W: Write, E: Write, R: Wait + Threads + Sync>(
     }
 }
 
-/// Serves the commands on the line's files, or in memory where a stop is to come.
+/// Serves the commands on the line's files, or with a fuse in memory.
 fn run_given<S: Store, W: Write, E: Write, R: Wait + Threads + Sync>(
     rt: &R,
     alloc: Global,
@@ -70,7 +72,7 @@ fn run_given<S: Store, W: Write, E: Write, R: Wait + Threads + Sync>(
     store: &mut S,
     output: &mut W,
     faults: &mut E,
-) -> Status
+) -> ExitStatus
     requires disk { IsTrue given.session.site.line.has_disk }
     requires owned { OwnsAll given.session.site.line }
     requires slaves { length given.session.site.line.sizes ≡ length given.session.line.images.items }
@@ -84,7 +86,7 @@ fn run_given<S: Store, W: Write, E: Write, R: Wait + Threads + Sync>(
     }
 }
 
-/// Opens the station on the line in memory, serves the commands up to the stop, and saves what the line holds.
+/// Opens the station on the line in memory, serves the commands up to the power cut, and saves what the line holds.
 fn run_fused<S: Store, W: Write, E: Write>(
     alloc: Global,
     session: Session<S::Lock>,
@@ -93,7 +95,7 @@ fn run_fused<S: Store, W: Write, E: Write>(
     store: &mut S,
     output: &mut W,
     faults: &mut E,
-) -> Status
+) -> ExitStatus
     requires disk { IsTrue session.site.line.has_disk }
     requires owned { OwnsAll session.site.line }
     requires slaves { length session.site.line.sizes ≡ length session.line.images.items }
@@ -106,7 +108,7 @@ fn run_fused<S: Store, W: Write, E: Write>(
         is_old,
         lock: _lock,
     } = session;
-    // The sync with which the station opens is a device write too.
+    // The sync at the opening of the station counts as a write too.
     let plan = FaultPlan::fused(u64::from(fuse.writes) + 1, Pattern::Fill(fuse.left));
     match open_station(alloc, site, is_old, Some(plan)) {
         Ok(alone) => run_station(alloc, &line, alone, commands, store, output, faults),
@@ -114,7 +116,7 @@ fn run_fused<S: Store, W: Write, E: Write>(
     }
 }
 
-/// Opens the files of a line that was read, and serves the commands on them.
+/// Opens the files of a line that was read, and serves the commands on them by threads.
 fn run_on_files<S: Store, W: Write, E: Write, R: Wait + Threads + Sync>(
     rt: &R,
     alloc: Global,
@@ -123,7 +125,7 @@ fn run_on_files<S: Store, W: Write, E: Write, R: Wait + Threads + Sync>(
     store: &mut S,
     output: &mut W,
     faults: &mut E,
-) -> Status
+) -> ExitStatus
     requires disk { IsTrue session.site.line.has_disk }
     requires owned { OwnsAll session.site.line }
     requires slaves { length session.site.line.sizes ≡ length session.line.images.items }
@@ -161,7 +163,7 @@ fn run_site<D: Device + Copy + Send, S: Store, W: Write, E: Write, R: Wait + Thr
     store: &mut S,
     output: &mut W,
     faults: &mut E,
-) -> Status
+) -> ExitStatus
     requires disk { IsTrue site.line.has_disk }
     requires owned { OwnsAll site.line }
     requires old { was_old ≡ is_old site.seen.state.disk.bytes }
@@ -176,7 +178,11 @@ fn run_site<D: Device + Copy + Send, S: Store, W: Write, E: Write, R: Wait + Thr
     }
 }
 
-/// Reads the files in order: line, slaves, journal, script, its images.
+/// Reads the files in this order: line file, images of the slaves, journal, script, images that the script names.
+///
+/// # Errors
+///
+/// As for `load_session`, then as for `load_script`.
 fn load<S: Store>(
     alloc: Global,
     name: &str,
@@ -198,7 +204,8 @@ fn load<S: Store>(
     }
 }
 
-/// Opens the station. An old journal is recovered first, and then the device is replaced where there is another.
+/// Opens the station. A journal that isn't of version 2 is recovered and migrated first. Then `device`, if there is one, replaces the
+/// device behind the site.
 fn open_station<D: Device + Drop>(
     alloc: Global,
     site: ShadowSite<D>,
@@ -219,7 +226,7 @@ fn open_station<D: Device + Drop>(
     open_upon(alloc, site, device)
 }
 
-/// Opens the station on a journal of version 2, upon this device where there is one.
+/// Opens the station, after `device`, if there is one, has replaced the device behind the site.
 fn open_upon<D: Device + Drop>(
     alloc: Global,
     mut site: ShadowSite<D>,
@@ -236,7 +243,7 @@ fn open_upon<D: Device + Drop>(
     Alone::open(alloc, site)
 }
 
-/// Serves the commands on an open station in memory, and saves what its line holds, also after a fault.
+/// Serves the commands on a station in memory, and saves what its line holds, also after a fault.
 fn run_station<S: Store, W: Write, E: Write>(
     alloc: Global,
     line: &LineFile,
@@ -245,12 +252,12 @@ fn run_station<S: Store, W: Write, E: Write>(
     store: &mut S,
     output: &mut W,
     faults: &mut E,
-) -> Status
+) -> ExitStatus
     requires disk { IsTrue alone.line.has_disk }
     requires slaves { length alone.line.sizes ≡ length line.now.images.items }
     ensures { EndsStation true (S.files store.old) (S.files store.new) line.now alone commands.now result }
 {
-    let mut status = Status::Done;
+    let mut status = ExitStatus::Done;
     let slaves = line.images.len() as u16;
     let served = serve_commands(&mut alone, slaves, commands, output, &mut status);
     let (core, site) = alone.into_parts();

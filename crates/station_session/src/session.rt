@@ -1,4 +1,4 @@
-//! A line with its journal, from its files, and what is done where it can't be opened.
+//! Reads a line and its journal from their files, and saves a line in memory that can't be opened.
 ghost use Rattle.std.specs.Prelude.{◌≡◌, ◌↔◌, length, IfOk, IsTrue};
 ghost use Rattle.station_files.specs.Faults.{IsFaultless};
 ghost use Rattle.station_files.specs.Files.{ChangesAmong};
@@ -13,28 +13,32 @@ use site_shadow::ShadowSite;
 use station_alone::OpenFault;
 use station_bench::{save_site, site_of};
 use station_files::{
-    Fault, Status, Store, load_line, load_slaves, read_file, report_fault, status_of, worse,
+    ExitStatus, Fault, Store, load_line, load_slaves, read_file, report_fault, status_of, worse,
 };
 use station_text::LineFile;
 use std::alloc::Global;
 use std::io::Write;
 
-/// A line in memory, and the files that it comes from.
+/// A line that was read from its files.
 #[derive(Drop)]
 pub(crate) struct Session<L> {
+    /// The line file.
     pub line: LineFile,
+    /// The line in memory, just switched on.
     pub site: ShadowSite<FaultPlan>,
-    /// Whether the journal says that it isn't of version 2.
+    /// Whether the journal's version byte is other than 2.
     pub is_old: bool,
-    /// Keeps other stations off the journal.
+    /// The lock of the journal, which keeps other stations away.
     pub lock: L,
 }
 
-/// Reads the files in order: line, slaves, journal. The journal is locked before the slaves are read.
+/// Reads the files in this order: line file, images of the slaves, journal. The journal is locked before the images are read. Its content
+/// is not judged.
 ///
 /// # Errors
 ///
-/// `Busy` where another station works on the journal.
+/// As for `load_line`; `Busy` where another station has locked the journal, `File` where the system can't lock it; as for `load_slaves`;
+/// `File` where the journal is absent or can't be read. `Memory` may come at any point.
 pub(crate) fn load_session<S: Store>(
     alloc: Global,
     name: &str,
@@ -61,21 +65,22 @@ pub(crate) fn load_session<S: Store>(
     })
 }
 
-/// Whether a journal's file says that it isn't of version 2.
+/// Whether a journal's file has a version byte other than 2.
 fn is_old(journal: &[u8]) -> bool
     ensures { result ≡ is_old journal.now }
 {
     journal.len() >= 2 && version(journal) != 2
 }
 
-/// Whether the journal was read and refused.
+/// Whether the journal was read, and its content was refused.
 fn is_refused(fault: &OpenFault) -> bool
     ensures { IsTrue result ↔ IsRefusal fault.now }
 {
     matches!(fault, OpenFault::Journal(ReadFault::Journal(_)))
 }
 
-/// A line in memory that can't be opened or recovered. Where its journal was refused nothing is written; else what the line holds is saved.
+/// Prints why a line in memory can't be opened or recovered, and saves what the line holds. No file is written where the journal was
+/// refused.
 pub(crate) fn give_up<S: Store, E: Write>(
     alloc: Global,
     line: &LineFile,
@@ -83,7 +88,7 @@ pub(crate) fn give_up<S: Store, E: Write>(
     fault: OpenFault,
     store: &mut S,
     faults: &mut E,
-) -> Status
+) -> ExitStatus
     requires disk { IsTrue site.line.has_disk }
     requires slaves { length site.line.sizes ≡ length line.now.images.items }
     ensures status { ¬ IsFaultless result }

@@ -1,27 +1,26 @@
-//! A run by threads, on the files of a line.
+//! Runs commands by threads, on the files of a line.
 ghost use Rattle.std.specs.Prelude.{◌≡◌, [], false, true, length, IsTrue, Ok};
 ghost use Rattle.station_files.specs.Faults.{IsFaultless};
 ghost use Rattle.station_files.specs.Files.{ChangesAmong};
 ghost use Rattle.station_bench.specs.Site.{files_of};
-ghost use Rattle.line_session.specs.Parts.{IsLineOf};
+ghost use Rattle.script_session.specs.Parts.{IsLineOf};
 ghost use Rattle.station_session.specs.Session.{EndsStation, HoldsBehind, SavesBehind, SavesLeft};
 
 use crate::faults::of_open;
-use line_session::{Ending, Left, serve_by_threads};
+use script_session::{Ending, Left, serve_by_threads, serve_commands};
 use sii_edit::Command;
 use site_shadow::{Device, ShadowSite};
-use station_alone::Alone;
+use station_alone::{Alone, recover};
 use station_bench::save_site;
-use station_files::{Status, Store, report_fault, status_of, worse};
-use station_recovery::recover;
-use station_rounds::serve_commands;
+use station_files::{ExitStatus, Store, report_fault, status_of, worse};
 use station_text::LineFile;
 use std::alloc::Global;
 use std::io::Write;
 use std::sync::Wait;
 use std::thread::Threads;
 
-/// Serves the commands by threads, recovers the line so that nothing is live, and saves what it holds.
+/// Serves the commands by threads, recovers the line so that nothing is live, and saves what it holds. The station must not have accepted
+/// a command yet.
 pub(crate) fn run_threads<
     D: Device + Copy + Send,
     S: Store,
@@ -37,7 +36,7 @@ pub(crate) fn run_threads<
     store: &mut S,
     output: &mut W,
     faults: &mut E,
-) -> Status
+) -> ExitStatus
     requires none { alone.book.accepted ≡ [] }
     ensures { EndsStation false (S.files store.old) (S.files store.new) line.now alone commands.now result }
 {
@@ -47,7 +46,7 @@ pub(crate) fn run_threads<
     }
 }
 
-/// Recovers and saves what is left of the line. After a fault its files are left as they are.
+/// Recovers and saves the line that was served. After a fault nothing more is written.
 fn end_threads<D: Device + Copy, S: Store, W: Write, E: Write>(
     alloc: Global,
     line: &LineFile,
@@ -56,7 +55,7 @@ fn end_threads<D: Device + Copy, S: Store, W: Write, E: Write>(
     store: &mut S,
     output: &mut W,
     faults: &mut E,
-) -> Status
+) -> ExitStatus
     requires line { IsLineOf (length line.now.images.items) left.site.line }
     ensures others { ChangesAmong (S.files store.old) (S.files store.new) (files_of line.now) }
     ensures saved { IsFaultless result → SavesLeft (S.files store.new) line.now left commands.now result }
@@ -83,7 +82,7 @@ fn end_threads<D: Device + Copy, S: Store, W: Write, E: Write>(
     }
 }
 
-/// Recovers the line, and saves what it holds. Where the commands weren't submitted yet, they are served before.
+/// Recovers the line, and saves what it holds. If the commands were not submitted yet, they are served between the two.
 fn save_behind<D: Device + Copy, S: Store, W: Write, E: Write>(
     alloc: Global,
     line: &LineFile,
@@ -93,7 +92,7 @@ fn save_behind<D: Device + Copy, S: Store, W: Write, E: Write>(
     store: &mut S,
     output: &mut W,
     faults: &mut E,
-) -> Status
+) -> ExitStatus
     requires line { IsLineOf (length line.now.images.items) site.line }
     ensures others { ChangesAmong (S.files store.old) (S.files store.new) (files_of line.now) }
     ensures saved { IsFaultless result → SavesBehind (S.files store.new) line.now site.seen is_driven commands.now result }
@@ -111,7 +110,7 @@ fn save_behind<D: Device + Copy, S: Store, W: Write, E: Write>(
     }
 }
 
-/// Saves what a recovery left. Where the commands weren't submitted yet, they are served before.
+/// Saves what a recovered line holds. If the commands were not submitted yet, they are served first.
 fn save_recovered<D: Device + Copy, S: Store, W: Write, E: Write>(
     alloc: Global,
     line: &LineFile,
@@ -121,7 +120,7 @@ fn save_recovered<D: Device + Copy, S: Store, W: Write, E: Write>(
     store: &mut S,
     output: &mut W,
     faults: &mut E,
-) -> Status
+) -> ExitStatus
     requires disk { IsTrue alone.line.has_disk }
     requires slaves { length alone.line.sizes ≡ length line.now.images.items }
     ensures others { ChangesAmong (S.files store.old) (S.files store.new) (files_of line.now) }
@@ -136,7 +135,7 @@ fn save_recovered<D: Device + Copy, S: Store, W: Write, E: Write>(
     status_of(saved, faults)
 }
 
-/// Serves the commands on an open station on this thread, and saves what its line holds. After a fault its files are left as they are.
+/// Serves the commands on an open station on this thread, and saves what its line holds. After a fault nothing more is written.
 fn run_alone<D: Device + Copy, S: Store, W: Write, E: Write>(
     alloc: Global,
     line: &LineFile,
@@ -145,12 +144,12 @@ fn run_alone<D: Device + Copy, S: Store, W: Write, E: Write>(
     store: &mut S,
     output: &mut W,
     faults: &mut E,
-) -> Status
+) -> ExitStatus
     requires disk { IsTrue alone.line.has_disk }
     requires slaves { length alone.line.sizes ≡ length line.now.images.items }
     ensures { EndsStation true (S.files store.old) (S.files store.new) line.now alone commands.now result }
 {
-    let mut status = Status::Done;
+    let mut status = ExitStatus::Done;
     let slaves = line.images.len() as u16;
     match serve_commands(&mut alone, slaves, commands, output, &mut status) {
         Ok(()) => {

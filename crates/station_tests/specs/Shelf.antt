@@ -1,4 +1,4 @@
--- Files in memory: the latest file of a name stands first.
+-- Files in memory; of several files of a name the first one counts.
 use Rattle.std.specs.Prelude.{ℕ, nat_eq, List, find, Option, Some, None, option_map, string_bytes}
 use Rattle.std.specs.Cmp.Lexicographic.{pointwise}
 use Rattle.station_tests.specs.declared.shelf.Content.{Content}
@@ -9,7 +9,7 @@ use Rattle.station_tests.specs.declared.shelf.Held.{Held}
 abbrev pub held_at : List Held → List ℕ → Option Held
 held_at files name = find (λ held. pointwise nat_eq (string_bytes held.name) name) files
 
--- the bytes of a file that isn't open
+-- the bytes of a file that isn't open; None for an open one
 abbrev pub whole : Content → Option (List ℕ)
 whole (Whole bytes) = Some bytes.items
 whole (Open cells) = None

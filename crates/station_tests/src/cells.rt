@@ -1,4 +1,4 @@
-//! A file in memory that is open: what it holds, and what a power cut leaves of it.
+//! An open file in memory: its bytes, and what a power cut leaves of them.
 
 use crate::troubles::{Passing, Troubles};
 use site_file::RandomAccessFile;
@@ -15,9 +15,9 @@ pub enum Pattern {
     Old,
     /// The new bytes.
     New,
-    /// The new bytes at even places, the old ones at odd places: a word is torn.
+    /// The new bytes at even offsets, the old ones at odd offsets: each word is torn.
     Torn,
-    /// This byte.
+    /// This byte at each offset.
     Fill(u8),
 }
 
@@ -26,7 +26,7 @@ pub enum Pattern {
 struct Cell {
     now: AtomicU8,
     synced: AtomicU8,
-    /// Whether it was written since it was synced.
+    /// Whether the byte was written since the last sync.
     is_written: AtomicBool,
 }
 
@@ -59,7 +59,7 @@ impl Cell {
         self.is_written.store(false, SeqCst);
     }
 
-    /// What a power cut leaves of it.
+    /// What a power cut leaves of the byte.
     fn left(&self, pattern: Pattern, is_even: bool) -> u8 {
         match pattern {
             Pattern::New => self.now(),
@@ -80,7 +80,7 @@ impl Cells {
         Ok(Cells { cells })
     }
 
-    /// The bytes that are read.
+    /// The bytes that a reader sees.
     pub fn bytes(&self, alloc: Global) -> Result<Vec<u8>, AllocError> {
         let mut bytes = Vec::new(alloc);
         for cell in self.cells.iter() {
@@ -89,7 +89,7 @@ impl Cells {
         Ok(bytes)
     }
 
-    /// What a power cut leaves of them.
+    /// What a power cut leaves of the bytes.
     pub fn left(&self, alloc: Global, pattern: Pattern) -> Result<Vec<u8>, AllocError> {
         let mut bytes = Vec::new(alloc);
         for (place, cell) in self.cells.iter().enumerate() {
@@ -98,7 +98,7 @@ impl Cells {
         Ok(bytes)
     }
 
-    /// The cells from a place on.
+    /// The cells from this offset on.
     fn from(&self, at: u64) -> &[Cell] {
         self.cells.get(at as usize..).unwrap_or(&[])
     }
@@ -116,7 +116,7 @@ impl Cells {
     }
 }
 
-/// A file of a shelf that is open. It doesn't grow.
+/// An open file of a shelf. It doesn't grow.
 #[derive(Drop)]
 pub struct OpenFile {
     pub cells: Arc<Cells>,

@@ -1,4 +1,4 @@
-//! Tests of the program, in runs over files in memory.
+//! Tests of the whole program, run over files in memory.
 #![tactic(auto)]
 
 mod cells;

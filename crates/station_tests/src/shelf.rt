@@ -1,4 +1,4 @@
-//! Files in memory.
+//! A store of files in memory, the shelf.
 ghost use Rattle.std.specs.Prelude.{◌≡◌, ◌≢◌, ℕ, List, IfOk, IfSome, OnOk, Some, option_map};
 ghost use Rattle.station_tests.specs.Shelf.{held_at, known_at, whole};
 
@@ -9,38 +9,38 @@ use std::alloc::{AllocError, Global};
 use std::io;
 use std::sync::Arc;
 
-/// What a file holds.
+/// The content of a file.
 #[derive(Drop)]
 pub enum Content {
     Whole(Vec<u8>),
-    /// That of a file that was opened.
+    /// The content of a file that was opened.
     Open(Arc<Cells>),
 }
 
-/// A file: its name and what it holds.
+/// A file: its name and its content.
 #[derive(Drop)]
 pub struct Held {
     pub name: String,
     pub content: Content,
 }
 
-/// Files in memory, the latest of a name first. A broken shelf takes no whole files of a program.
+/// Files in memory, the latest of each name first. On a broken shelf each write of a whole file fails.
 #[derive(Drop)]
 pub struct Shelf {
     pub alloc: Global,
     pub files: Vec<Held>,
     pub broken: bool,
-    /// Whether another station has the lock of each journal.
+    /// Whether another station holds the lock of each journal.
     pub is_busy: bool,
-    /// How many files a program wrote whole.
+    /// How many files the program wrote as a whole.
     pub writes: usize,
-    /// How many of them didn't hold these bytes already.
+    /// How many of these had other bytes before.
     pub replaced: usize,
     pub pattern: Pattern,
     pub troubles: Arc<Troubles>,
 }
 
-/// Nothing: the lock of a journal on a shelf is taken by saying so.
+/// The lock of a journal on a shelf. It has no state: `is_busy` decides whether it can be taken.
 #[derive(Drop)]
 pub struct ShelfLock {}
 
@@ -77,7 +77,7 @@ impl Shelf {
     ///
     /// # Errors
     ///
-    /// Where there is no memory.
+    /// Memory was refused.
     pub fn new(alloc: Global) -> Result<Shelf, AllocError> {
         Ok(Shelf {
             alloc,
@@ -91,14 +91,14 @@ impl Shelf {
         })
     }
 
-    /// From now on this is to go wrong, and a power cut leaves so much.
+    /// Plans what goes wrong from now on, and what a power cut leaves.
     pub fn trouble(&mut self, trouble: Trouble, pattern: Pattern) -> Result<(), AllocError> {
         self.troubles = troubles_of(self.alloc, trouble)?;
         self.pattern = pattern;
         Ok(())
     }
 
-    /// A shelf with what a power cut leaves of the files.
+    /// A shelf with the files as a power cut leaves them.
     pub fn left(&self) -> Result<Shelf, AllocError> {
         let mut left = Shelf::new(self.alloc)?;
         for held in self.files.iter() {
@@ -107,7 +107,7 @@ impl Shelf {
         Ok(left)
     }
 
-    /// Makes these the bytes of a file.
+    /// Puts a file with these bytes on the shelf.
     pub fn put(&mut self, name: &str, bytes: &[u8]) -> Result<(), AllocError>
         ensures written { OnOk result (known_at self.new.files.items name.now ≡ Some (Some bytes.now)) }
         ensures others { (other : List ℕ) → other ≢ name.now → known_at self.new.files.items other ≡ known_at self.old.files.items other }
@@ -127,7 +127,7 @@ impl Shelf {
         self.files.iter().find(|held| held.name.as_str() == name)
     }
 
-    /// The bytes of a file; None where there is no such file.
+    /// The bytes of a file; `None` where there is no such file.
     pub fn bytes(&self, alloc: Global, name: &str) -> Result<Option<Vec<u8>>, AllocError>
         ensures { IfOk result (λ found. IfSome (known_at self.now.files.items name.now) (λ held.
             option_map (λ bytes. bytes.items) found ≡ held)) }
@@ -138,7 +138,7 @@ impl Shelf {
         }
     }
 
-    /// Whether a file holds these bytes.
+    /// Whether there is a file of this name with these bytes.
     pub fn holds(&self, name: &str, bytes: &[u8]) -> Result<bool, AllocError> {
         match self.bytes(self.alloc, name)? {
             Some(held) => Ok(held.as_slice() == bytes),
@@ -146,7 +146,7 @@ impl Shelf {
         }
     }
 
-    /// The cells of a file, which is open from now on; None where there is no such file.
+    /// Opens a file and gives its cells; `None` where there is no such file.
     fn cells(&mut self, name: &str) -> Result<Option<Arc<Cells>>, AllocError>
         ensures others { (other : List ℕ) → other ≢ name.now → known_at self.new.files.items other ≡ known_at self.old.files.items other }
     {
@@ -164,7 +164,7 @@ impl Shelf {
 }
 
 impl Shelf {
-    /// The power is cut as a whole file takes the place of the old one: by its pattern the new one is there or not.
+    /// Cuts the power while a file is replaced as a whole: the pattern `New` leaves the new file, any other the old one.
     fn torn(&mut self, name: &str, bytes: &[u8]) -> io::Error
         ensures others { (other : List ℕ) → other ≢ name.now → known_at self.new.files.items other ≡ known_at self.old.files.items other }
     {

@@ -1,4 +1,4 @@
-// What the program prints and leaves.
+// Tests of what the program prints and of the files that it leaves.
 
 mod case;
 mod cuts;

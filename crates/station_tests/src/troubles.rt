@@ -1,10 +1,10 @@
-//! What goes wrong with the files in memory.
+//! Planned failures of the files in memory.
 
 use std::io;
 use std::sync::atomic::AtomicU64;
 use std::sync::atomic::Ordering::SeqCst;
 
-/// What is to go wrong. Calls that write or sync are counted from 0, in the order in which they come.
+/// A planned failure. Calls that write or sync are counted from 0, in their order.
 #[derive(Clone, Copy, PartialEq, Eq)]
 pub enum Trouble {
     Nothing,
@@ -16,21 +16,21 @@ pub enum Trouble {
     Full(u64),
 }
 
-/// What becomes of a call.
+/// How a call goes.
 #[derive(Clone, Copy, PartialEq, Eq)]
 pub enum Passing {
     Passes,
-    /// The power is cut in it: what it wrote isn't synced.
+    /// The power is cut during the call: what it wrote isn't synced.
     Cut,
-    /// It does nothing.
+    /// The call fails and does nothing.
     Fails,
 }
 
-/// What goes wrong with the files of a shelf.
+/// The planned failure of a shelf's files, and the count of calls.
 #[derive(Drop)]
 pub struct Troubles {
     trouble: Trouble,
-    /// How many calls came that write or sync.
+    /// How many calls that write or sync were made so far.
     calls: AtomicU64,
 }
 
@@ -51,7 +51,7 @@ impl Troubles {
         }
     }
 
-    /// What becomes of the next call that writes or syncs.
+    /// How the next call that writes or syncs goes.
     pub fn write(&self) -> Passing {
         let call = self.calls.fetch_add(1, SeqCst);
         match self.trouble {
@@ -63,7 +63,7 @@ impl Troubles {
         }
     }
 
-    /// A call that reads: it fails behind a cut.
+    /// How a call that reads goes: it fails after a power cut.
     pub fn read(&self) -> io::Result<()> {
         if matches!(self.trouble, Trouble::Cut(_)) && self.has_come() {
             return Err(io::Error::other("the power is cut"));
@@ -71,7 +71,7 @@ impl Troubles {
         Ok(())
     }
 
-    /// Whether it has come so far that something went wrong.
+    /// Whether the planned failure has happened.
     pub fn has_come(&self) -> bool {
         let calls = self.calls.load(SeqCst);
         match self.trouble {

@@ -9,7 +9,7 @@ use Rattle.station_text.specs.Hexadecimal.{without_whitespace}
 abbrev is_kept : ℕ → Bool
 is_kept byte = not (is_ascii_whitespace byte)
 
--- what a table of kept bytes gives is kept, past its end too
+-- a byte at any index of a table of kept bytes is kept, also past its end
 kept_at : (table : List ℕ) → list_all is_kept table ≡ true → (k : ℕ) → is_kept (slice_index table k) ≡ true
 kept_at [] all k = refl
 kept_at (c ∷ cs) all zero = (and_parts (is_kept c) (list_all is_kept cs) all).0

@@ -16,7 +16,7 @@ pub list_any-map : {X Y : Type 0} (f : X → Y) (test : Y → Bool) (xs : List X
 list_any-map f test [] = refl
 list_any-map f test (x ∷ xs) = ap (λ rest. test (f x) || rest) (list_any-map f test xs)
 
--- the keys of a map are those of the table that it stands for
+-- the keys of a map are the keys of the table that it represents
 pub has_only-entries : (known : List (List ℕ)) (entries : List (String Global × Value)) → list_all (λ key. is_known known (string_bytes key)) (keys_of entries) ≡ has_only known (members_view entries)
 has_only-entries known [] = refl
 has_only-entries known (entry ∷ entries) = ap (λ rest. is_known known (string_bytes entry.0) && rest) (has_only-entries known entries)
@@ -32,14 +32,14 @@ found_known known key other value rest Equal is here behind found =
     subst P (sym (same_key_is key other is)) here
 found_known known key other value rest Greater is here behind found = behind found
 
--- what stands at a key of a table is at a known one
+-- a key with a value is a known key
 known_at : (known : List (List ℕ)) (key : List ℕ) (table : Members) → HasOnly known table → get_member key table ≢ None → is_known known key ≡ true
 known_at known key no_members only found = absurd (found refl)
 known_at known key (member other value rest) only found =
     let (here, behind) = and_parts (is_known known other) (has_only known rest) only in
     found_known known key other value rest (slice_cmp nat_cmp key other) refl here (known_at known key rest behind) found
 
--- at any other key nothing stands
+-- a key that isn't known has no value
 pub unknown_at : (known : List (List ℕ)) (key : List ℕ) (table : Members) → HasOnly known table → is_known known key ≡ false → get_member key table ≡ None
 unknown_at known key table only unknown = none (get_member key table) (λ found. false≢true (sym unknown ∙ known_at known key table only found))
   where

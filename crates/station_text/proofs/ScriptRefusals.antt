@@ -19,7 +19,7 @@ use Rattle.station_text.specs.declared.script_command.ScriptGroupEdit.{ScriptGro
 use Rattle.station_text.proofs.Keys.{unknown_at}
 use Rattle.station_text.proofs.Readings.{same_count}
 
--- nothing is spelt at a key that isn't known
+-- a table with other known keys spells no edit at this key
 absent_kind : (known : List (List ℕ)) (key : List ℕ) (Spells : Members → ScriptEdit → Type 0) (table : Members) (edit : ScriptEdit) → HasOnly known table → is_known known key ≡ false → SpellsKind key Spells table edit → ⊥
 absent_kind known key Spells table edit only unknown spelt = rw (unknown_at known key table only unknown) at spelt.1
 
@@ -65,7 +65,7 @@ no_expectation : (value : Data) → ((expect : Expect) → ¬ IsSomeAnd (as_tabl
 no_expectation value none None spelt = spelt
 no_expectation value none (Some expect) spelt = none expect spelt
 
--- a value at `expect` that is no identity
+-- a value at `expect` that is not an identity
 pub no_guard : (found : Option Data) (value : Data) → Some value ≡ found → ((expect : Expect) → ¬ IsSomeAnd (as_table value) (λ fields. SpellsExpect fields expect)) → (expect : Option Expect) → ¬ SpellsGuard found expect
 no_guard found value is none expect spelt =
     let P : Option Data → Type 0 = λ at. SpellsGuard at expect in

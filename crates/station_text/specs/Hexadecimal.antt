@@ -3,6 +3,6 @@ use Rattle.std.specs.Prelude.{ℕ, not, List}
 use Rattle.std.specs.Char.{is_ascii_whitespace}
 use Rattle.std.specs.List.{filter}
 
--- a text without its spaces, tabs, line feeds, form feeds and carriage returns
+-- the text without its spaces, tabs, line feeds, form feeds and carriage returns
 abbrev pub without_whitespace : List ℕ → List ℕ
 without_whitespace text = filter (λ byte. not (is_ascii_whitespace byte)) text

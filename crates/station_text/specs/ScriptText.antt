@@ -1,4 +1,4 @@
--- What a script says, by the values at the keys of its tables.
+-- The commands of a script, by the values at the keys of its tables.
 use Rattle.std.specs.Prelude.{◌≡◌, ◌⊎◌, ℕ, List, [], ◌∷◌, Option, Some, None, Ok, IsSomeAnd, codes, string_bytes, ⊤}
 use Rattle.std.specs.List.{AllZip}
 use Rattle.hex.specs.Hex.{decode_of}
@@ -13,22 +13,22 @@ use Rattle.station_text.specs.declared.script_command.ScriptEdit.{ScriptEdit}
 use Rattle.station_text.specs.declared.script_command.ScriptEdit.TheVariants.{Alias, Category, Image}
 use Rattle.station_text.specs.declared.script_command.ScriptGroupEdit.{ScriptGroupEdit}
 
--- a number of 16 bits stands at the key
+-- the value at the key is this integer of 16 bits
 abbrev pub HasNumber : List ℕ → Members → ℕ → Type 0
 HasNumber key table number = HasNumberBelow 65536 key table number
 
--- a number of 32 bits stands at the key
+-- the value at the key is this integer of 32 bits
 abbrev pub HasWideNumber : List ℕ → Members → ℕ → Type 0
 HasWideNumber key table number = HasNumberBelow 4294967296 key table number
 
--- `{ slave = 0, value = 1 }`
+-- the fields of an alias edit: `{ slave = 0, value = 1 }`
 abbrev pub SpellsAlias : Members → ScriptEdit → Type 0
 SpellsAlias fields (Alias slave value) =
     HasOnly (codes "slave" ∷ codes "value" ∷ []) fields
     × HasNumber (codes "slave") fields slave × HasNumber (codes "value") fields value
 SpellsAlias fields _ = ⊥
 
--- `{ slave = 0, kind = 51, content = "0016" }`: the bytes of the words
+-- the fields of a category edit: `{ slave = 0, kind = 51, content = "0016" }`, where content is the bytes of the words
 abbrev pub SpellsCategory : Members → ScriptEdit → Type 0
 SpellsCategory fields (Category slave kind words) =
     HasOnly (codes "slave" ∷ codes "kind" ∷ codes "content" ∷ []) fields
@@ -36,46 +36,46 @@ SpellsCategory fields (Category slave kind words) =
     × IsSomeAnd (text_at (codes "content") fields) (λ text. decode_of text ≡ Ok (bytes_of words))
 SpellsCategory fields _ = ⊥
 
--- `{ slave = 0, file = "new.bin" }`
+-- the fields of an image edit: `{ slave = 0, file = "new.bin" }`
 abbrev pub SpellsImage : Members → ScriptEdit → Type 0
 SpellsImage fields (Image slave file) =
     HasOnly (codes "slave" ∷ codes "file" ∷ []) fields
     × HasNumber (codes "slave") fields slave × (text_at (codes "file") fields ≡ Some (string_bytes file))
 SpellsImage fields _ = ⊥
 
--- the edit's kind is the key, beside which only `expect` may stand
+-- the table has the edit at this key, and no other key but `expect`
 abbrev pub SpellsKind : List ℕ → (Members → ScriptEdit → Type 0) → Members → ScriptEdit → Type 0
 SpellsKind key Spells table edit =
     HasOnly (key ∷ codes "expect" ∷ []) table × IsSomeAnd (table_at key table) (λ fields. Spells fields edit)
 
--- an edit, by the key of its kind
+-- the table spells this edit, at the key of its kind
 abbrev pub SpellsEdit : Members → ScriptEdit → Type 0
 SpellsEdit table edit =
     SpellsKind (codes "alias") SpellsAlias table edit
     ⊎ (SpellsKind (codes "category") SpellsCategory table edit ⊎ SpellsKind (codes "image") SpellsImage table edit)
 
--- the identity that a table asks for
+-- the fields spell this expected identity
 pub record SpellsExpect (fields : Members) (expect : Expect) : Type 0 where
   pub only_keys : HasOnly (codes "vendor" ∷ codes "product" ∷ codes "revision" ∷ []) fields
   pub vendor : HasWideNumber (codes "vendor") fields expect.vendor
   pub product : HasWideNumber (codes "product") fields expect.product
   pub revision : HasWideNumber (codes "revision") fields expect.revision
 
--- what stands at `expect`, if anything does
+-- the value at `expect`, if there is one, spells this expected identity
 abbrev pub SpellsGuard : Option Data → Option Expect → Type 0
 SpellsGuard None None = ⊤
 SpellsGuard (Some value) (Some expect) = IsSomeAnd (as_table value) (λ fields. SpellsExpect fields expect)
 SpellsGuard _ _ = ⊥
 
--- an edit of a group, and beside it what is expected
+-- the table spells this edit of a group, with the identity that it expects, if any
 abbrev pub SpellsGuarded : Members → ScriptGroupEdit → Type 0
 SpellsGuarded table one = SpellsEdit table one.edit × SpellsGuard (get_member (codes "expect") table) one.expect
 
--- the same of a value, which is a table
+-- the value is a table that spells this edit of a group
 abbrev pub SpellsGroupEdit : Data → ScriptGroupEdit → Type 0
 SpellsGroupEdit value one = IsSomeAnd (as_table value) (λ table. SpellsGuarded table one)
 
--- the array at `swap` has these two numbers
+-- the array at `swap` has these two integers
 abbrev pub SpellsSwap : Members → ℕ → ℕ → Type 0
 SpellsSwap table a b = IsSomeAnd (values_at (codes "swap") table) (λ values. AllZip (IsNumberBelow 65536) values (a ∷ b ∷ []))
 
@@ -83,21 +83,21 @@ SpellsSwap table a b = IsSomeAnd (values_at (codes "swap") table) (λ values. Al
 abbrev pub SpellsGroup : Members → List ScriptGroupEdit → Type 0
 SpellsGroup table edits = IsSomeAnd (values_at (codes "group") table) (λ values. AllZip SpellsGroupEdit values edits)
 
--- the command of a table, by its only key; of a lone edit nothing is expected
+-- the table spells this command at its only key; an edit outside a group expects no identity
 abbrev pub SpellsTableCommand : Members → ScriptCommand → Type 0
 SpellsTableCommand table (One edit) = SpellsEdit table edit × (get_member (codes "expect") table ≡ None)
 SpellsTableCommand table (Swap a b) = HasOnly (codes "swap" ∷ []) table × SpellsSwap table a b
 SpellsTableCommand table (Group edits) = HasOnly (codes "group" ∷ []) table × SpellsGroup table edits.items
 
--- the command of a value, which is a table
+-- the value is a table that spells this command
 abbrev pub SpellsCommand : Data → ScriptCommand → Type 0
 SpellsCommand value command = IsSomeAnd (as_table value) (λ table. SpellsTableCommand table command)
 
--- the commands of the array at `command`, in order
+-- the array at `command` spells these commands, in order
 abbrev pub SpellsScript : Members → List ScriptCommand → Type 0
 SpellsScript document commands = HasOnly (codes "command" ∷ []) document
     × IsSomeAnd (values_at (codes "command") document) (λ values. AllZip SpellsCommand values commands)
 
--- the text of a script with these commands
+-- the text is a script with these commands
 abbrev pub SpellsScriptFile : List ℕ → List ScriptCommand → Type 0
 SpellsScriptFile text commands = IsSomeAnd (parse_document text) (λ document. SpellsScript document commands)

@@ -1,4 +1,4 @@
-//! Documents in TOML, and what the program's files have in common.
+//! Reads TOML documents, and the values at the keys of their tables.
 ghost use Rattle.std.specs.Prelude.{◌≡◌, Some, map, option_map};
 ghost use Rattle.toml.specs.Data.{as_array, get_member};
 ghost use Rattle.toml.specs.Parse.{parse_document};
@@ -13,13 +13,19 @@ use toml::{Table, Value};
 /// Why a text gives no document.
 #[derive(Clone, Copy, Debug, PartialEq, Eq, Error)]
 pub enum DocumentFault {
+    /// Memory was refused.
     #[error("out of memory")]
     Memory,
+    /// The text is not a TOML document.
     #[error("the text is no TOML")]
     NoDocument,
 }
 
-/// The table that a text spells.
+/// Reads a TOML document; its top level is a table.
+///
+/// # Errors
+///
+/// `Memory`; `NoDocument` where the text is not TOML.
 pub fn read_document(alloc: Global, text: &str) -> Result<Table, DocumentFault>
     ensures { Reads DocumentFault.Memory table_view (λ document. parse_document text.now ≡ Some document) result }
 {
@@ -30,28 +36,28 @@ pub fn read_document(alloc: Global, text: &str) -> Result<Table, DocumentFault>
     }
 }
 
-/// Whether a key is among these.
+/// Whether a key is one of the known ones.
 fn is_known(known: &[&str], key: &str) -> bool
     ensures { result ≡ is_known (map (λ one. one.now) known.now) key.now }
 {
     known.iter().any(|one| *one == key)
 }
 
-/// Whether a table has none but these keys.
+/// Whether a table has no other keys than the known ones.
 pub fn has_only(table: &Table, known: &[&str]) -> bool
     ensures { result ≡ has_only (map (λ one. one.now) known.now) (table_view table.now) }
 {
     table.keys().all(|key| is_known(known, key.as_str()))
 }
 
-/// The value at a key.
+/// The value at a key; `None` where the key is absent.
 pub fn find<'a>(table: &'a Table, key: &str) -> Option<&'a Value>
     ensures { option_map (λ value. view value.now) result ≡ get_member key.now (table_view table.now) }
 {
     table.get(key)
 }
 
-/// The text at a key.
+/// The text at a key; `None` where the key is absent or its value is not a text.
 pub fn find_text<'a>(table: &'a Table, key: &str) -> Option<&'a str>
     ensures { option_map (λ text. text.now) result ≡ text_at key.now (table_view table.now) }
 {
@@ -61,7 +67,7 @@ pub fn find_text<'a>(table: &'a Table, key: &str) -> Option<&'a str>
     }
 }
 
-/// The table at a key.
+/// The table at a key; `None` where the key is absent or its value is not a table.
 pub fn find_table<'a>(table: &'a Table, key: &str) -> Option<&'a Table>
     ensures { option_map (λ found. table_view found.now) result ≡ table_at key.now (table_view table.now) }
 {
@@ -71,7 +77,7 @@ pub fn find_table<'a>(table: &'a Table, key: &str) -> Option<&'a Table>
     }
 }
 
-/// The values of an array.
+/// The values of an array, in order; `None` for any other value.
 pub fn values_of(value: &Value) -> Option<&[Value]>
     ensures { option_map (λ values. map view values.now) result ≡ option_map values_of (as_array (view value.now)) }
 {
@@ -81,7 +87,7 @@ pub fn values_of(value: &Value) -> Option<&[Value]>
     }
 }
 
-/// The values of the array at a key.
+/// The values of the array at a key; `None` where the key is absent or its value is not an array.
 pub fn find_values<'a>(table: &'a Table, key: &str) -> Option<&'a [Value]>
     ensures { option_map (λ values. map view values.now) result ≡ values_at key.now (table_view table.now) }
 {
@@ -91,21 +97,21 @@ pub fn find_values<'a>(table: &'a Table, key: &str) -> Option<&'a [Value]>
     }
 }
 
-/// A number of 32 bits: 0 to 4294967295.
+/// An integer of 0 to 4294967295; `None` for any other value.
 pub fn read_wide_number(value: &Value) -> Option<u32>
     ensures { Finds (IsNumberBelow 4294967296 (view value.now)) result }
 {
     u32::try_from(value.as_integer()?).ok()
 }
 
-/// A number of the program's files: 0 to 65535.
+/// An integer of 0 to 65535; `None` for any other value.
 pub fn read_number(value: &Value) -> Option<u16>
     ensures { Finds (IsNumberBelow 65536 (view value.now)) result }
 {
     u16::try_from(value.as_integer()?).ok()
 }
 
-/// The number of 32 bits at a key.
+/// The integer of 0 to 4294967295 at a key; `None` where the key is absent or has any other value.
 pub fn find_wide_number(table: &Table, key: &str) -> Option<u32>
     ensures { Finds (HasNumberBelow 4294967296 key.now (table_view table.now)) result }
 {
@@ -115,7 +121,7 @@ pub fn find_wide_number(table: &Table, key: &str) -> Option<u32>
     }
 }
 
-/// The number at a key: 0 to 65535.
+/// The integer of 0 to 65535 at a key; `None` where the key is absent or has any other value.
 pub fn find_number(table: &Table, key: &str) -> Option<u16>
     ensures { Finds (HasNumberBelow 65536 key.now (table_view table.now)) result }
 {

@@ -1,4 +1,4 @@
-//! Hexadecimal text.
+//! Reads and writes hexadecimal text.
 ghost use Rattle.std.specs.Prelude.{◌≡◌, IfOk, IsErr, IsErrOf};
 ghost use Rattle.hex.specs.Hex.{decode_of, encode_lower};
 ghost use Rattle.sii_words.specs.Words.{bytes_of};
@@ -13,14 +13,19 @@ use thiserror::Error;
 /// Why a text gives no bytes.
 #[derive(Clone, Copy, Debug, PartialEq, Eq, Error)]
 pub enum HexFault {
+    /// Memory was refused.
     #[error("out of memory")]
     Memory,
+    /// The text is not pairs of hexadecimal digits.
     #[error("the text is not pairs of hexadecimal digits")]
     BadHex,
 }
 
-/// The bytes that a text spells, two digits of either case each. Spaces, tabs, line feeds, form feeds and carriage
-/// returns are skipped.
+/// Reads bytes of two hexadecimal digits each, of either case. Spaces, tabs, line feeds, form feeds and carriage returns are skipped.
+///
+/// # Errors
+///
+/// `BadHex` where the text without these characters is not pairs of hexadecimal digits; `Memory` at any point.
 pub fn read_hex(alloc: Global, text: &str) -> Result<Vec<u8>, HexFault>
     ensures ok { IfOk result (λ bytes. decode_of (without_whitespace text.now) ≡ Ok bytes.items) }
     ensures bad { IsErrOf result HexFault.BadHex → IsErr (decode_of (without_whitespace text.now)) }
@@ -29,7 +34,7 @@ pub fn read_hex(alloc: Global, text: &str) -> Result<Vec<u8>, HexFault>
     decode_digits(alloc, &digits)
 }
 
-/// The bytes that digits spell.
+/// The bytes of these hexadecimal digits.
 fn decode_digits(alloc: Global, digits: &[u8]) -> Result<Vec<u8>, HexFault>
     ensures ok { IfOk result (λ bytes. decode_of digits.now ≡ Ok bytes.items) }
     ensures bad { IsErrOf result HexFault.BadHex → IsErr (decode_of digits.now) }
@@ -41,7 +46,7 @@ fn decode_digits(alloc: Global, digits: &[u8]) -> Result<Vec<u8>, HexFault>
     }
 }
 
-/// The text without its whitespace.
+/// The text without its ASCII white space.
 fn digits_of(alloc: Global, text: &str) -> Result<Vec<u8>, AllocError>
     ensures { IfOk result (λ digits. digits.items ≡ without_whitespace text.now) }
 {
@@ -52,7 +57,11 @@ fn digits_of(alloc: Global, text: &str) -> Result<Vec<u8>, AllocError>
         .collect(alloc)
 }
 
-/// The words whose bytes a text spells, low byte first, two digits of either case for each byte. Nothing is skipped.
+/// Reads words of two bytes each, low byte first, with two hexadecimal digits of either case for each byte. No character is skipped.
+///
+/// # Errors
+///
+/// `BadHex` where the text is not pairs of hexadecimal digits, or has an odd number of bytes; `Memory` at any point.
 pub fn read_hex_words(alloc: Global, text: &str) -> Result<Vec<u16>, HexFault>
     ensures { Reads HexFault.Memory (λ words. words.items) (λ words. decode_of text.now ≡ Ok (bytes_of words)) result }
 {
@@ -63,7 +72,11 @@ pub fn read_hex_words(alloc: Global, text: &str) -> Result<Vec<u16>, HexFault>
     Ok(words_of_bytes(alloc, &bytes)?)
 }
 
-/// The bytes as lower case digits, 16 bytes a line.
+/// Writes bytes as lower case hexadecimal digits, 16 bytes a line.
+///
+/// # Errors
+///
+/// Memory was refused.
 pub fn hex_lines(alloc: Global, bytes: &[u8]) -> Result<Vec<u8>, AllocError>
     ensures { IfOk result (λ text. without_whitespace text.items ≡ encode_lower bytes.now) }
 {

@@ -1,4 +1,4 @@
-//! The station's texts: hexadecimal text, the line file and the script file, each read as a value or refused by name.
+//! Reads the texts of the program into values: hexadecimal text, the line file and the script file. Each has its own fault type.
 #![tactic(auto)]
 
 mod document;

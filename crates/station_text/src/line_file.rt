@@ -1,4 +1,4 @@
-//! The line file: the slaves of a line, and where its journal is.
+//! Reads the line file, which names the journal of a line and the image file of each slave.
 ghost use Rattle.std.specs.Prelude.{◌≡◌, ◌≤◌, length, vec_len, string_bytes, codes, map, Some, IsSomeAnd};
 ghost use Rattle.std.specs.List.{AllZip};
 ghost use Rattle.toml.specs.Data.{get_member};
@@ -13,17 +13,17 @@ use std::alloc::{AllocError, AllocFailed, Global};
 use thiserror::Error;
 use toml::{Table, Value};
 
-/// The area of a journal where the line file says nothing, in bytes.
+/// The size of the journal's area in bytes if the line file has no key `area`.
 const DEFAULT_AREA: u32 = 65_536;
 
-/// What a line file says.
+/// The content of a line file.
 #[derive(Debug, Drop)]
 pub struct LineFile {
-    /// The journal's file.
+    /// The name of the journal's file.
     pub journal: String,
-    /// The bytes of the journal's area: 4,096 to 4,194,304.
+    /// The size of the journal's area in bytes: 4,096 to 4,194,304.
     pub area: u32,
-    /// The file of each slave's EEPROM, for 1 to 64 slaves.
+    /// The name of each slave's image file, in the order of the line: 1 to 64 of them.
     pub images: Vec<String>,
     ghost area_least: { 4096 ≤ area },
     ghost area_most: { area ≤ 4194304 },
@@ -31,16 +31,24 @@ pub struct LineFile {
     ghost slaves_most: { vec_len images ≤ 64 },
 }
 
-/// Why a text is no line file.
+/// Why a text gives no line file.
 #[derive(Clone, Copy, Debug, PartialEq, Eq, Error)]
 pub enum LineFault {
+    /// Memory was refused.
     #[error("out of memory")]
     Memory,
+    /// The text is not a line file.
     #[error("the text is no line file")]
     BadLine,
 }
 
-/// Reads a line file: the keys `journal`, `area` and an array of tables `slave`, each with `image`, and no others.
+/// Reads a line file in TOML: the key `journal`, an optional key `area`, an array of 1 to 64 tables `slave`, each with the key `image`, and no
+/// other keys. Without `area` the area has 65,536 bytes.
+///
+/// # Errors
+///
+/// `BadLine` where the text is not TOML, or has other keys, lacks a key, or has a value of the wrong type or out of range; `Memory` at any
+/// point.
 pub fn read_line(alloc: Global, text: &str) -> Result<LineFile, LineFault>
     ensures { Reads LineFault.Memory (λ line. line) (λ line.
         IsSomeAnd (parse_document text.now) (λ document. Describes document line.journal line.area line.images.items)) result }
@@ -66,7 +74,7 @@ fn line_of(alloc: Global, table: &Table) -> Result<LineFile, LineFault>
     })
 }
 
-/// The file's name at a key.
+/// The file name at a key.
 fn read_name(alloc: Global, table: &Table, key: &str) -> Result<String, LineFault>
     ensures { Reads LineFault.Memory (λ name. name) (λ name. text_at key.now (table_view table.now) ≡ Some (string_bytes name)) result }
 {
@@ -101,7 +109,7 @@ fn read_images(alloc: Global, table: &Table) -> Result<Vec<String>, LineFault>
     }
 }
 
-/// The files of 1 to 64 slaves.
+/// The image file names of 1 to 64 slaves.
 fn read_image_names(alloc: Global, slaves: &[Value]) -> Result<Vec<String>, LineFault>
     ensures { Reads LineFault.Memory (λ images. images.items) (AreImages (map view slaves.now)) result }
 {
@@ -115,7 +123,7 @@ fn read_image_names(alloc: Global, slaves: &[Value]) -> Result<Vec<String>, Line
     Ok(images)
 }
 
-/// The file of one slave.
+/// The image file name of one slave.
 fn read_image_name(alloc: Global, slave: &Value) -> Result<String, LineFault>
     ensures { Reads LineFault.Memory (λ name. name) (NamesImage (view slave.now)) result }
 {

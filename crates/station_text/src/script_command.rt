@@ -1,4 +1,4 @@
-//! One command of a script file.
+//! Reads one command of a script file.
 ghost use Rattle.std.specs.Prelude.{◌≡◌, codes, map, IsSomeAnd};
 ghost use Rattle.std.specs.List.{AllZip};
 ghost use Rattle.toml.specs.Data.{as_table, get_member};
@@ -15,53 +15,68 @@ use sii_edit::{Expect, WordList};
 use std::alloc::{AllocError, AllocFailed, Global};
 use toml::{Table, Value};
 
-/// A command of a script. The images are still in their files.
+/// A command of a script. Its images are still file names.
 #[derive(Drop)]
 pub enum ScriptCommand {
     /// One edit of one slave.
     One(ScriptEdit),
-    /// The aliases of two slaves change places.
+    /// Swaps the aliases of the slaves `a` and `b`, each a position on the line, from 0.
     Swap { a: u16, b: u16 },
-    /// Edits as one act.
+    /// Several edits that are accepted or refused as one command.
     Group(Vec<ScriptGroupEdit>),
 }
 
-/// A change of one slave's EEPROM.
+/// A change of one slave's EEPROM. `slave` is its position on the line, from 0.
 #[derive(Drop)]
 pub enum ScriptEdit {
     /// Sets the configured station alias.
     Alias {
+        /// The slave's position.
         slave: u16,
+        /// The new alias.
         value: u16,
     },
-    /// Exchanges, adds or, without words, removes a category.
+    /// Replaces or adds a category or, without words, removes it.
     Category {
+        /// The slave's position.
         slave: u16,
+        /// The type of the category.
         kind: u16,
+        /// The words of its content.
         words: WordList,
     },
-    /// Writes the words of the image in a file.
+    /// Writes the words of an image.
     Image {
+        /// The slave's position.
         slave: u16,
+        /// The name of the image file.
         file: String,
     },
 }
 
-/// An edit of a group, and who the slave is expected to be.
+/// An edit of a group, with the identity that the slave is expected to have.
 #[derive(Drop)]
 pub struct ScriptGroupEdit {
+    /// The expected identity; `None` where the edit is not guarded.
     pub expect: Option<Expect>,
+    /// The edit.
     pub edit: ScriptEdit,
 }
 
-/// Why a value is no command.
+/// Why a value gives no command.
 #[derive(Clone, Copy)]
 pub enum CommandFault {
+    /// Memory was refused.
     Memory,
+    /// The value is not a command.
     Malformed,
 }
 
-/// Reads a table with one key, which says what the command is.
+/// Reads a command: a table with one key, which names the kind of the command.
+///
+/// # Errors
+///
+/// `Malformed` where the value is not a table of this form; `Memory` at any point.
 pub fn read_command(alloc: Global, value: &Value) -> Result<ScriptCommand, CommandFault>
     ensures { Reads CommandFault.Memory (λ command. command) (SpellsCommand (view value.now)) result }
 {
@@ -89,7 +104,7 @@ fn read_table_command(alloc: Global, table: &Table) -> Result<ScriptCommand, Com
     Ok(ScriptCommand::One(read_edit(alloc, table)?))
 }
 
-/// `swap = [0, 1]`
+/// Reads `swap = [0, 1]`.
 fn read_swap(table: &Table) -> Option<(u16, u16)>
     ensures { Finds (λ pair. SpellsSwap (table_view table.now) pair.0 pair.1) result }
 {
@@ -99,7 +114,7 @@ fn read_swap(table: &Table) -> Option<(u16, u16)>
     }
 }
 
-/// `group = [{ alias = { slave = 0, value = 1 } }]`
+/// Reads `group = [{ alias = { slave = 0, value = 1 } }]`.
 fn read_group(alloc: Global, table: &Table) -> Result<Vec<ScriptGroupEdit>, CommandFault>
     ensures { Reads CommandFault.Memory (λ edits. edits.items) (SpellsGroup (table_view table.now)) result }
 {
@@ -119,7 +134,7 @@ fn read_group_edits(alloc: Global, values: &[Value]) -> Result<Vec<ScriptGroupEd
     Ok(edits)
 }
 
-/// A table with one edit, and beside it `expect` where the edit is guarded.
+/// Reads an edit of a group: a table with one edit, and `expect` beside it if the edit is guarded.
 fn read_group_edit(alloc: Global, value: &Value) -> Result<ScriptGroupEdit, CommandFault>
     ensures { Reads CommandFault.Memory (λ one. one) (SpellsGroupEdit (view value.now)) result }
 {
@@ -137,7 +152,7 @@ fn read_guarded_edit(alloc: Global, table: &Table) -> Result<ScriptGroupEdit, Co
     Ok(ScriptGroupEdit { expect, edit })
 }
 
-/// What is expected, if anything is.
+/// The identity at the key `expect`, if there is such a key.
 fn read_guard(table: &Table) -> Result<Option<Expect>, CommandFault>
     ensures { Reads CommandFault.Memory (λ expect. expect) (SpellsGuard (get_member (codes "expect") (table_view table.now))) result }
 {
@@ -150,7 +165,7 @@ fn read_guard(table: &Table) -> Result<Option<Expect>, CommandFault>
     }
 }
 
-/// `{ vendor = 2, product = 0, revision = 0 }`
+/// Reads `{ vendor = 2, product = 0, revision = 0 }`.
 fn read_expect(value: &Value) -> Option<Expect>
     ensures { Finds (λ expect. IsSomeAnd (as_table (view value.now)) (λ fields. SpellsExpect fields expect)) result }
 {
@@ -165,7 +180,7 @@ fn read_expect(value: &Value) -> Option<Expect>
     })
 }
 
-/// The edit at one of the keys `alias`, `category` and `image`, beside which only `expect` may stand.
+/// Reads the edit at one of the keys `alias`, `category` and `image`. The only other key may be `expect`.
 fn read_edit(alloc: Global, table: &Table) -> Result<ScriptEdit, CommandFault>
     ensures { Reads CommandFault.Memory (λ edit. edit) (SpellsEdit (table_view table.now)) result }
 {
@@ -181,7 +196,7 @@ fn read_edit(alloc: Global, table: &Table) -> Result<ScriptEdit, CommandFault>
     Err(CommandFault::Malformed)
 }
 
-/// `alias = { slave = 0, value = 1 }`
+/// Reads `alias = { slave = 0, value = 1 }`.
 fn read_alias(table: &Table) -> Result<ScriptEdit, CommandFault>
     ensures { Reads CommandFault.Memory (λ edit. edit) (λ edit.
         IsSomeAnd (table_at (codes "alias") (table_view table.now)) (λ fields. SpellsAlias fields edit)) result }
@@ -198,7 +213,7 @@ fn read_alias(table: &Table) -> Result<ScriptEdit, CommandFault>
     }
 }
 
-/// `category = { slave = 0, kind = 51, content = "0016" }`: the bytes of whole words; without bytes the category is removed.
+/// Reads `category = { slave = 0, kind = 51, content = "0016" }`. The content is the bytes of whole words, low byte first.
 fn read_category(alloc: Global, table: &Table) -> Result<ScriptEdit, CommandFault>
     ensures { Reads CommandFault.Memory (λ edit. edit) (λ edit.
         IsSomeAnd (table_at (codes "category") (table_view table.now)) (λ fields. SpellsCategory fields edit)) result }
@@ -220,7 +235,7 @@ fn read_category(alloc: Global, table: &Table) -> Result<ScriptEdit, CommandFaul
     Ok(ScriptEdit::Category { slave, kind, words })
 }
 
-/// `image = { slave = 0, file = "new.bin" }`
+/// Reads `image = { slave = 0, file = "new.bin" }`.
 fn read_image_edit(alloc: Global, table: &Table) -> Result<ScriptEdit, CommandFault>
     ensures { Reads CommandFault.Memory (λ edit. edit) (λ edit.
         IsSomeAnd (table_at (codes "image") (table_view table.now)) (λ fields. SpellsImage fields edit)) result }

@@ -1,4 +1,4 @@
-//! The script file: commands for a line.
+//! Reads the script file, which has the commands for a line.
 ghost use Rattle.std.specs.Prelude.{◌≡◌, map};
 ghost use Rattle.std.specs.List.{AllZip};
 ghost use Rattle.toml.specs.View.{view, table_view};
@@ -11,18 +11,24 @@ use std::alloc::{AllocError, AllocFailed, Global};
 use thiserror::Error;
 use toml::{Table, Value};
 
-/// Why a text is no script.
+/// Why a text gives no script.
 #[derive(Clone, Copy, Debug, PartialEq, Eq, Error)]
 pub enum ScriptFault {
+    /// Memory was refused.
     #[error("out of memory")]
     Memory,
-    /// The place of the first bad command, counted from 0; 0 where the text as a whole is bad.
+    /// The text is not a script. `command` is the place of the first bad command, from 0, and 0 where the text as a whole is bad.
     #[error("command {command} is none that the program knows")]
     BadScript { command: usize },
 }
 
-/// Reads a script: an array of tables `command`, each with one key, `alias`, `swap`, `category`, `image` or `group`. The
-/// files of images aren't read.
+/// Reads a script in TOML: an array of tables `command`, each with one key, `alias`, `swap`, `category`, `image` or `group`. The image files
+/// that it names are not read.
+///
+/// # Errors
+///
+/// `BadScript` with 0 where the text is not TOML, or has other keys than `command`, or no array there; then `BadScript` with the place of the
+/// first bad command. `Memory` may come at any point.
 pub fn read_script(alloc: Global, text: &str) -> Result<Vec<ScriptCommand>, ScriptFault>
     ensures { Reads ScriptFault.Memory (λ commands. commands.items) (SpellsScriptFile text.now) result }
 {
@@ -53,7 +59,7 @@ fn read_commands(alloc: Global, values: &[Value]) -> Result<Vec<ScriptCommand>, 
     Ok(commands)
 }
 
-/// The command at this place of the script.
+/// Reads the command at position `place` of the script, from 0.
 fn command_at(alloc: Global, place: usize, value: &Value) -> Result<ScriptCommand, ScriptFault>
     ensures { Reads ScriptFault.Memory (λ command. command) (SpellsCommand (view value.now)) result }
 {

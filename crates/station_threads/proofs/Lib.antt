@@ -1,2 +1,5 @@
 pub mod Zips
 mod Workers
+pub mod Sent
+pub mod PlaceLaws
+mod EndLaws

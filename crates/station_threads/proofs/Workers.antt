@@ -1,12 +1,12 @@
--- What was started, and its ends.
+-- Threads that were started, and their ends.
 use Rattle.std.proofs.Common.{◌≡◌, ◌∙◌, ℕ, List, [], ◌∷◌, ◌++◌, Option, Some, None, Ok, Err, sym, ap, subst}
 use Rattle.station_jobs.specs.declared.log.SlaveLog.{SlaveLog}
 use Rattle.station_jobs.specs.Ends.{Stay}
-use Rattle.station_threads.specs.Parts.{Part, PartOf, IsEndOfCycle, IsEndOfSlave, AreEndsOf}
-use Rattle.station_threads.specs.Starting.{Started, IsStarted, ComesTo, IsTurning, TurnsInto, Worker, IsWorkerOf, AreWorkersOf, EndsAs, EndAs}
+use Rattle.station_threads.specs.Parts.{Part, PartOf, IsEndOfCycle, IsEndOfSlave, AreSlaveEndsOf}
+use Rattle.station_threads.specs.Starting.{Started, IsStarted, ComesTo, IsTurning, TurnsInto, Worker, IsWorkerOf, AreWorkersOfParts, EndsAs, EndAs}
 use Rattle.station_threads.proofs.Zips.{zip-more, zip-through}
 
--- it began where the part's site was
+-- the work began with the part's site
 pub began : {S L : Type 0} (site : S) (started : Started S L) (end : Stay S L) → IsStarted site started → ComesTo started end → end.start ≡ site
 began site (Ok handle) end is comes = comes ∙ is
 began {S} {L} site (Err ended) end is comes = ap (λ (e : Stay S L). e.start) comes ∙ is
@@ -20,12 +20,12 @@ turned (Some part) (Some started) None is comes = absurd comes
 turned (Some part) (Some started) (Some end) is comes = began part.site started end is comes
 
 module _ {S : Type 0} where
-  -- a worker of a slave comes to an end of the slave
+  -- the end of a slave's worker is that slave's
   ends : (slave : ℕ) (site : S) (worker : Worker S) (end : Stay S SlaveLog) → IsWorkerOf slave site worker → EndsAs worker end → IsEndOfSlave slave site end
   ends slave site (Ok handle) end is comes = record { slave_is = comes.slave_is ∙ is.0; start = comes.start ∙ is.1 }
   ends slave site (Err ended) end is comes = subst (IsEndOfSlave slave site) (sym comes) is
 
-  pub all-end : {D : Type 0} (parts : List (PartOf S D)) (workers : List (Worker S)) (all : List (Stay S SlaveLog)) → AreWorkersOf parts workers → EndAs workers all → AreEndsOf parts all
+  pub all-end : {D : Type 0} (parts : List (PartOf S D)) (workers : List (Worker S)) (all : List (Stay S SlaveLog)) → AreWorkersOfParts parts workers → EndAs workers all → AreSlaveEndsOf parts all
   all-end {D} parts workers all are come =
       zip-through (λ (part : PartOf S D) (worker : Worker S). IsWorkerOf part.slave part.site worker) (λ (worker : Worker S) (end : Stay S SlaveLog). EndsAs worker end)
       (λ (part : PartOf S D) (end : Stay S SlaveLog). IsEndOfSlave part.slave part.site end)
@@ -33,7 +33,7 @@ module _ {S : Type 0} where
 
   -- one more
   pub workers-more : {D : Type 0} (parts : List (PartOf S D)) (workers : List (Worker S)) (part : PartOf S D) (worker : Worker S)
-      → AreWorkersOf parts workers → IsWorkerOf part.slave part.site worker → AreWorkersOf (parts ++ part ∷ []) (workers ++ worker ∷ [])
+      → AreWorkersOfParts parts workers → IsWorkerOf part.slave part.site worker → AreWorkersOfParts (parts ++ part ∷ []) (workers ++ worker ∷ [])
   workers-more {D} parts workers part worker all one = zip-more (λ (p : PartOf S D) (w : Worker S). IsWorkerOf p.slave p.site w) parts workers part worker all one
 
   pub ends-more : (workers : List (Worker S)) (all : List (Stay S SlaveLog)) (worker : Worker S) (end : Stay S SlaveLog) → EndAs workers all → EndsAs worker end → EndAs (workers ++ worker ∷ []) (all ++ end ∷ [])

@@ -1,4 +1,4 @@
--- Two lists whose items belong together, place by place.
+-- Two lists whose items are related place by place.
 use Rattle.std.proofs.Common.{List, [], ◌∷◌, ◌++◌}
 use Rattle.std.specs.List.{AllZip}
 

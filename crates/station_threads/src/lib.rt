@@ -1,9 +1,25 @@
-//! Serving a line with threads: one for the disk, one for each slave, and one for the process data.
+//! The station by threads: the book behind one lock, a thread for the disk, for each slave and for process data, and closing.
 #![tactic(auto)]
 
+mod client;
+mod closing;
+mod desk;
+mod line_serving;
 mod parts;
 mod serving;
+mod sides;
+mod sites;
 mod starting;
 
-pub use parts::{CyclePart, DiskPart, Line, LineEnds, LineParts, SlavePart};
+pub use client::Client;
+pub use closing::{CloseFault, Closed, Ends, NotClosed, close};
+pub use desk::Desk;
+pub use desk_book::{
+    BlankLedger, Call, Heard, Recalled, Receipt, Refusals, Refused, Served, Share, ShareFault,
+    Ticket, Tickets, Unacknowledged,
+};
+pub use line_serving::serve_line;
+pub use parts::{CyclePart, DiskPart, LineEnds, LineParts, PerDevice, SlavePart};
 pub use serving::{Meanwhile, Room, serve};
+pub use sides::{CycleSide, DiskSide, RomSide};
+pub use sites::{Sites, own_parts};

@@ -1,4 +1,4 @@
-//! The parts of a line, each with the dispatch that it is served by, and their ends.
+//! The parts of a line: each is a site with the dispatch of its jobs.
 
 ghost use Rattle.std.specs.Prelude.{◌≡◌, [], IsTrue};
 ghost use Rattle.site_core.specs.Line.{Owns};
@@ -10,12 +10,12 @@ ghost use Rattle.station_threads.specs.Parts.{IsEndOf, IsEndOfSlave};
 
 use site_core::Site;
 use station_jobs::{
-    CycleLog, DiskLog, Dispatch, End, Gate, RomLog, SlaveLog, cycle_loop, flush, work,
+    CycleLog, DiskLog, Dispatch, End, Hook, RomLog, SlaveLog, cycle_loop, flush, work,
 };
 use std::marker::Model;
 use std::sync::Wait;
 
-/// The disk, and what hands out its actions.
+/// A site that owns the disk, with the dispatch of the disk's jobs.
 #[derive(Drop)]
 pub struct DiskPart<S: Site, D: Dispatch<DiskLog>> {
     pub(crate) site: S,
@@ -32,11 +32,15 @@ impl<S: Site, D: Dispatch<DiskLog>> Model for DiskPart<S, D> {
 
     ghost view = { λ part. record { site = part.site; dispatch = part.dispatch } };
 
-    ghost invariant = { λ part. IsTrue (S.line part.site).has_disk × (D.log part.dispatch ≡ []) × ((action : DiskNext) → D.may_hand part.dispatch action → CanBegin action (S.seen part.site).state.disk) };
+    ghost invariant = { λ part. IsTrue (S.line part.site).has_disk × (D.log part.dispatch ≡ [])
+        × ((action : DiskNext) → D.may_hand part.dispatch action → CanBegin action (S.seen part.site).state.disk) };
 }
 
 impl<S: Site, D: Dispatch<DiskLog>> DiskPart<S, D> {
-    /// The disk of this site. Nothing was handed out yet, and each action that may be handed out can begin.
+    /// A part for the disk of this site.
+    ///
+    /// The site has to own the disk. The dispatch must have handed out nothing yet, and may hand out only actions that begin inside the
+    /// disk or right behind its end.
     pub fn new(site: S, dispatch: D) -> Self
         requires disk { IsTrue (S.line site).has_disk }
         requires fresh { D.log dispatch ≡ [] }
@@ -46,7 +50,7 @@ impl<S: Site, D: Dispatch<DiskLog>> DiskPart<S, D> {
         DiskPart { site, dispatch }
     }
 
-    /// Serves the disk.
+    /// Does the disk's jobs, until there are no more.
     pub(crate) fn serve<R: Wait>(self, rt: &R) -> End<S, DiskLog>
         ensures { IsEndOf self result }
     {
@@ -55,7 +59,7 @@ impl<S: Site, D: Dispatch<DiskLog>> DiskPart<S, D> {
     }
 }
 
-/// A slave, and what hands out its words.
+/// A site that owns a slave's EEPROM half, with the dispatch of the slave's jobs.
 #[derive(Drop)]
 pub struct SlavePart<S: Site, D: Dispatch<RomLog>> {
     pub(crate) slave: u16,
@@ -74,11 +78,15 @@ impl<S: Site, D: Dispatch<RomLog>> Model for SlavePart<S, D> {
 
     ghost view = { λ part. record { slave = part.slave; site = part.site; dispatch = part.dispatch } };
 
-    ghost invariant = { λ part. Owns (S.line part.site) part.slave × (D.log part.dispatch ≡ []) × ((job : RomNext) → D.may_hand part.dispatch job → IsCall job) };
+    ghost invariant = { λ part. Owns (S.line part.site) part.slave × (D.log part.dispatch ≡ [])
+        × ((job : RomNext) → D.may_hand part.dispatch job → IsCall job) };
 }
 
 impl<S: Site, D: Dispatch<RomLog>> SlavePart<S, D> {
-    /// This slave of the site. Nothing was handed out yet, and only what can be done may be.
+    /// A part for this slave of the site. Slaves are numbered from 0.
+    ///
+    /// The site has to own the slave's EEPROM half. The dispatch must have handed out nothing yet, and may hand out only issues and
+    /// settles.
     pub fn new(slave: u16, site: S, dispatch: D) -> Self
         requires owns { Owns (S.line site) slave }
         requires fresh { D.log dispatch ≡ [] }
@@ -92,8 +100,8 @@ impl<S: Site, D: Dispatch<RomLog>> SlavePart<S, D> {
         }
     }
 
-    /// Serves the slave.
-    pub(crate) fn serve<G: Gate, R: Wait>(self, rt: &R, gate: &G) -> End<S, SlaveLog>
+    /// Does the slave's jobs, until there are no more. The hook is for tests.
+    pub(crate) fn serve<G: Hook, R: Wait>(self, rt: &R, hook: &G) -> End<S, SlaveLog>
         ensures { IsEndOfSlave self.slave self.site result }
     {
         let SlavePart {
@@ -101,11 +109,11 @@ impl<S: Site, D: Dispatch<RomLog>> SlavePart<S, D> {
             site,
             dispatch,
         } = self;
-        work(rt, site, slave, dispatch, gate)
+        work(rt, site, slave, dispatch, hook)
     }
 }
 
-/// The process halves of all slaves, and what hands out turns.
+/// A site that owns the process halves of all slaves, with the dispatch of process data cycles.
 #[derive(Drop)]
 pub struct CyclePart<S: Site, D: Dispatch<CycleLog>> {
     pub(crate) site: S,
@@ -124,7 +132,9 @@ impl<S: Site, D: Dispatch<CycleLog>> Model for CyclePart<S, D> {
 }
 
 impl<S: Site, D: Dispatch<CycleLog>> CyclePart<S, D> {
-    /// The process halves of this site. Nothing was handed out yet.
+    /// A part for the process data of this site.
+    ///
+    /// The site has to own the process halves of all slaves, and the dispatch must have handed out nothing yet.
     pub fn new(site: S, dispatch: D) -> Self
         requires process { IsTrue (S.line site).has_process }
         requires fresh { D.log dispatch ≡ [] }
@@ -133,7 +143,7 @@ impl<S: Site, D: Dispatch<CycleLog>> CyclePart<S, D> {
         CyclePart { site, dispatch }
     }
 
-    /// Serves the process data.
+    /// Exchanges process data, until there are no more cycles to do.
     pub(crate) fn serve<R: Wait>(self, rt: &R) -> End<S, CycleLog>
         ensures { IsEndOf self result }
     {
@@ -142,16 +152,19 @@ impl<S: Site, D: Dispatch<CycleLog>> CyclePart<S, D> {
     }
 }
 
-/// Something for the disk, for each slave in the order of the line, and for the process data where they are exchanged.
+/// A value for the disk, one for each slave, and one for the process data if it is exchanged.
 #[derive(Drop)]
-pub struct Line<D, W, C> {
+pub struct PerDevice<D, W, C> {
+    /// The value for the disk.
     pub disk: D,
+    /// One value for each slave, in the order of the line.
     pub slaves: Vec<W>,
+    /// The value for the process data. `None` if it isn't exchanged.
     pub cycle: Option<C>,
 }
 
-/// All that is served.
-pub type LineParts<S, D, W, C> = Line<DiskPart<S, D>, SlavePart<S, W>, CyclePart<S, C>>;
+/// The parts of a line.
+pub type LineParts<S, D, W, C> = PerDevice<DiskPart<S, D>, SlavePart<S, W>, CyclePart<S, C>>;
 
-/// The end of each part.
-pub type LineEnds<S> = Line<End<S, DiskLog>, End<S, SlaveLog>, End<S, CycleLog>>;
+/// The ends of a line's threads.
+pub type LineEnds<S> = PerDevice<End<S, DiskLog>, End<S, SlaveLog>, End<S, CycleLog>>;

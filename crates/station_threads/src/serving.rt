@@ -1,32 +1,32 @@
-//! Serving all parts at once.
+//! Serves all parts of a line at the same time.
 
 ghost use Rattle.std.specs.Prelude.{◌≡◌, ◌≤◌, [], vec_len, vec_capacity, IfOk, MatchResult};
-ghost use Rattle.station_threads.specs.Parts.{IsEndOf, IsEndOfCycle, AreEndsOf};
-ghost use Rattle.station_threads.specs.Starting.{IsTurning, TurnsInto, AreWorkersOf, EndAs};
+ghost use Rattle.station_threads.specs.Parts.{IsEndOf, IsEndOfCycle, AreSlaveEndsOf};
+ghost use Rattle.station_threads.specs.Starting.{IsTurning, TurnsInto, AreWorkersOfParts, EndAs};
 
-use crate::parts::{CyclePart, Line, LineEnds, LineParts, SlavePart};
+use crate::parts::{CyclePart, LineEnds, LineParts, PerDevice, SlavePart};
 use crate::starting::{Since, SinceOf, start_cycle, start_flusher, start_worker};
 use site_core::Site;
-use station_jobs::{CycleLog, DiskLog, Dispatch, End, Gate, RomLog, SlaveLog};
+use station_jobs::{CycleLog, DiskLog, Dispatch, End, Hook, RomLog, SlaveLog};
 use std::alloc::{AllocError, Global};
 use std::marker::Model;
 use std::sync::Wait;
 use std::thread;
 use std::thread::{Promise, PromisedHandle, Scope, Threads};
 
-/// What is done on the calling thread while the line is served.
+/// What the calling thread does while the line is served.
 pub trait Meanwhile {
-    /// Drives the work, once all threads are started. It may start others. Left out where a thread couldn't be made.
+    /// Drives the work, once all threads are started. It may start more threads. It isn't called if a thread couldn't be created.
     fn drive<R: Wait + Threads + Sync>(&mut self, rt: &R);
 
-    /// Tells the dispatches that nothing more will come, so that each part comes to its end. May be called again.
+    /// Tells the dispatches that no more work will come, so that each part ends. It may be called more than once.
     fn finish<R: Wait>(&mut self, rt: &R);
 }
 
-/// A worker that was started, or has served already.
+/// The thread of a worker. If it couldn't be created, the end of the work, which was then done on the calling thread.
 type Worker<S> = Result<PromisedHandle<End<S, SlaveLog>, SinceOf<S>>, End<S, SlaveLog>>;
 
-/// The memory for the workers of a line and their ends. Contracts see for how many slaves.
+/// Memory for the workers of a line and their ends. Contracts see for how many slaves.
 #[derive(Drop)]
 pub struct Room<S: Site> {
     slaves: usize,
@@ -41,15 +41,16 @@ impl<S: Site> Model for Room<S> {
 
     ghost view = { λ room. room.slaves };
 
-    ghost invariant = { λ room. (room.workers.items ≡ []) × (room.slaves ≤ vec_capacity room.workers) × (room.ends.items ≡ []) × (room.slaves ≤ vec_capacity room.ends) };
+    ghost invariant = { λ room. (room.workers.items ≡ []) × (room.slaves ≤ vec_capacity room.workers)
+        × (room.ends.items ≡ []) × (room.slaves ≤ vec_capacity room.ends) };
 }
 
 impl<S: Site + Drop> Room<S> {
-    /// Room for so many slaves.
+    /// Takes the memory for this many slaves.
     ///
     /// # Errors
     ///
-    /// There was no memory.
+    /// `AllocError`: memory was refused.
     pub fn new(alloc: Global, slaves: usize) -> Result<Self, AllocError>
         ensures { IfOk result (λ room. room ≡ slaves) }
     {
@@ -61,37 +62,37 @@ impl<S: Site + Drop> Room<S> {
     }
 }
 
-/// Starts the workers, in order. False where one of them was served here.
+/// Starts the workers, in order. False if a thread couldn't be created, and that slave was served on this thread.
 fn start_workers<
     's,
     E,
     S: Site + Send + Drop + 's,
     D: Dispatch<RomLog> + Drop + 's,
-    G: Gate + Sync,
+    G: Hook + Sync,
     M: Meanwhile,
     R: Wait + Threads + Sync,
 >(
     scope: &'s Scope<'s, E>,
     rt: &'s R,
-    gate: &'s G,
+    hook: &'s G,
     parts: Vec<SlavePart<S, D>>,
     workers: &mut Vec<Worker<S>>,
     meanwhile: &mut M,
 ) -> bool
     requires empty { workers.old.items ≡ [] }
     requires room { vec_len parts ≤ vec_capacity workers.old }
-    ensures { AreWorkersOf parts.items workers.new.items }
+    ensures { AreWorkersOfParts parts.items workers.new.items }
 {
     let mut all_there = true;
     for part in parts {
-        let worker = start_worker(scope, rt, gate, part, meanwhile);
+        let worker = start_worker(scope, rt, hook, part, meanwhile);
         all_there = all_there && worker.is_ok();
         workers.push_reserved(worker);
     }
     all_there
 }
 
-/// Waits for the end of a part, unless it was served already.
+/// Waits for the end of a part, unless it has ended already.
 fn join<T: Drop, P: Promise<T>, R: Threads>(rt: &R, started: Result<PromisedHandle<T, P>, T>) -> T
     ensures { MatchResult started (λ handle. P.kept_by handle.promise result) (λ end. result ≡ end) }
 {
@@ -116,10 +117,10 @@ fn join_workers<S: Site + Drop, R: Threads>(
     }
 }
 
-/// The process data, where they were started in a thread, or have been served already.
+/// The process data thread. If it couldn't be created, the end of its work. `None` without process data.
 type Turning<S> = Option<Result<PromisedHandle<End<S, CycleLog>, Since<S>>, End<S, CycleLog>>>;
 
-/// Starts the process data, where there is a part for them.
+/// Starts the process data thread, if there is a part for it.
 fn start_turning<
     's,
     E,
@@ -141,7 +142,7 @@ fn start_turning<
     }
 }
 
-/// Waits for the end of the process data, where they were started.
+/// Waits for the end of the process data thread, if there is one.
 fn join_turning<S: Site + Drop, R: Threads>(rt: &R, turning: Turning<S>) -> Option<End<S, CycleLog>>
     ensures { TurnsInto turning result }
 {
@@ -151,7 +152,7 @@ fn join_turning<S: Site + Drop, R: Threads>(rt: &R, turning: Turning<S>) -> Opti
     }
 }
 
-/// A line with the memory for its workers and their ends.
+/// The parts of a line, with memory for its workers and their ends.
 #[derive(Drop)]
 struct Prepared<S: Site, F: Dispatch<DiskLog>, D: Dispatch<RomLog>, C: Dispatch<CycleLog>> {
     line: LineParts<S, F, D, C>,
@@ -159,7 +160,7 @@ struct Prepared<S: Site, F: Dispatch<DiskLog>, D: Dispatch<RomLog>, C: Dispatch<
     ghost fits: { vec_len line.slaves ≤ room },
 }
 
-/// Serves all parts in the threads of a scope.
+/// Serves all parts, with threads of this scope.
 fn serve_in<
     's,
     E,
@@ -167,18 +168,18 @@ fn serve_in<
     F: Dispatch<DiskLog> + Drop + 's,
     D: Dispatch<RomLog> + Drop + 's,
     C: Dispatch<CycleLog> + Drop + 's,
-    G: Gate + Sync,
+    G: Hook + Sync,
     M: Meanwhile,
     R: Wait + Threads + Sync,
 >(
     scope: &'s Scope<'s, E>,
     rt: &'s R,
     prepared: Prepared<S, F, D, C>,
-    gate: &'s G,
+    hook: &'s G,
     meanwhile: &mut M,
 ) -> LineEnds<S>
     ensures disk { IsEndOf prepared.line.disk result.disk }
-    ensures slaves { AreEndsOf prepared.line.slaves.items result.slaves.items }
+    ensures slaves { AreSlaveEndsOf prepared.line.slaves.items result.slaves.items }
     ensures cycle { IsEndOfCycle prepared.line.cycle result.cycle }
 {
     let Prepared { line, room } = prepared;
@@ -187,14 +188,14 @@ fn serve_in<
         mut ends,
         ..
     } = room;
-    let Line {
+    let PerDevice {
         disk,
         slaves,
         cycle,
     } = line;
     let flusher = start_flusher(scope, rt, disk, meanwhile);
     let turning = start_turning(scope, rt, cycle, meanwhile);
-    let all_work = start_workers(scope, rt, gate, slaves, &mut workers, meanwhile);
+    let all_work = start_workers(scope, rt, hook, slaves, &mut workers, meanwhile);
     if all_work && flusher.is_ok() && !matches!(&turning, Some(Err(_))) {
         meanwhile.drive(rt);
     }
@@ -202,36 +203,37 @@ fn serve_in<
     join_workers(rt, workers, &mut ends);
     let disk = join(rt, flusher);
     let cycle = join_turning(rt, turning);
-    Line {
+    PerDevice {
         disk,
         slaves: ends,
         cycle,
     }
 }
 
-/// Serves a line, each part in a thread of its own, while the calling thread drives the work; then finishes, and waits for the end of
-/// each part. The gate is for tests.
+/// Serves a line, each part on its own thread, while `meanwhile` drives the work on the calling thread. Then it finishes the work, and
+/// waits for the end of each part. The hook is for tests.
 ///
-/// Where a thread can't be made, the work is finished and that part is served on the calling thread; then nothing is driven.
+/// If a thread can't be created, the work is finished, that part is served on the calling thread, and `drive` isn't called. The room has
+/// to be for at least as many slaves as the line has.
 pub fn serve<
     'e,
     S: Site + Send + Drop + 'e,
     F: Dispatch<DiskLog> + Drop + 'e,
     D: Dispatch<RomLog> + Drop + 'e,
     C: Dispatch<CycleLog> + Drop + 'e,
-    G: Gate + Sync,
+    G: Hook + Sync,
     M: Meanwhile,
     R: Wait + Threads + Sync,
 >(
     rt: &'e R,
     room: Room<S>,
     line: LineParts<S, F, D, C>,
-    gate: &'e G,
+    hook: &'e G,
     meanwhile: &'e mut M,
 ) -> LineEnds<S>
     requires { vec_len line.slaves ≤ room }
     ensures disk { IsEndOf line.disk result.disk }
-    ensures slaves { AreEndsOf line.slaves.items result.slaves.items }
+    ensures slaves { AreSlaveEndsOf line.slaves.items result.slaves.items }
     ensures cycle { IsEndOfCycle line.cycle result.cycle }
 {
     let prepared = Prepared { line, room };
@@ -240,8 +242,8 @@ pub fn serve<
         rt,
         move |scope| -> LineEnds<S>
             ensures disk { IsEndOf prepared.line.disk result.disk }
-            ensures slaves { AreEndsOf prepared.line.slaves.items result.slaves.items }
+            ensures slaves { AreSlaveEndsOf prepared.line.slaves.items result.slaves.items }
             ensures cycle { IsEndOfCycle prepared.line.cycle result.cycle }
-        { serve_in(scope, rt, prepared, gate, meanwhile) },
+        { serve_in(scope, rt, prepared, hook, meanwhile) },
     )
 }

@@ -1,4 +1,4 @@
-//! Starting a thread for each part.
+//! Starts a thread for each part of a line.
 
 ghost use Rattle.std.specs.Prelude.{◌≡◌};
 ghost use Rattle.station_threads.specs.Parts.{IsEndOfSlave};
@@ -8,12 +8,12 @@ ghost use denote.Param.Send.{IsSync};
 use crate::parts::{CyclePart, DiskPart, SlavePart};
 use crate::serving::Meanwhile;
 use site_core::Site;
-use station_jobs::{CycleLog, DiskLog, Dispatch, End, Gate, RomLog, SlaveLog};
+use station_jobs::{CycleLog, DiskLog, Dispatch, End, Hook, RomLog, SlaveLog};
 use std::snapshot::Snapshot;
 use std::sync::Wait;
 use std::thread::{Promise, PromisedHandle, Scope, Threads};
 
-/// The end begins where this site was.
+/// What the thread of the disk or of the process data promises: its end began with this site.
 #[derive(Drop)]
 pub(crate) struct Since<S> {
     site: Snapshot<S>,
@@ -27,7 +27,7 @@ impl<S: Site> Promise<End<S, CycleLog>> for Since<S> {
     ghost kept_by = { λ since end. end.start ≡ since.site.value };
 }
 
-/// The end is of this slave, and begins where the site was.
+/// What the thread of a slave promises: its end is this slave's, and began with this site.
 #[derive(Drop)]
 pub(crate) struct SinceOf<S> {
     slave: u16,
@@ -40,7 +40,7 @@ impl<S: Site> Promise<End<S, SlaveLog>> for SinceOf<S> {
     ghost kept_by = { λ since end. IsEndOfSlave since.slave since.site.value end };
 }
 
-/// Starts a flusher; or finishes, and serves the disk here, where no thread can be made.
+/// Starts the disk's thread. If it can't be created, finishes the work and serves the disk on this thread.
 pub(crate) fn start_flusher<
     's,
     E,
@@ -72,19 +72,19 @@ pub(crate) fn start_flusher<
     }
 }
 
-/// Starts the worker of a slave; or finishes, and serves the slave here, where no thread can be made.
+/// Starts a slave's thread. If it can't be created, finishes the work and serves the slave on this thread.
 pub(crate) fn start_worker<
     's,
     E,
     S: Site + Send + Drop + 's,
     D: Dispatch<RomLog> + Drop + 's,
-    G: Gate + Sync,
+    G: Hook + Sync,
     M: Meanwhile,
     R: Wait + Threads + Sync,
 >(
     scope: &'s Scope<'s, E>,
     rt: &'s R,
-    gate: &'s G,
+    hook: &'s G,
     part: SlavePart<S, D>,
     meanwhile: &mut M,
 ) -> Result<PromisedHandle<End<S, SlaveLog>, SinceOf<S>>, End<S, SlaveLog>>
@@ -97,7 +97,7 @@ pub(crate) fn start_worker<
     let serves = move || -> End<S, SlaveLog>
         requires { IsSync R.row × IsSync G.row }
         ensures { IsEndOfSlave part.slave part.site result }
-    { part.serve(rt, gate) };
+    { part.serve(rt, hook) };
     match scope.spawn_with(since, serves) {
         Ok(handle) => Ok(handle),
         Err(refused) => {
@@ -107,7 +107,7 @@ pub(crate) fn start_worker<
     }
 }
 
-/// Starts the cycle; or finishes, and serves it here, where no thread can be made.
+/// Starts the process data thread. If it can't be created, finishes the work and serves the process data on this thread.
 pub(crate) fn start_cycle<
     's,
     E,

@@ -1,7 +1,7 @@
 -- What a submit's answer says of the command and the book.
 use Rattle.std.proofs.Common.{◌≡◌, ℕ, Bool, true, false, List, length, refl, sym, ap, subst, Result, Ok, Err}
 use Rattle.std.specs.Prelude.{IsOk, is_ok}
-use Rattle.sii_runs.specs.Run.{runs_between}
+use Rattle.sii_words.specs.Run.{runs_between}
 use Rattle.sii_edit.specs.declared.command.Command.{Command}
 use Rattle.sii_edit.specs.declared.refusal.Refusal.{Refusal}
 use Rattle.sii_edit.specs.Command.{outcome}
@@ -24,7 +24,7 @@ AnswersAs book command (Err refusals.TooLarge) = Takes book × IsOk (outcome (co
 AnswersAs book command (Err refusals.Full) = Takes book × IsOk (outcome (contents_of book) command)
 
 module _ (book : Book) (command : Command) where
-  -- answered so
+  -- the answer
   answered : (result answer : Result ℕ SubmitRefusal) → result ≡ answer → AnswersAs book command answer → AnswersAs book command result
   answered result answer is so = subst (AnswersAs book command) (sym is) so
 

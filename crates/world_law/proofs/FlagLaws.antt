@@ -3,7 +3,7 @@ use Rattle.std.proofs.Common.{◌≡◌, ◌⊎◌, inl, inr, ℕ, ◌<◌, Bool
 use Rattle.std.specs.Prelude.{is_some, ◌||◌}
 use Rattle.std.proofs.lemmas.Bool.Decides.{nat_tests}
 use Rattle.site_core.specs.declared.answers.Settled.TheVariants.{Written, Again, Dead}
-use Rattle.slave_queue.specs.Cells.{cell_of}
+use Rattle.book_model.specs.Cells.{cell_of}
 use Rattle.jrn_format.specs.declared.journal.Form.TheVariants.{Two}
 use Rattle.book_model.specs.declared.next.RomNext.{RomNext}
 use Rattle.book_model.specs.declared.next.RomOutcome.{RomOutcome}
@@ -12,9 +12,9 @@ use Rattle.book_model.specs.Book.{Book, Doing, Resting, Payload, PayloadSync, Op
 use Rattle.book_model.specs.Open.{migrate}
 use Rattle.book_model.specs.DiskSteps.{went_on, disk_next, disk_done}
 use Rattle.book_model.specs.RomSteps.{is_last, with_again, rom_next, rom_done}
-use Rattle.disk_laws.specs.Events.{rested}
-use Rattle.up_laws.proofs.DiskEventLaws.{Answers, same, goes, by-out}
-use Rattle.up_laws.proofs.SlaveEventLaws.{Asks, nothing, issue, settle, asks}
+use Rattle.book_laws.specs.Events.{rested}
+use Rattle.book_laws.proofs.DiskEventLaws.{Answers, same, goes, by-out}
+use Rattle.book_laws.proofs.SlaveEventLaws.{Asks, nothing, issue, settle, asks}
 
 -- the later book is closed where this one is, and its journal has the same form
 pub record SameFlags (book later : Book) : Type 0 where

@@ -3,8 +3,8 @@ use Rattle.std.proofs.Common.{◌≡◌, inl, ℕ, Bool, None, List, [], length,
 use Rattle.std.specs.List.{AllByRecursion}
 use Rattle.std.proofs.lemmas.List.{length-map}
 use Rattle.std.proofs.lemmas.List.Elements.{All-nil}
-use Rattle.sii_runs.proofs.RedoLaws.{redone-nil}
-use Rattle.edit_laws.specs.Fitting.{PlantFits, CommandFits}
+use Rattle.sii_words.proofs.RedoLaws.{redone-nil}
+use Rattle.sii_edit.specs.Fitting.{PlantFits, CommandFits}
 use Rattle.jrn_format.specs.declared.journal.Form.TheVariants.{Two}
 use Rattle.jrn_format.specs.declared.journal.Spelling.TheVariants.{WithGeneration}
 use Rattle.jrn_format.specs.Area.{IsClosed, IsLive}
@@ -14,7 +14,7 @@ use Rattle.esc_model.specs.WordAccess.{IsIdle}
 use Rattle.site_core.specs.State.{State}
 use Rattle.book_model.specs.Entries.{sizes_of}
 use Rattle.book_model.specs.Kept.{Kept}
-use Rattle.up_laws.specs.Opening.{words_in, IsSynced}
+use Rattle.book_laws.specs.Opening.{words_in, IsAllSynced}
 use Rattle.world_law.specs.Law.{IsFormatted, blank, Starts}
 
 nothing-live : (half : ℕ) (area : List ℕ) → IsClosed area → IsLive WithGeneration half area []
@@ -54,7 +54,7 @@ formatted-kept bytes words f = record {
   same = redone-nil words;
 }
 
-pub formatted-starts : (state : State) (took : List Bool) → IsFormatted (length state.halves) state.disk.bytes → IsSynced state.disk → AllByRecursion IsIdle state.halves → length took ≡ length state.halves → PlantFits (words_in state.halves)
+pub formatted-starts : (state : State) (took : List Bool) → IsFormatted (length state.halves) state.disk.bytes → IsAllSynced state.disk → AllByRecursion IsIdle state.halves → length took ≡ length state.halves → PlantFits (words_in state.halves)
     → Starts (record { book = None; state = state; took = took }) (blank (words_in state.halves))
 formatted-starts state took f synced idle long fits = record {
   down = refl;

@@ -4,4 +4,3 @@ pub mod StandsLaws
 pub mod StepLaws
 pub mod RunLaws
 pub mod FormatLaws
-pub mod Below

@@ -1,4 +1,4 @@
--- From where it starts, the world stays kept whatever happens.
+-- From its start the world keeps IsKept, whatever happens.
 use Rattle.std.proofs.Common.{◌≡◌, ℕ, List, [], ◌∷◌, sym, subst, arith}
 use Rattle.std.specs.List.{AllByRecursion}
 use Rattle.site_core.specs.Disk.{Disk, Range, StopImage, IsOutside, IsSynced}
@@ -6,8 +6,8 @@ use Rattle.site_core.specs.Passes.{LeavesOnly}
 use Rattle.site_core.proofs.StopImages.{StopImage-synced}
 use Rattle.site_core.proofs.Counts.{words-idle}
 use Rattle.book_model.specs.Kept.{Kept}
-use Rattle.up_laws.specs.Opening as opening
-use Rattle.up_laws.specs.Opening.{words_in}
+use Rattle.book_laws.specs.Opening as opening
+use Rattle.book_laws.specs.Opening.{words_in}
 use Rattle.world_law.specs.World.{World, Step}
 use Rattle.world_law.specs.Law.{Session, EventFits, MachineFits, Starts, Runs, StaysKept}
 use Rattle.world_law.proofs.StandsLaws.{KeptFor, Stands, stands-down, stands-is_kept}
@@ -23,7 +23,7 @@ run-stays world session (step ∷ steps) stands fits runs small =
 -- ---- where it starts
 
 -- a disk that is all synced leaves what a read gives
-image-read : (disk : Disk) (image : List ℕ) → opening.IsSynced disk → StopImage disk image → image ≡ disk.bytes
+image-read : (disk : Disk) (image : List ℕ) → opening.IsAllSynced disk → StopImage disk image → image ≡ disk.bytes
 image-read disk image all stop =
     let none : (at : ℕ) → IsSynced disk at = λ at. subst (λ (ranges : List Range). AllByRecursion (IsOutside at) ranges) (sym all.all) tt in
     let whole = all.whole in

@@ -1,8 +1,8 @@
--- What stands of the world at each moment, and what follows from it for callers.
+-- The invariant of the world at each moment, and what follows from it for callers.
 use Rattle.std.proofs.Common.{◌≡◌, ℕ, ◌*◌, ◌<◌, ◌≤◌, Bool, true, false, List, [], ◌∷◌, ◌++◌, length, take, refl, sym, ◌∙◌, ap, subst, arith, length-append, length-take, Some, None}
 use Rattle.std.specs.List.{AllByRecursion}
-use Rattle.sii_runs.specs.Redo.{redone}
-use Rattle.sii_runs.proofs.RedoLaws.{redone-nil}
+use Rattle.sii_words.specs.Redo.{redone}
+use Rattle.sii_words.proofs.RedoLaws.{redone-nil}
 use Rattle.sii_edit.proofs.FoldLaws.{none-taken}
 use Rattle.jrn_format.specs.declared.journal.Entry.{Entry}
 use Rattle.jrn_format.specs.declared.journal.Batch.{Batch}
@@ -12,7 +12,7 @@ use Rattle.esc_model.proofs.Resting.{MayLeave-same}
 use Rattle.site_core.specs.State.{Pair, EachMayLeave}
 use Rattle.site_core.specs.Passes.{LeavesOnly}
 use Rattle.site_core.proofs.StopImages.{StopImage-same}
-use Rattle.slave_queue.specs.Cells.{Cell}
+use Rattle.book_model.specs.Cells.{Cell}
 use Rattle.book_model.specs.Entries.{runs_of, live_runs}
 use Rattle.book_model.specs.Book.{Book, base_of, own, slave_at, all_cells, is_closed, is_version_2}
 use Rattle.book_model.specs.Reading.{runs_settled, settled_prefix, all_entries, applied}
@@ -20,12 +20,12 @@ use Rattle.book_model.specs.Machine.{Machine}
 use Rattle.book_model.specs.Kept.{Kept}
 use Rattle.book_laws.proofs.FitLaws.{kept-live}
 use Rattle.book_laws.proofs.CommandLaws.{entries-contents, length-entries}
-use Rattle.disk_laws.specs.Frame.{Frame}
-use Rattle.up_laws.specs.Up.{Up}
-use Rattle.up_laws.specs.Opening.{words_in}
-use Rattle.up_laws.proofs.LineLaws.{holds-all, up-kept}
-use Rattle.wear_laws.specs.Worn.{named_for, Worn}
-use Rattle.wear_laws.proofs.BookLaws.{worn-few}
+use Rattle.book_laws.specs.Frame.{JournalFrame}
+use Rattle.book_laws.specs.Up.{Up}
+use Rattle.book_laws.specs.Opening.{words_in}
+use Rattle.book_laws.proofs.LineLaws.{holds-all, up-kept}
+use Rattle.book_laws.specs.Worn.{named_for, Worn}
+use Rattle.book_laws.proofs.WornBooks.{worn-few}
 use Rattle.world_law.specs.World.{World, Told}
 use Rattle.world_law.specs.Happenings.{CanOpen, Opens}
 use Rattle.world_law.specs.Law.{Session, IsRecovered, HoldsBase, IsKept}
@@ -34,15 +34,15 @@ use Rattle.world_law.specs.Law.{Session, IsRecovered, HoldsBase, IsKept}
 abbrev pub KeptFor : Machine → Pair → Type 0
 KeptFor m pair = Kept pair.disk pair.words m
 
--- the session is closed where the book is, and knows the form of its journal; and the book's slaves are worn so
+-- the session is closed where the book is, and knows the form of its journal; and the book's wear is bounded
 pub record IsOf (session : Session) (book : Book) : Type 0 where
   pub closed : session.is_closed ≡ is_closed book
   pub form : session.is_version_2 ≡ is_version_2 book.form
   pub worn : Worn book
 
--- the station is up, or it is down and whatever a stop leaves is kept
+-- the station is up, or it is down and whatever a power cut leaves is recoverable
 pub data Stands (world : World) (session : Session) : Type 0 where
-  stands-up : (book : Book) (frame : Frame) → world.book ≡ Some book → Up frame book world.state world.took session.machine → IsOf session book → Stands world session
+  stands-up : (book : Book) (frame : JournalFrame) → world.book ≡ Some book → Up frame book world.state world.took session.machine → IsOf session book → Stands world session
   stands-down : world.book ≡ None → LeavesOnly (KeptFor session.machine) world.state → length world.took ≡ length world.state.halves → Stands world session
 
 pub stands-kept : (world : World) (session : Session) → Stands world session → LeavesOnly (KeptFor session.machine) world.state
@@ -71,7 +71,7 @@ stands-opens world session stands can idle =
 
 -- ---- a recovery is complete
 
-up-recovered : (frame : Frame) (world : World) (book : Book) (m : Machine) → Up frame book world.state world.took m → IsRecovered world book → HoldsBase world book m
+up-recovered : (frame : JournalFrame) (world : World) (book : Book) (m : Machine) → Up frame book world.state world.took m → IsRecovered world book → HoldsBase world book m
 up-recovered frame world book m up done =
     let words = words_in world.state.halves in
     let may = holds-all book.words world.state.halves book.slaves world.took words up.same up.slaves (as-read world.state.halves) in

@@ -1,4 +1,4 @@
--- Whatever happens, the world stands.
+-- Each event keeps the invariant of the world.
 use Rattle.std.proofs.Common.{◌≡◌, ◌≢◌, inl, inr, ℕ, ◌<◌, ◌≤◌, Bool, true, false, List, [], ◌∷◌, ◌++◌, length, take, refl, sym, ◌∙◌, ap, subst, arith, length-set, All, Option, Some, None, Result, Ok, Err}
 use Rattle.std.specs.Prelude.{slice_get, is_some, IsOk}
 use Rattle.std.proofs.lemmas.List.{length-map}
@@ -7,8 +7,8 @@ use Rattle.std.proofs.lemmas.Option.{slice_get_within}
 use Rattle.sii_edit.specs.declared.command.Command.{Command}
 use Rattle.sii_edit.specs.Command.{outcome}
 use Rattle.sii_edit.specs.Fold.{contents, contents_after}
-use Rattle.edit_laws.specs.Fitting.{PlantFits, CommandFits}
-use Rattle.edit_laws.proofs.PlantLaws.{fit-contents}
+use Rattle.sii_edit.specs.Fitting.{PlantFits, CommandFits}
+use Rattle.sii_edit.proofs.PlantLaws.{fit-contents}
 use Rattle.esc_model.specs.SlaveHalf.{SlaveHalf, MayRest}
 use Rattle.esc_model.proofs.Resting.{MayRest-leaves}
 use Rattle.site_core.specs.declared.fault.DeviceFault.{DeviceFault}
@@ -32,35 +32,35 @@ use Rattle.book_model.specs.Reading.{applied, planned}
 use Rattle.book_model.specs.Machine.{Machine, accepts, reopened}
 use Rattle.book_model.specs.Machine as machines
 use Rattle.book_laws.proofs.CommandLaws.{length-entries}
-use Rattle.disk_laws.specs.Frame.{Frame}
-use Rattle.disk_laws.specs.Events.{ended_on, FailsOn, in_progress, rested}
-use Rattle.up_laws.specs.Steps.{acknowledged_by}
-use Rattle.up_laws.specs.Up.{Up}
-use Rattle.up_laws.specs.Opening.{capacity_in, words_in, book_on}
-use Rattle.up_laws.proofs.CallLaws.{up-finished, up-migrates}
-use Rattle.up_laws.proofs.SubmitLaws.{up-submits}
-use Rattle.up_laws.proofs.DiskEventLaws.{up-begins, up-fails}
-use Rattle.up_laws.proofs.DiskEndLaws.{up-ends}
-use Rattle.up_laws.proofs.GoesLaws.{up-rests}
-use Rattle.up_laws.proofs.SlaveEventLaws.{up-asks, up-back}
-use Rattle.up_laws.proofs.OpeningLaws.{up-opens}
+use Rattle.book_laws.specs.Frame.{JournalFrame}
+use Rattle.book_laws.specs.Events.{ended_on, FailsOn, in_progress, rested}
+use Rattle.book_laws.specs.Steps.{acknowledged_by}
+use Rattle.book_laws.specs.Up.{Up}
+use Rattle.book_laws.specs.Opening.{capacity_in, words_in, book_on}
+use Rattle.book_laws.proofs.CallLaws.{up-finished, up-migrates}
+use Rattle.book_laws.proofs.SubmitLaws.{up-submits}
+use Rattle.book_laws.proofs.DiskEventLaws.{up-begins, up-fails}
+use Rattle.book_laws.proofs.DiskEndLaws.{up-ends}
+use Rattle.book_laws.proofs.GoesLaws.{up-rests}
+use Rattle.book_laws.proofs.SlaveEventLaws.{up-asks, up-back}
+use Rattle.book_laws.proofs.OpeningLaws.{up-opens}
 use Rattle.world_law.specs.World.{World, Event, Submit, Plan, Migrate, Finish, DiskBegin, DiskDone, RomIssue, RomDone, RomResolve, Stop, Open, Told, Nothing, Acknowledged, Planned, Closed, Migrated, Opened}
 use Rattle.world_law.specs.Happenings.{submitted, told_of, fault_told, DiskReturns, SlaveBegins, SlaveReturns, HappensUp, with_synced, Opens, Happens, Steps}
 use Rattle.world_law.specs.Law.{Session, contents_now, Judges, IsRefused, with_machine, Follows, EventFits, MachineFits}
-use Rattle.wear_laws.specs.Worn.{Worn}
-use Rattle.wear_laws.proofs.BookLaws.{worn-fault, worn-opened, worn-command, worn-migrate, worn-disk_next, worn-disk_done, worn-rom_next, worn-rom_done}
+use Rattle.book_laws.specs.Worn.{Worn}
+use Rattle.book_laws.proofs.WornBooks.{worn-fault, worn-opened, worn-command, worn-migrate, worn-disk_next, worn-disk_done, worn-rom_next, worn-rom_done}
 use Rattle.world_law.proofs.FlagLaws.{SameFlags, BackFlags, DoneFlags, fault-closes, flags-disk_next, flags-disk_done, flags-migrate, flags-rom_next, flags-rom_done}
 use Rattle.world_law.proofs.AnswerLaws.{Takes, AnswersAs, submit-answers}
 use Rattle.world_law.proofs.StandsLaws.{KeptFor, IsOf, Stands, stands-up, stands-down, stands-kept, stands-long, kept-read, applied-few}
 
--- the session that follows, and what stands then
+-- the session that follows, and the invariant then
 pub record Goes (s : Session) (told : Told) (later : World) : Type 0 where
   pub session : Session
   pub follows : Follows s told session
   pub stands : Stands later session
   pub fits : MachineFits session.machine
 
--- told and done so
+-- what is told, and the world then
 goes-as : (s : Session) (told said : Told) (later done : World) → told ≡ said → later ≡ done → Goes s said done → Goes s told later
 goes-as s told said later done t l goes = subst (λ (w : World). Goes s told w) (sym l) (subst (λ (a : Told). Goes s a done) (sym t) goes)
 
@@ -69,7 +69,7 @@ goes-same s world stands fits = record { session = s; follows = refl; stands = s
 
 -- ---- while the station is up
 
-module _ (frame : Frame) (book : Book) (state : State) (took : List Bool) (s : Session) (up : Up frame book state took s.machine) (of : IsOf s book) (fits : MachineFits s.machine) where
+module _ (frame : JournalFrame) (book : Book) (state : State) (took : List Bool) (s : Session) (up : Up frame book state took s.machine) (of : IsOf s book) (fits : MachineFits s.machine) where
   -- the world with another book
   abbrev now : Book → State → List Bool → World
   now later after taken = record { book = Some later; state = after; took = taken }

@@ -1,4 +1,4 @@
--- What each event does to the world. Where there is a choice, as of what a stop leaves, any choice may be taken.
+-- What each event does to the world. Where an event leaves a choice, such as what a power cut leaves, any choice is possible.
 use Rattle.std.specs.Prelude.{not, ◌&&◌, if◌then◌else◌, ◌≡◌, ◌≢◌, ◌⊎◌, ℕ, Bool, true, false, is_some, Some, None, Result, Ok, Err, Option, slice_get, slice_index_or}
 use Rattle.std.specs.List.{AllByRecursion}
 use Rattle.sii_edit.specs.declared.command.Command.{Command}
@@ -16,50 +16,58 @@ use Rattle.book_model.specs.Open.{finish, migrate}
 use Rattle.book_model.specs.DiskSteps.{disk_next, disk_done}
 use Rattle.book_model.specs.RomSteps.{rom_next, rom_done}
 use Rattle.book_model.specs.Reading.{planned}
-use Rattle.disk_laws.specs.Events.{begun_on, ended_on, FailsOn, in_progress}
-use Rattle.up_laws.specs.Steps.{MayBegin, took_after, MayComeBack}
-use Rattle.up_laws.specs.Opening.{IsFound, book_on}
+use Rattle.book_laws.specs.Events.{begun_on, ended_on, FailsOn, in_progress}
+use Rattle.book_laws.specs.Steps.{MayBegin, took_after, MayComeBack}
+use Rattle.book_laws.specs.Opening.{IsFound, book_on}
 use Rattle.world_law.specs.World.{World, Event, Submit, Plan, Migrate, Finish, DiskBegin, DiskDone, RomIssue, RomDone, RomResolve, Stop, Open, Told, Nothing, Accepted, Refused, Acknowledged, Planned, Closed, Migrated, Opened}
 
 -- ---- while the station is up
 
--- the same world with another book
+-- The world with another book.
 abbrev pub with_book : World → Book → World
 with_book world book = record world { book = Some book }
 
+-- The world with another book and another disk.
 abbrev pub with_disk : World → Book → Disk → World
 with_disk world book disk = record world { book = Some book; state = record world.state { disk = disk } }
 
--- the book after a submit that was answered so, and what is told
+-- The book after a submit with this result, and what its caller is told.
 abbrev pub submitted : Book → Command → Result ℕ SubmitRefusal → Book × Told
 submitted book command (Ok number) = (with_command book command, Accepted command number)
 submitted book command (Err refusal) = (book, Refused command refusal)
 
--- what is told as an action of the disk came back well: that the journal is of version 2 now, or how many commands are acknowledged
+-- What callers are told when an action of the disk succeeds: that the journal is of version 2 now, or how many commands are
+-- acknowledged.
 abbrev pub told_of : (before later : Book) → Told
 told_of before later = if is_version_2 later.form && not (is_version_2 before.form) then Migrated else Acknowledged later.durable
 
--- and as a book may have got a fault
+-- What callers are told when the book may have got a fault.
 abbrev pub fault_told : Book → Told
 fault_told later = if is_some later.fault then Closed else Nothing
 
--- An action of the disk comes back: well, or with a fault of the disk or of the whole site.
+-- The action of the disk that is handed out ends: with success, or with a fault of the disk or of the whole site.
 abbrev pub DiskReturns : Result (Unit {0}) DeviceFault → Book → World → Told → World → Type 0
 DiskReturns (Ok done) book world told later =
-    (told ≡ told_of book (disk_done book (Ok tt))) × (later ≡ with_disk world (disk_done book (Ok tt)) (ended_on (in_progress book) world.state.disk))
+    (told ≡ told_of book (disk_done book (Ok tt)))
+    × (later ≡ with_disk world (disk_done book (Ok tt)) (ended_on (in_progress book) world.state.disk))
 DiskReturns (Err fault) book world told later =
-    (disk : Disk) × (fault ≢ device.Lost) × FailsOn (in_progress book) world.state.disk disk × (told ≡ Closed) × (later ≡ with_disk world (disk_done book (Err fault)) disk)
+    (disk : Disk) × (fault ≢ device.Lost) × FailsOn (in_progress book) world.state.disk disk × (told ≡ Closed)
+    × (later ≡ with_disk world (disk_done book (Err fault)) disk)
 
--- Something begins with a slave.
+-- The book hands out its next action on a slave, and the slave takes an issued datagram or doesn't.
 pub record SlaveBegins (slave : ℕ) (book : Book) (world later : World) : Type 0 where
   pub half : SlaveHalf
   pub here : slice_get world.state.halves slave ≡ Some half
   pub taken : Bool
   pub after : SlaveHalf
   pub may : MayBegin (rom_next book slave).0 slave taken half after
-  pub is : later ≡ record { book = Some (rom_next book slave).1; state = with_half world.state slave after; took = took_after (rom_next book slave).0 world.took slave taken }
+  pub is : later ≡ record {
+    book = Some (rom_next book slave).1;
+    state = with_half world.state slave after;
+    took = took_after (rom_next book slave).0 world.took slave taken;
+  }
 
--- And comes back.
+-- The action on a slave ends with an outcome that the slave allows.
 pub record SlaveReturns (slave : ℕ) (outcome : RomOutcome) (book : Book) (world later : World) : Type 0 where
   pub half : SlaveHalf
   pub here : slice_get world.state.halves slave ≡ Some half
@@ -67,36 +75,41 @@ pub record SlaveReturns (slave : ℕ) (outcome : RomOutcome) (book : Book) (worl
   pub may : MayComeBack (slice_index_or world.took slave false) (slave_at book slave).errand outcome half after
   pub is : later ≡ record { book = Some (rom_done book slave outcome); state = with_half world.state slave after; took = world.took }
 
--- With this book. While an action of the disk, or of a slave, is handed out already, the book hands out nothing there.
+-- What an event does while the station is up with this book. The book hands out no second action for the disk or a slave that has one.
 abbrev pub HappensUp : Event → Book → World → Told → World → Type 0
-HappensUp (Submit command) book world told later = (told ≡ (submitted book command (submit book command)).1) × (later ≡ with_book world (submitted book command (submit book command)).0)
+HappensUp (Submit command) book world told later =
+    (told ≡ (submitted book command (submit book command)).1) × (later ≡ with_book world (submitted book command (submit book command)).0)
 HappensUp Plan book world told later = (told ≡ Planned (planned book)) × (later ≡ world)
 HappensUp Migrate book world told later = (told ≡ Nothing) × (later ≡ with_book world (migrate book).1)
 HappensUp Finish book world told later = (told ≡ Closed) × (later ≡ with_book world (finish book))
-HappensUp DiskBegin book world told later = (told ≡ Nothing) × (later ≡ with_disk world (disk_next book).1 (begun_on (Some (disk_next book).0) world.state.disk))
+HappensUp DiskBegin book world told later =
+    (told ≡ Nothing) × (later ≡ with_disk world (disk_next book).1 (begun_on (Some (disk_next book).0) world.state.disk))
 HappensUp (DiskDone result) book world told later = (book.is_handed_out ≡ true) × DiskReturns result book world told later
 HappensUp (RomIssue slave) book world told later = (told ≡ Nothing) × SlaveBegins slave book world later
-HappensUp (RomDone slave outcome) book world told later = (told ≡ fault_told (rom_done book slave outcome)) × SlaveReturns slave outcome book world later
+HappensUp (RomDone slave outcome) book world told later =
+    (told ≡ fault_told (rom_done book slave outcome)) × SlaveReturns slave outcome book world later
 HappensUp event book world told later = ⊥
 
 -- ---- a session begins
 
+-- An action on the slave is handed out.
 abbrev pub is_out : Errand → Bool
 is_out Free = false
 is_out (Issuing word value) = true
 is_out (Unsettled word value taken) = false
 is_out (Settling word value taken) = true
 
--- The station is down, or a fault has closed it and nothing is in progress any more.
+-- The station is down, or a fault has closed it and no action is handed out any more.
 abbrev pub CanOpen : Option Book → Type 0
 CanOpen None = Unit {0}
-CanOpen (Some book) = (is_some book.fault ≡ true) × (book.is_handed_out ≡ false) × AllByRecursion (λ (slave : Slave). is_out slave.errand ≡ false) book.slaves
+CanOpen (Some book) =
+    (is_some book.fault ≡ true) × (book.is_handed_out ≡ false) × AllByRecursion (λ (slave : Slave). is_out slave.errand ≡ false) book.slaves
 
--- the same state with all of the disk synced
+-- The state after a sync of the disk.
 abbrev pub with_synced : State → State
 with_synced state = record state { disk = synced state.disk }
 
--- A book is opened on the journal that is scanned and the words that are read, while no slave is busy.
+-- The disk is synced, and a book is opened on the journal and the words found, while no slave is busy.
 pub record Opens (world : World) (told : Told) (later : World) : Type 0 where
   pub can : CanOpen world.book
   pub journal : Journal
@@ -104,14 +117,17 @@ pub record Opens (world : World) (told : Told) (later : World) : Type 0 where
   pub says : told ≡ Opened (is_version_2 journal.form)
   pub is : later ≡ record { book = Some (book_on (with_synced world.state) journal); state = with_synced world.state; took = world.took }
 
--- ---- whatever happens
+-- ---- all events
 
+-- What an event does to the world, and what callers are told.
 abbrev pub Happens : Event → World → Told → World → Type 0
-Happens Stop world told later = (told ≡ Nothing) × Stopped world.state later.state × (later ≡ record { book = None; state = later.state; took = world.took })
-Happens (RomResolve slave) world told later = (told ≡ Nothing) × HalfGoes MayRest world.state slave later.state × (later ≡ record world { state = later.state })
+Happens Stop world told later =
+    (told ≡ Nothing) × Stopped world.state later.state × (later ≡ record { book = None; state = later.state; took = world.took })
+Happens (RomResolve slave) world told later =
+    (told ≡ Nothing) × HalfGoes MayRest world.state slave later.state × (later ≡ record world { state = later.state })
 Happens Open world told later = Opens world told later
 Happens event world told later = (book : Book) × (world.book ≡ Some book) × HappensUp event book world told later
 
--- An event may also change nothing, as where its condition doesn't hold.
+-- An event happens; or it changes nothing, as when its condition doesn't hold or memory is refused.
 abbrev pub Steps : Event → World → Told → World → Type 0
 Steps event world told later = Happens event world told later ⊎ ((told ≡ Nothing) × (later ≡ world))

@@ -1,14 +1,14 @@
--- What the station's callers may count on, whatever happens.
+-- The main law: what callers of the station can rely on, whatever happens.
 use Rattle.std.specs.Prelude.{◌≡◌, ℕ, ◌*◌, ◌^◌, ◌<◌, ◌≤◌, List, [], ◌∷◌, ◌++◌, length, All, Bool, true, false, Some, None, IsOk, Err}
 use Rattle.std.specs.List.{AllByRecursion}
 use Rattle.sii_edit.specs.declared.command.Command.{Command}
 use Rattle.sii_edit.specs.Command.{outcome}
 use Rattle.sii_edit.specs.Fold.{contents, contents_after}
-use Rattle.edit_laws.specs.Fitting.{PlantFits, CommandFits}
+use Rattle.sii_edit.specs.Fitting.{PlantFits, CommandFits}
 use Rattle.jrn_format.specs.Area.{IsClosed}
 use Rattle.jrn_format.specs.Header.{header_bytes, IsCapacity}
 use Rattle.jrn_format.specs.Journal.{AreHalves}
-use Rattle.jrn_laws.specs.Halves.{live}
+use Rattle.jrn_format.specs.Halves.{live}
 use Rattle.esc_model.specs.WordAccess.{IsIdle}
 use Rattle.site_core.specs.State.{Pair, Leaves}
 use Rattle.book_model.specs.declared.refusal.SubmitRefusal.{SubmitRefusal}
@@ -17,29 +17,29 @@ use Rattle.book_model.specs.Book.{Book, own, slave_at}
 use Rattle.book_model.specs.Reading.{planned}
 use Rattle.book_model.specs.Machine.{Machine, base_of, accepts, reopened, MayKeep}
 use Rattle.book_model.specs.Kept.{Kept}
-use Rattle.up_laws.specs.Opening.{words_in, IsSynced}
-use Rattle.wear_laws.specs.Worn.{named_for}
+use Rattle.book_laws.specs.Opening.{words_in, IsAllSynced}
+use Rattle.book_laws.specs.Worn.{named_for}
 use Rattle.world_law.specs.World.{World, Event, Submit, Told, Nothing, Accepted, Refused, Acknowledged, Planned, Closed, Migrated, Opened, Step}
 use Rattle.world_law.specs.Happenings.{Steps, CanOpen, Opens}
 
 -- ---- a session
 
--- The machine, whether a finish or a fault has closed it until it is opened again, and whether its journal is of version 2.
+-- A session: the machine, whether a finish or a fault has closed it until the next open, and whether its journal is of version 2.
 pub record Session : Type 0 where
   pub machine : Machine
   pub is_closed : Bool
   pub is_version_2 : Bool
 
--- the contents after all accepted commands
+-- The contents after all accepted commands.
 abbrev pub contents_now : Session → List (List ℕ)
 contents_now session = contents (base_of session.machine) session.machine.accepted
 
--- a command is judged by the contents
+-- The session is open and its journal is of version 2, so that a command is judged by the contents.
 pub record Judges (session : Session) : Type 0 where
   pub is_open : session.is_closed ≡ false
   pub is_new : session.is_version_2 ≡ true
 
--- Why a command is refused. The last two: it isn't refused on the contents, but it is too large for the journal, or there is no room.
+-- The refusal is justified. TooLarge and Full come only for a command that the contents would accept, but the journal can't.
 abbrev pub IsRefused : Session → Command → SubmitRefusal → Type 0
 IsRefused session command refusals.Closed = session.is_closed ≡ true
 IsRefused session command refusals.OldJournal = (session.is_closed ≡ false) × (session.is_version_2 ≡ false)
@@ -47,81 +47,93 @@ IsRefused session command (refusals.Command refusal) = Judges session × (outcom
 IsRefused session command refusals.TooLarge = Judges session × IsOk (outcome (contents_now session) command)
 IsRefused session command refusals.Full = Judges session × IsOk (outcome (contents_now session) command)
 
+-- The session with another machine.
 abbrev pub with_machine : Session → Machine → Session
 with_machine session machine = record session { machine = machine }
 
--- What the session does as this is told. A command is accepted with the next number where it isn't refused, and a refusal changes
--- nothing. The number of acknowledged commands never falls. A plan is of the contents after some of the commands. A session begins with
--- a prefix of the accepted commands of the one before, with each acknowledged one in it.
+-- The session after callers are told something. An accepted command gets the next number, and a refusal changes nothing. The number
+-- of acknowledged commands never falls. A plan is of the contents after a prefix of the commands. A new session begins with a prefix of
+-- the last session's commands, with every acknowledged one in it.
 abbrev pub Follows : Session → Told → Session → Type 0
 Follows session Nothing later = later ≡ session
 Follows session (Accepted command number) later =
-    Judges session × IsOk (outcome (contents_now session) command) × (number ≡ length session.machine.accepted) × (later ≡ with_machine session (accepts session.machine command))
+    Judges session × IsOk (outcome (contents_now session) command) × (number ≡ length session.machine.accepted)
+    × (later ≡ with_machine session (accepts session.machine command))
 Follows session (Refused command refusal) later = IsRefused session command refusal × (later ≡ session)
 Follows session (Acknowledged count) later =
-    (session.machine.acknowledged ≤ count) × (count ≤ length session.machine.accepted) × (later ≡ with_machine session (record session.machine { acknowledged = count }))
-Follows session (Planned plant) later = ((k : ℕ) × (k ≤ length session.machine.accepted) × (plant ≡ contents_after (base_of session.machine) session.machine.accepted k)) × (later ≡ session)
+    (session.machine.acknowledged ≤ count) × (count ≤ length session.machine.accepted)
+    × (later ≡ with_machine session (record session.machine { acknowledged = count }))
+Follows session (Planned plant) later =
+    ((k : ℕ) × (k ≤ length session.machine.accepted) × (plant ≡ contents_after (base_of session.machine) session.machine.accepted k))
+    × (later ≡ session)
 Follows session Closed later = later ≡ record session { is_closed = true }
 Follows session Migrated later = later ≡ record session { is_version_2 = true }
-Follows session (Opened new) later = (k : ℕ) × MayKeep session.machine k × (later ≡ record { machine = reopened session.machine k; is_closed = false; is_version_2 = new })
+Follows session (Opened new) later =
+    (k : ℕ) × MayKeep session.machine k × (later ≡ record { machine = reopened session.machine k; is_closed = false; is_version_2 = new })
 
--- ---- a moment
+-- ---- one moment
 
--- No command is accepted yet since the station was opened, nothing is live and no slave is busy: a recovery is complete.
+-- A recovery is complete: since the open no command was accepted, nothing is live any more and no slave is busy.
 pub record IsRecovered (world : World) (book : Book) : Type 0 where
   pub up : world.book ≡ Some book
   pub none : book.accepted ≡ []
   pub settled : live book.halves ≡ []
   pub idle : AllByRecursion IsIdle world.state.halves
 
--- The slaves hold the contents that the session began with, and the plan is of these.
+-- The slaves hold the contents that the session began with, and the plan is of these contents.
 pub record HoldsBase (world : World) (book : Book) (machine : Machine) : Type 0 where
   pub words : words_in world.state.halves ≡ base_of machine
   pub plan : planned book ≡ base_of machine
 
+-- What holds of the world at each moment.
 pub record IsKept (world : World) (machine : Machine) : Type 0 where
-  -- whatever a stop leaves of disk and slaves is kept
+  -- what a power cut may leave of disk and slaves is recoverable
   pub kept : (pair : Pair) → Leaves world.state pair → Kept pair.disk pair.words machine
+  -- if a recovery is complete, the slaves hold the contents that the session began with
   pub recovered : (book : Book) → IsRecovered world book → HoldsBase world book machine
-  -- where the station can be opened and no slave is busy, it is
+  -- if the station is down, or closed by a fault with nothing handed out, and no slave is busy, it can be opened
   pub opens : CanOpen world.book → AllByRecursion IsIdle world.state.halves → (told : Told) × (later : World) × Opens world told later
-  -- each slave was issued since the open at most three times as many words as what was found and what is accepted names for it
-  pub worn : (book : Book) → world.book ≡ Some book → (slave : ℕ) → slave < length book.slaves → (slave_at book slave).issues ≤ 3 * named_for (book.found ++ own book) slave
+  -- since the open each slave was issued at most three words for each word that the entries found then and the accepted commands
+  -- name for it
+  pub worn : (book : Book) → world.book ≡ Some book → (slave : ℕ) → slave < length book.slaves
+      → (slave_at book slave).issues ≤ 3 * named_for (book.found ++ own book) slave
 
 -- ---- all moments
 
--- these happen one after another
+-- These steps happen one after another.
 abbrev pub Runs : World → List Step → Type 0
 Runs world [] = Unit {0}
 Runs world (step ∷ steps) = Steps step.event world step.told step.world × Runs step.world steps
 
--- The session goes on as its callers are told, and at each moment the world is kept for its machine.
+-- The law of a run: the session follows what callers are told, and IsKept holds at each moment.
 abbrev pub StaysKept : World → Session → List Step → Type 0
 StaysKept world session [] = IsKept world session.machine
-StaysKept world session (step ∷ steps) = IsKept world session.machine × ((later : Session) × Follows session step.told later × StaysKept step.world later steps)
+StaysKept world session (step ∷ steps) =
+    IsKept world session.machine × ((later : Session) × Follows session step.told later × StaysKept step.world later steps)
 
 -- ---- the premises
 
--- The commands of the callers are made of words of 16 bits, as those of a running program are.
+-- The commands of callers consist of 16-bit words, as those of a running program do.
 abbrev pub EventFits : Event → Type 0
 EventFits (Submit command) = CommandFits command
 EventFits event = Unit {0}
 
+-- All words of a machine have 16 bits.
 pub record MachineFits (machine : Machine) : Type 0 where
   pub origin : PlantFits machine.origin
   pub kept : All CommandFits machine.kept
   pub accepted : All CommandFits machine.accepted
 
--- The station is down, its disk is synced, no slave is busy, and what is there is kept.
+-- The law starts here: the station is down, its disk is synced, no slave is busy, and disk and words are recoverable.
 pub record Starts (world : World) (machine : Machine) : Type 0 where
   pub down : world.book ≡ None
-  pub synced : IsSynced world.state.disk
+  pub synced : IsAllSynced world.state.disk
   pub idle : AllByRecursion IsIdle world.state.halves
   pub kept : Kept world.state.disk.bytes (words_in world.state.halves) machine
   pub took : length world.took ≡ length world.state.halves
   pub fits : MachineFits machine
 
--- Behind the header of version 2 of a line of so many slaves stands a whole area, whose halves both begin with a closed gate.
+-- A formatted journal: a header of version 2 for `slaves` slaves and a complete area, in which both halves begin with a closed gate.
 pub record IsFormatted (slaves : ℕ) (bytes : List ℕ) : Type 0 where
   pub area : List ℕ
   pub rest : List ℕ
@@ -134,6 +146,6 @@ pub record IsFormatted (slaves : ℕ) (bytes : List ℕ) : Type 0 where
   pub first_gate : IsClosed first
   pub second_gate : IsClosed second
 
--- the machine of a line with these contents, of which nothing was asked yet
+-- The machine of a line with these contents, before any command.
 abbrev pub blank : List (List ℕ) → Machine
 blank origin = record { origin = origin; kept = []; accepted = []; acknowledged = 0 }

@@ -1,4 +1,3 @@
 pub mod World
 pub mod Happenings
 pub mod Law
-pub mod Below

@@ -1,4 +1,4 @@
--- A station with its disk and its line, what can happen to them, and what the station's callers are told.
+-- The world of the main law: a station with its disk and its slaves, the events, and what callers are told.
 use Rattle.std.specs.Prelude.{ℕ, Bool, List, Option, Result}
 use Rattle.sii_edit.specs.declared.command.Command.{Command}
 use Rattle.site_core.specs.declared.fault.DeviceFault.{DeviceFault}
@@ -7,24 +7,25 @@ use Rattle.book_model.specs.declared.next.RomOutcome.{RomOutcome}
 use Rattle.book_model.specs.declared.refusal.SubmitRefusal.{SubmitRefusal}
 use Rattle.book_model.specs.Book.{Book}
 
--- The book is there while the station is up. What it has handed out for the disk and for each slave is what is in progress.
+-- The book exists while the station is up, and says which actions are in progress on the disk and on each slave.
 pub record World : Type 0 where
   pub book : Option Book
   -- the disk, and the half of each slave
   pub state : State
-  -- of which slaves a datagram that is handed out was taken
+  -- for each slave whether it took the datagram of the last issue
   pub took : List Bool
 
+-- What can happen. Events happen one at a time; an action has a begin and an end.
 pub data Event : Type 0 where
   -- a caller asks the station for something
   Submit : Command → Event
   Plan : Event
   Migrate : Event
   Finish : Event
-  -- an action of the disk begins, and comes back
+  -- an action of the disk begins, and ends
   DiskBegin : Event
   DiskDone : Result (Unit {0}) DeviceFault → Event
-  -- something begins with a slave, and comes back; and the slave comes to rest
+  -- an action on a slave begins, and ends; and a busy slave becomes idle
   RomIssue : (slave : ℕ) → Event
   RomDone : (slave : ℕ) → RomOutcome → Event
   RomResolve : (slave : ℕ) → Event
@@ -32,23 +33,24 @@ pub data Event : Type 0 where
   Stop : Event
   Open : Event
 
+-- What callers are told.
 pub data Told : Type 0 where
   Nothing : Told
-  -- a command is accepted, and has this number; or it is refused
+  -- a command is accepted with this number, or refused
   Accepted : Command → (number : ℕ) → Told
   Refused : Command → SubmitRefusal → Told
-  -- so many commands are acknowledged
+  -- this number of commands is acknowledged
   Acknowledged : (count : ℕ) → Told
-  -- the process image of these contents is the plan
+  -- the plan is the process image of these contents
   Planned : List (List ℕ) → Told
   -- a finish or a fault has closed the station
   Closed : Told
   -- the journal is of version 2 now
   Migrated : Told
-  -- a session has begun, on a journal of version 2 or on an older one
+  -- a session has begun, on a journal of version 2 or on an old one
   Opened : (is_version_2 : Bool) → Told
 
--- something that happens, what is told, and the world then
+-- One step of a run: the event, what callers are told, and the world after it.
 pub record Step : Type 0 where
   pub event : Event
   pub told : Told

@@ -1,5 +1,6 @@
-//! What holds of a station whatever happens, as its callers, its disk and its slaves go on at once and the power is cut anywhere.
-//! A function here does nothing: its contract is the law.
+//! The main law: what a station keeps as its callers, its disk and its slaves act concurrently, with power cuts anywhere.
+//!
+//! Each function's contract is a law, and its body does nothing.
 #![tactic(auto)]
 
 mod laws;

@@ -1,4 +1,4 @@
--- What callers ask for, and actions of the disk, happen to a world.
+-- Calls of callers and actions of the disk, as events of a world.
 use Rattle.std.proofs.Common.{◌≡◌, ◌≢◌, ◌∙◌, ℕ, Bool, true, false, List, [], Option, Some, None, Result, Ok, Err, refl, sym, ap, subst, arith}
 use Rattle.std.specs.Prelude.{if◌then◌else◌}
 use Rattle.sii_edit.specs.declared.command.Command.{Command}
@@ -6,7 +6,7 @@ use Rattle.site_core.specs.declared.fault.DeviceFault.{DeviceFault}
 use Rattle.site_core.specs.declared.fault.DeviceFault.TheVariants as device
 use Rattle.site_core.specs.Disk.{Disk, DiskStopped}
 use Rattle.site_core.proofs.StopImages.{equal_by_elements}
-use Rattle.disk_laws.specs.Events.{begun_on, ended_on, FailsOn, in_progress}
+use Rattle.book_laws.specs.Events.{begun_on, ended_on, FailsOn, in_progress}
 use Rattle.book_model.specs.declared.next.DiskNext.{DiskNext}
 use Rattle.book_model.specs.declared.next.DiskNext.TheVariants as next
 use Rattle.book_model.specs.declared.refusal.SubmitRefusal.{SubmitRefusal}
@@ -89,7 +89,7 @@ waits world new book up out same =
       ),
     ) tt
 
--- ---- and comes back
+-- ---- an action of the disk ends
 
 is-out : (book : Book) (out : Bool) (action : DiskNext) → book.is_handed_out ≡ out → (if out then action_of book book.doing else None) ≡ Some action → (out ≡ true) × (action_of book book.doing ≡ Some action)
 is-out book true action is there = (refl, there)

@@ -2,14 +2,14 @@
 use Rattle.std.proofs.Common.{◌≡◌, ◌∙◌, ℕ, ◌≤◌, Bool, None, List, [], ◌++◌, length, replicate, refl, sym, ap, subst, arith, append-nil}
 use Rattle.std.specs.List.{AllByRecursion}
 use Rattle.std.proofs.lemmas.List.{length-replicate}
-use Rattle.edit_laws.specs.Fitting.{PlantFits}
+use Rattle.sii_edit.specs.Fitting.{PlantFits}
 use Rattle.jrn_format.specs.Header.{header_bytes, IsCapacity}
 use Rattle.esc_model.specs.SlaveHalf.{SlaveHalf}
 use Rattle.esc_model.specs.WordAccess.{IsIdle}
 use Rattle.site_core.specs.Disk.{Disk}
 use Rattle.site_core.specs.State.{State}
 use Rattle.site_journal.proofs.EmptyLaws.{zeros_halved}
-use Rattle.up_laws.specs.Opening.{words_in}
+use Rattle.book_laws.specs.Opening.{words_in}
 use Rattle.world_law.specs.Law.{IsFormatted, Starts, blank}
 use Rattle.world_law.proofs.FormatLaws.{formatted-starts}
 use Rattle.world_run.specs.Torn.{synced_of}

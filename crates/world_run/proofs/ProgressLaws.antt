@@ -1,17 +1,17 @@
--- What is in progress, call by call.
+-- Which actions are in progress after each call.
 use Rattle.std.proofs.Common.{◌≡◌, ◌≢◌, ◌∙◌, ℕ, suc, ◌<◌, ◌≤◌, Bool, true, false, List, [], ◌∷◌, length, map, get_or, set, replicate, Option, Some, None, Result, Ok, Err, refl, sym, ap, subst, arith}
 use Rattle.std.specs.Prelude.{◌↔◌, IsTrue, is_some, nat_lt, if◌then◌else◌}
 use Rattle.std.specs.List.{AllByRecursion}
 use Rattle.std.proofs.lemmas.List.{map-set, set-get_or}
 use Rattle.std.proofs.Math.ListN.{get_or-map}
 use Rattle.std.proofs.lemmas.Bool.Decides.{nat_tests}
-use Rattle.sii_runs.specs.declared.run.Run.{Run}
+use Rattle.sii_words.specs.declared.run.Run.{Run}
 use Rattle.jrn_format.specs.declared.journal.Journal.{Journal}
-use Rattle.jrn_laws.specs.Halves.{InOlder, InNewer}
+use Rattle.jrn_format.specs.Halves.{InOlder, InNewer}
 use Rattle.site_core.specs.declared.answers.Settled.TheVariants.{Written, Again, Dead}
 use Rattle.site_core.specs.declared.fault.DeviceFault.{DeviceFault}
 use Rattle.site_core.specs.declared.fault.DeviceFault.TheVariants as device
-use Rattle.slave_queue.specs.Cells.{cell_of}
+use Rattle.book_model.specs.Cells.{cell_of}
 use Rattle.book_model.specs.declared.next.DiskNext.{DiskNext}
 use Rattle.book_model.specs.declared.next.DiskNext.TheVariants as given
 use Rattle.book_model.specs.declared.next.RomNext.TheVariants as next
@@ -24,14 +24,14 @@ use Rattle.book_model.specs.Entries.{runs_of, live_runs}
 use Rattle.book_model.specs.Open.{owing_slaves, opened_slave, open_book}
 use Rattle.book_model.specs.DiskSteps.{action_of, doing_next, disk_next, disk_done, went_on}
 use Rattle.book_model.specs.RomSteps.{is_last, was_taken, with_errand, with_issue, with_written, with_again, rom_next, rom_done}
-use Rattle.up_laws.proofs.SlaveEventLaws.{Asks, nothing, issue, settle, asks}
+use Rattle.book_laws.proofs.SlaveEventLaws.{Asks, nothing, issue, settle, asks}
 use Rattle.world_run.specs.declared.station.Asked.{Asked}
 use Rattle.world_run.specs.declared.station.Asked.TheVariants.{Nothing, Issue, Settle}
 use Rattle.world_run.specs.Progress.{handed_out, as_action, asked_of, asked_next, asked_then, all_asked, KnowsProgress, IsClosedAndIdle}
 
 -- ---- an action of the disk
 
--- an action is told by the halves and the capacity
+-- an action depends on the halves and the capacity alone
 action-by : (a b : Book) (doing : Doing) → a.halves ≡ b.halves → a.capacity ≡ b.capacity → action_of a doing ≡ action_of b doing
 action-by a b Resting halves capacity = refl
 action-by a b (Payload InOlder entries) halves capacity = rw (halves, capacity) refl
@@ -120,7 +120,7 @@ begins book out = begins-fault book (is_some book.fault) refl out
 pub knows-rested : (asked : List Asked) (book : Book) → book.is_handed_out ≡ false → asked ≡ all_asked book.slaves → KnowsProgress None asked book
 knows-rested asked book out slaves = record { disk = sym (ap (λ (o : Bool). if o then action_of book book.doing else None) out); out = sym out; slaves = slaves }
 
--- ---- what comes back of the disk
+-- ---- outcomes of the disk
 
 owing-asked : (runs : List Run) (k : ℕ) (slaves : List Slave) → all_asked (owing_slaves runs k slaves) ≡ all_asked slaves
 owing-asked runs k [] = refl
@@ -228,7 +228,7 @@ knows-one action asked book later i now knows one = record {
   slaves = ap (λ (l : List Asked). set l i now) knows.slaves ∙ sym one.slaves;
 }
 
--- what the station reads of its own list
+-- what the station's list says of a slave
 pub reads-asked : (action : Option DiskNext) (asked : List Asked) (book : Book) (i : ℕ) → KnowsProgress action asked book → get_or asked i Nothing ≡ asked_of (slave_at book i).errand
 reads-asked action asked book i knows = ap (λ (l : List Asked). get_or l i Nothing) knows.slaves ∙ get-asked book.slaves i
 

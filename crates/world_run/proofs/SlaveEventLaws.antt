@@ -1,4 +1,4 @@
--- What begins with a slave and comes back of it happens to a world.
+-- Actions for a slave that begin and end, as events of a world.
 use Rattle.std.proofs.Common.{◌≡◌, ◌∙◌, inl, inr, ℕ, zero, suc, ◌<◌, ◌≤◌, Bool, true, false, List, [], ◌∷◌, length, Option, Some, None, slice_get, slice_index_or, refl, sym, ap, subst, arith}
 use Rattle.std.proofs.lemmas.Option.{slice_get_within}
 use Rattle.esc_model.specs.SlaveHalf.{SlaveHalf, Activity, Idle, Reading, Writing, in_flight, MayRest, MayEnd, MayStop, IsTorn, settled, with_errors}
@@ -14,8 +14,8 @@ use Rattle.book_model.specs.declared.next.RomOutcome.{RomOutcome}
 use Rattle.book_model.specs.declared.next.RomOutcome.TheVariants as outcomes
 use Rattle.book_model.specs.Book.{Book, Errand, Free, Issuing, Unsettled, Settling, slave_at}
 use Rattle.book_model.specs.RomSteps.{rom_next, rom_done}
-use Rattle.up_laws.specs.Steps.{TakesOrNot, MayBegin, took_after, MayComeBack}
-use Rattle.up_laws.proofs.OutcomeLaws.{set-same}
+use Rattle.book_laws.specs.Steps.{TakesOrNot, MayBegin, took_after, MayComeBack}
+use Rattle.book_laws.proofs.OutcomeLaws.{set-same}
 use Rattle.world_law.specs.World as law
 use Rattle.world_law.specs.World.{World, Told}
 use Rattle.world_law.specs.Happenings.{fault_told, with_book}
@@ -129,7 +129,7 @@ issues-nothing world book later slave takes answer up inside is quiet goes =
         let one : book ≡ other = some-one book other world.book up up_other in
         absurd (subst IsQuiet (is ∙ ap (λ (b : Book). (rom_next b slave).0) one ∙ answers) quiet)
 
--- ---- and comes back
+-- ---- an action for a slave ends
 
 same-one : (halves : List SlaveHalf) (slave : ℕ) (a b : SlaveHalf) → slice_get halves slave ≡ Some a → slice_get halves slave ≡ Some b → a ≡ b
 same-one halves slave a b here there = let both : Some a ≡ Some b = sym here ∙ there in cc

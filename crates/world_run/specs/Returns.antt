@@ -1,4 +1,4 @@
--- What may come back, as a world in memory tests it.
+-- Which outcomes are possible, as a world in memory tests it.
 use Rattle.std.specs.Prelude.{◌≡◌, ℕ, true, false, List, Option, Some, None, slice_index_or}
 use Rattle.jrn_format.specs.declared.journal.Journal.{Journal}
 use Rattle.jrn_format.specs.Journal.{IsJournal}
@@ -10,7 +10,7 @@ use Rattle.world_run.specs.declared.station.Asked.{Asked}
 use Rattle.world_run.specs.declared.station.Asked.TheVariants.{Nothing, Issue, Settle}
 use Rattle.world_run.specs.Sides.{Sides, IsIdleAt, IsWellAt}
 
--- of a slave
+-- An action that is in progress with a slave may end with this outcome.
 abbrev pub MayReturn : Asked → RomOutcome → (slave : ℕ) → Sides → Type 0
 MayReturn Issue (Issued Taken) slave sides = slice_index_or sides.took slave false ≡ true
 MayReturn Issue (Issued NotTaken) slave sides = slice_index_or sides.took slave false ≡ false
@@ -24,7 +24,7 @@ MayReturn (Settle taken) (Settled Dead) slave sides = Unit {0}
 MayReturn (Settle taken) Stopped slave sides = Unit {0}
 MayReturn Nothing outcome slave sides = ⊥
 
--- the journal that a file is, or None where it is none
+-- The journal that the bytes spell, or None if they spell none.
 abbrev pub ScansTo : (bytes sizes : List ℕ) → Option Journal → Type 0
 ScansTo bytes sizes (Some journal) = IsJournal bytes sizes journal
 ScansTo bytes sizes None = (journal : Journal) → IsJournal bytes sizes journal → ⊥

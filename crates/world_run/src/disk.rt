@@ -1,25 +1,25 @@
 ghost use Rattle.std.specs.Prelude.{◌≡◌, ◌<◌, ◌++◌, replicate, vec_len, vec_capacity, Some, OnOk, OnErr, IfOk};
 ghost use Rattle.jrn_format.specs.Header.{header_bytes};
 ghost use Rattle.site_core.specs.Disk.{synced, overlaid};
-ghost use Rattle.disk_laws.specs.Events.{begun_on, ended_on};
+ghost use Rattle.book_laws.specs.Events.{begun_on, ended_on};
 ghost use Rattle.world_run.specs.Torn.{disk_of, synced_of, range_of, FailsAs, StopsAs};
 
 use crate::leaving::{LeftByte, Stretch, leave};
 use book_model::DiskNext;
-use disk_mem::lay_over;
 use jrn_format::{CLOSED, OPEN, header};
+use site_shadow::lay_over;
 use std::alloc::{AllocError, Global};
 
-/// The bytes of a disk, of which those that were written since the last sync may be lost.
+/// A disk in memory. A power cut may change the bytes that were written since the last sync.
 #[derive(Drop)]
 pub(crate) struct WorldDisk {
     bytes: Vec<u8>,
-    /// What was written since the last sync, the latest range first.
+    /// The ranges written since the last sync, the latest first.
     unsynced: Vec<Stretch>,
     synced_length: usize,
 }
 
-/// The bytes that an action writes, where it writes any.
+/// The range that an action writes; `None` if it writes nothing.
 fn range_of(action: &DiskNext) -> Option<Stretch>
     ensures { result ≡ range_of action.now }
 {
@@ -63,14 +63,14 @@ impl WorldDisk {
         Ok(WorldDisk::of(alloc, bytes))
     }
 
-    /// What a read gives.
+    /// The bytes of the disk, as a read gives them.
     pub(crate) fn bytes(&self) -> &[u8]
         ensures { result.now ≡ self.now.bytes.items }
     {
         &self.bytes
     }
 
-    /// Room for one range more.
+    /// Reserves memory for one more range.
     pub(crate) fn reserve(&mut self) -> Result<(), AllocError>
         ensures same { disk_of self.new ≡ disk_of self.old }
         ensures room { OnOk result (vec_len self.new.unsynced < vec_capacity self.new.unsynced) }
@@ -78,7 +78,7 @@ impl WorldDisk {
         self.unsynced.reserve(1)
     }
 
-    /// An action begins.
+    /// An action begins: its range counts as unsynced from now on.
     pub(crate) fn begin(&mut self, action: &DiskNext)
         requires { vec_len self.old.unsynced < vec_capacity self.old.unsynced }
         ensures { disk_of self.new ≡ begun_on (Some action.now) (disk_of self.old) }
@@ -88,11 +88,11 @@ impl WorldDisk {
         }
     }
 
-    /// An action comes back well.
+    /// An action succeeds.
     ///
     /// # Errors
     ///
-    /// Want of memory for a disk that grows; it stays as it is.
+    /// Memory was refused for a disk that grows. It stays as it is.
     pub(crate) fn end(&mut self, action: &DiskNext) -> Result<(), AllocError>
         ensures ok { OnOk result (disk_of self.new ≡ ended_on (Some action.now) (disk_of self.old)) }
         ensures err { OnErr result (disk_of self.new ≡ disk_of self.old) }
@@ -109,7 +109,7 @@ impl WorldDisk {
         }
     }
 
-    /// An action fails: what it writes holds what is chosen, and is unsynced still.
+    /// An action fails: its range holds what is chosen, and stays unsynced.
     pub(crate) fn fail(&mut self, action: &DiskNext, choice: &[LeftByte])
         ensures { FailsAs action.now choice.now (disk_of self.old) (disk_of self.new) }
     {
@@ -118,7 +118,7 @@ impl WorldDisk {
         }
     }
 
-    /// All bytes are synced.
+    /// Syncs all bytes.
     pub(crate) fn sync(&mut self)
         ensures { disk_of self.new ≡ synced (disk_of self.old) }
     {
@@ -126,7 +126,7 @@ impl WorldDisk {
         self.unsynced.clear();
     }
 
-    /// A stop: the unsynced bytes hold what is chosen, and all are synced.
+    /// A power cut: the unsynced bytes hold what is chosen. Afterwards all bytes count as synced.
     pub(crate) fn stop(&mut self, choice: &[LeftByte])
         ensures { StopsAs choice.now (disk_of self.old) (disk_of self.new) }
     {

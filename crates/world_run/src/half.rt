@@ -1,4 +1,4 @@
-//! The half of one slave, as a world has it: between its datagrams it is idle, or a word is in flight.
+//! The EEPROM half of one slave in a world: between datagrams it is idle, or a word is in flight.
 ghost use Rattle.std.specs.Prelude.{◌≡◌, ◌++◌, ◌<◌, ◌↔◌, IsTrue};
 ghost use Rattle.std.specs.Int.{w16, w32, to_le_bytes};
 ghost use Rattle.esc_model.specs.SlaveHalf.{in_flight, MayRest, MayStop};
@@ -10,19 +10,19 @@ use ecat_frame::{Command, fp};
 use esc_model::{Rest, RomHalf, station_address};
 use esc_rom::{CONTROL, write_content};
 
-/// From here on the high byte of control and status shows an error, or that the slave is busy.
+/// From this value on, the high byte of the control and status register shows an error (bit 13 or 14) or a busy slave (bit 15).
 const NOT_WELL: u8 = 0x20;
 
 /// How a word in flight ends.
 #[derive(Clone, Copy)]
 pub enum WordEnd {
-    /// It holds its value.
+    /// The word holds its value.
     Well,
-    /// Bit 13 is set, and the word holds this.
+    /// Bit 13 of the control and status register is set, and the word holds `left`.
     Failed { left: u16 },
 }
 
-/// An idle half takes the datagram that names this word and value.
+/// An idle half takes the datagram that writes this value to this word.
 fn hand_word(half: &mut RomHalf, slave: u16, word: u16, value: u16)
     requires near { slave < 64 }
     requires here { IsAt slave half.old }
@@ -34,7 +34,7 @@ fn hand_word(half: &mut RomHalf, slave: u16, word: u16, value: u16)
     let _counted = half.take(Command::Fpwr, address, &mut content);
 }
 
-/// A half is issued a word, which it takes where it is to and is idle. Answers whether it took it.
+/// Issues a word to a half, which takes it if `takes` says so and the half is idle. Returns whether it took it.
 pub(crate) fn issue(half: &mut RomHalf, slave: u16, takes: bool, word: u16, value: u16) -> bool
     requires near { slave < 64 }
     requires stands { StandsAt slave half.old }
@@ -82,7 +82,7 @@ pub(crate) fn is_well(half: &mut RomHalf, slave: u16) -> bool
     shows_well(half, slave)
 }
 
-/// The word in flight ends so, if there is one.
+/// Ends the word in flight, if there is one.
 pub(crate) fn end_word(half: &mut RomHalf, end: WordEnd)
     ensures exact { half.new ≡ ended_half end (in_flight half.old.activity) half.old }
     ensures rests { MayRest half.old half.new }
@@ -93,7 +93,7 @@ pub(crate) fn end_word(half: &mut RomHalf, end: WordEnd)
     }
 }
 
-/// The word in flight is torn, if there is one and something is to be left in it.
+/// A power cut leaves `left` in the word in flight. Without either, nothing changes.
 pub(crate) fn tear_word(half: &mut RomHalf, left: Option<u16>)
     ensures exact { half.new ≡ torn_half left (in_flight half.old.activity) half.old }
     ensures stops { MayStop half.old half.new }

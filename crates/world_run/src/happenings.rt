@@ -4,45 +4,51 @@ use book_model::RomOutcome;
 use sii_edit::Command;
 use site_core::DeviceFault;
 
-/// How an action of the disk comes back.
+/// How an action of the disk ends.
 #[derive(Drop)]
 pub enum DiskEnd {
-    /// Well.
+    /// It succeeds.
     Done,
-    /// With a fault of the disk or of the whole site. What it writes holds these bytes where they name it, and is unsynced still. A
-    /// disk loses nothing on its way, so with `Lost` nothing happens.
+    /// It fails, and the range that it writes stays unsynced.
     Failed {
+        /// The fault of the disk or of the whole site. With `Lost`, which no disk answers, nothing happens.
         fault: DeviceFault,
+        /// What the bytes of the range hold then. The last one that names a byte counts; other bytes keep what they held.
         bytes: Vec<LeftByte>,
     },
 }
 
-/// What a stop leaves where anything may be.
+/// What a power cut leaves in unsynced bytes and in words in flight.
 #[derive(Drop)]
 pub struct Left {
-    /// Of bytes that aren't synced. Where one is named more than once the last counts, and others are passed over.
+    /// The unsynced bytes. The last one that names a byte counts; synced bytes are ignored, and bytes that aren't named stay.
     pub bytes: Vec<LeftByte>,
-    /// Of words in flight. Where a slave is named more than once the first counts, and others are passed over. A word that isn't named
-    /// stays in flight.
+    /// The words in flight. The first one that names a slave counts; slaves without a word in flight are ignored, and a word that isn't
+    /// named stays in flight.
     pub words: Vec<LeftWord>,
 }
 
-/// What may happen to a world.
+/// An event of a world, with every choice that the definitions leave open.
 #[derive(Drop)]
 pub enum Event {
-    /// A caller asks the station for something.
+    /// A caller submits a command.
     Submit(Command),
+    /// A caller asks for a plan.
     Plan,
+    /// A caller asks for a migration.
     Migrate,
+    /// A caller finishes the book.
     Finish,
-    /// An action of the disk begins, and comes back.
+    /// The book's next action for the disk begins.
     DiskBegin,
+    /// The action of the disk ends.
     DiskDone(DiskEnd),
-    /// Something begins with a slave. Where it is an issue, `takes` says whether the slave takes the datagram, if it is idle.
+    /// The book's next action for the slave, numbered from 0, begins. With an issue, `takes` says whether an idle slave takes the
+    /// datagram.
     RomIssue { slave: u16, takes: bool },
-    /// And comes back.
+    /// The action for the slave ends with this outcome.
     RomDone { slave: u16, outcome: RomOutcome },
-    /// The slave comes to rest, if it is busy.
+    /// The slave comes to rest, if it is busy: its word in flight ends.
     RomResolve { slave: u16, end: WordEnd },
     /// The power is cut.
     Stop(Left),

@@ -5,7 +5,8 @@ ghost use Rattle.world_law.specs.Happenings.{Steps};
 ghost use Rattle.world_run.specs.declared.happenings.Event.{Event};
 ghost use Rattle.world_run.specs.Step.{Went, as_event};
 
-/// Whatever came of a step, it is one of those that the law speaks of.
+/// Every step of a world in memory is a step of the main law.
 pub fn a_step_is_one_of_the_law()
-    ensures { (event : Event) (old new : World) (result : Result (Unit {0}) CoreFault) → Went event old result new → (told : Told) × Steps (as_event event) old told new }
+    ensures { (event : Event) (old new : World) (result : Result (Unit {0}) CoreFault) → Went event old result new
+        → (told : Told) × Steps (as_event event) old told new }
 {}

@@ -5,17 +5,21 @@ ghost use Rattle.world_run.specs.Left.{HoldsLeft};
 
 use std::marker::Model;
 
-/// What one byte of the disk is to hold where it may hold anything.
+/// The value chosen for a byte of the disk that may hold anything.
 #[derive(Clone, Copy)]
 pub struct LeftByte {
+    /// The byte's place on the disk, from 0.
     pub at: usize,
+    /// Its value.
     pub byte: u8,
 }
 
-/// What the word in flight of a slave is to hold where it may hold anything.
+/// The value chosen for a word in flight.
 #[derive(Clone, Copy)]
 pub struct LeftWord {
+    /// The slave of the word, numbered from 0.
     pub slave: u16,
+    /// The value that the word is left with.
     pub word: u16,
 }
 
@@ -42,7 +46,7 @@ impl Stretch {
     }
 }
 
-/// Whether the place lies in one of the ranges.
+/// Whether the byte lies in one of the ranges.
 fn is_open(ranges: &[Stretch], at: usize) -> bool
     ensures { (result ≡ false) ↔ AllByRecursion (IsOutside at) ranges.now }
 {
@@ -54,7 +58,7 @@ fn is_open(ranges: &[Stretch], at: usize) -> bool
     false
 }
 
-/// The bytes that lie in the ranges hold what is left of them.
+/// Gives each byte in the ranges the value that is chosen for it. Other choices are ignored.
 pub(crate) fn leave(bytes: &mut [u8], ranges: &[Stretch], choice: &[LeftByte])
     ensures { HoldsLeft ranges.now choice.now bytes.old bytes.new }
 {

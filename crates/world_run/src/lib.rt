@@ -1,5 +1,4 @@
-//! The world as a running value: a station, its disk and its line, and what happens to them, one event at a time. The law of
-//! `world_law` speaks of these.
+//! The world of the main law as a program: a station, its disk and its line in memory, and what happens to them, one event at a time.
 #![tactic(auto)]
 
 mod disk;

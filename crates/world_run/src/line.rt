@@ -2,7 +2,7 @@ ghost use Rattle.std.specs.Prelude.{◌≡◌, ◌<◌, ◌≤◌, ◌↔◌, fa
 ghost use Rattle.std.specs.List.{AllByRecursion};
 ghost use Rattle.esc_model.specs.WordAccess.{IsIdle};
 ghost use Rattle.book_model.specs.Entries.{sizes_of};
-ghost use Rattle.up_laws.specs.Opening.{words_in};
+ghost use Rattle.book_laws.specs.Opening.{words_in};
 ghost use Rattle.world_run.specs.Left.{TornBy, word_left};
 ghost use Rattle.world_run.specs.Sides.{HandsWord, ComesToRest, IsIdleAt, IsWellAt, IsPoweredUp};
 
@@ -13,14 +13,14 @@ use sii_words::Words;
 use std::alloc::{AllocError, Global};
 use std::marker::Model;
 
-/// The halves of a line's slaves, and of which of them a datagram that is handed out was taken.
+/// The EEPROM halves of a line's slaves, and for each whether it took the datagram of the last issue.
 #[derive(Drop)]
-pub(crate) struct Line {
+pub(crate) struct WorldLine {
     halves: Vec<RomHalf>,
     took: Vec<bool>,
 }
 
-impl Model for Line {
+impl Model for WorldLine {
     ghost use Rattle.world_run.specs.Sides.{Sides, SidesStand};
 
     ghost Value = { Sides };
@@ -30,7 +30,7 @@ impl Model for Line {
     ghost invariant = { λ l. SidesStand l.halves.items l.took.items };
 }
 
-/// What the first of the choices that name this slave leaves.
+/// The value of the first choice that names this slave.
 fn word_left(choice: &[LeftWord], slave: usize) -> Option<u16>
     ensures { result ≡ word_left choice.now slave }
 {
@@ -42,7 +42,7 @@ fn word_left(choice: &[LeftWord], slave: usize) -> Option<u16>
     None
 }
 
-/// The halves of slaves with these words, just switched on.
+/// The halves of slaves with these words, just powered up.
 fn switch_on(alloc: Global, words: Vec<Words>) -> Result<Vec<RomHalf>, AllocError>
     requires { vec_len words ≤ 64 }
     ensures { IfOk result (λ halves. IsPoweredUp words.items halves.items) }
@@ -55,7 +55,7 @@ fn switch_on(alloc: Global, words: Vec<Words>) -> Result<Vec<RomHalf>, AllocErro
     Ok(halves)
 }
 
-/// The word in flight of each slave for which something is chosen is torn.
+/// A power cut leaves the chosen values in the words in flight.
 fn tear_all(halves: &mut [RomHalf], choice: &[LeftWord])
     ensures { TornBy choice.now halves.old halves.new }
 {
@@ -64,9 +64,9 @@ fn tear_all(halves: &mut [RomHalf], choice: &[LeftWord])
     }
 }
 
-impl Line {
-    /// Slaves with these words, 1 to 64, just switched on.
-    pub(crate) fn of(alloc: Global, words: Vec<Words>) -> Result<Line, AllocError>
+impl WorldLine {
+    /// A line of 1 to 64 slaves with these words, just powered up.
+    pub(crate) fn of(alloc: Global, words: Vec<Words>) -> Result<WorldLine, AllocError>
         requires some { 1 ≤ vec_len words }
         requires most { vec_len words ≤ 64 }
         ensures words { IfOk result (λ line. words_in line.halves ≡ words.items) }
@@ -75,10 +75,10 @@ impl Line {
     {
         let took = vec![in alloc; false; words.len()]?;
         let halves = switch_on(alloc, words)?;
-        Ok(Line { halves, took })
+        Ok(WorldLine { halves, took })
     }
 
-    /// How many slaves there are.
+    /// The number of slaves, 1 to 64.
     pub(crate) fn len(&self) -> usize
         ensures len { result ≡ length self.now.halves }
         ensures some { 1 ≤ result }
@@ -87,7 +87,7 @@ impl Line {
         self.halves.len()
     }
 
-    /// Whether a datagram that is handed out for the slave was taken.
+    /// Whether the slave took the datagram of its last issue.
     pub(crate) fn took(&self, slave: u16) -> bool
         requires { slave < length self.now.halves }
         ensures { result ≡ slice_index_or self.now.took slave false }
@@ -124,7 +124,7 @@ impl Line {
         true
     }
 
-    /// A word is issued to the slave, which takes it where it is to and is idle.
+    /// Issues a word to the slave, which takes it if `takes` says so and the slave is idle.
     pub(crate) fn issue(&mut self, slave: u16, takes: bool, word: u16, value: u16)
         requires { slave < length self.old.halves }
         ensures { HandsWord slave takes word value self.old self.new }
@@ -141,7 +141,7 @@ impl Line {
         end_word(&mut self.halves[usize::from(slave)], end);
     }
 
-    /// A stop: words in flight for which something is chosen are torn.
+    /// A power cut leaves the chosen values in the words in flight.
     pub(crate) fn stop(&mut self, choice: &[LeftWord])
         ensures halves { TornBy choice.now self.old.halves self.new.halves }
         ensures took { self.new.took ≡ self.old.took }
@@ -160,7 +160,7 @@ impl Line {
         Ok(words)
     }
 
-    /// How many words each slave has.
+    /// The number of words of each slave.
     pub(crate) fn sizes(&self, alloc: Global) -> Result<Vec<u16>, AllocError>
         ensures { IfOk result (λ sizes. sizes.items ≡ sizes_of (words_in self.now.halves)) }
     {

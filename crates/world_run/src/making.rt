@@ -3,13 +3,13 @@ ghost use Rattle.std.specs.List.{AllByRecursion};
 ghost use Rattle.std.specs.Option.{option_copied};
 ghost use Rattle.esc_model.specs.WordAccess.{IsIdle};
 ghost use Rattle.jrn_format.specs.Header.{IsCapacity, header_bytes};
-ghost use Rattle.edit_laws.specs.Fitting.{IsWord, PlantFits, WordsFit};
-ghost use Rattle.up_laws.specs.Opening.{words_in};
+ghost use Rattle.sii_edit.specs.Fitting.{IsWord, PlantFits, WordsFit};
+ghost use Rattle.book_laws.specs.Opening.{words_in};
 ghost use Rattle.world_law.specs.Law.{Starts, blank};
 ghost use Rattle.world_run.specs.Torn.{synced_of};
 
 use crate::disk::WorldDisk;
-use crate::line::Line;
+use crate::line::WorldLine;
 use crate::station::Station;
 use book_core::Core;
 use book_model::CoreFault;
@@ -17,13 +17,13 @@ use sii_words::Words;
 use std::alloc::Global;
 use std::marker::Model;
 
-/// A station with its disk and its line. Contracts see the world of the law.
+/// The world of the main law in memory: a station that is up or down, its disk and its line.
 #[derive(Drop)]
 pub struct World {
     pub(crate) alloc: Global,
     pub(crate) station: Option<Station>,
     pub(crate) disk: WorldDisk,
-    pub(crate) line: Line,
+    pub(crate) line: WorldLine,
 }
 
 impl Model for World {
@@ -35,19 +35,19 @@ impl Model for World {
     ghost view = { λ w. record { book = w.station; state = record { disk = disk_of w.disk; halves = w.line.halves }; took = w.line.took } };
 }
 
-/// Words are of 16 bits.
+/// The words have 16 bits.
 fn each_fits(words: &[u16])
     ensures { All IsWord words.now }
 {}
 
-/// So are the words of a slave.
+/// The words of a slave have 16 bits, and their number too.
 fn words_fit(words: &Words)
     ensures { WordsFit words.now }
 {
     each_fits(words.as_slice());
 }
 
-/// And those of all slaves.
+/// This holds of each slave.
 fn plant_fits(slaves: &[Words])
     ensures { PlantFits slaves.now }
 {
@@ -57,12 +57,13 @@ fn plant_fits(slaves: &[Words])
 }
 
 impl World {
-    /// A line of 1 to 64 slaves with these words, all idle, a disk that was just formatted for it with an area of `capacity` bytes,
-    /// and a station that is down.
+    /// A world of 1 to 64 idle slaves with these words, a disk just formatted for them, and a station that is down.
+    ///
+    /// The journal's area has `capacity` bytes, which must be 4,096 to 4,194,304.
     ///
     /// # Errors
     ///
-    /// `Memory`.
+    /// `Memory`: memory was refused. The words are dropped.
     pub fn of(alloc: Global, slaves: Vec<Words>, capacity: u32) -> Result<World, CoreFault>
         requires some { 1 ≤ vec_len slaves }
         requires most { vec_len slaves ≤ 64 }
@@ -73,7 +74,7 @@ impl World {
     {
         plant_fits(&slaves);
         let disk = WorldDisk::formatted(alloc, slaves.len() as u16, capacity)?;
-        let line = Line::of(alloc, slaves)?;
+        let line = WorldLine::of(alloc, slaves)?;
         Ok(World {
             alloc,
             station: None,
@@ -82,11 +83,11 @@ impl World {
         })
     }
 
-    /// The same line with a disk of these bytes, all of them synced.
+    /// A world of 1 to 64 idle slaves with these words, a disk of these bytes, all of them synced, and a station that is down.
     ///
     /// # Errors
     ///
-    /// `Memory`.
+    /// `Memory`: memory was refused. The words and the bytes are dropped.
     pub fn with_disk(alloc: Global, slaves: Vec<Words>, bytes: Vec<u8>) -> Result<World, CoreFault>
         requires some { 1 ≤ vec_len slaves }
         requires most { vec_len slaves ≤ 64 }
@@ -96,7 +97,7 @@ impl World {
         ensures disk { IfOk result (λ world. world.state.disk ≡ synced_of bytes.items) }
     {
         let disk = WorldDisk::of(alloc, bytes);
-        let line = Line::of(alloc, slaves)?;
+        let line = WorldLine::of(alloc, slaves)?;
         Ok(World {
             alloc,
             station: None,
@@ -105,18 +106,18 @@ impl World {
         })
     }
 
-    /// What a read of the whole disk gives.
+    /// The bytes of the disk, as a read gives them.
     pub fn disk(&self) -> &[u8]
         ensures { result.now ≡ self.now.state.disk.bytes }
     {
         self.disk.bytes()
     }
 
-    /// Copies of the words of all slaves. A word in flight has its old value there.
+    /// Copies the words of all slaves. A word in flight has its old value there.
     ///
     /// # Errors
     ///
-    /// `Memory`.
+    /// `Memory`: memory was refused.
     pub fn words(&self) -> Result<Vec<Words>, CoreFault>
         ensures { IfOk result (λ words. words.items ≡ words_in self.now.state.halves) }
     {
@@ -124,7 +125,7 @@ impl World {
         Ok(words)
     }
 
-    /// The core, while the station is up.
+    /// The book, while the station is up.
     pub fn core(&self) -> Option<&Core>
         ensures { option_copied result ≡ self.now.book }
     {

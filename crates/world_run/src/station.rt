@@ -1,7 +1,7 @@
 ghost use Rattle.std.specs.Prelude.{◌≡◌, ◌≢◌, ◌≤◌, ◌↔◌, Err, false, is_some, vec_len, IfOk, OnOk, OnErr, IsTrue};
 ghost use Rattle.std.specs.List.{AllByRecursion};
 ghost use Rattle.std.specs.Option.{option_copied};
-ghost use Rattle.jrn_laws.specs.Live.{CanBeLive};
+ghost use Rattle.jrn_format.specs.Live.{CanBeLive};
 ghost use Rattle.book_model.specs.Entries.{sizes_of};
 ghost use Rattle.book_model.specs.Book.{slave_at};
 ghost use Rattle.book_model.specs.Open.{open_book, finish, migrate};
@@ -25,13 +25,13 @@ use std::marker::Model;
 #[derive(Clone, Copy)]
 pub(crate) enum Asked {
     Nothing,
-    /// A word was handed out to be issued.
+    /// An issue was handed out.
     Issue,
-    /// It was handed out to be settled; `taken` says whether the slave took its datagram.
+    /// A settle was handed out; `taken` says whether the slave took the datagram of the issue, as far as the book knows.
     Settle { taken: bool },
 }
 
-/// A station that is up: its core, and what the core has handed out that hasn't come back.
+/// A station that is up: its book, and the actions that the book has handed out and that haven't ended.
 #[derive(Drop)]
 pub(crate) struct Station {
     core: Core,
@@ -50,7 +50,7 @@ impl Model for Station {
     ghost invariant = { λ s. KnowsProgress s.action s.asked.items s.core };
 }
 
-/// What is in progress with the disk where this is handed out.
+/// The action that is in progress once this is handed out for the disk.
 fn as_action(next: DiskNext) -> Option<DiskNext>
     ensures { result ≡ as_action next }
 {
@@ -60,7 +60,7 @@ fn as_action(next: DiskNext) -> Option<DiskNext>
     }
 }
 
-/// What is in progress with a slave for which this is handed out.
+/// What is in progress with a slave once this is handed out for it.
 fn asked_next(next: RomNext, before: Asked) -> Asked
     ensures { result ≡ asked_next next before }
 {
@@ -71,7 +71,7 @@ fn asked_next(next: RomNext, before: Asked) -> Asked
     }
 }
 
-/// What is in progress behind this outcome.
+/// What is in progress with a slave after this outcome.
 fn asked_then(asked: Asked, outcome: RomOutcome) -> Asked
     ensures { result ≡ asked_then asked outcome }
 {
@@ -95,7 +95,7 @@ fn are_idle(asked: &[Asked]) -> bool
 }
 
 impl Station {
-    /// A station that was just opened.
+    /// Opens a station on a journal and the words of 1 to 64 slaves.
     pub(crate) fn open(
         alloc: Global,
         slaves: Vec<Words>,
@@ -159,7 +159,7 @@ impl Station {
         self.action.as_ref()
     }
 
-    /// The core hands out an action of the disk, where it has one.
+    /// The book hands out its next action for the disk, if it has one.
     pub(crate) fn begin_action(&mut self) -> Result<(), CoreFault>
         requires { self.old.is_handed_out ≡ false }
         ensures ok { OnOk result (self.new ≡ (disk_next self.old).1) }
@@ -170,7 +170,7 @@ impl Station {
         Ok(())
     }
 
-    /// The action comes back.
+    /// The action of the disk ends with this outcome.
     pub(crate) fn end_action(&mut self, outcome: Result<(), DeviceFault>)
         requires { outcome ≢ Err DeviceFault.Lost }
         ensures { self.new ≡ disk_done self.old outcome }
@@ -179,7 +179,7 @@ impl Station {
         self.action = None;
     }
 
-    /// The core hands out something for the slave, where it has it.
+    /// The book hands out its next action for the slave, if it has one.
     pub(crate) fn rom_next(&mut self, slave: u16) -> RomNext
         ensures answer { result ≡ (rom_next self.old slave).0 }
         ensures book { self.new ≡ (rom_next self.old slave).1 }
@@ -203,7 +203,7 @@ impl Station {
         self.asked[at]
     }
 
-    /// What was handed out for the slave comes back.
+    /// The action for the slave ends with this outcome.
     pub(crate) fn rom_done(&mut self, slave: u16, outcome: RomOutcome)
         ensures { self.new ≡ rom_done self.old slave outcome }
     {

@@ -4,7 +4,7 @@ ghost use Rattle.esc_model.specs.WordAccess.{IsIdle};
 ghost use Rattle.jrn_format.specs.Journal.{IsJournal};
 ghost use Rattle.book_model.specs.Memory.{OutOfMemory};
 ghost use Rattle.book_model.specs.Entries.{sizes_of};
-ghost use Rattle.up_laws.specs.Opening.{words_in, book_on};
+ghost use Rattle.book_laws.specs.Opening.{words_in, book_on};
 ghost use Rattle.world_law.specs.Happenings.{CanOpen};
 ghost use Rattle.world_run.specs.Step.{Happened, Went};
 ghost use Rattle.world_run.specs.Returns.{MayReturn, ScansTo};
@@ -12,7 +12,7 @@ ghost use Rattle.world_run.specs.Returns.{MayReturn, ScansTo};
 use crate::half::WordEnd;
 use crate::happenings::{DiskEnd, Event, Left};
 use crate::leaving::LeftByte;
-use crate::line::Line;
+use crate::line::WorldLine;
 use crate::making::World;
 use crate::station::{Asked, Station};
 use book_model::{CoreFault, RomNext, RomOutcome, SubmitRefusal};
@@ -23,7 +23,7 @@ use site_core::{DeviceFault, Issued, Settled};
 use std::alloc::Global;
 use std::mem::replace;
 
-/// Whether a command was refused for want of memory.
+/// Whether a command was refused because memory was refused.
 fn is_memory(refusal: SubmitRefusal) -> bool
     ensures { OutOfMemory refusal → IsTrue result }
 {
@@ -33,8 +33,8 @@ fn is_memory(refusal: SubmitRefusal) -> bool
     }
 }
 
-/// Whether this may come back of what is in progress with the slave.
-fn may_return(line: &mut Line, asked: Asked, slave: u16, outcome: RomOutcome) -> bool
+/// Whether what is in progress with the slave may end with this outcome.
+fn may_return(line: &mut WorldLine, asked: Asked, slave: u16, outcome: RomOutcome) -> bool
     requires { slave < length line.old.halves }
     ensures may { IsTrue result ↔ MayReturn asked outcome slave line.old }
     ensures same { line.new ≡ line.old }
@@ -56,12 +56,12 @@ fn may_return(line: &mut Line, asked: Asked, slave: u16, outcome: RomOutcome) ->
     }
 }
 
-/// Bytes are such.
+/// Each byte is below 256.
 fn are_bytes(bytes: &[u8])
     ensures { All (λ (byte : ℕ). byte < 256) bytes.now }
 {}
 
-/// The journal that the bytes of a disk are, if they are one.
+/// The journal that the bytes spell for slaves of these sizes; `None` if they spell none.
 fn scan_bytes(alloc: Global, bytes: &[u8], sizes: &[u16]) -> Result<Option<Journal>, CoreFault>
     ensures { IfOk result (λ found. ScansTo bytes.now sizes.now found) }
 {
@@ -76,7 +76,7 @@ fn scan_bytes(alloc: Global, bytes: &[u8], sizes: &[u16]) -> Result<Option<Journ
     }
 }
 
-/// This station, or none, takes the place of what stands there, which is dropped by a call: so its drop is proved once.
+/// Puts this station, or none, in place of the one there. That one is dropped by a call, so that its drop is proved once.
 fn set_station(place: &mut Option<Station>, station: Option<Station>)
     ensures { place.new ≡ station }
 {
@@ -244,7 +244,7 @@ impl World {
         }
     }
 
-    /// The journal on the disk, if there is one.
+    /// The journal on the disk; `None` if there is none.
     fn scan(&self) -> Result<Option<Journal>, CoreFault>
         ensures { IfOk result (λ found. ScansTo self.now.state.disk.bytes (sizes_of (words_in self.now.state.halves)) found) }
     {
@@ -252,7 +252,7 @@ impl World {
         scan_bytes(self.alloc, self.disk.bytes(), &sizes)
     }
 
-    /// A station on this journal.
+    /// Opens a station on this journal.
     fn start(&self, journal: Journal) -> Result<Station, CoreFault>
         requires { IsJournal self.now.state.disk.bytes (sizes_of (words_in self.now.state.halves)) journal }
         ensures { IfOk result (λ station. station ≡ book_on self.now.state journal) }
@@ -291,12 +291,11 @@ impl World {
     }
 }
 
-/// What happens to a world: the event, where it can happen, and nothing else. What is chosen where the definitions leave a choice is
-/// part of the event.
+/// Lets an event happen in a world, with the choices that it names. If it can't happen now, nothing changes.
 ///
 /// # Errors
 ///
-/// `Memory`; the world stays as it is.
+/// `Memory`: memory was refused, for `Submit`, `Plan`, `DiskBegin`, `DiskDone` with `Done`, or `Open`. The world stays as it is.
 pub fn step(world: &mut World, event: Event) -> Result<(), CoreFault>
     ensures { Went event world.old result world.new }
 {

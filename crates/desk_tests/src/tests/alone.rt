@@ -1,17 +1,15 @@
 //! A line that is served on one thread, one part after the other.
 
 ghost use Rattle.std.specs.Prelude.{◌≤◌, length};
-ghost use Rattle.line_server.specs.Sites.{OwnParts};
+ghost use Rattle.station_threads.specs.Sites.{OwnParts};
 ghost use Rattle.site_shadow.specs.Site.{SiteValue};
 
 use crate::tests::memory::put;
 use crate::tests::sites::number_of;
-use line_server::Sites;
 use site_core::Site;
 use site_mem::MemSite;
-use station_desk::{Desk, Ends, Refusals, Tickets};
-use station_jobs::{End, NoGate, SlaveLog, flush, work};
-use station_threads::Line;
+use station_jobs::{End, NoHook, SlaveLog, flush, work};
+use station_threads::{Desk, Ends, PerDevice, Refusals, Sites, Tickets};
 use std::alloc::Global;
 use std::process::Abort;
 use std::sync::Wait;
@@ -27,7 +25,7 @@ fn work_each<T: Tickets + Send + Sync, R: Refusals + Send + Sync, W: Wait + Abor
     for site in slaves {
         let slave = number_of(ends.len());
         assert!(rt; site.owns(slave));
-        let end = work(rt, site, slave, desk.rom_side(slave), &NoGate);
+        let end = work(rt, site, slave, desk.rom_side(slave), &NoHook);
         put(rt, &mut ends, end);
     }
     ends
@@ -43,7 +41,7 @@ pub(crate) fn serve_alone<T: Tickets + Send + Sync, R: Refusals + Send + Sync, W
     requires owned { OwnParts (λ (site : SiteValue). site.line) sites.disk sites.slaves.items sites.cycle }
     requires long { desk.now.limit ≤ length sites.disk.seen.state.disk.bytes }
 {
-    let Line {
+    let PerDevice {
         disk,
         slaves,
         cycle,

@@ -1,10 +1,10 @@
-//! What is asked for, as a table holds it.
+//! Commands as constants, for tables of tests.
 
-use item_list::ItemList;
+use lists::ItemList;
 use sii_edit::{Command, Edit};
 use std::alloc::Global;
 
-/// What is asked for.
+/// A command that a test submits.
 #[derive(Clone, Copy)]
 pub(crate) enum Ask {
     /// Slave and alias.
@@ -27,7 +27,7 @@ fn group(alloc: Global, aliases: &[(u16, u16)]) -> Option<Command> {
     Some(Command::Group(ItemList::from_vec(edits)))
 }
 
-/// The command that asks for it. None: a growth was refused.
+/// The command as a value. None: memory was refused.
 pub(crate) fn command(alloc: Global, ask: &Ask) -> Option<Command> {
     match *ask {
         Ask::Alias(slave, value) => Some(Command::One(Edit::Alias { slave, value })),

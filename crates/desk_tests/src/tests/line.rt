@@ -4,30 +4,30 @@ ghost use Rattle.std.specs.Prelude.{◌≡◌, ◌≤◌, [], IfSome};
 
 use crate::tests::memory::{put, zeros};
 use book_core::Core;
-use item_list::ItemList;
 use jrn_format::{Form, Journal};
+use lists::ItemList;
 use sii_words::Words;
 use std::alloc::Global;
 use std::process::Abort;
 
-/// A line of slaves that have so many words of EEPROM each, and these categories, and a journal with an area of so many bytes.
+/// A line of slaves: the words of each EEPROM, the bytes of each slave's categories, and the bytes of the journal's area.
 #[derive(Clone, Copy)]
 pub(crate) struct Plan {
     pub(crate) words: u16,
     pub(crate) slaves: &'static [&'static [u8]],
     pub(crate) area: u32,
-    /// Whether process data are exchanged.
+    /// Whether process data is exchanged.
     pub(crate) has_cycle: bool,
 }
 
-/// The bytes from a place on get these values.
+/// Overwrites the bytes from `from` on.
 pub(crate) fn patch(bytes: &mut [u8], from: usize, new: &[u8]) {
     for (byte, value) in bytes.iter_mut().skip(from).zip(new) {
         *byte = *value;
     }
 }
 
-/// A slave of zeros, but for the check byte and its categories.
+/// The words of a slave: all zero except the check byte and its categories.
 pub(crate) fn words_of(rt: &impl Abort, alloc: Global, plan: &Plan, slave: usize) -> Words {
     let mut image = zeros(rt, alloc, 2 * usize::from(plan.words));
     patch(&mut image, 14, &[0x30]);
@@ -60,7 +60,7 @@ fn no_batches(alloc: Global) -> Journal
     }
 }
 
-/// The book of the line, on a journal without batches. None: a growth was refused.
+/// The book of the line, on a journal without batches. None: memory was refused.
 fn opened(rt: &impl Abort, alloc: Global, plan: &Plan) -> Option<Core>
     requires { 4096 ≤ plan.now.area }
     ensures { IfSome result (λ core. (core.accepted ≡ []) × (core.capacity ≡ plan.now.area)) }

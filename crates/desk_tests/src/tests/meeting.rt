@@ -1,18 +1,18 @@
-//! A gate that shows that two workers are under way at once.
+//! A hook that shows that two workers run at the same time.
 
-use station_jobs::Gate;
+use station_jobs::Hook;
 use std::sync::atomic::{AtomicU64, Ordering};
 use std::thread::sleep;
 use std::time::{Clock, Duration};
 
-/// For so many turns, of a millisecond each, a worker is held up.
+/// A worker is held up for at most this many turns of one millisecond.
 const TURNS: usize = 10_000;
 
 /// Holds the first outcome of slave 0 until one of slave 1 was answered, and the second of slave 1 until slave 0 has its first.
 #[derive(Drop)]
 pub(crate) struct Meeting<'a, C: Clock> {
     clock: &'a C,
-    /// How many outcomes each has had.
+    /// How many outcomes slave 0 and slave 1 have had.
     first: AtomicU64,
     second: AtomicU64,
 }
@@ -26,7 +26,7 @@ impl<'a, C: Clock> Meeting<'a, C> {
         }
     }
 
-    /// Waits until there were so many. False after all turns.
+    /// Waits until there were `count` outcomes. False if they don't come within all turns.
     fn waits_for(&self, outcomes: &AtomicU64, count: u64) -> bool {
         for _turn in 0..TURNS {
             if outcomes.load(Ordering::SeqCst) >= count {
@@ -38,7 +38,7 @@ impl<'a, C: Clock> Meeting<'a, C> {
     }
 }
 
-impl<'a, C: Clock> Gate for Meeting<'a, C> {
+impl<'a, C: Clock> Hook for Meeting<'a, C> {
     fn pass(&self, slave: u16) -> bool {
         match slave {
             0 => {

@@ -1,11 +1,11 @@
-//! Memory for what a test is made of: asked for a second time where it is refused once.
+//! Memory for a test's own values: asked for a second time if it is refused once.
 
 ghost use Rattle.std.specs.Prelude.{◌≡◌, length};
 
 use std::alloc::Global;
 use std::process::Abort;
 
-/// Puts it behind the others.
+/// Puts an item behind the others.
 pub(crate) fn put<T: Drop>(rt: &impl Abort, items: &mut Vec<T>, item: T) {
     match items.push(item) {
         Ok(()) => {}
@@ -13,7 +13,7 @@ pub(crate) fn put<T: Drop>(rt: &impl Abort, items: &mut Vec<T>, item: T) {
     }
 }
 
-/// Room for so many.
+/// An empty list with room for `count` items.
 pub(crate) fn room<T: Drop>(rt: &impl Abort, alloc: Global, count: usize) -> Vec<T> {
     match Vec::with_capacity(alloc, count) {
         Ok(items) => items,
@@ -21,7 +21,7 @@ pub(crate) fn room<T: Drop>(rt: &impl Abort, alloc: Global, count: usize) -> Vec
     }
 }
 
-/// So many zeros.
+/// `count` zero bytes.
 pub(crate) fn zeros(rt: &impl Abort, alloc: Global, count: usize) -> Vec<u8>
     ensures { length result.items ≡ count }
 {

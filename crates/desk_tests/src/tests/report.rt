@@ -1,4 +1,4 @@
-//! How a desk was closed, and what its line is like then.
+//! How a desk was closed, and what its line holds then.
 
 use crate::tests::line::Plan;
 use crate::tests::memory::put;
@@ -6,38 +6,38 @@ use crate::tests::sites::sizes_of;
 use esc_model::{ProcessHalf, RomHalf};
 use sii_words::Plant;
 use site_mem::{MemSite, Parts};
-use station_desk::{
+use station_jobs::{CycleLog, CycleNote, DiskLog, End, Leads, SlaveLog};
+use station_threads::{
     CloseFault, Closed, Desk, Ends, NotClosed, Receipt, Refusals, Served, Share, Tickets, close,
 };
-use station_jobs::{CycleLog, CycleNote, DiskLog, End, Leads, SlaveLog};
 use std::alloc::Global;
 use std::process::Abort;
 
-/// How a desk was closed, and what its line is like then.
+/// How a desk was closed, and what its line holds then.
 #[derive(Drop)]
 pub(crate) struct Report {
     pub(crate) fault: Option<CloseFault>,
-    /// How many commands were accepted, and how many receipts given.
+    /// How many commands were accepted, and how many receipts handed in.
     pub(crate) accepted: usize,
     pub(crate) receipts: usize,
     /// All commands below this number are acknowledged.
     pub(crate) acknowledged: u64,
     /// The last turn of the cycle.
     pub(crate) last: Option<CycleNote>,
-    /// Whether each slave reads as the book.
+    /// Whether each slave reads as the book's contents.
     pub(crate) reads: bool,
-    /// What a stop leaves of the line, put together of what it leaves of each part.
+    /// What a power cut leaves of the line, put together from what it leaves of each part.
     pub(crate) line: Parts,
 }
 
-/// What those who submitted hand in.
+/// What the submitters hand in.
 #[derive(Drop)]
 pub(crate) struct Held<T: Tickets, R: Refusals> {
     pub(crate) shares: Vec<Share<T, R>>,
     pub(crate) receipts: Vec<Receipt>,
 }
 
-/// A book out of its lock, and the ends of those who did its jobs.
+/// A book out of its lock, and the ends of its threads.
 #[derive(Drop)]
 struct Outcome<T: Tickets, R: Refusals> {
     fault: Option<CloseFault>,
@@ -92,7 +92,7 @@ fn acknowledged(receipts: &[Receipt]) -> u64 {
     below
 }
 
-/// What a stop leaves of the site.
+/// What a power cut leaves of the site.
 fn left_at(rt: &impl Abort, alloc: Global, site: &MemSite) -> Parts {
     match site.snapshot(alloc) {
         Ok(parts) => parts,
@@ -100,7 +100,7 @@ fn left_at(rt: &impl Abort, alloc: Global, site: &MemSite) -> Parts {
     }
 }
 
-/// What a stop leaves of the site at the end of its work.
+/// What a power cut leaves of the site of a thread that has ended.
 fn left_of<L: Leads + Drop>(rt: &impl Abort, alloc: Global, end: End<MemSite, L>) -> Parts {
     let (site, log) = end.into_parts();
     drop(log);
@@ -109,7 +109,7 @@ fn left_of<L: Leads + Drop>(rt: &impl Abort, alloc: Global, end: End<MemSite, L>
     left
 }
 
-/// What a stop leaves of a slave.
+/// What a power cut leaves of a slave.
 fn half_left(rt: &impl Abort, alloc: Global, end: End<MemSite, SlaveLog>) -> Option<RomHalf> {
     let slave = usize::from(end.log().slave);
     let mut left = left_of(rt, alloc, end);
@@ -119,7 +119,7 @@ fn half_left(rt: &impl Abort, alloc: Global, end: End<MemSite, SlaveLog>) -> Opt
     half
 }
 
-/// What a stop leaves of the slaves.
+/// What a power cut leaves of the slaves.
 fn halves_left(
     rt: &impl Abort,
     alloc: Global,
@@ -132,13 +132,13 @@ fn halves_left(
     halves
 }
 
-/// What a stop leaves of the disk.
+/// What a power cut leaves of the disk.
 fn disk_left(rt: &impl Abort, alloc: Global, end: End<MemSite, DiskLog>) -> Option<Vec<u8>> {
     let Parts { disk, .. } = left_of(rt, alloc, end);
     disk
 }
 
-/// What a stop leaves of the process data.
+/// What a power cut leaves of the process data.
 fn process_left(
     rt: &impl Abort,
     alloc: Global,
@@ -156,7 +156,7 @@ fn last_turn(cycle: &Option<End<MemSite, CycleLog>>) -> Option<CycleNote> {
     }
 }
 
-/// What a stop leaves of the line, put together.
+/// What a power cut leaves of the line, put together from its parts.
 fn put_together(rt: &impl Abort, alloc: Global, plan: &Plan, ends: Ends<MemSite>) -> Parts {
     let Ends {
         flusher,
@@ -201,7 +201,7 @@ fn accepted_by<T: Tickets, R: Refusals>(book: &Served<T, R>) -> usize {
     book.accepted().len()
 }
 
-/// Whether each slave of the line reads as the book.
+/// Whether each slave of the line reads as the book's contents.
 fn reads_as_book<T: Tickets, R: Refusals>(line: &Parts, book: &Served<T, R>) -> bool {
     reads_as(line, book.contents())
 }

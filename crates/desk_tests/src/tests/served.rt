@@ -1,4 +1,4 @@
-//! A line is served by threads, and its desk closed.
+//! Threads serve a line, and its desk is closed.
 
 use crate::tests::asks::Ask;
 use crate::tests::line::Plan;
@@ -7,8 +7,8 @@ use crate::tests::session::{LeftOut, Scenario, Way, session};
 use crate::tests::sites::Trouble;
 use crate::tests::submitter::Pace;
 use site_mem::Parts;
-use station_desk::CloseFault;
-use station_jobs::{CycleNote, Gate, NoGate};
+use station_jobs::{CycleNote, Hook, NoHook};
+use station_threads::CloseFault;
 use std::alloc::Global;
 use std::process::Abort;
 use std::sync::Wait;
@@ -50,7 +50,7 @@ const FOUR: Plan = Plan {
     has_cycle: false,
 };
 
-/// Two submit fifty aliases each, while process data are exchanged.
+/// Two submitters with fifty aliases each, while process data is exchanged.
 const HUNDRED: Scenario = Scenario {
     plan: Plan {
         has_cycle: true,
@@ -65,23 +65,23 @@ const HUNDRED: Scenario = Scenario {
     left_out: LeftOut::Nothing,
 };
 
-/// The same without process data.
+/// The scenario `HUNDRED` without process data.
 const MEETING: Scenario = Scenario {
     plan: FOUR,
     ..HUNDRED
 };
 
-/// How a desk is closed, how many commands are accepted and how many receipts given, and whether each slave reads as the book.
+/// Why a desk couldn't be closed, how many commands were accepted, how many receipts there are, and whether each slave reads as the book.
 type Account = (Option<CloseFault>, usize, usize, bool);
 
-/// What comes of the scenario.
-fn account<G: Gate + Sync, W: Wait + Threads + Sync + Abort>(
+/// Runs the scenario, and reports its outcome.
+fn account<G: Hook + Sync, W: Wait + Threads + Sync + Abort>(
     rt: &W,
     alloc: Global,
     scenario: &Scenario,
-    gate: &G,
+    hook: &G,
 ) -> Account {
-    let report = session(rt, alloc, scenario, gate);
+    let report = session(rt, alloc, scenario, hook);
     let came = (report.fault, report.accepted, report.receipts, report.reads);
     drop(report);
     came
@@ -89,7 +89,7 @@ fn account<G: Gate + Sync, W: Wait + Threads + Sync + Abort>(
 
 #[test]
 fn two_submit(rt: HostRuntime) {
-    let came = account(&rt, rt.alloc(), &HUNDRED, &NoGate);
+    let came = account(&rt, rt.alloc(), &HUNDRED, &NoHook);
     assert!(rt; came == (None, 100, 100, true));
 }
 
@@ -137,13 +137,13 @@ fn byte_of(line: &Parts) -> Option<u8> {
     }
 }
 
-/// How the desk is closed, the last turn of the cycle, and slave 0's byte at 0x1100 then.
+/// Why the desk couldn't be closed, the last process data cycle, and slave 0's byte at 0x1100 then.
 fn last_turn<W: Wait + Threads + Sync + Abort>(
     rt: &W,
     alloc: Global,
     scenario: &Scenario,
 ) -> (Option<CloseFault>, Option<CycleNote>, Option<u8>) {
-    let report = session(rt, alloc, scenario, &NoGate);
+    let report = session(rt, alloc, scenario, &NoHook);
     (report.fault, report.last, byte_of(&report.line))
 }
 
@@ -153,7 +153,7 @@ fn the_cycle_goes_on(rt: HostRuntime) {
     assert!(rt; last == (None, Some(CycleNote { prefix: 1, size: 7 }), Some(0)));
 }
 
-/// What befalls the line, what is left out, and why the desk isn't closed.
+/// What goes wrong on the line, what isn't handed in, and why the desk can't be closed.
 const FAULTS: [(Trouble, LeftOut, CloseFault); 3] = [
     (Trouble::Nothing, LeftOut::End, CloseFault::Mismatch),
     (Trouble::Nothing, LeftOut::Share, CloseFault::Mismatch),
@@ -164,7 +164,7 @@ const FAULTS: [(Trouble, LeftOut, CloseFault); 3] = [
     ),
 ];
 
-/// Two submit an alias each.
+/// Two submitters with one alias each.
 const TWO: Scenario = Scenario {
     first: &[Ask::Alias(0, 1)],
     second: &[Ask::Alias(1, 1)],
@@ -172,7 +172,7 @@ const TWO: Scenario = Scenario {
     ..MEETING
 };
 
-/// Why the desk isn't closed where this befalls its line, and this is left out.
+/// Why the desk couldn't be closed with this trouble on its line, and this not handed in.
 fn fault_of<W: Wait + Threads + Sync + Abort>(
     rt: &W,
     alloc: Global,
@@ -184,7 +184,7 @@ fn fault_of<W: Wait + Threads + Sync + Abort>(
         left_out,
         ..TWO
     };
-    let report = session(rt, alloc, &scenario, &NoGate);
+    let report = session(rt, alloc, &scenario, &NoHook);
     let fault = report.fault;
     drop(report);
     fault

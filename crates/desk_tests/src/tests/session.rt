@@ -1,7 +1,7 @@
-//! A line is served for two who submit, and its desk closed.
+//! Serves a line for two submitters, and closes its desk.
 
 ghost use Rattle.std.specs.Prelude.{◌≡◌, ◌≤◌, ◌+◌, [], length, IfErr};
-ghost use Rattle.line_server.specs.Sites.{OwnParts};
+ghost use Rattle.station_threads.specs.Sites.{OwnParts};
 ghost use Rattle.site_shadow.specs.Site.{SiteValue};
 
 use crate::tests::alone::serve_alone;
@@ -12,10 +12,9 @@ use crate::tests::report::{Held, Report, report_of};
 use crate::tests::sites::{Trouble, sites_of};
 use crate::tests::submitter::{Driver, Pace, Submitter, ended, start_submitting};
 use book_core::Core;
-use line_server::{Sites, serve_line};
 use site_mem::MemSite;
-use station_desk::{Desk, Ends, Parts, Receipt, Refusals, Tickets};
-use station_jobs::Gate;
+use station_jobs::Hook;
+use station_threads::{BlankLedger, Desk, Ends, Receipt, Refusals, Sites, Tickets, serve_line};
 use std::alloc::Global;
 use std::marker::Brand;
 use std::process::Abort;
@@ -23,13 +22,13 @@ use std::sync::Wait;
 use std::thread;
 use std::thread::{Scope, Threads};
 
-/// What is left out as the desk is closed.
+/// What isn't handed in when the desk is closed.
 #[derive(Clone, Copy, PartialEq, Eq)]
 pub(crate) enum LeftOut {
     Nothing,
     /// The end of slave 1.
     End,
-    /// The share of the second who submits.
+    /// The share of the second submitter.
     Share,
 }
 
@@ -42,7 +41,7 @@ pub(crate) enum Way {
     Alone,
 }
 
-/// A line that two submit to, each these commands in so many rounds.
+/// A line with two submitters: the commands of each, and in how many rounds it submits them.
 #[derive(Clone, Copy)]
 pub(crate) struct Scenario {
     pub(crate) plan: Plan,
@@ -55,7 +54,7 @@ pub(crate) struct Scenario {
     pub(crate) left_out: LeftOut,
 }
 
-/// One who submits these.
+/// A submitter of these commands.
 fn submitter<T: Tickets, R: Refusals, W: Wait + Abort>(
     rt: &W,
     alloc: Global,
@@ -67,66 +66,66 @@ fn submitter<T: Tickets, R: Refusals, W: Wait + Abort>(
     Submitter::new(rt, alloc, share, asks, scenario.rounds, scenario.pace)
 }
 
-/// Serves the line while the driver submits. The sites come back where a growth was refused.
+/// Serves the line while the driver submits. Hands the sites back if memory was refused.
 fn try_serve<
     T: Tickets + Send + Sync,
     R: Refusals + Send + Sync,
-    G: Gate + Sync,
+    G: Hook + Sync,
     W: Wait + Threads + Sync + Abort,
 >(
     rt: &W,
     alloc: Global,
     desk: &Desk<T, R>,
     sites: Sites<MemSite>,
-    gate: &G,
+    hook: &G,
     driver: &mut Driver<T, R>,
 ) -> Result<Ends<MemSite>, Sites<MemSite>>
     requires owned { OwnParts (λ (site : SiteValue). site.line) sites.disk sites.slaves.items sites.cycle }
     requires long { desk.now.limit ≤ length sites.disk.seen.state.disk.bytes }
     ensures { IfErr result (λ same. same ≡ sites) }
 {
-    serve_line(rt, alloc, desk, sites, gate, driver)
+    serve_line(rt, alloc, desk, sites, hook, driver)
 }
 
-/// Serves the line while the driver submits, at the second try where a growth is refused.
+/// Serves the line while the driver submits, with a second try if memory was refused.
 fn serve<
     T: Tickets + Send + Sync,
     R: Refusals + Send + Sync,
-    G: Gate + Sync,
+    G: Hook + Sync,
     W: Wait + Threads + Sync + Abort,
 >(
     rt: &W,
     alloc: Global,
     desk: &Desk<T, R>,
     sites: Sites<MemSite>,
-    gate: &G,
+    hook: &G,
     driver: &mut Driver<T, R>,
 ) -> Ends<MemSite>
     requires owned { OwnParts (λ (site : SiteValue). site.line) sites.disk sites.slaves.items sites.cycle }
     requires long { desk.now.limit ≤ length sites.disk.seen.state.disk.bytes }
 {
-    match try_serve(rt, alloc, desk, sites, gate, driver) {
+    match try_serve(rt, alloc, desk, sites, hook, driver) {
         Ok(ends) => ends,
-        Err(sites) => try_serve(rt, alloc, desk, sites, gate, driver)
+        Err(sites) => try_serve(rt, alloc, desk, sites, hook, driver)
             .ok()
             .expect(rt, "memory"),
     }
 }
 
-/// Two who submit: one drives, the other does so in a thread of its own.
+/// The two submitters: one drives the desk, the other submits on its own thread.
 #[derive(Drop)]
 struct Both<T: Tickets, R: Refusals> {
     driver: Driver<T, R>,
     other: Submitter<T, R>,
 }
 
-/// Serves the line while both submit, the other in a thread of the scope.
+/// Serves the line while both submit, the other on a thread of the scope.
 fn serve_in<
     's,
     E,
     T: Tickets + Send + Sync + 's,
     R: Refusals + Send + Sync + 's,
-    G: Gate + Sync,
+    G: Hook + Sync,
     W: Wait + Threads + Sync + Abort,
 >(
     scope: &'s Scope<'s, E>,
@@ -134,7 +133,7 @@ fn serve_in<
     alloc: Global,
     desk: &'s Desk<T, R>,
     sites: Sites<MemSite>,
-    gate: &'s G,
+    hook: &'s G,
     driver: &mut Driver<T, R>,
     other: Submitter<T, R>,
 ) -> (Ends<MemSite>, Submitter<T, R>)
@@ -142,7 +141,7 @@ fn serve_in<
     requires long { desk.now.limit ≤ length sites.disk.seen.state.disk.bytes }
 {
     let started = start_submitting(scope, rt, desk, other);
-    let ends = serve(rt, alloc, desk, sites, gate, driver);
+    let ends = serve(rt, alloc, desk, sites, hook, driver);
     (ends, ended(rt, started))
 }
 
@@ -151,14 +150,14 @@ fn serve_both<
     'e,
     T: Tickets + Send + Sync + 'e,
     R: Refusals + Send + Sync + 'e,
-    G: Gate + Sync,
+    G: Hook + Sync,
     W: Wait + Threads + Sync + Abort,
 >(
     rt: &'e W,
     alloc: Global,
     desk: &'e Desk<T, R>,
     sites: Sites<MemSite>,
-    gate: &'e G,
+    hook: &'e G,
     driver: &'e mut Driver<T, R>,
     other: Submitter<T, R>,
 ) -> (Ends<MemSite>, Submitter<T, R>)
@@ -171,15 +170,15 @@ fn serve_both<
         move |scope| -> (Ends<MemSite>, Submitter<T, R>)
             requires owned { OwnParts (λ (site : SiteValue). site.line) sites.disk sites.slaves.items sites.cycle }
             requires long { desk.now.limit ≤ length sites.disk.seen.state.disk.bytes }
-        { serve_in(scope, rt, alloc, desk, sites, gate, driver, other) },
+        { serve_in(scope, rt, alloc, desk, sites, hook, driver, other) },
     )
 }
 
-/// Serves the line so, while both submit.
+/// Serves the line in the scenario's way, while both submit.
 fn serve_so<
     T: Tickets + Send + Sync,
     R: Refusals + Send + Sync,
-    G: Gate + Sync,
+    G: Hook + Sync,
     W: Wait + Threads + Sync + Abort,
 >(
     rt: &W,
@@ -187,7 +186,7 @@ fn serve_so<
     desk: &Desk<T, R>,
     sites: Sites<MemSite>,
     way: Way,
-    gate: &G,
+    hook: &G,
     driver: &mut Driver<T, R>,
     other: Submitter<T, R>,
 ) -> (Ends<MemSite>, Submitter<T, R>)
@@ -195,18 +194,18 @@ fn serve_so<
     requires long { desk.now.limit ≤ length sites.disk.seen.state.disk.bytes }
 {
     match way {
-        Way::Threads => serve_both(rt, alloc, desk, sites, gate, driver, other),
+        Way::Threads => serve_both(rt, alloc, desk, sites, hook, driver, other),
         Way::Alone => (serve_alone(rt, alloc, desk, sites), other),
     }
 }
 
-/// How many commands the two submit.
+/// How many commands the two submitters submit.
 fn count_of(scenario: &Scenario) -> u64 {
     let asks = scenario.first.len().saturating_add(scenario.second.len());
     asks.saturating_mul(scenario.rounds) as u64
 }
 
-/// All that the two hold, but for what is left out.
+/// Everything that the two submitters hold, except what isn't to be handed in.
 fn held<T: Tickets, R: Refusals>(
     rt: &impl Abort,
     alloc: Global,
@@ -234,7 +233,7 @@ fn hand_in(rt: &impl Abort, receipts: &mut Vec<Receipt>, others: Vec<Receipt>) {
     }
 }
 
-/// The ends, but for what is left out.
+/// The ends, except the one that isn't to be handed in.
 fn ends_but(mut ends: Ends<MemSite>, left_out: LeftOut) -> Ends<MemSite> {
     if left_out == LeftOut::End && ends.workers.len() > 1 {
         drop(ends.workers.remove(1));
@@ -242,7 +241,7 @@ fn ends_but(mut ends: Ends<MemSite>, left_out: LeftOut) -> Ends<MemSite> {
     ends
 }
 
-/// The two who submit to the desk, which gives no third share.
+/// The two submitters, with the only two shares of the desk.
 fn both_of<T: Tickets, R: Refusals, W: Wait + Abort>(
     rt: &W,
     alloc: Global,
@@ -261,11 +260,11 @@ fn both_of<T: Tickets, R: Refusals, W: Wait + Abort>(
     Both { driver, other }
 }
 
-/// Serves the line by the desk. What is left out is left out of what is handed in, and of the ends.
+/// Serves the line from the desk. Answers what the submitters hold and the ends, except what isn't to be handed in.
 fn serve_at<
     T: Tickets + Send + Sync,
     R: Refusals + Send + Sync,
-    G: Gate + Sync,
+    G: Hook + Sync,
     W: Wait + Threads + Sync + Abort,
 >(
     rt: &W,
@@ -273,7 +272,7 @@ fn serve_at<
     desk: &Desk<T, R>,
     sites: Sites<MemSite>,
     scenario: &Scenario,
-    gate: &G,
+    hook: &G,
 ) -> (Held<T, R>, Ends<MemSite>)
     requires owned { OwnParts (λ (site : SiteValue). site.line) sites.disk sites.slaves.items sites.cycle }
     requires long { desk.now.limit ≤ length sites.disk.seen.state.disk.bytes }
@@ -285,7 +284,7 @@ fn serve_at<
         desk,
         sites,
         scenario.way,
-        gate,
+        hook,
         &mut driver,
         other,
     );
@@ -296,21 +295,21 @@ fn serve_at<
     )
 }
 
-/// Serves the line by a desk of this book, and closes the desk. None: a growth was refused as the desk was made.
+/// Serves the line from a desk of this book, and closes the desk. None: memory for the desk was refused.
 fn serve_by<
     T: Tickets + Send + Sync,
     R: Refusals + Send + Sync,
-    G: Gate + Sync,
+    G: Hook + Sync,
     W: Wait + Threads + Sync + Abort,
 >(
     rt: &W,
     alloc: Global,
-    tickets: Parts,
-    refusals: Parts,
+    tickets: BlankLedger,
+    refusals: BlankLedger,
     core: Core,
     sites: Sites<MemSite>,
     scenario: &Scenario,
-    gate: &G,
+    hook: &G,
 ) -> Option<Report>
     requires core { core ≡ T.opened }
     requires none { core.accepted ≡ [] }
@@ -323,16 +322,16 @@ fn serve_by<
         drop(sites);
         return None;
     };
-    let (held, ends) = serve_at(rt, alloc, &desk, sites, scenario, gate);
+    let (held, ends) = serve_at(rt, alloc, &desk, sites, scenario, hook);
     Some(report_of(rt, alloc, &scenario.plan, desk, held, ends))
 }
 
-/// Serves the line, and closes its desk. None: a growth was refused as the desk was made.
-fn try_session<G: Gate + Sync, W: Wait + Threads + Sync + Abort>(
+/// Serves the line, and closes its desk. None: memory for the desk was refused.
+fn try_session<G: Hook + Sync, W: Wait + Threads + Sync + Abort>(
     rt: &W,
     alloc: Global,
     scenario: &Scenario,
-    gate: &G,
+    hook: &G,
 ) -> Option<Report> {
     assert!(rt; scenario.plan.area >= 4096);
     let core = book_of(rt, alloc, &scenario.plan);
@@ -340,24 +339,24 @@ fn try_session<G: Gate + Sync, W: Wait + Threads + Sync + Abort>(
     serve_by::<Brand, Brand, G, W>(
         rt,
         alloc,
-        Parts::new(3),
-        Parts::new(3),
+        BlankLedger::new(3),
+        BlankLedger::new(3),
         core,
         sites,
         scenario,
-        gate,
+        hook,
     )
 }
 
 /// Serves the line, and closes its desk.
-pub(crate) fn session<G: Gate + Sync, W: Wait + Threads + Sync + Abort>(
+pub(crate) fn session<G: Hook + Sync, W: Wait + Threads + Sync + Abort>(
     rt: &W,
     alloc: Global,
     scenario: &Scenario,
-    gate: &G,
+    hook: &G,
 ) -> Report {
-    match try_session(rt, alloc, scenario, gate) {
+    match try_session(rt, alloc, scenario, hook) {
         Some(report) => report,
-        None => try_session(rt, alloc, scenario, gate).expect(rt, "memory"),
+        None => try_session(rt, alloc, scenario, hook).expect(rt, "memory"),
     }
 }

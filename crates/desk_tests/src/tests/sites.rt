@@ -1,7 +1,7 @@
-//! Lines in memory, a site for each part, and what befalls them.
+//! Lines in memory, with a site for each part, and the trouble planned for them.
 
 ghost use Rattle.std.specs.Prelude.{◌≡◌, ◌+◌, length};
-ghost use Rattle.line_server.specs.Sites.{OwnParts};
+ghost use Rattle.station_threads.specs.Sites.{OwnParts};
 ghost use Rattle.site_shadow.specs.Parts.{site_of as made_of};
 ghost use Rattle.site_shadow.specs.Site.{SiteValue};
 
@@ -9,36 +9,35 @@ use crate::tests::line::{Plan, patch, words_of};
 use crate::tests::memory::{put, zeros};
 use esc_model::{ProcessHalf, RomHalf};
 use jrn_format::header;
-use line_server::{Sites, own_parts};
 use site_mem::{MemSite, Parts, Pattern};
-use station_threads::Line;
+use station_threads::{PerDevice, Sites, own_parts};
 use std::alloc::Global;
 use std::process::Abort;
 
-/// What befalls a part of a line.
+/// What goes wrong on a part of a line.
 #[derive(Clone, Copy)]
 pub(crate) enum Trouble {
     Nothing,
-    /// The disk stops once so many writes have passed.
+    /// The disk stops after this many writes.
     DiskStops(u64, Pattern),
-    /// This slave stops once so many words have passed.
+    /// This slave stops after this many words.
     SlaveStops(u16, u64, Pattern),
-    /// So many words of this slave end in error.
+    /// The next writes of this slave, this many, end in error.
     WordsFail(u16, u32),
 }
 
-/// The first station of a line.
+/// The station address of slave 0.
 const FIRST_STATION: u16 = 0x1001;
 
-/// For so many datagrams a slave is busy with a word.
+/// A slave is busy with a word for this many datagrams.
 const DELAY: u32 = 3;
 
-/// The number of a slave, or of slaves.
+/// A slave's number, or a number of slaves, in 16 bits.
 pub(crate) fn number_of(slave: usize) -> u16 {
     u16::try_from(slave).unwrap_or(0)
 }
 
-/// The station of a slave.
+/// The station address of a slave.
 fn station_of(slave: usize) -> u16 {
     FIRST_STATION.wrapping_add(number_of(slave))
 }
@@ -52,7 +51,7 @@ pub(crate) fn sizes_of(rt: &impl Abort, alloc: Global, plan: &Plan) -> Vec<u16> 
     sizes
 }
 
-/// So many places without a half.
+/// `count` slaves without an EEPROM half.
 fn leave_out(rt: &impl Abort, halves: &mut Vec<Option<RomHalf>>, count: usize) {
     for _slave in 0..count {
         put(rt, halves, None);
@@ -67,7 +66,7 @@ pub(crate) fn site_of(rt: &impl Abort, alloc: Global, parts: Parts) -> MemSite
     MemSite::of_parts(alloc, parts)
 }
 
-/// A site without halves of slaves that serve the EEPROM.
+/// A site without EEPROM halves.
 fn without_halves(
     rt: &impl Abort,
     alloc: Global,
@@ -113,7 +112,7 @@ fn disk_of(rt: &impl Abort, alloc: Global, plan: &Plan, trouble: Trouble) -> Mem
     site
 }
 
-/// It befalls the slave, where it is about it.
+/// Plans the trouble on this slave's site, if it is about this slave.
 fn befall(site: &mut MemSite, slave: usize, trouble: Trouble) {
     match trouble {
         Trouble::SlaveStops(which, words, pattern) => {
@@ -130,7 +129,7 @@ fn befall(site: &mut MemSite, slave: usize, trouble: Trouble) {
     }
 }
 
-/// The half of a slave that serves the EEPROM, just switched on, and no others.
+/// The EEPROM half of one slave, just switched on, and none of the others.
 fn half_alone(rt: &impl Abort, alloc: Global, plan: &Plan, slave: usize) -> Vec<Option<RomHalf>> {
     let words = words_of(rt, alloc, plan, slave);
     let half = RomHalf::power_up(words, station_of(slave), DELAY);
@@ -195,7 +194,7 @@ fn process_of(rt: &impl Abort, alloc: Global, plan: &Plan) -> MemSite {
     site_of(rt, alloc, parts)
 }
 
-/// The process halves, where the line exchanges process data.
+/// The process halves, if the line exchanges process data.
 fn cycle_of(rt: &impl Abort, alloc: Global, plan: &Plan) -> Option<MemSite> {
     if plan.has_cycle {
         Some(process_of(rt, alloc, plan))
@@ -214,7 +213,7 @@ pub(crate) fn sites_of(
     ensures owned { OwnParts (λ (site : SiteValue). site.line) result.disk result.slaves.items result.cycle }
     ensures long { length result.disk.seen.state.disk.bytes ≡ 8 + plan.now.area }
 {
-    let sites = Line {
+    let sites = PerDevice {
         disk: disk_of(rt, alloc, plan, trouble),
         slaves: slaves_of(rt, alloc, plan, trouble),
         cycle: cycle_of(rt, alloc, plan),

@@ -1,4 +1,4 @@
-//! One part of a line stops at each of its writes, and the line is recovered.
+//! One part of a line stops at each of its writes, and then the line is recovered.
 
 use crate::tests::asks::Ask;
 use crate::tests::line::Plan;
@@ -6,17 +6,15 @@ use crate::tests::report::Report;
 use crate::tests::session::{LeftOut, Scenario, Way, session};
 use crate::tests::sites::{Trouble, site_of};
 use crate::tests::submitter::Pace;
-use esc_rom::RomFault;
+use esc_rom::{RomFault, owns_all};
 use jrn_format::JournalFault;
 use sii_words::Plant;
 use site_core::{DeviceFault, Site};
 use site_journal::ReadFault;
-use site_line::owns_all;
 use site_mem::{MemSite, Parts, Pattern};
-use station_alone::{Alone, OpenFault};
-use station_desk::CloseFault;
-use station_jobs::NoGate;
-use station_recovery::recover;
+use station_alone::{Alone, OpenFault, recover};
+use station_jobs::NoHook;
+use station_threads::CloseFault;
 use std::alloc::Global;
 use std::process::Abort;
 use std::sync::Wait;
@@ -37,7 +35,7 @@ const ASKS: &[Ask] = &[
     Ask::Group(&[(2, 7), (0, 9)]),
 ];
 
-/// One submits three commands.
+/// One submitter with three commands.
 const STOPPING: Scenario = Scenario {
     plan: THREE,
     first: ASKS,
@@ -49,7 +47,7 @@ const STOPPING: Scenario = Scenario {
     left_out: LeftOut::Nothing,
 };
 
-/// The aliases after so many of these.
+/// The aliases of the three slaves after each prefix of the commands.
 const ALIASES: &[[u16; 3]] = &[[0, 0, 0], [1, 0, 0], [0, 1, 0], [9, 1, 7]];
 
 const PATTERNS: [Pattern; 4] = [
@@ -59,7 +57,7 @@ const PATTERNS: [Pattern; 4] = [
     Pattern::Fill(0x5a5a),
 ];
 
-/// Whether a recovery failed for want of memory, its own or the disk's.
+/// Whether a recovery failed because memory was refused, to it or to the disk.
 fn is_memory(fault: OpenFault) -> bool {
     matches!(
         fault,
@@ -71,7 +69,7 @@ fn is_memory(fault: OpenFault) -> bool {
     )
 }
 
-/// Recovers the line. The site comes back where a growth was refused.
+/// Recovers the line. Hands the site back if memory was refused.
 fn try_recover(rt: &impl Abort, alloc: Global, site: MemSite) -> Result<Alone<MemSite>, MemSite> {
     assert!(rt; site.has_disk() && owns_all(&site));
     match recover(alloc, site) {
@@ -83,7 +81,7 @@ fn try_recover(rt: &impl Abort, alloc: Global, site: MemSite) -> Result<Alone<Me
     }
 }
 
-/// Recovers the line, at the second try where a growth is refused.
+/// Recovers the line, with a second try if memory was refused.
 fn recovered(rt: &impl Abort, alloc: Global, parts: Parts) -> Alone<MemSite> {
     match try_recover(rt, alloc, site_of(rt, alloc, parts)) {
         Ok(station) => station,
@@ -101,7 +99,7 @@ fn aliases_of(rt: &impl Abort, contents: &Plant) -> [u16; 3] {
     ]
 }
 
-/// After how many commands the aliases are that the line has once it is recovered. None: after no number of them.
+/// The prefix of commands after which a recovery leaves the line. None: its aliases fit no prefix.
 fn place_left(rt: &impl Abort, alloc: Global, line: Parts) -> Option<u64> {
     let station = recovered(rt, alloc, line);
     let aliases = aliases_of(rt, station.core().contents());
@@ -109,7 +107,7 @@ fn place_left(rt: &impl Abort, alloc: Global, line: Parts) -> Option<u64> {
     place_of(aliases)
 }
 
-/// After how many commands they are. None: after no number of them.
+/// The prefix of commands after which the slaves have these aliases. None: there is no such prefix.
 fn place_of(aliases: [u16; 3]) -> Option<u64> {
     for place in 0..4usize {
         if ALIASES[place] == aliases {
@@ -119,9 +117,11 @@ fn place_of(aliases: [u16; 3]) -> Option<u64> {
     None
 }
 
-/// Whether the line was stopped, whose desk was closed so. None: what it holds once it is recovered isn't what was acknowledged and
-/// perhaps more; or nothing stopped it, and it doesn't hold all; or all were queued first, and it accepted less or more than these, or
-/// holds neither all nor none.
+/// Whether the line was stopped. `place` is the prefix of commands that it holds after a recovery. None if a promise was broken:
+///
+/// - it holds no prefix, or one without an acknowledged command, or not all commands though nothing stopped it
+/// - the desk wasn't closed because of a mismatch
+/// - all commands were queued before it was served, and not three were accepted, or it holds neither all of them nor none
 fn judged(
     pace: Pace,
     fault: Option<CloseFault>,
@@ -141,7 +141,7 @@ fn judged(
     Some(fault.is_some())
 }
 
-/// Whether the line was stopped. None: as for one that is judged.
+/// Runs the scenario. Whether its line was stopped. None: a promise was broken, as `judged` says.
 fn is_stopped<W: Wait + Threads + Sync + Abort>(
     rt: &W,
     alloc: Global,
@@ -153,12 +153,12 @@ fn is_stopped<W: Wait + Threads + Sync + Abort>(
         acknowledged,
         line,
         ..
-    } = session(rt, alloc, scenario, &NoGate);
+    } = session(rt, alloc, scenario, &NoHook);
     let place = place_left(rt, alloc, line);
     judged(scenario.pace, fault, accepted, acknowledged, place)
 }
 
-/// A part that stops.
+/// The part of a line that stops.
 #[derive(Clone, Copy)]
 enum Part {
     Disk,
@@ -172,7 +172,7 @@ fn trouble_of(part: Part, writes: u64, pattern: Pattern) -> Trouble {
     }
 }
 
-/// By how many patterns the line is stopped where this part stops once so many writes have passed. None: as for one.
+/// For how many patterns the line is stopped, if this part stops after `writes` writes. None: a promise was broken.
 fn stops_by<W: Wait + Threads + Sync + Abort>(
     rt: &W,
     alloc: Global,
@@ -194,7 +194,7 @@ fn stops_by<W: Wait + Threads + Sync + Abort>(
     Some(count)
 }
 
-/// The first number of writes after which the line isn't stopped any more. None: as for one.
+/// The first number of writes that is too large for this part to stop at. None: a promise was broken, or there is none below 40.
 fn first_unstopped<W: Wait + Threads + Sync + Abort>(
     rt: &W,
     alloc: Global,
@@ -209,8 +209,8 @@ fn first_unstopped<W: Wait + Threads + Sync + Abort>(
     None
 }
 
-/// How the commands are submitted, which part stops, and how many writes it makes at least: four of the disk for each batch, and two
-/// words for a slave that gets an alias, the alias and the check byte.
+/// How the commands are submitted, which part stops, and how many writes it makes at least: the disk four for each batch, and a slave
+/// that gets an alias two words, the alias and the check byte.
 const STOPS: [(Pace, Part, u64); 8] = [
     (Pace::OneByOne, Part::Disk, 12),
     (Pace::OneByOne, Part::Slave(0), 2),
@@ -230,8 +230,8 @@ fn any_part_may_stop(rt: HostRuntime) {
     }
 }
 
-/// The gate runs this with memory; `rt try --test --fail-alloc N` has the Nth growth refused. Then it is asked for again, or the disk's
-/// want of it closes the book, and a recovery finds what was acknowledged.
+/// `rt ci` runs this with enough memory; `rt try --test --fail-alloc N` refuses the Nth allocation. Then it is tried again, or the disk's
+/// failure closes the book, and a recovery finds what was acknowledged.
 #[test]
 fn a_refused_growth_loses_nothing(rt: HostRuntime) {
     assert!(rt; is_stopped(&rt, rt.alloc(), &STOPPING).is_some());
@@ -244,7 +244,7 @@ const ALONE: Scenario = Scenario {
     ..STOPPING
 };
 
-/// The same on one thread, so that the growths of a desk come in the same order each time.
+/// Like `a_refused_growth_loses_nothing`, on one thread, so that a desk's allocations come in the same order each time.
 #[test]
 fn a_growth_refused_on_one_thread_loses_nothing(rt: HostRuntime) {
     assert!(rt; is_stopped(&rt, rt.alloc(), &ALONE) == Some(true));

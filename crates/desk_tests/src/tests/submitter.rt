@@ -1,30 +1,29 @@
-//! Those who submit to a desk while its line is served.
+//! The submitters of a desk while its line is served.
 
 ghost use denote.Param.Send.{IsSync};
 
 use crate::tests::asks::{Ask, command};
 use crate::tests::memory::room;
 use book_model::SubmitRefusal;
-use line_server::Client;
 use sii_edit::{Cause, Command};
-use station_desk::{Desk, Receipt, Refusals, Refused, Share, Ticket, Tickets};
+use station_threads::{Client, Desk, Receipt, Refusals, Refused, Share, Ticket, Tickets};
 use std::alloc::Global;
 use std::process::Abort;
 use std::sync::Wait;
 use std::thread::{JoinHandle, Scope, Threads};
 
-/// When a submitter waits for what it submitted.
+/// When a submitter waits for its commands.
 #[derive(Clone, Copy, PartialEq, Eq)]
 pub(crate) enum Pace {
-    /// For each command before the next.
+    /// For each command before it submits the next.
     OneByOne,
-    /// Once all are submitted.
+    /// After all commands are submitted.
     Together,
-    /// Once all are submitted, which is before the line is served.
+    /// After all commands are submitted, which is done before the line is served.
     Queued,
 }
 
-/// One who submits, with its share.
+/// A submitter with its share.
 #[derive(Drop)]
 pub(crate) struct Submitter<T: Tickets, R: Refusals> {
     alloc: Global,
@@ -43,7 +42,7 @@ fn is_out_of_memory(refusal: SubmitRefusal) -> bool {
     }
 }
 
-/// Waits for a command, and keeps its receipt. What isn't acknowledged is left out.
+/// Waits for a command, and keeps its receipt, if it is acknowledged.
 fn wait_for<T: Tickets, R: Refusals, W: Wait>(
     rt: &W,
     desk: &Desk<T, R>,
@@ -57,7 +56,7 @@ fn wait_for<T: Tickets, R: Refusals, W: Wait>(
 }
 
 impl<T: Tickets, R: Refusals> Submitter<T, R> {
-    /// One who submits these commands, in so many rounds.
+    /// A submitter of these commands, in this many rounds.
     pub(crate) fn new(
         rt: &impl Abort,
         alloc: Global,
@@ -78,7 +77,7 @@ impl<T: Tickets, R: Refusals> Submitter<T, R> {
         }
     }
 
-    /// Submits a command. False where a growth was refused; then nothing has changed.
+    /// Submits a command. False, with nothing changed, if memory was refused.
     fn is_taken<W: Wait>(&mut self, rt: &W, desk: &Desk<T, R>, command: Command) -> bool {
         match desk.submit(rt, &mut self.share, command) {
             Ok(ticket) => self.tickets.push(ticket).is_ok(),
@@ -90,7 +89,7 @@ impl<T: Tickets, R: Refusals> Submitter<T, R> {
         }
     }
 
-    /// Submits what is asked for. False where a growth was refused; then nothing has changed.
+    /// Submits the command that is asked for. False, with nothing changed, if memory was refused.
     fn is_submitted<W: Wait>(&mut self, rt: &W, desk: &Desk<T, R>, ask: &Ask) -> bool {
         match command(self.alloc, ask) {
             Some(command) => self.is_taken(rt, desk, command),
@@ -98,28 +97,28 @@ impl<T: Tickets, R: Refusals> Submitter<T, R> {
         }
     }
 
-    /// Waits for all that was submitted. What isn't acknowledged is left out.
+    /// Waits for all submitted commands, and keeps the receipts of those that are acknowledged.
     pub(crate) fn wait_all<W: Wait>(&mut self, rt: &W, desk: &Desk<T, R>) {
         while let Some(ticket) = self.tickets.pop() {
             wait_for(rt, desk, ticket, &mut self.receipts);
         }
     }
 
-    /// Submits what is asked for, again where a growth was refused.
+    /// Submits the command that is asked for, with a second try if memory was refused.
     fn submit<W: Wait>(&mut self, rt: &W, desk: &Desk<T, R>, ask: &Ask) {
         if !self.is_submitted(rt, desk, ask) {
             self.is_submitted(rt, desk, ask);
         }
     }
 
-    /// Submits all commands once, and waits for none.
+    /// Submits all commands once, without waiting for them.
     fn submit_each<W: Wait>(&mut self, rt: &W, desk: &Desk<T, R>) {
         for ask in self.asks {
             self.submit(rt, desk, ask);
         }
     }
 
-    /// Submits what is to be submitted while the line is served, and waits for none.
+    /// Submits the commands that are for the time of serving, without waiting for them.
     fn submit_rounds<W: Wait>(&mut self, rt: &W, desk: &Desk<T, R>) {
         if self.pace != Pace::Queued {
             for _round in 0..self.rounds {
@@ -128,7 +127,7 @@ impl<T: Tickets, R: Refusals> Submitter<T, R> {
         }
     }
 
-    /// Submits all commands once.
+    /// Submits all commands once, and waits for each if the pace is `OneByOne`.
     fn submit_all<W: Wait>(&mut self, rt: &W, desk: &Desk<T, R>) {
         for ask in self.asks {
             self.submit(rt, desk, ask);
@@ -138,14 +137,14 @@ impl<T: Tickets, R: Refusals> Submitter<T, R> {
         }
     }
 
-    /// Submits what is to be submitted before the line is served.
+    /// Submits the commands that are for the time before serving.
     pub(crate) fn begin<W: Wait>(&mut self, rt: &W, desk: &Desk<T, R>) {
         if self.pace == Pace::Queued {
             self.submit_all(rt, desk);
         }
     }
 
-    /// Submits what is to be submitted while the line is served, and then waits for what isn't acknowledged yet.
+    /// Submits the commands that are for the time of serving, and then waits for those without a receipt.
     fn go_on<W: Wait>(&mut self, rt: &W, desk: &Desk<T, R>) {
         if self.pace != Pace::Queued {
             for _round in 0..self.rounds {
@@ -155,7 +154,7 @@ impl<T: Tickets, R: Refusals> Submitter<T, R> {
         self.wait_all(rt, desk);
     }
 
-    /// Its share, and its receipts.
+    /// The submitter's share and receipts.
     pub(crate) fn into_parts(self) -> (Share<T, R>, Vec<Receipt>) {
         let Submitter {
             share,
@@ -166,7 +165,7 @@ impl<T: Tickets, R: Refusals> Submitter<T, R> {
     }
 }
 
-/// Submits, and gives it back.
+/// Lets the submitter submit its commands, and gives it back.
 fn submitted<T: Tickets, R: Refusals, W: Wait>(
     rt: &W,
     desk: &Desk<T, R>,
@@ -176,10 +175,10 @@ fn submitted<T: Tickets, R: Refusals, W: Wait>(
     submitter
 }
 
-/// One who submits in a thread, or has done so already.
+/// A submitter on its thread. If that couldn't be created, one that has submitted already.
 type Started<T, R> = Result<JoinHandle<Submitter<T, R>>, Submitter<T, R>>;
 
-/// Starts a thread in which it submits. Where none can be made it submits here, before the line is served: it waits for nobody.
+/// Starts a submitter's thread. If it can't be created, it submits here, before the line is served, and waits for nothing.
 pub(crate) fn start_submitting<
     's,
     E,
@@ -201,7 +200,7 @@ pub(crate) fn start_submitting<
     }
 }
 
-/// Waits for it, unless it has submitted already.
+/// Waits for the end of a submitter's thread, if it has one.
 pub(crate) fn ended<T: Tickets, R: Refusals, W: Threads>(
     rt: &W,
     started: Started<T, R>,
@@ -212,7 +211,7 @@ pub(crate) fn ended<T: Tickets, R: Refusals, W: Threads>(
     }
 }
 
-/// Waits until so many commands are accepted, or no more are.
+/// Waits until `accepted` commands are accepted, or the desk accepts no more.
 fn wait_for_others<T: Tickets, R: Refusals, W: Wait>(rt: &W, desk: &Desk<T, R>, accepted: u64) {
     for _ in rt.forever() {
         let seen = desk.status(rt);
@@ -222,7 +221,7 @@ fn wait_for_others<T: Tickets, R: Refusals, W: Wait>(rt: &W, desk: &Desk<T, R>, 
     }
 }
 
-/// One who submits on the thread that serves the line, and then lets others submit until so many commands are accepted.
+/// Submits on the thread that serves the line, and then waits until `accepted` commands of all submitters are accepted.
 #[derive(Drop)]
 pub(crate) struct Driver<T: Tickets, R: Refusals> {
     pub(crate) submitter: Submitter<T, R>,

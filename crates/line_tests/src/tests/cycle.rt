@@ -6,8 +6,8 @@ use site_core::Site;
 use site_mem::MemSite;
 use std::alloc::Global;
 
-// By station and place, what is written to two slaves before they exchange data: their FMMUs and sync managers, and the inputs
-// that stand in their memory.
+// Station address, register, and the bytes that are written there before two slaves exchange data: their FMMUs and sync managers, and
+// the inputs in their memory.
 const WRITTEN: &[(u16, u16, &[u8])] = &[
     (0x1001, 0x0600, &[0; 128]),
     (
@@ -45,7 +45,7 @@ const WRITTEN: &[(u16, u16, &[u8])] = &[
     (0x1002, 0x1000, &[0x55, 0x06]),
 ];
 
-// Whether slave 0 and slave 1 are muted, and the frame that comes back.
+// Whether slave 0 is muted, whether slave 1 is, and the frame that comes back.
 const EXCHANGED: &[(bool, bool, [u8; 21])] = &[
     (
         false,
@@ -87,7 +87,7 @@ const EXCHANGED: &[(bool, bool, [u8; 21])] = &[
     ),
 ];
 
-// Two slaves, of which the site owns the process halves alone.
+// A line of two slaves. The site owns only their process halves.
 fn line(alloc: Global) -> Option<MemSite> {
     let words = zero_words(alloc)?;
     let process = process_halves(alloc, &words, &[0x1001, 0x1002])?;
@@ -109,7 +109,7 @@ fn is_cycled(
         && frame.as_bytes().ends_with(back)
 }
 
-// Whether all that is written is taken.
+// Whether the slaves take all that is written to them.
 fn is_set_up(site: &mut impl Site) -> bool {
     for (station, register, content) in WRITTEN {
         let address = fp(*station, *register);
@@ -120,14 +120,14 @@ fn is_set_up(site: &mut impl Site) -> bool {
     true
 }
 
-// Whether a byte of outputs and six of inputs come back so, with these slaves muted.
+// Whether a byte of outputs and six of inputs come back like this, with these slaves muted.
 fn is_exchanged(site: &mut MemSite, first: bool, second: bool, back: &[u8]) -> bool {
     site.mute(0, first);
     site.mute(1, second);
     is_cycled(site, Command::Lrw, 0, &[0xaa, 0, 0, 0, 0, 0, 0], back)
 }
 
-// Whether each exchange is as it is told.
+// Whether each exchange is as `EXCHANGED` says.
 fn all_are_exchanged(site: &mut MemSite) -> bool {
     for (first, second, back) in EXCHANGED {
         if !is_exchanged(site, *first, *second, back) {

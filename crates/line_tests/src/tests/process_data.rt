@@ -29,7 +29,7 @@ const INPUTS: &[u8] = &[
 // A slave without process data.
 const NOTHING: &[u8] = &[0xff, 0xff];
 
-// By slave and register, what the two slaves hold once they are configured.
+// Slave, register, and the bytes that it holds once the two slaves are configured.
 const CONFIGURED: &[(u16, u16, &[u8])] = &[
     (0, 0x0810, &[0x00, 0x11, 0x01, 0x00, 0x24, 0x00, 0x01, 0x00]),
     (
@@ -52,19 +52,19 @@ const CONFIGURED: &[(u16, u16, &[u8])] = &[
     (1, 0x0610, &[0; 112]),
 ];
 
-// By slave and place, the inputs that stand in memory.
+// Slave, address, and the inputs that its memory holds there.
 const STANDING: &[(usize, u16, &[u8])] = &[
     (0, 0x1180, &[0x11, 0x22, 0x33, 0x44]),
     (1, 0x1000, &[0x55, 0x06]),
 ];
 
-// The inputs that come back then.
+// The inputs that come back from these two slaves.
 const INPUTS_BACK: &[u8] = &[0x11, 0x22, 0x33, 0x44, 0x55, 0x06];
 
-// Where a turn fails, its inputs are as they were.
+// The inputs before a turn. One that fails leaves them unchanged.
 const KEPT: &[u8] = &[0xee; 6];
 
-// A slave of 320 words whose categories are these.
+// The words of a slave, 320 of them, with these categories.
 fn words_of(alloc: Global, categories: &[u8]) -> Option<Words> {
     let mut bytes = [0u8; 640];
     bytes[14] = 0x30;
@@ -85,7 +85,7 @@ fn plant_of(alloc: Global, categories: &[&[u8]]) -> Option<Plant> {
     Some(Plant::of(slaves))
 }
 
-// The plan of that line.
+// The plan of a line of slaves with these categories.
 fn plan_of(alloc: Global, categories: &[&[u8]]) -> Option<Plan> {
     let plant = plant_of(alloc, categories)?;
     let image = image_of(alloc, &plant).ok()?;
@@ -101,14 +101,14 @@ fn stand(halves: &mut [ProcessHalf], slave: usize, place: u16, bytes: &[u8]) {
     }
 }
 
-// The inputs stand in memory.
+// Puts the inputs of `STANDING` into the memory of the two slaves.
 fn stand_all(halves: &mut [ProcessHalf]) {
     for (slave, place, bytes) in STANDING {
         stand(halves, *slave, *place, bytes);
     }
 }
 
-// A line of slaves at these stations, of which the site owns the process halves alone.
+// A line of slaves with these station addresses. The site owns only their process halves.
 fn line_of(alloc: Global, stations: &[u16]) -> Option<MemSite> {
     let words = words_of(alloc, NOTHING)?;
     let mut process = process_halves(alloc, &words, stations)?;
@@ -130,7 +130,7 @@ fn holds(site: &mut impl Site, slave: u16, register: u16, bytes: &[u8]) -> bool 
     is_read && frame.count() == 1 && frame.datagram(0).content == bytes
 }
 
-// Whether the two slaves are configured as they are to be.
+// Whether the two slaves are configured as `CONFIGURED` says.
 fn is_configured(site: &mut impl Site) -> bool {
     for (slave, register, bytes) in CONFIGURED {
         if !holds(site, *slave, *register, bytes) {
@@ -140,7 +140,7 @@ fn is_configured(site: &mut impl Site) -> bool {
     true
 }
 
-// Whether a turn with these outputs answers so, and leaves these inputs.
+// Whether a turn with these outputs has this result, and leaves these inputs.
 fn turns(
     site: &mut impl Site,
     plan: &Plan,
@@ -163,7 +163,7 @@ fn exchange(site: &mut impl Site, plan: &Plan) -> bool {
         && holds(site, 0, 0x1100, &[0xaa])
 }
 
-// Whether a turn fails that slave 1 takes no part in.
+// Whether a turn fails if slave 1 takes no part in it.
 fn miss_a_slave(site: &mut MemSite, plan: &Plan) -> bool {
     site.mute(1, true);
     let (seen, expected) = (3, 4);
@@ -171,13 +171,13 @@ fn miss_a_slave(site: &mut MemSite, plan: &Plan) -> bool {
     turns(site, plan, &[0xaa], Err(fault), KEPT)
 }
 
-// Whether a turn fails whose frame is lost.
+// Whether a turn fails if its frame is lost.
 fn lose_a_frame(site: &mut MemSite, plan: &Plan) -> bool {
     site.fail_once(0);
     turns(site, plan, &[0xaa], Err(CycleFault::Lost), KEPT)
 }
 
-// Whether two slaves exchange data, and fail to.
+// Whether two slaves exchange data, and turns fail as they should.
 fn exchange_and_fail(alloc: Global) -> bool {
     let Some(plan) = plan_of(alloc, &[BOTH, INPUTS]) else {
         return false;
@@ -197,7 +197,7 @@ fn two_slaves_exchange_data(rt: HostRuntime) {
     assert!(rt; exchange_and_fail(rt.alloc()));
 }
 
-// Whether a line is configured for no process data, and has a turn of it.
+// Whether a line is configured for no process data, and a turn answers 0.
 fn is_without_data(site: &mut impl Site, empty: &Plan) -> bool {
     site.has_process() && configure(site, empty).is_ok() && turns(site, empty, &[], Ok(0), &[])
 }
@@ -213,7 +213,7 @@ fn comes_and_goes(site: &mut impl Site, empty: &Plan, plan: &Plan) -> bool {
         && holds(site, 1, 0x0600, &[0; 112])
 }
 
-// From no process data to that of both, and back.
+// Whether two slaves are reconfigured from no process data to that of both, and back.
 fn is_reconfigured(alloc: Global) -> bool {
     let Some(empty) = plan_of(alloc, &[NOTHING, NOTHING]) else {
         return false;
@@ -249,7 +249,7 @@ fn longest(direction: u8, kind: u8) -> [u8; 402] {
     bytes
 }
 
-// Whether a slave exchanges so, and holds this byte at 0x15cd, the last of its area, then.
+// Whether a turn with these outputs leaves these inputs, and this byte at 0x15cd, the last one of the sync manager's area.
 fn exchange_all(
     site: &mut impl Site,
     plan: &Plan,
@@ -264,7 +264,7 @@ fn exchange_all(
         && holds(site, 0, 0x15cd, &[last])
 }
 
-// Whether one with these categories does.
+// Whether a slave with these categories does.
 fn exchanges_all(
     alloc: Global,
     categories: &[u8],

@@ -1,4 +1,4 @@
-//! What faults and stops leave of a disk and a slave in memory.
+//! What faults and power cuts leave of a disk and a slave in memory.
 
 use super::{site_of, zero_words};
 use ecat_frame::{Command, Frame, fp};
@@ -7,8 +7,8 @@ use site_core::{DeviceFault, Site};
 use site_mem::{MemSite, Parts, Pattern};
 use std::alloc::Global;
 
-// How many device writes pass, of a write and a sync of 7 at place 0 and then of 8 and 8, before one is torn by a pattern, and the
-// disk then.
+// A 7 is written at byte 0 and synced; then 8 and 8 are. How many of these device writes succeed before one is torn, by which pattern,
+// and the disk after it.
 const TORN: &[(u64, Pattern, [u8; 4])] = &[
     (2, Pattern::Old, [7, 2, 3, 4]),
     (3, Pattern::Old, [7, 2, 3, 4]),
@@ -18,14 +18,14 @@ const TORN: &[(u64, Pattern, [u8; 4])] = &[
     (3, Pattern::Fill(0x12a5), [0xa5, 0xa5, 3, 4]),
 ];
 
-// A pattern, and the disk and word 4 where the site stops in that word while a 9 at place 0 is unsynced.
+// The site stops in word 4 while a 9 at byte 0 is unsynced: the pattern, and the disk and word 4 after it.
 const TORN_WITH_A_WORD: &[(Pattern, [u8; 4], u16)] = &[
     (Pattern::Old, [1, 2, 3, 4], 0),
     (Pattern::New, [9, 2, 3, 4], 1),
     (Pattern::Fill(0xdead), [0xad, 2, 3, 4], 0xdead),
 ];
 
-// The fuse's pattern, what is written at a place and not synced, and the disk in a snapshot then.
+// The fuse's pattern, where bytes are written and not synced, these bytes, and the disk in a snapshot.
 const SNAPSHOTS: &[(Option<Pattern>, usize, &[u8], &[u8])] = &[
     (None, 1, &[8, 9], &[1, 2, 3, 4]),
     (None, 4, &[5], &[1, 2, 3, 4]),
@@ -37,7 +37,7 @@ const SNAPSHOTS: &[(Option<Pattern>, usize, &[u8], &[u8])] = &[
     (Some(Pattern::Fill(0x12a5)), 4, &[5], &[1, 2, 3, 4, 0xa5]),
 ];
 
-// How many words are to end in error, how often word 4 is issued and polled, and its value then.
+// How many writes of a word are to end with an error, how often word 4 is issued and polled, and its value after that.
 const FAILED: &[(u32, u32, u16)] = &[(1, 1, 0), (1, 2, 1)];
 
 // A line of one slave of 64 words, and a disk of the bytes 1, 2, 3 and 4.
@@ -56,7 +56,7 @@ fn site(alloc: Global) -> Option<MemSite> {
     site_of(alloc, parts)
 }
 
-// Why a datagram at the control register of the slave fails, if it does.
+// The fault of a datagram for the control register of the slave, if it fails.
 fn fault_of(site: &mut impl Site, command: Command, content: &[u8]) -> Option<DeviceFault> {
     let mut frame = Frame::new();
     let pushed = frame.push(command, 0, fp(0x1001, 0x0502), content);
@@ -66,7 +66,7 @@ fn fault_of(site: &mut impl Site, command: Command, content: &[u8]) -> Option<De
     site.exchange(0, &mut frame).err()
 }
 
-// Why a frame fails that asks for 1 in word 4, if it does.
+// The fault of a frame that issues a 1 for word 4, if it fails.
 fn issue(site: &mut impl Site) -> Option<DeviceFault> {
     fault_of(site, Command::Fpwr, &[0x01, 0x02, 4, 0, 0, 0, 1, 0])
 }
@@ -79,7 +79,7 @@ fn word(parts: &Parts) -> Option<(u16, bool)> {
     }
 }
 
-// Whether the disk's bytes are these, and word 4 is so.
+// Whether the disk has these bytes, word 4 this value, and word 4 is in flight or not, as given.
 fn holds(parts: &Parts, bytes: &[u8], alias: u16, is_in_flight: bool) -> bool {
     match &parts.disk {
         Some(disk) => disk.as_slice() == bytes && word(parts) == Some((alias, is_in_flight)),
@@ -95,7 +95,7 @@ fn leaves(site: MemSite, bytes: &[u8], alias: u16) -> bool {
     is_so
 }
 
-// A write and a sync succeed, and a second write does where the site stops in the sync behind it. Whether the calls answer so.
+// Whether a write and a sync succeed, and a second write does exactly if the site is to stop only in the sync after it (`in_sync`).
 fn stops_in_the_second(site: &mut impl Site, in_sync: bool) -> bool {
     site.has_disk()
         && site.disk_write(0, &[7]).is_ok()
@@ -103,14 +103,14 @@ fn stops_in_the_second(site: &mut impl Site, in_sync: bool) -> bool {
         && site.disk_write(0, &[8, 8]).is_ok() == in_sync
 }
 
-// Whether the site has stopped, once it syncs.
+// Whether the site has stopped: a sync, and a call for the length after it, report that.
 fn has_stopped(site: &mut impl Site) -> bool {
     site.has_disk()
         && site.disk_sync() == Err(DeviceFault::Stopped)
         && site.disk_len() == Err(DeviceFault::Stopped)
 }
 
-// Whether such a stop leaves these bytes.
+// Whether a power cut after this number of device writes leaves these bytes.
 fn tears(alloc: Global, passing: u64, pattern: Pattern, bytes: &[u8]) -> bool {
     let Some(mut site) = site(alloc) else {
         return false;
@@ -127,12 +127,12 @@ fn a_stop_tears_unsynced_bytes(rt: HostRuntime) {
     }
 }
 
-// A byte is written, and the site stops in a word. Whether the calls answer so.
+// Whether a byte is written, and the site stops in the write of a word.
 fn stops_in_a_word(site: &mut impl Site) -> bool {
     site.has_disk() && site.disk_write(0, &[9]).is_ok() && issue(site) == Some(DeviceFault::Stopped)
 }
 
-// Whether such a stop leaves these bytes and this value of the word.
+// Whether a power cut in a word leaves these bytes and this value of the word.
 fn tears_both(alloc: Global, pattern: Pattern, bytes: &[u8], alias: u16) -> bool {
     let Some(mut site) = site(alloc) else {
         return false;
@@ -149,14 +149,14 @@ fn a_stop_in_a_word_tears_unsynced_bytes(rt: HostRuntime) {
     }
 }
 
-// A length is read, and a write fails. Whether the calls answer so.
+// Whether the length is read, and a write fails.
 fn fails_to_write(site: &mut impl Site) -> bool {
     site.has_disk()
         && site.disk_len() == Ok(4)
         && site.disk_write(0, &[9]) == Err(DeviceFault::Disk)
 }
 
-// A frame is lost, and a sync succeeds. Whether the calls answer so.
+// Whether a frame is lost, and a sync succeeds.
 fn loses_a_frame(site: &mut impl Site) -> bool {
     issue(site) == Some(DeviceFault::Lost) && site.has_disk() && site.disk_sync().is_ok()
 }
@@ -178,7 +178,7 @@ fn calls_that_fail_change_nothing(rt: HostRuntime) {
     assert!(rt; fails_in_turn(rt.alloc()));
 }
 
-// Issues word 4 so many times, with a poll behind each. Whether all calls succeed.
+// Issues word 4 this number of times, each with a poll after it. Whether all calls succeed.
 fn is_issued(site: &mut impl Site, times: u32) -> bool {
     let mut is_well = true;
     for _issue in 0..times {
@@ -187,7 +187,7 @@ fn is_issued(site: &mut impl Site, times: u32) -> bool {
     is_well
 }
 
-// Whether so many words that fail, of so many that are issued, leave this value.
+// Whether word 4 has this value after it was issued `times` times, of which the first `failing` end with an error.
 fn keeps_its_value(alloc: Global, failing: u32, times: u32, alias: u16) -> bool {
     let Some(mut site) = site(alloc) else {
         return false;
@@ -204,7 +204,7 @@ fn a_word_that_fails_keeps_its_value(rt: HostRuntime) {
     }
 }
 
-// Whether bytes can be written from a place on.
+// Whether bytes can be written from byte `at` on.
 fn writes(site: &mut impl Site, at: usize, over: &[u8]) -> bool {
     if !site.has_disk() {
         return false;
@@ -230,7 +230,7 @@ fn is_left(alloc: Global, site: &mut MemSite, at: usize, over: &[u8], bytes: &[u
     }
 }
 
-// Whether a snapshot of a site with this fuse is so.
+// Whether a snapshot of a site with this fuse, with unsynced bytes and a word in flight, has these bytes.
 fn is_left_with(
     alloc: Global,
     fuse: Option<Pattern>,
@@ -256,7 +256,7 @@ fn a_snapshot_is_what_a_stop_leaves(rt: HostRuntime) {
     }
 }
 
-// What the disk holds from place 2 on, 3 bytes of it.
+// The three bytes of the disk from byte 2 on.
 fn read(site: &mut impl Site) -> Option<[u8; 3]> {
     let mut bytes = [0u8; 3];
     if !site.has_disk() || site.disk_len() != Ok(5) {

@@ -7,6 +7,7 @@ pub data Front (X : Type 0) : Type 0 where
   Item : X → List ℕ → Front X
   Broken : Front X
 
+-- goes on with the value of a step, or passes its fault on
 infixl 10 ◌>>=◌
 abbrev pub ◌>>=◌ : {A B E : Type 0} → Result A E → (A → Result B E) → Result B E
 (Ok x) >>= f = f x
@@ -18,17 +19,18 @@ items_behind cells Ended others = Ok []
 items_behind cells (Item x rest) others = others rest >>= λ xs. Ok (x ∷ xs)
 items_behind cells Broken others = Err cells
 
--- fewer than n items
+-- the items, of which there must be fewer than n
 unfoldable pub items_below : {X : Type 0} → (List ℕ → Front X) → ℕ → List ℕ → Result (List X) (List ℕ)
 items_below front zero cells = Err cells
 items_below front (suc n) cells = items_behind cells (front cells) (items_below front n)
 
--- all of them: there are no more items than cells
+-- all items; there are no more of them than cells
 unfoldable pub items_of : {X : Type 0} → (List ℕ → Front X) → List ℕ → Result (List X) (List ℕ)
 items_of front cells = items_below front (suc (length cells)) cells
 
--- so many items, read one by one, and what is left behind them
-unfoldable pub counted : {X : Type 0} → (List ℕ → Result (X × List ℕ) (List ℕ)) → ℕ → List ℕ → Result (List X × List ℕ) (List ℕ)
+-- this many items, read one by one, and what is left behind them
+unfoldable pub counted : {X : Type 0} → (List ℕ → Result (X × List ℕ) (List ℕ)) → ℕ → List ℕ
+    → Result (List X × List ℕ) (List ℕ)
 counted one zero cells = Ok ([], cells)
 counted one (suc n) cells = do
   first ← one cells

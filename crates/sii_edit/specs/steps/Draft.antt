@@ -1,12 +1,12 @@
 -- Where a slave stands in a draft, and the runs of a draft slave by slave.
 use Rattle.std.specs.Prelude.{ℕ, suc, nat_lt, List, [], ◌∷◌, ◌++◌, if◌then◌else◌}
 use Rattle.sii_words.specs.Plant.{words_of}
-use Rattle.sii_runs.specs.declared.run.Run.{Run}
-use Rattle.sii_runs.specs.Run.{stretches}
+use Rattle.sii_words.specs.declared.run.Run.{Run}
+use Rattle.sii_words.specs.Run.{stretches}
 use Rattle.sii_edit.specs.declared.draft.Renewal.{Renewal}
 use Rattle.sii_edit.specs.Draft.{renewed}
 
--- how many renewals are of slaves before this one
+-- the number of renewals of slaves before this one
 abbrev pub place_of : List Renewal → ℕ → ℕ
 place_of [] slave = 0
 place_of (first ∷ others) slave = if nat_lt first.slave slave then suc (place_of others slave) else 0

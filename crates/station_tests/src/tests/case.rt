@@ -1,4 +1,4 @@
-// One run of the program: the files before it, what it is asked, and what it prints and leaves.
+// One run of the program: the files before it, its arguments, and what it should print and leave.
 
 use crate::shelf::Shelf;
 use station_serve::serve;
@@ -14,17 +14,17 @@ use std::thread::Threads;
 #[derive(Clone, Copy)]
 pub enum Bytes {
     Text(&'static str),
-    /// So many bytes, all 0 but for the check byte 0x30 and for these from these places on.
+    /// This many bytes: zeros, the check byte 0x30, and these bytes at these offsets.
     Image(usize, &'static [(usize, &'static [u8])]),
-    /// So many bytes 0xFF.
+    /// This many bytes of 0xFF.
     Blank(usize),
-    /// So many bytes, all 0 but for these from these places on.
+    /// This many bytes: zeros, and these bytes at these offsets.
     Zeros(usize, &'static [(usize, &'static [u8])]),
 }
 
 pub type Files = &'static [(&'static str, Bytes)];
 
-/// A run, and what is wanted of it: its status, its output, its faults, and files that it leaves.
+/// A run, and what is expected of it: status, output, faults, files that it leaves, and the number of files that it writes.
 #[derive(Clone, Copy)]
 pub struct Case {
     pub words: &'static str,
@@ -49,7 +49,7 @@ pub const ALONE: Case = Case {
     writes: 0,
 };
 
-/// What a run of the program prints.
+/// The exit status of a run, and what it printed.
 #[derive(Drop)]
 pub struct Printed {
     pub status: u8,
@@ -108,7 +108,7 @@ pub fn shelf_with(alloc: Global, files: Files) -> Result<Shelf, AllocError> {
     Ok(shelf)
 }
 
-/// Runs the program on words that are parted by spaces.
+/// Runs the program on arguments that are separated by spaces.
 pub fn run_words<R: Read>(
     rt: &(impl Wait + Threads + Sync),
     alloc: Global,
@@ -126,7 +126,7 @@ pub fn run_words<R: Read>(
     })
 }
 
-/// The status of a run with these streams.
+/// The exit status of a run with these streams.
 pub fn served<R: Read, W: Write>(
     rt: &(impl Wait + Threads + Sync),
     alloc: Global,
@@ -167,7 +167,7 @@ pub fn all_come(
     Ok(())
 }
 
-/// What of a run isn't as it is wanted; empty where all is.
+/// Which expectation of a run fails; empty where none does.
 pub fn differs(
     rt: &(impl Wait + Threads + Sync),
     alloc: Global,
@@ -186,7 +186,7 @@ pub fn differs(
     leaves(alloc, &shelf, case.left)
 }
 
-/// Whether the shelf has these files; what isn't so, empty where it does.
+/// Which of these files the shelf doesn't have; empty where it has all.
 pub fn leaves(alloc: Global, shelf: &Shelf, left: Files) -> Result<&'static str, AllocError> {
     for (name, bytes) in left {
         if !shelf.holds(name, &spell(alloc, *bytes)?)? {
@@ -196,7 +196,7 @@ pub fn leaves(alloc: Global, shelf: &Shelf, left: Files) -> Result<&'static str,
     Ok("")
 }
 
-/// A run over the files that the one before it left: its words, its status, its output, its faults, and how many files it writes.
+/// A run over the files that the run before it left: its arguments, status, output and faults, and how many files it writes.
 #[derive(Clone, Copy)]
 pub struct Step {
     pub words: &'static str,
@@ -206,14 +206,14 @@ pub struct Step {
     pub writes: usize,
 }
 
-/// Files, runs over them in a row, and what they leave.
+/// Files, several runs over them in a row, and the files that they leave.
 pub struct Story {
     pub files: Files,
     pub steps: &'static [Step],
     pub left: Files,
 }
 
-/// Checks that all comes as each story tells it.
+/// Checks that each story goes as expected.
 pub fn all_told(
     rt: &(impl Abort + Wait + Threads + Sync),
     alloc: Global,
@@ -226,7 +226,7 @@ pub fn all_told(
     Ok(())
 }
 
-/// The words of the first of these runs in a row that isn't as it is wanted, or what is left otherwise; empty where all is.
+/// The arguments of the first run of a story that doesn't go as expected, or the file that isn't left so; empty where all is as expected.
 pub fn goes(
     rt: &(impl Wait + Threads + Sync),
     alloc: Global,
@@ -243,7 +243,7 @@ pub fn goes(
     leaves(alloc, &shelf, left)
 }
 
-/// Whether the next run over the files of a shelf is as it is wanted.
+/// Whether the next run over the files of a shelf goes as expected.
 fn goes_on(
     rt: &(impl Wait + Threads + Sync),
     alloc: Global,

@@ -1,4 +1,4 @@
-// The power is cut in each call of the program that writes or syncs, and the disk fails in each.
+// The power is cut in each call of the program that writes or syncs, and the disk fails in each such call.
 
 use super::case::{Bytes, Files, Printed, leaves, run_words, shelf_with};
 use super::scripts::{ALL_SETTLED, JOURNAL_OF_THREE, ONE, THREE_COMMANDS, ZERO};
@@ -46,10 +46,10 @@ const FILES: Files = &[
     ("script.toml", THREE_COMMANDS),
 ];
 
-/// What a run prints that tells so many commands durable.
+/// What a run prints if this many commands are durable.
 const TOLD: &[(&str, usize)] = &[(" durable 1 ", 1), (" durable 2 ", 2), (" durable 3 ", 3)];
 
-/// After how many of the commands the slaves' files are so; None where that is no prefix of them.
+/// After how many of the commands the slaves' files are as they are now; `None` where that is no prefix of the commands.
 fn prefix_of(alloc: Global, shelf: &Shelf) -> Result<Option<usize>, AllocError> {
     for (count, files) in PREFIXES.iter().enumerate() {
         if leaves(alloc, shelf, files)?.is_empty() {
@@ -59,7 +59,7 @@ fn prefix_of(alloc: Global, shelf: &Shelf) -> Result<Option<usize>, AllocError> 
     Ok(None)
 }
 
-/// How many commands a run told durable.
+/// How many commands are durable by the output of a run.
 fn durable_of(run: &Printed) -> usize {
     let text = str::from_utf8(&run.output).unwrap_or("");
     for (words, count) in TOLD {
@@ -79,7 +79,7 @@ fn run_on(
     run_words(rt, alloc, words, &mut io::empty(), shelf)
 }
 
-/// Whether a recovery is done, and leaves the line as it is after a prefix of the commands with at least so many in it.
+/// Whether a recovery succeeds, and leaves the line as after a prefix of at least this many commands.
 fn is_mended(
     rt: &(impl Wait + Threads + Sync),
     alloc: Global,
@@ -93,19 +93,19 @@ fn is_mended(
     }
 }
 
-/// A line that a recovery mends: its files, and how many commands are in it then at least.
+/// A line that a recovery mends: its files, and how many commands are in it at least after the recovery.
 #[derive(Drop)]
 struct Mended {
     files: Vec<u8>,
     durable: usize,
 }
 
-/// The lines that were tried, so that none is tried twice.
+/// The lines that were tried already, so that none is tried twice.
 #[derive(Drop)]
 struct Tried {
-    /// Those that one recovery mends.
+    /// The lines that one recovery mends.
     once: Vec<Mended>,
-    /// Those that a recovery mends behind one in which the power is cut, in each of its calls.
+    /// The lines that a recovery mends after an earlier one was cut, in each of its calls.
     behind_cuts: Vec<Mended>,
 }
 
@@ -126,7 +126,7 @@ fn is_tried(tried: &[Mended], files: &[u8], durable: usize) -> bool {
     tried.iter().any(|one| one.durable >= durable && one.files.as_slice() == files)
 }
 
-/// The same as `is_mended`, tried once for each line.
+/// Like `is_mended`, but tries each line once.
 fn is_mended_once(
     rt: &(impl Wait + Threads + Sync),
     alloc: Global,
@@ -143,7 +143,7 @@ fn is_mended_once(
     Ok(is_mended)
 }
 
-/// Whether a recovery mends the line behind one in which the power is cut, in each of its calls in turn.
+/// Whether a recovery mends the line after an earlier one was cut, in each of its calls in turn.
 fn is_mended_behind_cuts(
     rt: &(impl Wait + Threads + Sync),
     alloc: Global,
@@ -166,7 +166,7 @@ fn is_mended_behind_cuts(
     Ok(false)
 }
 
-/// The same, tried once for each line.
+/// Like `is_mended_behind_cuts`, but tries each line once.
 fn is_mended_through_cuts(
     rt: &(impl Wait + Threads + Sync),
     alloc: Global,
@@ -184,8 +184,8 @@ fn is_mended_through_cuts(
     Ok(is_mended)
 }
 
-/// Whether the line is mended though the power is cut in a run by threads: in this call, in the second one behind it, and so on to the
-/// run's end. Without a cut all is synced, in the files themselves.
+/// Whether the line is mended after a power cut in a run by threads, in each even or each odd call in turn, as `first` is. Without a cut
+/// everything is synced, in the files themselves.
 fn is_kept(
     rt: &(impl Wait + Threads + Sync),
     alloc: Global,
@@ -267,7 +267,7 @@ const UNFORMATTED: Files = &[
     ("s2.bin", ZERO),
 ];
 
-/// Whether a line without a journal, or with one that is there whole, can be formatted or recovered, and its slaves are as they were.
+/// Whether a line without a journal can be formatted, or one with a whole journal recovered, with its slaves unchanged.
 fn is_formatted(
     rt: &(impl Wait + Threads + Sync),
     alloc: Global,
@@ -280,7 +280,7 @@ fn is_formatted(
     Ok((again.status == 0 || is_there) && run.status == 0 && is_old)
 }
 
-/// Whether a cut in each call of an init, of this pattern, leaves a line that can be formatted or recovered.
+/// Whether a power cut of this pattern, in each call of an init, leaves a line that can be formatted or recovered.
 fn is_made(
     rt: &(impl Wait + Threads + Sync),
     alloc: Global,
@@ -308,13 +308,13 @@ fn a_cut_at_each_call_of_an_init(rt: HostRuntime) -> Result<(), Fail> {
     Ok(())
 }
 
-/// Whether this is told as a fault of a file or a device.
+/// Whether the run printed a fault of a file or a device.
 fn is_told(run: &Printed) -> bool {
     let text = str::from_utf8(&run.faults).unwrap_or("");
     (run.status == 3 || run.status == 4) && text.starts_with("fault ")
 }
 
-/// How the disk fails from a call on.
+/// How the disk fails: in one call, or in all calls from that one on.
 #[derive(Clone, Copy)]
 enum Failing {
     Once,
@@ -328,7 +328,7 @@ fn trouble_at(failing: Failing, call: u64) -> Trouble {
     }
 }
 
-/// Whether each call of a run may fail so: it is told, and a recovery mends the line.
+/// Whether a failure of each call of a run is reported, and a recovery mends the line.
 fn is_failure_mended(
     rt: &(impl Wait + Threads + Sync),
     alloc: Global,
@@ -350,7 +350,7 @@ fn is_failure_mended(
     Ok(false)
 }
 
-/// What is left of bytes that a failing disk didn't sync.
+/// What a failing disk leaves of bytes that it didn't sync.
 const UNSYNCED: &[Pattern] = &[Pattern::Old, Pattern::New];
 
 #[test]
@@ -369,10 +369,10 @@ fn a_disk_that_fails_for_good(rt: HostRuntime) -> Result<(), Fail> {
     Ok(())
 }
 
-/// What runs where another station works on the journal.
+/// Runs that meet another station on the journal.
 const BUSY: &[&str] = &[RUN, RECOVER];
 
-/// Whether this is refused where another station works on the journal, and all files stay as they are.
+/// Whether a run is refused while another station works on the journal, with all files unchanged.
 fn is_busy(
     rt: &(impl Wait + Threads + Sync),
     alloc: Global,

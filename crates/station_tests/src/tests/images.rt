@@ -41,7 +41,7 @@ const DIGITAL_IO: &str = "04010000000000000000000000003900
 0101000a00006060010c01010000071a
 0101000b00007060010c01010000ffff\n";
 
-/// Images, and what `show` says of them.
+/// Images, and what `show` prints for them.
 const SHOWN: &[Case] = &[
     Case {
         words: "station show --hex",
@@ -115,7 +115,7 @@ fn images_are_shown(rt: HostRuntime) -> Result<(), Fail> {
     all_come(&rt, rt.alloc(), SHOWN)
 }
 
-/// Images that get an alias, and inputs that don't.
+/// Images that get an alias, and inputs that are refused.
 const RENAMED: &[Case] = &[
     Case {
         words: "station alias 00001 --hex",

@@ -57,10 +57,10 @@ const TWO: Bytes = Bytes::Text(
     "journal = 'j.bin'\n[[slave]]\nimage = 's0.bin'\n[[slave]]\nimage = 's1.bin'\n",
 );
 
-/// A journal of two slaves.
+/// The header of a journal for two slaves.
 const HEADER_OF_TWO: (usize, &[u8]) = (0, &[0xA5, 2, 2, 0, 0, 0x10, 0, 0]);
 
-/// A batch that would not find room for its closing gate.
+/// A journal with a batch that leaves no room for the gate after it.
 const TOO_LONG: Bytes = Bytes::Zeros(4104, &[HEADER_OF_TWO, (8, &[0xA5, 0, 0xFA, 7, 0, 0])]);
 
 const LATER_VERSION: Bytes = Bytes::Zeros(4104, &[(0, &[0xA5, 9, 2, 0, 0, 0x10, 0, 0])]);
@@ -71,7 +71,7 @@ const UNRECOVERED: Case = Case {
     ..ALONE
 };
 
-/// Journals that are none, or none of this line. Nothing is written.
+/// Files that are not a journal, or a journal of another line. Nothing is written.
 const REFUSED: &[Case] = &[
     Case {
         files: &[
@@ -116,7 +116,7 @@ fn journals_that_are_refused(rt: HostRuntime) -> Result<(), Fail> {
     all_come(&rt, rt.alloc(), REFUSED)
 }
 
-/// Files of a line whose journal is cut to so many bytes.
+/// The files of a line whose journal is truncated to `len` bytes.
 fn with_cut_journal(alloc: Global, len: usize) -> Result<Shelf, AllocError> {
     let header = [0xA5, 2, 1, 0, 0, 0x10, 0, 0];
     let mut shelf = shelf_with(alloc, NEW)?;
@@ -125,7 +125,7 @@ fn with_cut_journal(alloc: Global, len: usize) -> Result<Shelf, AllocError> {
     Ok(shelf)
 }
 
-/// Whether a journal that is cut to so many bytes is refused so, with nothing written.
+/// Whether a journal that is truncated to this many bytes is refused with this fault, and nothing is written.
 fn is_refused(
     rt: &(impl Wait + Threads + Sync),
     alloc: Global,

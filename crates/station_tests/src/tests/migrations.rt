@@ -2,7 +2,7 @@ use super::case::{Bytes, Files, Step, Story, all_told};
 use super::scripts::{LINE, ONE, ZERO};
 use std::test::Fail;
 
-/// A journal of version 1 with one batch that is live, by which the slave gets alias 1.
+/// A journal of version 1 with one live batch, which gives the slave alias 1.
 const OLD: Bytes = Bytes::Zeros(
     4104,
     &[
@@ -17,7 +17,7 @@ const OLD: Bytes = Bytes::Zeros(
     ],
 );
 
-/// The same once it is migrated: the gate is closed, the mark stands behind it, and the header has version 2.
+/// The journal `OLD` after migration: the gate is closed, the mark follows it, and the header has version 2.
 const NEW: Bytes = Bytes::Zeros(
     4104,
     &[
@@ -32,7 +32,7 @@ const NEW: Bytes = Bytes::Zeros(
     ],
 );
 
-/// A migration that was stopped as it wrote the version.
+/// A migration that was cut while it wrote the version byte.
 const STOPPED: Bytes = Bytes::Zeros(
     4104,
     &[(
@@ -66,7 +66,7 @@ const RECOVER: Step = Step {
     writes: 2,
 };
 
-/// A run on an old journal prints nothing of the migration, and its fuse doesn't count it.
+/// A run on a journal of version 1 prints nothing about the migration, and its fuse doesn't count the migration's writes.
 const OLD_JOURNALS: &[Story] = &[
     Story {
         files: LINE_OF_OLD,

@@ -13,7 +13,7 @@ pub const THREE: Bytes = Bytes::Text(
 
 pub const ZERO: Bytes = Bytes::Image(128, &[]);
 
-/// An image of alias 1, and one whose check byte is wrong.
+/// An image with alias 1, and one with a wrong check byte.
 pub const ONE: Bytes = Bytes::Image(128, &[(8, &[1]), (14, &[0x19])]);
 
 const UNCHECKED: Bytes = Bytes::Image(128, &[(14, &[0x31])]);
@@ -25,7 +25,7 @@ pub const JOURNAL_OF_THREE: Bytes = Bytes::Zeros(4104, &[(0, &[0xA5, 2, 3, 0, 0,
 
 pub const JOURNAL_OF_ONE: Bytes = Bytes::Zeros(4104, &[(0, &[0xA5, 2, 1, 0, 0, 0x10, 0, 0])]);
 
-/// Commands of a line of aliases 0 and 1 and a slave whose check byte is wrong.
+/// Commands on a line with aliases 0 and 1 and a slave with a wrong check byte.
 const ANSWERED: Case = Case {
     words: RUN,
     files: &[
@@ -74,7 +74,7 @@ accepted 2 durable 2 settled 2\n",
     ..ALONE
 };
 
-/// An image of so many process data that there is no process image.
+/// An image with more process data than a process image holds.
 const LARGE: Bytes = Bytes::Image(
     1024,
     &[
@@ -89,7 +89,7 @@ const LARGE: Bytes = Bytes::Image(
     ],
 );
 
-/// Commands on a slave with two categories of type 60, and on one whose chain is cut.
+/// Commands on a slave with two categories of type 60, and on one whose chain breaks off.
 const UNFIT: Case = Case {
     words: RUN,
     files: &[
@@ -127,7 +127,7 @@ accepted 0 durable 0 settled 0\n",
     ..ALONE
 };
 
-/// A slave gets an identity, and then an alias that expects it.
+/// A slave gets an identity, and then an alias by an edit that expects this identity.
 const NAMED: Case = Case {
     words: RUN,
     files: &[
@@ -163,7 +163,7 @@ accepted 1 durable 1 settled 1\n",
     ..ALONE
 };
 
-/// What is left of a line where its files can't be read.
+/// A run whose files can't be read, and the files that it leaves.
 const UNREAD: Case = Case {
     words: RUN,
     status: 3,
@@ -173,7 +173,7 @@ const UNREAD: Case = Case {
 
 pub const LINE: Bytes = Bytes::Text("journal = 'j.bin'\n[[slave]]\nimage = 's0.bin'");
 
-/// A journal that is none, and one of two slaves.
+/// A file that is not a journal, and a journal of two slaves.
 const NO_JOURNAL: Bytes = Bytes::Zeros(4104, &[]);
 
 const JOURNAL_OF_TWO: Bytes = Bytes::Zeros(4104, &[(0, &[0xA5, 2, 2, 0, 0, 0x10, 0, 0])]);
@@ -182,8 +182,8 @@ const SWAP_OF_ONE: Bytes = Bytes::Text("[[command]]\nswap = [0]");
 
 const NOTHING: Bytes = Bytes::Text("command = []");
 
-/// The files are read in order: line, slaves, journal, script, its images. What the journal holds is judged last. A bad image stands
-/// behind a bad command, and a missing one behind a bad one.
+/// The files are read in this order: line file, images of the slaves, journal, script, images that the script names. The content of the
+/// journal is judged last. Among the cases, a bad image comes after a bad command, and a missing image after a bad one.
 const REFUSED: &[Case] = &[
     Case {
         files: &[
@@ -278,7 +278,7 @@ const REFUSED: &[Case] = &[
     },
 ];
 
-/// Three commands of which the last two change what the first did.
+/// Three commands. The last two change what the first one wrote.
 pub const THREE_COMMANDS: Bytes = Bytes::Text(
     "command = [
     { alias = { slave = 0, value = 1 } },
@@ -294,7 +294,7 @@ pub const ALL_SETTLED: Files = &[
     ("s2.bin", Bytes::Image(128, &[(8, &[7]), (14, &[0xEF])])),
 ];
 
-/// These commands, all queued in one batch.
+/// These commands, all in one batch.
 pub const QUEUED: Case = Case {
     words: RUN,
     files: &[
@@ -373,7 +373,7 @@ pub const LONG_FILES: Files = &[
     ),
 ];
 
-/// The second image waits until the first stands in the journal's other half, and the alias until the first is in place.
+/// The second image waits until the first one is in the other half of the journal, and the alias until the first one is settled.
 const LONG: Case = Case {
     words: RUN,
     files: LONG_FILES,
@@ -413,7 +413,7 @@ const ONE_SLAVE: Files = &[
     ("j.bin", JOURNAL_OF_ONE),
 ];
 
-/// Whether more commands than can wait at once, of which none changes anything, are accepted all the same.
+/// Whether more commands than the queue holds are accepted; none of them changes anything.
 fn waits_for_room(rt: &(impl Wait + Threads + Sync), alloc: Global) -> Result<bool, AllocError> {
     let script = "[[command]]\nalias = { slave = 0, value = 0 }\n".repeat(alloc, 1025)?;
     let mut shelf = shelf_with(alloc, ONE_SLAVE)?;
@@ -430,10 +430,10 @@ fn a_full_book(rt: HostRuntime) -> Result<(), Fail> {
     Ok(())
 }
 
-/// A run on one thread: the power cut comes behind the last write.
+/// A run on one thread: its planned power cut would come after the last write.
 const RUN_ON_ONE: &str = "station run line.toml script.toml --fuse 4294967295";
 
-/// What differs between a run on one thread and what a run by threads prints and leaves; empty where nothing does.
+/// How a run on one thread differs, in output and files, from a run by threads; empty where it doesn't.
 fn differs_on_one(
     rt: &(impl Wait + Threads + Sync),
     alloc: Global,
@@ -446,7 +446,7 @@ fn differs_on_one(
     differs(rt, alloc, &on_one)
 }
 
-/// What a run by threads leaves to recover; empty where nothing.
+/// What a run by threads leaves to a recovery; empty where it leaves nothing.
 fn leaves_live(
     rt: &(impl Wait + Threads + Sync),
     alloc: Global,

@@ -7,8 +7,8 @@ use std::sync::Wait;
 use std::test::Fail;
 use std::thread::Threads;
 
-/// A slave that gets alias 1: three writes and syncs until its batch is live, a fourth until it is acknowledged, two words, and two
-/// until it is retired.
+/// A slave that gets alias 1. The writes are: three writes and syncs until the batch is live, a fourth until it is acknowledged, two words,
+/// and two until the batch is retired.
 const ALIAS: Files = &[
     ("line.toml", LINE),
     ("j.bin", JOURNAL_OF_ONE),
@@ -19,7 +19,7 @@ const ALIAS: Files = &[
     ),
 ];
 
-/// The power is cut as the gate is written.
+/// The power is cut while the gate is opened.
 const AT_THE_GATE: Step = Step {
     words: "",
     status: 4,
@@ -28,7 +28,7 @@ const AT_THE_GATE: Step = Step {
     writes: 2,
 };
 
-/// The power is cut as the gate is closed.
+/// The power is cut while the gate is closed.
 const AT_THE_RETIRE: Step = Step {
     output: "command 0 accepted 0\naccepted 1 durable 1 settled 1\n",
     ..AT_THE_GATE
@@ -44,7 +44,7 @@ const RECOVER: Step = Step {
     writes: 2,
 };
 
-/// A slave that gets an image with which a half of the journal is full, and an alias, whose batch goes into the other half.
+/// A slave that gets an image, whose batch fills a half of the journal, and an alias, whose batch goes into the other half.
 const HALVES: Files = &[
     ("line.toml", LINE),
     ("j.bin", JOURNAL_OF_ONE),
@@ -168,7 +168,7 @@ const CUT: &[Story] = &[
         ],
         left: IN_HALVES,
     },
-    // What is submitted behind the stop is refused.
+    // A command that is submitted after the power cut is refused.
     Story {
         files: LONG_FILES,
         steps: &[
@@ -185,7 +185,7 @@ accepted 1 durable 0 settled 0\n",
         ],
         left: &[],
     },
-    // A fuse that isn't reached.
+    // A planned power cut that isn't reached.
     Story {
         files: ALIAS,
         steps: &[
@@ -209,16 +209,17 @@ fn power_cuts(rt: HostRuntime) -> Result<(), Fail> {
 /// How a run with a fuse ended.
 #[derive(Clone, Copy, PartialEq, Eq)]
 enum Came {
-    /// It wasn't stopped.
+    /// The run ended without a power cut.
     Done,
-    /// It was stopped, and a recovery left the line as it was, or as it is with all commands, as it has to be where they were acknowledged.
+    /// The power was cut. A recovery left the line with all commands, or, if none was acknowledged, as it was.
     Kept,
+    /// Anything else.
     Wrong,
 }
 
 const OLD: Files = &[("s0.bin", ZERO), ("s1.bin", ZERO), ("s2.bin", ZERO)];
 
-/// Whether a recovery leaves the line as it is with all commands or, where the run printed that none is durable, as it was.
+/// Whether a recovery leaves the line with all commands or, if the run printed that none is durable, as it was.
 fn is_recovered(
     rt: &(impl Wait + Threads + Sync),
     alloc: Global,
@@ -231,7 +232,7 @@ fn is_recovered(
     Ok(run.status == 0 && (is_new || is_old))
 }
 
-/// A run of three commands in one batch that is cut once so many writes have passed, and the recovery of the line.
+/// Runs three commands in one batch, cuts the power after this many writes, and recovers the line.
 fn cut_at(
     rt: &(impl Wait + Threads + Sync),
     alloc: Global,
@@ -255,7 +256,7 @@ fn cut_at(
     }
 }
 
-/// How many writes have to pass until a run isn't stopped; None where something is wrong before.
+/// The least number of writes with which a run ends without a power cut; `None` where a run with fewer is wrong.
 fn writes_of_a_run(
     rt: &(impl Wait + Threads + Sync),
     alloc: Global,

@@ -8,7 +8,7 @@ use std::sync::Wait;
 use std::test::Fail;
 use std::thread::Threads;
 
-/// What a reader does at each call once it has given its first byte.
+/// What a reader does in each call after its first byte.
 #[derive(Clone, Copy, PartialEq, Eq)]
 enum Then {
     Fails,
@@ -41,7 +41,7 @@ impl Read for Trickle {
     }
 }
 
-/// Whether an alias of what this reader gives is `fault 90 File`.
+/// Whether `alias` on this reader ends in `fault 90 File`.
 fn is_file_fault(
     rt: &(impl Wait + Threads + Sync),
     alloc: Global,
@@ -99,7 +99,7 @@ fn readers(rt: HostRuntime) -> Result<(), Fail> {
     Ok(())
 }
 
-/// A writer that takes nothing.
+/// A writer that accepts no byte.
 #[derive(Drop)]
 struct Shut;
 
@@ -127,7 +127,7 @@ const FILES: Files = &[
     ("script.toml", Bytes::Text("command = []")),
 ];
 
-/// Whether a run whose output can't be written is `fault 90 File`.
+/// Whether a run whose output can't be written ends in `fault 90 File`.
 fn is_unwritten(
     rt: &(impl Wait + Threads + Sync),
     alloc: Global,

@@ -3,7 +3,7 @@ use station_text::{HexFault, LineFault, ScriptFault};
 use std::alloc::{AllocError, Global};
 use std::test::Fail;
 
-/// Scripts that are none as a whole.
+/// Texts that are not a script as a whole.
 const NO_SCRIPTS: &[&str] = &[
     "",
     "command",
@@ -13,7 +13,7 @@ const NO_SCRIPTS: &[&str] = &[
     "name = 'swap'\n[[command]]\nswap = [0, 1]",
 ];
 
-/// Commands that are none.
+/// Tables that are not a command.
 const REFUSED: &[&str] = &[
     "",
     "erase = 0",
@@ -66,7 +66,7 @@ const REFUSED: &[&str] = &[
     "group = [{ alias = { slave = 0, value = 1 }, expect = { vendor = 0, product = 0, revision = 0, serial = 0 } }]",
 ];
 
-/// The place of the bad command of a script; None where it is read.
+/// The place of the bad command of a script; `None` where the script is good.
 fn bad_command(alloc: Global, script: &str) -> Option<usize> {
     match read_script(alloc, script) {
         Err(ScriptFault::BadScript { command }) => Some(command),
@@ -74,7 +74,7 @@ fn bad_command(alloc: Global, script: &str) -> Option<usize> {
     }
 }
 
-/// Whether a script is refused for this command, which stands between two others.
+/// Whether a script is refused for this command, which comes between two others.
 fn is_refused(alloc: Global, command: &str) -> Result<bool, AllocError> {
     let script = format!(in alloc;
         "[[command]]\nswap = [0, 1]\n[[command]]\n{command}\n[[command]]\nerase = 0\n"
@@ -93,7 +93,7 @@ fn scripts_that_are_refused(rt: HostRuntime) -> Result<(), Fail> {
     Ok(())
 }
 
-/// Texts that are no line file.
+/// Texts that are not a line file.
 const NO_LINES: &[&str] = &[
     "",
     "journal",
@@ -119,7 +119,7 @@ fn is_bad_line(alloc: Global, text: &str) -> bool {
     read_line(alloc, text).err() == Some(LineFault::BadLine)
 }
 
-/// Whether a line of so many slaves is read.
+/// Whether a line file with this many slaves is read.
 fn is_line_of(alloc: Global, slaves: usize) -> Result<bool, AllocError> {
     let mut text = String::from_str(alloc, "journal = 'j.bin'\n")?;
     text.push_str(
@@ -139,7 +139,7 @@ fn lines_that_are_refused(rt: HostRuntime) -> Result<(), Fail> {
     Ok(())
 }
 
-/// Texts that are no hexadecimal digits.
+/// Texts that are not pairs of hexadecimal digits.
 const NO_HEX: &[&str] = &["003", "0x30", "30-30", "\u{e9}0"];
 
 fn is_bad_hex(alloc: Global, text: &str) -> bool {

@@ -6,7 +6,7 @@ use std::sync::Wait;
 use std::test::Fail;
 use std::thread::Threads;
 
-/// Words that are no use of the program.
+/// Arguments that the program refuses.
 const WRONG: &[&str] = &[
     "station",
     "station show 1",
@@ -39,7 +39,7 @@ const WRONG: &[&str] = &[
     "station explain 15 16",
 ];
 
-/// Words that ask for help, and what it shows.
+/// Arguments that ask for help, and what the help shows.
 const HELP: &[(&str, &str)] = &[
     ("station --help", "Example:\n"),
     ("station help", "Example:\n"),
@@ -57,7 +57,8 @@ const HELP: &[(&str, &str)] = &[
     ("station explain --help", "Example:\n"),
 ];
 
-/// Whether the words end with this status, and print this on standard output or, of usage, anything on standard error.
+/// Whether a run with these arguments ends with this status, and prints this on standard output or, for wrong usage, anything on standard
+/// error.
 fn answers(
     rt: &(impl Wait + Threads + Sync),
     alloc: Global,

@@ -1,8 +1,8 @@
 use Rattle.std.proofs.Common.{List, sym, ◌∙◌, subst}
 use Rattle.jrn_format.specs.declared.journal.Entry.{Entry}
 use Rattle.book_model.specs.Entries.{runs_of, sizes_of}
-use Rattle.book_slaves.specs.Line.{AreOfLine}
-use Rattle.book_ledger.specs.Ledger.{appended}
+use Rattle.book_parts.specs.Line.{AreOfLine}
+use Rattle.book_parts.specs.Ledger.{appended}
 use Rattle.book_core.proofs.InsideLaws.{entries-inside}
 use Rattle.book_core.proofs.done.go_live.Goals as goal
 

@@ -3,7 +3,7 @@ use Rattle.jrn_format.specs.declared.journal.Entry.{Entry}
 use Rattle.jrn_format.specs.declared.journal.Batch.{Batch}
 use Rattle.jrn_format.specs.Batch.{IsWithin}
 use Rattle.book_model.specs.Entries.{runs_of, entries_of}
-use Rattle.book_slaves.specs.Line.{AreOfLine, NeverFall}
+use Rattle.book_parts.specs.Line.{AreOfLine, NeverFall}
 use Rattle.book_core.specs.Stands.{as_found, cell_counts}
 use Rattle.book_core.proofs.FoundLaws.{all-at, joined-none, still-found, still-inside, found-order, ahead-batch, ahead-more}
 use Rattle.book_core.proofs.taking.join_half.Goals as goal

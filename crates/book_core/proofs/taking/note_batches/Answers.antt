@@ -1,8 +1,8 @@
 use Rattle.std.proofs.Common.{◌≡◌, ◌<◌, ◌∙◌, List, [], ◌∷◌, ◌++◌, length, get_or, take, sym, ap, subst, ℕ, append_assoc}
 use Rattle.std.specs.List.{AllByRecursion}
 use Rattle.std.proofs.lemmas.List.{append-nil}
-use Rattle.sii_runs.specs.Redo.{redone}
-use Rattle.sii_runs.proofs.RedoLaws.{redone-nil}
+use Rattle.sii_words.specs.Redo.{redone}
+use Rattle.sii_words.proofs.RedoLaws.{redone-nil}
 use Rattle.jrn_format.specs.declared.journal.Entry.{Entry}
 use Rattle.jrn_format.specs.declared.journal.Batch.{Batch}
 use Rattle.jrn_format.specs.Batch.{LieWithin, IsWithin}

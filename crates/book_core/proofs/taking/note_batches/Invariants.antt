@@ -1,5 +1,5 @@
 use Rattle.std.proofs.Common.{◌≡◌, ◌++◌, take}
-use Rattle.sii_runs.specs.Redo.{redone}
+use Rattle.sii_words.specs.Redo.{redone}
 use Rattle.book_model.specs.Entries.{entries_of, live_runs}
 use Rattle.book_core.proofs.taking.note_batches.Given as goal
 

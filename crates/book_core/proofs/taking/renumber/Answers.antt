@@ -1,5 +1,5 @@
 use Rattle.std.proofs.Common.{refl, arith}
-use Rattle.book_slaves.proofs.MapLaws.{mapped-more}
+use Rattle.book_parts.proofs.MapLaws.{mapped-more}
 use Rattle.book_core.specs.Stands.{as_found}
 use Rattle.book_core.proofs.taking.renumber.Goals as goal
 

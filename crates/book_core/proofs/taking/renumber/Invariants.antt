@@ -1,4 +1,4 @@
-use Rattle.book_slaves.proofs.MapLaws.{Mapped}
+use Rattle.book_parts.proofs.MapLaws.{Mapped}
 use Rattle.book_core.specs.Stands.{as_found}
 use Rattle.book_core.proofs.taking.renumber.Given as goal
 

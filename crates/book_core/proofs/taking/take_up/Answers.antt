@@ -3,9 +3,9 @@ use Rattle.std.specs.List.{AllByRecursion}
 use Rattle.std.proofs.lemmas.Result.{on_ok_weaker}
 use Rattle.jrn_format.specs.declared.journal.Batch.{Batch}
 use Rattle.jrn_format.specs.Batch.{IsWithin}
-use Rattle.jrn_laws.specs.Live.{halves_in}
+use Rattle.jrn_format.specs.Live.{halves_in}
 use Rattle.book_model.specs.Entries.{entries_of}
-use Rattle.book_room.specs.declared.spot.Spot.TheVariants.{InOlder}
+use Rattle.book_parts.specs.declared.spot.Spot.TheVariants.{InOlder}
 use Rattle.book_core.specs.Stands.{as_found, cell_counts}
 use Rattle.book_core.proofs.FoundLaws.{all-drop, older-first, newer-behind, none-found, counts-stay, still-found, taken-up}
 use Rattle.book_core.proofs.taking.take_up.Goals as goal

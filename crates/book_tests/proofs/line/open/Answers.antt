@@ -1,8 +1,8 @@
 use Rattle.std.proofs.Common.{ℕ, List, sym, ap, ◌∙◌, subst}
 use Rattle.std.specs.Int.{w32}
 use Rattle.jrn_format.specs.Header.{field_at}
-use Rattle.jrn_laws.specs.Live.{CanBeLive}
-use Rattle.jrn_laws.proofs.OpenLaws.{journal-can-be-live}
+use Rattle.jrn_format.specs.Live.{CanBeLive}
+use Rattle.jrn_format.proofs.OpenLaws.{journal-can-be-live}
 use Rattle.book_model.specs.Entries.{sizes_of}
 use Rattle.book_tests.proofs.line.open.Goals as goal
 

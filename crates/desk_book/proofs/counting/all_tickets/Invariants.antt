@@ -1,7 +1,7 @@
 use Rattle.std.proofs.Common.{◌≡◌, take}
 use Rattle.std.specs.Prelude.{sum_by}
-use Rattle.desk_book.specs.Serving.{Counts}
+use Rattle.desk_book.specs.Serving.{ShareCounts}
 use Rattle.desk_book.proofs.counting.all_tickets.Given as goal
 
 abbrev pub invariant-loop-i : goal.invariant-loop-i
-invariant-loop-i g l = l.sum ≡ sum_by (λ (s : Counts). s.tickets) (take l.i l.shares)
+invariant-loop-i g l = l.sum ≡ sum_by (λ (s : ShareCounts). s.tickets) (take l.i l.shares)

@@ -1,5 +1,5 @@
 use Rattle.std.proofs.Common.{◌+◌, ◌<◌, ◌^◌, List, length, sym, subst}
-use Rattle.edit_laws.specs.Fitting.{PlantFits}
+use Rattle.sii_edit.specs.Fitting.{PlantFits}
 use Rattle.jrn_format.specs.declared.journal.Batch.{Batch}
 use Rattle.book_model.specs.Entries.{entries_of}
 use Rattle.station_alone.proofs.OpenLaws.{few-found, live-found, opened-stands}

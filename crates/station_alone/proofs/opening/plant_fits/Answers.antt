@@ -1,7 +1,7 @@
 use Rattle.std.proofs.Common.{[], All, length, arith, subst, ◌<◌, ◌≤◌}
 use Rattle.std.proofs.lemmas.List.{take_all}
 use Rattle.std.proofs.lemmas.List.Elements.{All-more}
-use Rattle.edit_laws.specs.Fitting.{WordsFit}
+use Rattle.sii_edit.specs.Fitting.{WordsFit}
 use Rattle.station_alone.proofs.opening.plant_fits.Goals as goal
 
 pub loop-slave-preserved : goal.loop-slave-preserved

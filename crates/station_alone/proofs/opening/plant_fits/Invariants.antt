@@ -1,5 +1,5 @@
 use Rattle.std.proofs.Common.{All, take}
-use Rattle.edit_laws.specs.Fitting.{WordsFit}
+use Rattle.sii_edit.specs.Fitting.{WordsFit}
 use Rattle.station_alone.proofs.opening.plant_fits.Given as goal
 
 abbrev pub invariant-loop-slave : goal.invariant-loop-slave

@@ -9,7 +9,7 @@ returns-clause-takes g c =
     let old = g.S.Site.seen c.args.site.now in
     let mid = g.S.Site.seen c.set_line.new.site in
     let job = c.args.job in
-    let buffer = c.zeros-inputs.result.items in
+    let buffer = c.zero_bytes-inputs.result.items in
     record {
       set = Ok tt;
       mid = mid;
@@ -22,7 +22,7 @@ returns-clause-takes g c =
           nothing = c.turn-result.ensures.nothing;
           turn = λ some.
               turn-in job.plan.image c.deref.result.now job.outputs.items c.deref_mut.result.now (replicate job.plan.image.inputs 0) buffer c.turn-result.new.inputs mid (g.S.Site.seen c.turn-result.new.site)
-              c.turn-result.result c.deref.ensures.0 c.deref_mut.ensures.value (c.zeros-inputs.ensures ∙ ap (λ (n : ℕ). replicate n 0) c.inputs.ensures.inputs) c.turn-result.auto.inputs
+              c.turn-result.result c.deref.ensures.0 c.deref_mut.ensures.value (c.zero_bytes-inputs.ensures ∙ ap (λ (n : ℕ). replicate n 0) c.inputs.ensures.inputs) c.turn-result.auto.inputs
               (c.turn-result.ensures.turn some);
         },
       );

@@ -1,7 +1,7 @@
 use Rattle.std.proofs.Common.{subst, All}
 use Rattle.std.proofs.lemmas.List.{take_all}
 use Rattle.std.proofs.lemmas.List.Elements.{All-more}
-use Rattle.edit_laws.specs.Fitting.{WordsFit}
+use Rattle.sii_edit.specs.Fitting.{WordsFit}
 use Rattle.world_run.proofs.making.plant_fits.Goals as goal
 
 pub loop-words-preserved : goal.loop-words-preserved

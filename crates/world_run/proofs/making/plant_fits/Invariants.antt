@@ -1,5 +1,5 @@
 use Rattle.std.proofs.Common.{All, take}
-use Rattle.edit_laws.specs.Fitting.{WordsFit}
+use Rattle.sii_edit.specs.Fitting.{WordsFit}
 use Rattle.world_run.proofs.making.plant_fits.Given as goal
 
 abbrev pub invariant-loop-words : goal.invariant-loop-words

@@ -4,8 +4,8 @@ use Rattle.book_model.specs.Book.{Book}
 use Rattle.book_model.specs.Submit.{with_command}
 use Rattle.book_model.specs.Book as book
 use Rattle.jrn_format.specs.declared.journal.Entry.{Entry}
-use Rattle.book_ledger.specs.Change.{IsChangeOf}
-use Rattle.book_ledger.specs.Ledger as ledger
+use Rattle.book_parts.specs.Change.{IsChangeOf}
+use Rattle.book_parts.specs.Ledger as ledger
 use Rattle.book_core.specs.declared.book.Core.TheInside.{Inside}
 use Rattle.book_core.specs.Parts.{book_of}
 use Rattle.book_core.specs.Stands.{Stands}

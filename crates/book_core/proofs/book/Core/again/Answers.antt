@@ -1,7 +1,6 @@
 use Rattle.std.proofs.Common.{◌≡◌, ◌<◌, ◌≤◌, ℕ, length, sym, ◌∙◌, ap, subst, arith}
-use Rattle.slave_queue.specs.Cells.{since, cell_of}
-use Rattle.book_model.specs.Book.{Book, Free, slave_at}
-use Rattle.book_core.specs.Stands.{IsAbout}
+use Rattle.book_model.specs.Cells.{since, cell_of}
+use Rattle.book_model.specs.Book.{Book, Free, slave_at, IsAbout}
 use Rattle.book_core.specs.Parts.{book_of}
 use Rattle.book_core.proofs.SlaveLaws.{errand-again}
 use Rattle.book_core.proofs.WorkLaws.{errand-stands}

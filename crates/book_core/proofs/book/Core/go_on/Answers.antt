@@ -1,9 +1,9 @@
 use Rattle.std.proofs.Common.{◌≡◌, [], false, sym, ◌∙◌, ap, subst}
-use Rattle.jrn_laws.specs.Halves.{InOlder}
+use Rattle.jrn_format.specs.Halves.{InOlder}
 use Rattle.book_model.specs.Entries.{runs_of, sizes_of}
 use Rattle.book_model.specs.Book.{Book}
 use Rattle.book_model.specs.DiskSteps.{went_on}
-use Rattle.book_room.specs.Spot.{as_place}
+use Rattle.book_parts.specs.Spot.{as_place}
 use Rattle.book_core.specs.declared.step.Step.{Step}
 use Rattle.book_core.specs.Stands.{StepStands, IsAppending, IsRetiring}
 use Rattle.book_core.proofs.InsideLaws.{sizes-redone}

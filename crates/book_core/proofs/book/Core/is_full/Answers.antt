@@ -3,8 +3,8 @@ use Rattle.std.specs.Option.{option_map}
 use Rattle.book_model.specs.declared.refusal.TheConstants.{QUEUE}
 use Rattle.book_model.specs.Book.{Book}
 use Rattle.book_model.specs.Submit.{is_full}
-use Rattle.book_room.specs.Spot.{as_place}
-use Rattle.book_ledger.specs.Ledger.{queued}
+use Rattle.book_parts.specs.Spot.{as_place}
+use Rattle.book_parts.specs.Ledger.{queued}
 use Rattle.book_core.proofs.SubmitLaws.{none-is, full-behind, full-alone}
 use Rattle.book_core.proofs.book.Core.is_full.Goals as goal
 use Rattle.book_core.proofs.book.Core.is_full.Goals.{in-Some, in-None}

@@ -1,10 +1,10 @@
 use Rattle.std.proofs.Common.{◌≡◌, ◌<◌, ℕ, false, Some, None, length, refl, sym, ◌∙◌, ap, subst}
 use Rattle.std.specs.Prelude.{is_some}
-use Rattle.slave_queue.specs.Pending.{first}
+use Rattle.book_model.specs.Pending.{first}
 use Rattle.book_model.specs.Book.{Book, Free, slave_at}
 use Rattle.book_model.specs.RomSteps.{rom_next, without_work}
 use Rattle.book_model.specs.RomSteps as steps
-use Rattle.book_slaves.specs.Line.{Line, to_do, with_issue}
+use Rattle.book_parts.specs.Line.{LineState, to_do, with_issue}
 use Rattle.book_core.specs.Parts.{book_of}
 use Rattle.book_core.proofs.WorkLaws.{issue-stands}
 use Rattle.book_core.proofs.RomLaws.{next-issue, next-none, same-to_do}
@@ -39,7 +39,7 @@ returns-in-Some-clause-book c =
     let is : first (steps.to_do (book_of core) c.args.slave) ≡ Some w =
     ap first (same-to_do (book_of core) core.work c.args.slave refl c.self.invariant.live) ∙ sym c.issue.ensures.word ∙ c.in-Some.is in
     let made : c.issue.new.self ≡ with_issue core.work c.args.slave (Some w) = c.issue.ensures.issued ∙ ap (with_issue core.work c.args.slave) (sym c.issue.ensures.word ∙ c.in-Some.is) in
-    ap (λ (l : Line). book_of (record core { work = l })) made
+    ap (λ (l : LineState). book_of (record core { work = l })) made
     ∙ sym (ap (λ r. r.1) (next-issue (book_of core) c.args.slave w within free none is))
     ∙ ap (λ (b : Book). (rom_next b c.args.slave).1) c.self.view_is
 
@@ -64,6 +64,6 @@ returns-in-None-clause-book c =
     let first_none : first (to_do core.work c.args.slave) ≡ None = sym c.issue.ensures.word ∙ c.in-None.is in
     let is : first (steps.to_do (book_of core) c.args.slave) ≡ None = ap first (same-to_do (book_of core) core.work c.args.slave refl c.self.invariant.live) ∙ first_none in
     let made : c.issue.new.self ≡ core.work = c.issue.ensures.issued ∙ ap (with_issue core.work c.args.slave) first_none in
-    ap (λ (l : Line). book_of (record core { work = l })) made
+    ap (λ (l : LineState). book_of (record core { work = l })) made
     ∙ sym (ap (λ r. r.1) (next-none (book_of core) c.args.slave within free none is))
     ∙ ap (λ (b : Book). (rom_next b c.args.slave).1) c.self.view_is

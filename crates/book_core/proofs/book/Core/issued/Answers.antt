@@ -1,6 +1,5 @@
 use Rattle.std.proofs.Common.{◌≡◌, ◌<◌, length, sym, ◌∙◌, ap, subst}
-use Rattle.book_model.specs.Book.{Book, Errand, Issuing, Unsettled, slave_at}
-use Rattle.book_core.specs.Stands.{IsAbout}
+use Rattle.book_model.specs.Book.{Book, Errand, Issuing, Unsettled, slave_at, IsAbout}
 use Rattle.book_core.specs.Parts.{book_of}
 use Rattle.book_core.proofs.SlaveLaws.{errand-same}
 use Rattle.book_core.proofs.WorkLaws.{errand-stands}

@@ -1,12 +1,12 @@
 use Rattle.std.proofs.Common.{◌≡◌, ◌∙◌, ℕ, List, sym, ap, subst}
-use Rattle.sii_runs.specs.Redo.{redone}
+use Rattle.sii_words.specs.Redo.{redone}
 use Rattle.jrn_format.specs.declared.journal.Batch.{Batch}
-use Rattle.jrn_laws.specs.Halves.{live}
-use Rattle.jrn_laws.specs.Live.{halves_in}
+use Rattle.jrn_format.specs.Halves.{live}
+use Rattle.jrn_format.specs.Live.{halves_in}
 use Rattle.book_model.specs.Entries.{entries_of, live_runs}
-use Rattle.book_room.specs.Room.{Room}
-use Rattle.book_ledger.specs.Ledger.{opened}
-use Rattle.book_ledger.specs.Shown.{Shown}
+use Rattle.book_parts.specs.Room.{Room}
+use Rattle.book_parts.specs.Ledger.{opened}
+use Rattle.book_parts.specs.Shown.{Shown}
 use Rattle.book_core.specs.Found.{IsTaken}
 use Rattle.book_core.proofs.OpenLaws.{form-live, opened-stands}
 use Rattle.book_core.proofs.book.Core.open.Goals as goal

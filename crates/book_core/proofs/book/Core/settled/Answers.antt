@@ -1,6 +1,5 @@
 use Rattle.std.proofs.Common.{◌≡◌, ◌<◌, length, refl, sym, ◌∙◌, ap, subst}
-use Rattle.book_model.specs.Book.{Book, Errand, Settling, slave_at}
-use Rattle.book_core.specs.Stands.{IsAbout}
+use Rattle.book_model.specs.Book.{Book, Errand, Settling, slave_at, IsAbout}
 use Rattle.book_core.specs.Parts.{book_of}
 use Rattle.book_core.proofs.WorkLaws.{write-stands}
 use Rattle.book_core.proofs.book.Core.settled.Goals as goal

@@ -8,7 +8,7 @@ use Rattle.jrn_format.specs.declared.journal.Form.TheVariants.{Two}
 use Rattle.jrn_format.specs.contracts.journal.Form.{the_type}
 use denote.Enum.Bare.{same_true}
 use Rattle.book_model.specs.Book.{Book, contents_of}
-use Rattle.book_ledger.specs.Change.{IsChangeOf}
+use Rattle.book_parts.specs.Change.{IsChangeOf}
 use Rattle.book_core.proofs.LedgerLaws.{contents-is}
 use Rattle.book_core.proofs.AnswerLaws.{Judges, judges-core, memory-answer, refused-answer, room-answer, number-answer}
 use Rattle.book_core.proofs.book.Core.submit.Goals as goal

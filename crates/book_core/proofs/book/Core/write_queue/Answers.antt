@@ -1,15 +1,15 @@
 use Rattle.std.proofs.Common.{◌≡◌, ◌∙◌, [], List, Some, refl, sym, ap, subst}
 use Rattle.jrn_format.specs.declared.journal.Entry.{Entry}
 use Rattle.jrn_format.specs.Batch.{PayloadFits}
-use Rattle.jrn_laws.specs.Halves.{place_of}
+use Rattle.jrn_format.specs.Halves.{place_of}
 use Rattle.book_model.specs.Entries.{sizes_of, runs_of}
 use Rattle.book_model.specs.Book.{Book}
 use Rattle.book_model.specs.Book as book
 use Rattle.book_model.specs.DiskSteps.{doing_next}
-use Rattle.book_slaves.specs.Line.{HasRoom}
-use Rattle.book_room.specs.Room.{half_room}
-use Rattle.book_room.specs.Spot.{as_place}
-use Rattle.book_ledger.specs.Ledger.{appended, queued}
+use Rattle.book_parts.specs.Line.{HasRoom}
+use Rattle.book_parts.specs.Room.{half_room}
+use Rattle.book_parts.specs.Spot.{as_place}
+use Rattle.book_parts.specs.Ledger.{appended, queued}
 use Rattle.book_core.specs.declared.step.Step.TheVariants.{Resting}
 use Rattle.book_core.specs.Parts.{book_of, next_entries}
 use Rattle.book_core.proofs.InsideLaws.{entries-inside, sizes-redone}

@@ -1,7 +1,7 @@
 use Rattle.std.proofs.Common.{◌≡◌, ◌∙◌, true, refl, sym, ap}
 use Rattle.book_model.specs.Book.{Book}
 use Rattle.desk_book.specs.declared.call.Call.TheVariants.{DiskTold}
-use Rattle.desk_notes.specs.Noted.{is_waiting}
+use Rattle.station_jobs.specs.Noted.{is_waiting}
 use Rattle.desk_book.specs.Logs.{disk_log}
 use Rattle.desk_book.proofs.OutLaws.{disk-out}
 use Rattle.desk_book.proofs.KeptLaws.{keeps-disk_done}

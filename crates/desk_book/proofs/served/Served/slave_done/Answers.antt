@@ -1,6 +1,6 @@
 use Rattle.std.proofs.Common.{◌≡◌, ◌∙◌, ◌<◌, ℕ, true, length, refl, sym, ap, subst, arith}
 use Rattle.book_model.specs.Book.{Book, slave_at}
-use Rattle.desk_notes.specs.Noted.{is_waiting}
+use Rattle.station_jobs.specs.Noted.{is_waiting}
 use Rattle.desk_book.specs.declared.call.Call.TheVariants.{SlaveTold}
 use Rattle.desk_book.specs.Calls.{IsOut}
 use Rattle.desk_book.specs.Logs.{rom_log}

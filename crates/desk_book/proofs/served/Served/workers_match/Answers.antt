@@ -20,7 +20,7 @@ within-count [] k x is = absurd cc
 within-count (y ∷ xs) zero x is = omega arith
 within-count (y ∷ xs) (suc k) x is = omega (arith, within-count xs k x is)
 
--- one item more is so
+-- and so for one more item
 each-more : {A : Type 0} (P : ℕ → A → Type 0) (xs : List A) (i : ℕ) (x : A) → x ≡ get_or xs i x → P i x → ((k : ℕ) (y : A) → k < i → slice_get xs k ≡ Some y → P k y) → (k : ℕ) (y : A) → k < i + 1 → slice_get xs k ≡ Some y → P k y
 each-more P xs i x is here before k y below there = elim (cases_lt k i) [
   | inl earlier ↦ before k y earlier there

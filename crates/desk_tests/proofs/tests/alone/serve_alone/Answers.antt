@@ -1,5 +1,5 @@
 use denote.Param.Send.{sendable}
-use Rattle.station_desk.proofs.Sent.{disk-send}
+use Rattle.station_threads.proofs.Sent.{disk-send}
 use Rattle.desk_tests.proofs.tests.alone.serve_alone.Goals as goal
 
 pub flush-flusher-requires-send-D : goal.flush-flusher-requires-send-D

@@ -1,5 +1,5 @@
 use denote.Param.Send.{sendable}
-use Rattle.station_desk.proofs.Sent.{rom-send}
+use Rattle.station_threads.proofs.Sent.{rom-send}
 use Rattle.desk_tests.proofs.tests.alone.work_each.Goals as goal
 
 pub work-end-requires-send-D : goal.work-end-requires-send-D

@@ -8,7 +8,7 @@ use Rattle.sii_edit.proofs.command.Command.TheSendSync as command
 use Rattle.desk_book.proofs.share.Share.TheSendSync as share
 use Rattle.desk_book.specs.contracts.ticket.Ticket as Ticket
 use Rattle.desk_book.specs.contracts.ticket.Receipt as Receipt
-use Rattle.station_desk.proofs.Sent.{desk-sync}
+use Rattle.station_threads.proofs.Sent.{desk-sync}
 use Rattle.desk_tests.specs.contracts.tests.submitter.Submitter as Submitter
 use Rattle.desk_tests.proofs.tests.submitter.start_submitting.Goals as goal
 

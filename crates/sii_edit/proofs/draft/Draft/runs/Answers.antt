@@ -1,5 +1,5 @@
 use Rattle.std.proofs.Common.{List, ◌++◌, ap, subst, ◌∙◌}
-use Rattle.sii_runs.specs.declared.run.Run.{Run}
+use Rattle.sii_words.specs.declared.run.Run.{Run}
 use Rattle.sii_image.specs.NewLayouts.{AreRising}
 use Rattle.sii_edit.specs.declared.draft.Renewal.{Renewal}
 use Rattle.sii_edit.specs.Draft.{renewed_slaves}

@@ -1,6 +1,6 @@
 use Rattle.std.proofs.Common.{◌≡◌, ◌≤◌, length, ap, subst, arith}
 use Rattle.std.proofs.lemmas.List.{length-map}
-use Rattle.edit_laws.specs.Fitting.{PlantFits}
+use Rattle.sii_edit.specs.Fitting.{PlantFits}
 use Rattle.esc_model.specs.SlaveHalf.{SlaveHalf}
 use Rattle.world_run.specs.Torn.{disk_of}
 use Rattle.world_run.proofs.FreshLaws.{fresh-starts}

@@ -3,11 +3,11 @@ use Rattle.std.specs.Int.{w32}
 use Rattle.std.proofs.lemmas.List.{length-map}
 use Rattle.jrn_format.specs.Header.{field_at}
 use Rattle.jrn_format.specs.Journal.{IsJournal}
-use Rattle.jrn_laws.specs.Live.{CanBeLive}
-use Rattle.jrn_laws.proofs.OpenLaws.{journal-can-be-live}
+use Rattle.jrn_format.specs.Live.{CanBeLive}
+use Rattle.jrn_format.proofs.OpenLaws.{journal-can-be-live}
 use Rattle.esc_model.specs.SlaveHalf.{SlaveHalf}
 use Rattle.book_model.specs.Entries.{sizes_of}
-use Rattle.up_laws.specs.Opening.{words_in}
+use Rattle.book_laws.specs.Opening.{words_in}
 use Rattle.world_law.specs.World.{World}
 use Rattle.world_run.proofs.making.World.start.Goals as goal
 

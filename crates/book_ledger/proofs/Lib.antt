@@ -1,4 +1,0 @@
-pub mod OwnLaws
-pub mod ChangeLaws
-pub mod StandLaws
-pub mod ShownLaws

@@ -1,5 +1,0 @@
-use Rattle.book_ledger.proofs.OwnLaws.{appended-within}
-use Rattle.book_ledger.proofs.ledger.Ledger.go_durable.Goals as goal
-
-pub returns-clause-within : goal.returns-clause-within
-returns-clause-within c = appended-within c.args.self.now

@@ -1,4 +1,0 @@
-pub mod Ledger
-pub mod Change
-pub mod Stands
-pub mod Shown

@@ -1,0 +1,36 @@
+ghost use Rattle.std.specs.Prelude.{◌≡◌, ◌≤◌, ◌-◌, length, map, take, drop};
+ghost use Rattle.book_model.specs.Queue.{Stands, naming_down, word_down};
+
+use crate::due::{Naming, Word};
+
+/// Moves the namings from place `count` on to the front, and lowers their places by `count`.
+pub(crate) fn namings_down(namings: &mut [Naming], count: usize)
+    requires { count ≤ length namings.old }
+    ensures { take (length namings.old - count) namings.new ≡ map (naming_down count) (drop count namings.old) }
+{
+    for place in 0..namings.len() - count {
+        let naming = namings[count + place];
+        namings[place] = Naming {
+            before: naming.before.saturating_sub(count),
+            ..naming
+        };
+    }
+}
+
+/// Lowers the places that the words keep by `count`. Only a named word keeps any.
+pub(crate) fn words_down(namings: &[Naming], words: &mut [Word], count: usize)
+    requires { Stands namings.now words.old }
+    ensures { words.new ≡ map (word_down count) words.old }
+{
+    for place in 0..namings.len() {
+        let at = namings[place].word as usize;
+        let word = words[at];
+        if word.end == place + 1 {
+            words[at] = Word {
+                held: word.held,
+                end: word.end.saturating_sub(count),
+                mark: word.mark.saturating_sub(count),
+            };
+        }
+    }
+}

@@ -1,0 +1,17 @@
+pub mod SizeLaws
+pub mod RoomOpenLaws
+pub mod MapLaws
+pub mod NamedLaws
+pub mod EntryLaws
+pub mod OwingLaws
+pub mod StepLaws
+pub mod SettledLaws
+pub mod LineLaws
+pub mod OpenLaws
+pub mod RoomLaws
+pub mod LeastLaws
+pub mod UnsettledLaws
+pub mod OwnLaws
+pub mod ChangeLaws
+pub mod StandLaws
+pub mod ShownLaws

@@ -1,0 +1,9 @@
+pub mod Spot
+pub mod Room
+pub mod Counted
+pub mod Line
+pub mod Works
+pub mod Ledger
+pub mod Change
+pub mod Stands
+pub mod Shown

@@ -1,2 +1,0 @@
-pub mod SizeLaws
-pub mod OpenLaws

@@ -1,6 +1,0 @@
-use Rattle.std.proofs.Common.{◌≡◌, take}
-use Rattle.book_room.proofs.OpenLaws.{apart}
-use Rattle.book_room.proofs.area.Area.open.Given as goal
-
-abbrev pub invariant-loop-batch : goal.invariant-loop-batch
-invariant-loop-batch l = l.area ≡ apart l.fn.form l.fn.capacity l.at l.generation (take l.batch-index l.batches)

@@ -1,3 +1,0 @@
-pub mod Spot
-pub mod Room
-pub mod Counted

@@ -1,8 +1,0 @@
-use Rattle.book_slaves.specs.Works.{OnlyRooms, HasCounted}
-use Rattle.book_slaves.proofs.reserving.reserve_all.Given as goal
-
-abbrev pub invariant-loop-at : goal.invariant-loop-at
-invariant-loop-at l = record {
-  kept : OnlyRooms l.initial.works l.works;
-  room : HasCounted l.works l.counts l.at;
-}

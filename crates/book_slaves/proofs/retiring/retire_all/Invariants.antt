@@ -1,6 +1,0 @@
-use Rattle.book_slaves.specs.Works.{work_retired}
-use Rattle.book_slaves.proofs.MapLaws.{Mapped}
-use Rattle.book_slaves.proofs.retiring.retire_all.Given as goal
-
-abbrev pub invariant-loop-at : goal.invariant-loop-at
-invariant-loop-at l = Mapped work_retired l.initial.works l.works l.at

@@ -1,0 +1,193 @@
+//! Events of a world, and what must be seen of it, as rows of a table.
+
+use crate::contents::{contents_in, held, zero_slaves};
+use book_model::RomOutcome;
+use sii_edit::{Command, Edit};
+use sii_words::Words;
+use std::alloc::Global;
+use world_run::{DiskEnd, Event, Left, LeftByte, LeftWord, WordEnd, World, step};
+
+/// An event in a world of one slave, or something that must be seen of it.
+#[derive(Clone, Copy)]
+pub(crate) enum Act {
+    Open,
+    /// A command is submitted that gives the slave this alias.
+    Alias(u16),
+    Migrate,
+    /// The next action of the disk begins.
+    Begin,
+    /// The action of the disk succeeds.
+    Done,
+    /// The next action for the slave begins. An idle slave takes the datagram of an issue.
+    Rom,
+    /// The action for the slave ends with this outcome.
+    Back(RomOutcome),
+    Rest(WordEnd),
+    Stop(&'static [LeftByte], &'static [LeftWord]),
+    Sees(Seen),
+}
+
+/// What can be seen of a world.
+#[derive(Clone, Copy)]
+pub(crate) enum Seen {
+    /// No station is up.
+    Down,
+    /// The slave's alias in the contents of the book, and the number of live bytes.
+    Book(u16, u64),
+    /// The words 4 and 7 of the slave.
+    Slave(u16, u16),
+    /// This byte of the disk.
+    Byte(usize, u8),
+}
+
+/// A disk that begins with these bytes and goes on with zeros.
+fn disk_on(alloc: Global, front: &[u8]) -> Option<Vec<u8>> {
+    let mut bytes = Vec::from_slice(alloc, front).ok()?;
+    bytes.resize(4104, 0).ok()?;
+    Some(bytes)
+}
+
+/// A world of 1 to 64 slaves.
+fn world_of(alloc: Global, slaves: Vec<Words>, bytes: Vec<u8>) -> Option<World> {
+    if slaves.len() < 1 || slaves.len() > 64 {
+        return None;
+    }
+    World::with_disk(alloc, slaves, bytes).ok()
+}
+
+/// A world of `count` zero slaves, whose disk begins with these bytes and goes on with zeros.
+pub(crate) fn world_on(alloc: Global, count: usize, front: &[u8]) -> Option<World> {
+    let slaves = zero_slaves(alloc, count)?;
+    let bytes = disk_on(alloc, front)?;
+    world_of(alloc, slaves, bytes)
+}
+
+/// Lets the event happen if it can. False if memory was refused.
+pub(crate) fn happens(world: &mut World, event: Event) -> bool {
+    step(world, event).is_ok()
+}
+
+/// A power cut that leaves these bytes and words.
+fn stop_of(alloc: Global, bytes: &[LeftByte], words: &[LeftWord]) -> Option<Event> {
+    let bytes = bytes.to_vec(alloc).ok()?;
+    let words = words.to_vec(alloc).ok()?;
+    Some(Event::Stop(Left { bytes, words }))
+}
+
+/// The power is cut, and these bytes and words are left. False if memory was refused.
+pub(crate) fn stops(
+    alloc: Global,
+    world: &mut World,
+    bytes: &[LeftByte],
+    words: &[LeftWord],
+) -> bool {
+    match stop_of(alloc, bytes, words) {
+        Some(event) => return happens(world, event),
+        None => return false,
+    }
+}
+
+/// Whether the book's contents have this alias, and `live` bytes are live.
+fn book_is(world: &World, alias: u16, live: u64) -> bool {
+    let Some(core) = world.core() else {
+        return false;
+    };
+    contents_in(core)[0][4] == alias && core.live_bytes() == live
+}
+
+/// Whether the slave's words 4 and 7 are these.
+fn slave_is(world: &World, alias: u16, check: u16) -> bool {
+    let Some(contents) = held(world) else {
+        return false;
+    };
+    contents[0][4] == alias && contents[0][7] == check
+}
+
+/// Whether this is seen.
+fn sees(world: &World, seen: Seen) -> bool {
+    match seen {
+        Seen::Down => return world.core().is_none(),
+        Seen::Book(alias, live) => return book_is(world, alias, live),
+        Seen::Slave(alias, check) => return slave_is(world, alias, check),
+        Seen::Byte(at, byte) => return world.disk().get(at) == Some(&byte),
+    }
+}
+
+/// The event of an act other than a power cut.
+fn event_of(act: Act) -> Option<Event> {
+    let slave = 0;
+    match act {
+        Act::Open => return Some(Event::Open),
+        Act::Alias(value) => return Some(Event::Submit(Command::One(Edit::Alias { slave, value }))),
+        Act::Migrate => return Some(Event::Migrate),
+        Act::Begin => return Some(Event::DiskBegin),
+        Act::Done => return Some(Event::DiskDone(DiskEnd::Done)),
+        Act::Rom => return Some(Event::RomIssue { slave, takes: true }),
+        Act::Back(outcome) => return Some(Event::RomDone { slave, outcome }),
+        Act::Rest(end) => return Some(Event::RomResolve { slave, end }),
+        Act::Stop(..) | Act::Sees(..) => return None,
+    }
+}
+
+/// Lets the event of the act happen.
+fn does(world: &mut World, act: Act) -> bool {
+    match event_of(act) {
+        Some(event) => return happens(world, event),
+        None => return false,
+    }
+}
+
+/// Whether the act succeeds: its event finds memory, or what must be seen is seen.
+fn comes(alloc: Global, world: &mut World, act: Act) -> bool {
+    match act {
+        Act::Stop(bytes, words) => return stops(alloc, world, bytes, words),
+        Act::Sees(seen) => return sees(world, seen),
+        _ => return does(world, act),
+    }
+}
+
+/// Whether all acts succeed.
+fn told(alloc: Global, world: &mut World, acts: &[Act]) -> bool {
+    for act in acts {
+        if !comes(alloc, world, *act) {
+            return false;
+        }
+    }
+    true
+}
+
+/// Whether all acts of all parts succeed.
+fn parts_told(alloc: Global, world: &mut World, parts: &[&[Act]]) -> bool {
+    for acts in parts {
+        if !told(alloc, world, acts) {
+            return false;
+        }
+    }
+    true
+}
+
+/// The first bytes of a world's disk, and the acts in this world, part by part.
+pub(crate) type Case = (&'static [u8], &'static [&'static [Act]]);
+
+/// Whether all acts of a case succeed.
+fn is_told(alloc: Global, front: &[u8], parts: &[&[Act]]) -> bool {
+    match world_on(alloc, 1, front) {
+        Some(mut world) => {
+            let is_told = parts_told(alloc, &mut world, parts);
+            drop(world);
+            is_told
+        }
+        None => false,
+    }
+}
+
+/// How many cases succeed, before the first that doesn't.
+pub(crate) fn count_told(alloc: Global, cases: &[Case]) -> usize {
+    for count in 0..cases.len() {
+        let (front, parts) = cases[count];
+        if !is_told(alloc, front, parts) {
+            return count;
+        }
+    }
+    cases.len()
+}

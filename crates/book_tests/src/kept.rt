@@ -1,0 +1,87 @@
+//! Whether what a power cut leaves is kept, checked by the definition.
+
+use crate::contents::{Contents, held, put};
+use jrn_format::{Batch, Entry, Journal, scan};
+use std::alloc::Global;
+use world_run::World;
+
+/// What callers know of a session: the contents that it began with and those after each accepted command, and how many commands
+/// are acknowledged.
+#[derive(Drop)]
+pub(crate) struct Session {
+    pub(crate) contents: Vec<Contents>,
+    pub(crate) acknowledged: u64,
+}
+
+impl Session {
+    /// A session that began with these contents.
+    pub(crate) fn of(alloc: Global, base: Contents) -> Option<Session> {
+        let contents = [base].to_vec(alloc).ok()?;
+        Some(Session {
+            contents,
+            acknowledged: 0,
+        })
+    }
+
+    /// Begins the next session with these contents. False if memory was refused.
+    pub(crate) fn begin(&mut self, base: Contents) -> bool {
+        self.contents.clear();
+        self.acknowledged = 0;
+        self.contents.push(base).is_ok()
+    }
+
+    /// The contents after all accepted commands.
+    pub(crate) fn last(&self) -> Contents {
+        *self.contents.last().unwrap_or(&[[0; 64]; 2])
+    }
+
+    /// Whether these are the contents after a prefix of the accepted commands with every acknowledged one in it.
+    pub(crate) fn has(&self, contents: &Contents) -> bool {
+        for count in 0..self.contents.len() {
+            if count as u64 >= self.acknowledged && self.contents[count] == *contents {
+                return true;
+            }
+        }
+        false
+    }
+}
+
+fn redo_entry(contents: &mut Contents, entry: &Entry) {
+    for run in entry.runs.as_slice() {
+        put(
+            contents,
+            usize::from(run.slave),
+            usize::from(run.first),
+            run.words.as_slice(),
+        );
+    }
+}
+
+fn redo_batch(contents: &mut Contents, batch: &Batch) {
+    for entry in batch.entries.as_slice() {
+        redo_entry(contents, entry);
+    }
+}
+
+fn redo_journal(contents: &mut Contents, journal: &Journal) {
+    for batch in journal.batches.as_slice() {
+        redo_batch(contents, batch);
+    }
+}
+
+/// The contents of the slaves after redo of what is live on the disk. None if the disk has no journal, or memory was refused.
+fn redone(alloc: Global, world: &World) -> Option<Contents> {
+    let mut contents = held(world)?;
+    let journal = scan(alloc, world.disk(), &[64, 64]).ok()?;
+    redo_journal(&mut contents, &journal);
+    Some(contents)
+}
+
+/// Whether what a power cut has left is kept: the disk has a journal, and redo of what is live in it gives contents after a prefix of
+/// the session's commands.
+pub(crate) fn is_kept(alloc: Global, world: &World, session: &Session) -> bool {
+    match redone(alloc, world) {
+        Some(contents) => return session.has(&contents),
+        None => return false,
+    }
+}

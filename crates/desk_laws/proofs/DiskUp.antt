@@ -1,0 +1,180 @@
+-- The invariant of the station (`Up`) holds after each call about the disk, and the disk changes as the log says.
+use Rattle.std.proofs.Common.{◌≡◌, ◌⊎◌, ◌∙◌, inl, inr, Bool, true, false, ◌∷◌, List, [], refl, sym, ap, subst, arith, Option, Some, None, Result, Ok, Err}
+use Rattle.std.specs.Prelude.{is_some, fold}
+use Rattle.site_core.specs.declared.fault.DeviceFault.{DeviceFault}
+use Rattle.site_core.specs.declared.fault.DeviceFault.TheVariants as device
+use Rattle.site_core.specs.Disk.{Disk}
+use Rattle.site_core.specs.State.{State}
+use Rattle.book_model.specs.declared.fault.Fault.{Fault}
+use Rattle.book_model.specs.declared.fault.Fault.TheVariants as faults
+use Rattle.book_model.specs.declared.next.DiskNext.{DiskNext}
+use Rattle.book_model.specs.declared.next.DiskNext.TheVariants as disk
+use Rattle.book_model.specs.Book.{Book, with_fault}
+use Rattle.book_model.specs.DiskSteps.{disk_next, disk_done}
+use Rattle.book_model.specs.Machine.{Machine}
+use Rattle.book_laws.specs.Frame.{JournalFrame}
+use Rattle.book_laws.specs.Events.{begun_on, ended_on, FailsOn, in_progress, rested}
+use Rattle.book_laws.specs.Steps.{acknowledged_by}
+use Rattle.book_laws.specs.Up.{Up}
+use Rattle.book_laws.proofs.DiskEventLaws.{up-begins, up-fails}
+use Rattle.book_laws.proofs.DiskEndLaws.{up-ends}
+use Rattle.station_jobs.specs.Dispatch.{with_outcome}
+use Rattle.desk_book.specs.declared.call.Call.{Call}
+use Rattle.desk_book.specs.Calls.{AreAnswered}
+use Rattle.desk_book.specs.Logs.{DiskEntry, disk_noted, with_disk_answer}
+use Rattle.desk_book.proofs.LogLaws.{with-disk-job, with-disk-rest}
+use Rattle.desk_laws.proofs.DiskWork.{LeavesLess, DiskSteps, DiskLedBy}
+use Rattle.desk_laws.proofs.DiskLog.{Handed, nothing, hands, handed-of, done-rests, KeepsDisk, disk-behind}
+
+-- What stands for the disk, while this is the disk itself before what is out: it is this one; or that failed, and a stop leaves no more of it; or an action
+-- has begun on it.
+pub data DiskOn (book : Book) (log : List DiskEntry) (real stands : Disk) : Type 0 where
+  rests : book.is_handed_out ≡ false → log ≡ [] → stands ≡ real → DiskOn book log real stands
+  failed : book.is_handed_out ≡ false → is_some book.fault ≡ true → log ≡ [] → LeavesLess stands real → DiskOn book log real stands
+  out : book.is_handed_out ≡ true → (action : DiskNext) (outcome : Option (Result (Unit {0}) DeviceFault)) → in_progress book ≡ Some action → log ≡ record { job = action; outcome = outcome } ∷ [] → stands ≡ begun_on (Some action) real
+      → DiskOn book log real stands
+
+pub disk-keeps : (book later : Book) (log : List DiskEntry) (real stands : Disk) → KeepsDisk book later → DiskOn book log real stands → DiskOn later log real stands
+disk-keeps book later log real stands keeps (rests free empty same) = rests (keeps.out ∙ free) empty same
+disk-keeps book later log real stands keeps (failed free has empty less) = failed (keeps.out ∙ free) (keeps.failed has) empty less
+disk-keeps book later log real stands keeps (out is action outcome there one begun) = out (keeps.out ∙ is) action outcome (keeps.action ∙ there) one begun
+
+-- The pending part of the log, what stands for the disk, and that the rest leads the disk to the end.
+pub record DiskPart (book : Book) (calls : List Call) (end stands : Disk) : Type 0 where
+  pub log : List DiskEntry
+  pub real : Disk
+  pub on : DiskOn book log real stands
+  pub led : DiskLedBy (fold disk_noted log calls) real end
+
+-- The invariant holds after the call.
+pub record DiskGoesOn (frame : JournalFrame) (later : Book) (calls : List Call) (end : Disk) (state : State) (took : List Bool) (old : Machine) : Type 0 where
+  pub disk : Disk
+  pub machine : Machine
+  pub same : machine ≡ record old { acknowledged = machine.acknowledged }
+  pub up : Up frame later (record state { disk = disk }) took machine
+  pub part : DiskPart later calls end disk
+
+-- a write that has begun may fail and change nothing
+fails-same : (action : Option DiskNext) (d : Disk) → FailsOn action d d
+fails-same None d = refl
+fails-same (Some (disk.Write at bytes)) d = record { bytes = λ place is. refl; no_shorter = omega arith; unsynced = refl; synced_length = refl }
+fails-same (Some (disk.Gate at closed)) d = record { bytes = λ place is. refl; no_shorter = omega arith; unsynced = refl; synced_length = refl }
+fails-same (Some disk.Sync) d = refl
+fails-same (Some disk.Idle) d = refl
+fails-same (Some disk.Stop) d = refl
+
+module _ (frame : JournalFrame) (book : Book) (calls : List Call) (end : Disk) (state : State) (took : List Bool) (m : Machine) (up : Up frame book state took m) (log : List DiskEntry) (real : Disk) where
+  abbrev OnBehind : Book → Type 0
+  OnBehind later = DiskGoesOn frame later calls end state took m
+
+  -- ---- it is asked for
+
+  asked-as : (answer : DiskNext) → answer ≡ (disk_next book).0 → DiskOn book log real state.disk → DiskLedBy (fold disk_noted (with_disk_answer log answer) calls) real end → Handed book → OnBehind (disk_next book).1
+  asked-as answer is on led (nothing rest none goes) =
+      let log_is : with_disk_answer log answer ≡ log = ap (with_disk_answer log) (is ∙ ap (λ (p : DiskNext × Book). p.0) goes) ∙ with-disk-rest log rest none in
+      let later_is : (disk_next book).1 ≡ book = ap (λ (p : DiskNext × Book). p.1) goes in
+      subst OnBehind (sym later_is)
+      (record { disk = state.disk; machine = m; same = refl; up = up; part = record { log = log; real = real; on = on; led = subst (λ (l : List DiskEntry). DiskLedBy (fold disk_noted l calls) real end) log_is led } })
+  asked-as answer is (rests free empty same) led (hands action o f job there goes out_is) =
+      let one : with_disk_answer log answer ≡ record { job = action; outcome = None } ∷ [] =
+      ap (with_disk_answer log) (is ∙ goes) ∙ ap (λ (l : List DiskEntry). with_disk_answer l action) empty ∙ with-disk-job [] action job in
+      record {
+        disk = begun_on (Some action) state.disk;
+        machine = m;
+        same = refl;
+        up = subst (λ (a : DiskNext). Up frame (disk_next book).1 (record state { disk = begun_on (Some a) state.disk }) took m) goes (up-begins frame book state took m up);
+        part = record { log = with_disk_answer log answer; real = real; on = out out_is action None there one (ap (begun_on (Some action)) same); led = led };
+      }
+  asked-as answer is (failed free has empty less) led (hands action o f job there goes out_is) = absurd (let no : true ≡ false = sym has ∙ f in cc)
+  asked-as answer is (out is_out action_out outcome there_out one begun) led (hands action o f job there goes out_is) = absurd (let no : true ≡ false = sym is_out ∙ o in cc)
+
+  pub disk-asked : (answer : DiskNext) → answer ≡ (disk_next book).0 → DiskOn book log real state.disk → DiskLedBy (fold disk_noted (with_disk_answer log answer) calls) real end → OnBehind (disk_next book).1
+  disk-asked answer is on led = asked-as answer is on led (handed-of book)
+
+  -- ---- it comes back
+
+  -- what came of it, and the rest of the log
+  record Back (action : DiskNext) (outcome : Result (Unit {0}) DeviceFault) : Type 0 where
+    mid : Disk
+    steps : DiskSteps (record { job = action; outcome = Some outcome }) real mid
+    led : DiskLedBy (fold disk_noted [] calls) mid end
+
+  came-back : (later : Book) (action : DiskNext) (before : Option (Result (Unit {0}) DeviceFault)) (outcome : Result (Unit {0}) DeviceFault) → log ≡ record { job = action; outcome = before } ∷ [] → later.is_handed_out ≡ false → AreAnswered later calls
+      → DiskLedBy (fold disk_noted (with_outcome log outcome) calls) real end → Back action outcome
+  came-back later action before outcome one free all led =
+      let entry : DiskEntry = record { job = action; outcome = Some outcome } in
+      let behind = disk-behind later calls entry [] all (λ now. absurd (let no : true ≡ false = sym now ∙ free in cc)) in
+      let path : DiskLedBy (entry ∷ fold disk_noted [] calls) real end =
+      subst (λ (l : List DiskEntry). DiskLedBy l real end) (ap (λ (l : List DiskEntry). fold disk_noted (with_outcome l outcome) calls) one ∙ behind) led in
+      record { mid = path.0; steps = path.1; led = path.2 }
+
+  -- it came back with a fault
+  faulted : (disk : Disk) (fault : Fault) (later : Book) → later ≡ with_fault (rested book) fault → book.is_handed_out ≡ true → FailsOn (in_progress book) state.disk disk → (mid : Disk) → ((disk ≡ mid) ⊎ LeavesLess disk mid)
+      → DiskLedBy (fold disk_noted [] calls) mid end → OnBehind later
+  faulted disk fault later is is_out fails mid stands led =
+      subst OnBehind (sym is)
+      (record {
+        disk = disk;
+        machine = m;
+        same = refl;
+        up = up-fails frame book state took m disk fault up is_out fails;
+        part = record { log = []; real = mid; on = elim stands [ inl same ↦ rests refl refl same | inr less ↦ failed refl refl refl less ]; led = led };
+      })
+
+  module _ (is_out : book.is_handed_out ≡ true) (action : DiskNext) (before : Option (Result (Unit {0}) DeviceFault)) (there : in_progress book ≡ Some action) (one : log ≡ record { job = action; outcome = before } ∷ []) (begun : state.disk ≡ begun_on (Some action) real) where
+    abbrev Told : Result (Unit {0}) DeviceFault → Type 0
+    Told outcome = AreAnswered (disk_done book outcome) calls → DiskLedBy (fold disk_noted (with_outcome log outcome) calls) real end → OnBehind (disk_done book outcome)
+
+    -- as the action that is out
+    as-out : (disk : Disk) → FailsOn (Some action) (begun_on (Some action) real) disk → FailsOn (in_progress book) state.disk disk
+    as-out disk fails = subst (λ (a : Option DiskNext). FailsOn a state.disk disk) (sym there) (subst (λ (d : Disk). FailsOn (Some action) d disk) (sym begun) fails)
+
+    told-as : (outcome : Result (Unit {0}) DeviceFault) → Told outcome
+    told-as (Ok done) all led =
+        let free = done-rests book is_out in
+        let back = came-back (disk_done book (Ok tt)) action before (Ok tt) one free all led in
+        let mid_is : back.mid ≡ ended_on (Some action) (begun_on (Some action) real) = back.steps.returns (Ok tt) refl (λ no. absurd cc) in
+        let stands : ended_on (in_progress book) state.disk ≡ back.mid = ap (λ (a : Option DiskNext). ended_on a state.disk) there ∙ ap (ended_on (Some action)) begun ∙ sym mid_is in
+        record {
+          disk = ended_on (in_progress book) state.disk;
+          machine = acknowledged_by (disk_done book (Ok tt)) m;
+          same = refl;
+          up = up-ends frame book state took m up is_out;
+          part = record { log = []; real = back.mid; on = rests free refl stands; led = back.led };
+        }
+    told-as (Err device.Disk) all led =
+        let is : disk_done book (Err device.Disk) ≡ with_fault (rested book) faults.Disk = rw is_out refl in
+        let back = came-back (disk_done book (Err device.Disk)) action before (Err device.Disk) one (ap (λ (b : Book). b.is_handed_out) is) all led in
+        faulted back.mid faults.Disk (disk_done book (Err device.Disk)) is is_out (as-out back.mid (back.steps.returns (Err device.Disk) refl (λ no. absurd cc))) back.mid (inl refl) back.led
+    told-as (Err device.Stopped) all led =
+        let is : disk_done book (Err device.Stopped) ≡ with_fault (rested book) faults.Stopped = rw is_out refl in
+        let back = came-back (disk_done book (Err device.Stopped)) action before (Err device.Stopped) one (ap (λ (b : Book). b.is_handed_out) is) all led in
+        faulted state.disk faults.Stopped (disk_done book (Err device.Stopped)) is is_out (fails-same (in_progress book) state.disk) back.mid (inr (subst (λ (d : Disk). LeavesLess d back.mid) (sym begun) back.steps.leaves)) back.led
+    told-as (Err device.Lost) all led =
+        let is : disk_done book (Err device.Lost) ≡ book = rw is_out refl in
+        subst OnBehind (sym is)
+        (record {
+          disk = state.disk;
+          machine = m;
+          same = refl;
+          up = up;
+          part = record { log = with_outcome log (Err device.Lost); real = real; on = out is_out action (Some (Err device.Lost)) there (ap (λ (l : List DiskEntry). with_outcome l (Err device.Lost)) one) begun; led = led };
+        })
+
+  pub disk-told : (outcome : Result (Unit {0}) DeviceFault) → book.is_handed_out ≡ true → DiskOn book log real state.disk → AreAnswered (disk_done book outcome) calls → DiskLedBy (fold disk_noted (with_outcome log outcome) calls) real end
+      → OnBehind (disk_done book outcome)
+  disk-told outcome now (rests free empty same) all led = absurd (let no : true ≡ false = sym now ∙ free in cc)
+  disk-told outcome now (failed free has empty less) all led = absurd (let no : true ≡ false = sym now ∙ free in cc)
+  disk-told outcome now (out is_out action before there one begun) all led = told-as is_out action before there one begun outcome all led
+
+-- what a stop leaves of the disk in the end, it leaves of what stands for it
+pub disk-ends : (book : Book) (log : List DiskEntry) (real stands end : Disk) → DiskOn book log real stands → DiskLedBy log real end → LeavesLess stands end
+disk-ends book log real stands end (rests free empty same) led =
+    let less : LeavesLess real end = subst (λ (l : List DiskEntry). DiskLedBy l real end) empty led in
+    subst (λ (d : Disk). LeavesLess d end) (sym same) less
+disk-ends book log real stands end (failed free has empty less) led =
+    let later : LeavesLess real end = subst (λ (l : List DiskEntry). DiskLedBy l real end) empty led in
+    λ image stop. less image (later image stop)
+disk-ends book log real stands end (out is_out action outcome there one begun) led =
+    let path : DiskLedBy (record { job = action; outcome = outcome } ∷ []) real end = subst (λ (l : List DiskEntry). DiskLedBy l real end) one led in
+    subst (λ (d : Disk). LeavesLess d end) (sym begun) (λ image stop. path.1.leaves image (path.2 image stop))

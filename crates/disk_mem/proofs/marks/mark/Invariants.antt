@@ -1,5 +1,0 @@
-use Rattle.disk_mem.specs.Unsynced.{MarksOnly}
-use Rattle.disk_mem.proofs.marks.mark.Given as goal
-
-abbrev pub invariant-loop-place : goal.invariant-loop-place
-invariant-loop-place l = MarksOnly l.initial.before l.at l.end l.before

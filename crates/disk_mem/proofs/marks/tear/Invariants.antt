@@ -1,5 +1,0 @@
-use Rattle.disk_mem.specs.Unsynced.{DiffersAtMarks}
-use Rattle.disk_mem.proofs.marks.tear.Given as goal
-
-abbrev pub invariant-loop-place : goal.invariant-loop-place
-invariant-loop-place l = DiffersAtMarks l.before l.initial.bytes.items l.bytes.items

@@ -1,7 +1,0 @@
-use Rattle.std.proofs.Common.{All, take}
-use Rattle.sii_edit.specs.declared.command.GuardedEdit.{GuardedEdit}
-use Rattle.edit_laws.specs.Fitting.{EditFits}
-use Rattle.edit_laws.proofs.typed.guarded_edits_fit.Given as goal
-
-abbrev pub invariant-loop-guarded : goal.invariant-loop-guarded
-invariant-loop-guarded l = All (λ (guarded : GuardedEdit). EditFits guarded.edit) (take l.guarded-index l.edits)

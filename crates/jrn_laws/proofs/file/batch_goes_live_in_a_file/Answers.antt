@@ -1,5 +1,0 @@
-use Rattle.jrn_laws.proofs.FileLaws.{next-stands}
-use Rattle.jrn_laws.proofs.file.batch_goes_live_in_a_file.Goals as goal
-
-pub returns : goal.returns
-returns c = next-stands

@@ -1,5 +1,0 @@
-use Rattle.jrn_laws.proofs.MigrationLaws.{marked_ready}
-use Rattle.jrn_laws.proofs.migration.marked_file_is_ready.Goals as goal
-
-pub returns : goal.returns
-returns c = marked_ready

@@ -1,5 +1,0 @@
-use Rattle.jrn_laws.proofs.MigrationLaws.{any_version}
-use Rattle.jrn_laws.proofs.migration.stopped_at_the_version.Goals as goal
-
-pub returns : goal.returns
-returns c = any_version

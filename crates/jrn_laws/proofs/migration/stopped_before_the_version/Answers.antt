@@ -1,5 +1,0 @@
-use Rattle.jrn_laws.proofs.MigrationLaws.{before_version}
-use Rattle.jrn_laws.proofs.migration.stopped_before_the_version.Goals as goal
-
-pub returns : goal.returns
-returns c = before_version

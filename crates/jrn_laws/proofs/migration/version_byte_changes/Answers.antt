@@ -1,5 +1,0 @@
-use Rattle.jrn_laws.proofs.MigrationLaws.{version_exchanged}
-use Rattle.jrn_laws.proofs.migration.version_byte_changes.Goals as goal
-
-pub returns : goal.returns
-returns c = version_exchanged

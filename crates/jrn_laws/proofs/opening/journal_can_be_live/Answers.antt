@@ -1,5 +1,0 @@
-use Rattle.jrn_laws.proofs.OpenLaws.{journal-can-be-live}
-use Rattle.jrn_laws.proofs.opening.journal_can_be_live.Goals as goal
-
-pub returns : goal.returns
-returns c = journal-can-be-live

@@ -1,5 +1,0 @@
-use Rattle.jrn_laws.proofs.InsideLaws.{batches-inside}
-use Rattle.jrn_laws.proofs.opening.runs_of_batches_lie_inside.Goals as goal
-
-pub returns : goal.returns
-returns c = batches-inside

@@ -1,5 +1,0 @@
-use Rattle.jrn_laws.proofs.SizeLaws.{most_runs_fit}
-use Rattle.jrn_laws.proofs.sizes.size_of_a_command_fits.Goals as goal
-
-pub returns : goal.returns
-returns c = most_runs_fit

@@ -1,5 +1,0 @@
-use Rattle.jrn_laws.proofs.SizeLaws.{payload_one_more}
-use Rattle.jrn_laws.proofs.sizes.size_with_one_more.Goals as goal
-
-pub returns : goal.returns
-returns c = payload_one_more

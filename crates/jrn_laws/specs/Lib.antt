@@ -1,4 +1,0 @@
-pub mod Halves
-pub mod Live
-pub mod File
-pub mod Migration

@@ -1,6 +1,0 @@
-pub mod AskLaws
-pub mod HalfPlaces
-mod PartLaws
-pub mod SlaveLaws
-mod LeftLaws
-pub mod DeskLaws

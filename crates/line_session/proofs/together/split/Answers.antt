@@ -1,7 +1,0 @@
-use Rattle.std.specs.Prelude.{◌≡◌, IfSome}
-use Rattle.site_shadow.specs.Site.{SiteValue}
-use Rattle.std.proofs.Common.{subst}
-use Rattle.line_session.proofs.together.split.Goals as goal
-
-pub returns-clause-disk : goal.returns-clause-disk
-returns-clause-disk g c = subst (λ (s : SiteValue). IfSome c.into_parts.result.0.disk (λ bytes. bytes.items ≡ s.seen.state.disk.bytes)) c.into_parts-site.ensures.site c.into_parts.ensures.disk

@@ -1,0 +1,368 @@
+//! The journal's bytes. The vectors are those of the format's description.
+
+ghost use Rattle.std.specs.Prelude.{◌≡◌, ◌≤◌, ◌↔◌, length, All, IsTrue};
+
+use jrn_format::*;
+use lists::ItemList;
+use sii_words::Run;
+use std::alloc::{AllocError, Global};
+use std::test::Fail;
+
+/// A batch that exchanges two aliases.
+const SWAP: &[u8] = &[
+    0xa5, 0x00, 0x2c, 0x00, 0x00, 0x00, 0x01, 0x00, 0, 0, 0, 0, 0, 0, 0, 0, 0x04, 0x00, 0x00, 0x00,
+    0x04, 0x00, 0x01, 0x00, 0x00, 0x00, 0x00, 0x00, 0x07, 0x00, 0x01, 0x00, 0x30, 0x00, 0x01, 0x00,
+    0x04, 0x00, 0x01, 0x00, 0x01, 0x00, 0x01, 0x00, 0x07, 0x00, 0x01, 0x00, 0x19, 0x00, 0x00,
+];
+
+/// A batch that gives slave 0 the alias 1.
+const ALIAS: &[u8] = &[
+    0xa5, 0x00, 0x1c, 0x00, 0x00, 0x00, 0x01, 0x00, 0, 0, 0, 0, 0, 0, 0, 0, 0x02, 0x00, 0x00, 0x00,
+    0x04, 0x00, 0x01, 0x00, 0x01, 0x00, 0x00, 0x00, 0x07, 0x00, 0x01, 0x00, 0x19, 0x00, 0x00,
+];
+
+/// The batch `ALIAS` in version 1.
+const PLAIN: &[u8] = &[
+    0xa5, 0x1c, 0x00, 0x00, 0x00, 0x01, 0x00, 0, 0, 0, 0, 0, 0, 0, 0, 0x02, 0x00, 0x00, 0x00, 0x04,
+    0x00, 0x01, 0x00, 0x01, 0x00, 0x00, 0x00, 0x07, 0x00, 0x01, 0x00, 0x19, 0x00, 0x00,
+];
+
+/// A batch with a command that changes nothing, of generation 0; then of other generations.
+const EMPTY: &[u8] = &[
+    0xa5, 0x00, 0x0c, 0, 0, 0, 1, 0, 0, 0, 0, 0, 0, 0, 0, 0, 0, 0, 0,
+];
+
+const OF_2: &[u8] = &[
+    0xa5, 0x02, 0x0c, 0, 0, 0, 1, 0, 0, 0, 0, 0, 0, 0, 0, 0, 0, 0, 0,
+];
+
+const OF_3: &[u8] = &[
+    0xa5, 0x03, 0x0c, 0, 0, 0, 1, 0, 0, 0, 0, 0, 0, 0, 0, 0, 0, 0, 0,
+];
+
+const OF_4: &[u8] = &[
+    0xa5, 0x04, 0x0c, 0, 0, 0, 1, 0, 0, 0, 0, 0, 0, 0, 0, 0, 0, 0, 0,
+];
+
+const OF_255: &[u8] = &[
+    0xa5, 0xff, 0x0c, 0, 0, 0, 1, 0, 0, 0, 0, 0, 0, 0, 0, 0, 0, 0, 0,
+];
+
+/// Two batches in one half, of generations 2 and 3.
+const MIXED: &[u8] = &[
+    0xa5, 0x02, 0x0c, 0, 0, 0, 1, 0, 0, 0, 0, 0, 0, 0, 0, 0, 0, 0, 0xa5, 0x03, 0x0c, 0, 0, 0, 1, 0,
+    0, 0, 0, 0, 0, 0, 0, 0, 0, 0, 0,
+];
+
+/// A header of version 2 for two slaves, with an area of 4,096 bytes.
+const TWO: [u8; 8] = [0xa5, 0x02, 0x02, 0x00, 0x00, 0x10, 0x00, 0x00];
+
+/// A header of version 1 for one slave; then one with a torn version byte.
+const ONE: &[u8] = &[0xa5, 0x01, 0x01, 0x00, 0x00, 0x10, 0x00, 0x00];
+
+const TORN: &[u8] = &[0xa5, 0x77, 0x01, 0x00, 0x00, 0x10, 0x00, 0x00];
+
+/// A closed gate and the mark of a migration.
+const MARK: &[u8] = &[0x00, 0x4d, 0x49, 0x47, 0x32];
+
+/// A file of 4,104 bytes with this header, and these bytes in front of the halves of its area.
+fn file_of(alloc: Global, head: &[u8], first: &[u8], second: &[u8]) -> Result<Vec<u8>, AllocError> {
+    let mut file = Vec::from_slice(alloc, head)?;
+    file.extend_from_slice(first)?;
+    file.resize(8 + 2048, 0)?;
+    file.extend_from_slice(second)?;
+    file.resize(8 + 4096, 0)?;
+    Ok(file)
+}
+
+/// Whether these are batches of one command each: half, generation, how many runs.
+fn are_like(batches: &[Batch], wanted: &[(u8, u8, usize)]) -> bool {
+    batches.len() == wanted.len()
+        && batches
+            .iter()
+            .zip(wanted)
+            .all(|(batch, row)| is_like(batch, row))
+}
+
+fn is_like(batch: &Batch, wanted: &(u8, u8, usize)) -> bool {
+    let (half, generation, runs) = *wanted;
+    let entries = batch.entries.as_slice();
+    batch.half == half && batch.generation == generation && have_runs(entries, runs)
+}
+
+fn have_runs(entries: &[Entry], runs: usize) -> bool {
+    entries.len() == 1
+        && entries.iter().all(|entry| entry.number == 0 && entry.runs.as_slice().len() == runs)
+}
+
+/// Whether a file is a journal of this form in which batches like the wanted ones are live.
+fn is_live(
+    alloc: Global,
+    file: &[u8],
+    sizes: &[u16],
+    form: Form,
+    wanted: &[(u8, u8, usize)],
+) -> bool {
+    match scan(alloc, file, sizes) {
+        Ok(journal) => journal.form == form && are_like(journal.batches.as_slice(), wanted),
+        Err(_) => false,
+    }
+}
+
+/// The fault of a file with this header and these bytes in front of its halves.
+fn refusal(
+    alloc: Global,
+    head: &[u8],
+    first: &[u8],
+    second: &[u8],
+    sizes: &[u16],
+) -> Result<Option<JournalFault>, AllocError> {
+    let file = file_of(alloc, head, first, second)?;
+    Ok(scan(alloc, &file, sizes).err())
+}
+
+/// What is live by the bytes in front of the halves, on a line of two slaves of 64 words.
+const LIVE: &[(&[u8], &[u8], &[(u8, u8, usize)])] = &[
+    (SWAP, &[], &[(0, 0, 4)]),
+    (&[], ALIAS, &[(1, 0, 2)]),
+    (&[], &[], &[]),
+    // What stands behind a closed gate isn't read.
+    (&[0x00, 0xa5, 0xff, 0xff], &[0x01, 0xa5], &[]),
+    (OF_255, EMPTY, &[(0, 255, 0), (1, 0, 0)]),
+    (EMPTY, OF_255, &[(1, 255, 0), (0, 0, 0)]),
+    (OF_4, OF_3, &[(1, 3, 0), (0, 4, 0)]),
+];
+
+#[test]
+fn live_batches_are_found(rt: HostRuntime) -> Result<(), Fail> {
+    let alloc = rt.alloc();
+    for (first, second, wanted) in LIVE {
+        let file = file_of(alloc, &TWO, first, second)?;
+        assert!(rt; is_live(alloc, &file, &[64, 64], Form::Two, wanted));
+    }
+    Ok(())
+}
+
+#[test]
+fn older_forms_are_found(rt: HostRuntime) -> Result<(), Fail> {
+    let alloc = rt.alloc();
+    let one = file_of(alloc, ONE, PLAIN, &[])?;
+    let moving = file_of(alloc, TORN, MARK, &[])?;
+    assert!(rt;
+        is_live(alloc, &one, &[64], Form::One, &[(0, 0, 2)])
+            && is_live(alloc, &moving, &[64], Form::Moving, &[])
+    );
+    Ok(())
+}
+
+const AT_8: JournalFault = JournalFault::BadJournal { at: 8 };
+
+const AT_4: JournalFault = JournalFault::BadJournal { at: 4 };
+
+const CUT: JournalFault = JournalFault::BadJournal { at: 4104 };
+
+/// The bytes in front of the halves of a refused journal, the number of words of each slave, and the fault.
+const REFUSED: &[(&[u8], &[u8], &[u16], JournalFault)] = &[
+    // Generations that don't follow one another.
+    (EMPTY, OF_2, &[64, 64], AT_8),
+    (OF_2, EMPTY, &[64, 64], AT_8),
+    (OF_3, OF_3, &[64, 64], AT_8),
+    (MIXED, &[], &[64, 64], AT_8),
+    // Longer than the half, and just so long that no gate stands behind it.
+    (&[0xa5, 0x00, 0xff, 0xff, 0xff, 0xff], &[], &[64, 64], AT_8),
+    (&[0xa5, 0x00, 0xfa, 0x07, 0x00, 0x00], &[], &[64, 64], AT_8),
+    // No command.
+    (
+        &[0xa5, 0x00, 0x02, 0x00, 0x00, 0x00, 0x00, 0x00, 0x00],
+        &[],
+        &[64, 64],
+        AT_8,
+    ),
+    // A run of no words.
+    (
+        &[
+            0xa5, 0, 0x12, 0, 0, 0, 1, 0, 0, 0, 0, 0, 0, 0, 0, 0, 1, 0, 0, 0, 0, 0, 0, 0, 0,
+        ],
+        &[],
+        &[64, 64],
+        AT_8,
+    ),
+    // A byte left over.
+    (
+        &[
+            0xa5, 0, 0x0d, 0, 0, 0, 1, 0, 0, 0, 0, 0, 0, 0, 0, 0, 0, 0, 0, 0,
+        ],
+        &[],
+        &[64, 64],
+        AT_8,
+    ),
+    // A second half that can't be read begins at byte 2,056.
+    (
+        &[],
+        &[0xa5],
+        &[64, 64],
+        JournalFault::BadJournal { at: 2056 },
+    ),
+    // Another line: a slave more, a word that isn't there, a slave that isn't there.
+    (SWAP, &[], &[64, 64, 64], JournalFault::WrongLine),
+    (SWAP, &[], &[64, 7], JournalFault::WrongLine),
+    (
+        &[
+            0xa5, 0, 0x14, 0, 0, 0, 1, 0, 0, 0, 0, 0, 0, 0, 0, 0, 1, 0, 2, 0, 0, 0, 1, 0, 0, 0, 0,
+        ],
+        &[],
+        &[64, 64],
+        JournalFault::WrongLine,
+    ),
+];
+
+/// Headers that a line of one slave of 64 words refuses, with the bytes behind them.
+const HEADERS: &[([u8; 8], &[u8], JournalFault)] = &[
+    (
+        [0x00, 2, 1, 0, 0x00, 0x10, 0, 0],
+        &[],
+        JournalFault::NotAJournal,
+    ),
+    (
+        [0xa5, 9, 1, 0, 0x00, 0x10, 0, 0],
+        &[],
+        JournalFault::BadVersion { found: 9 },
+    ),
+    (
+        [0xa5, 2, 2, 0, 0x00, 0x10, 0, 0],
+        &[],
+        JournalFault::WrongLine,
+    ),
+    (
+        [0xa5, 0x77, 2, 0, 0x00, 0x10, 0, 0],
+        MARK,
+        JournalFault::WrongLine,
+    ),
+    // The mark behind an open gate is none.
+    (
+        [0xa5, 0x77, 1, 0, 0x00, 0x10, 0, 0],
+        &[0xa5, 0x4d, 0x49, 0x47, 0x32],
+        JournalFault::BadVersion { found: 0x77 },
+    ),
+    ([0xa5, 2, 1, 0, 0xff, 0x0f, 0, 0], &[], AT_4),
+    ([0xa5, 2, 1, 0, 0x01, 0x00, 0x40, 0], &[], AT_4),
+    ([0xa5, 2, 1, 0, 0x01, 0x10, 0, 0], &[], CUT),
+];
+
+#[test]
+fn journals_are_refused(rt: HostRuntime) -> Result<(), Fail> {
+    let alloc = rt.alloc();
+    for (first, second, sizes, fault) in REFUSED {
+        assert_eq!(rt; refusal(alloc, &TWO, first, second, sizes)?, Some(*fault));
+    }
+    for (head, first, fault) in HEADERS {
+        assert_eq!(rt; refusal(alloc, head, first, &[], &[64])?, Some(*fault));
+    }
+    Ok(())
+}
+
+/// The fault of a journal that is cut off after this many bytes.
+fn cut_fault(size: usize) -> JournalFault {
+    if size < 8 {
+        return JournalFault::NotAJournal;
+    }
+    JournalFault::BadJournal { at: size }
+}
+
+#[test]
+fn files_cut_short(rt: HostRuntime) -> Result<(), Fail> {
+    let alloc = rt.alloc();
+    let file = file_of(alloc, &TWO, SWAP, &[])?;
+    for size in 0..4104usize {
+        assert!(rt; size <= file.len());
+        assert_eq!(rt;
+            scan(alloc, &file[..size], &[64, 64]).err(),
+            Some(cut_fault(size))
+        );
+    }
+    // Too short for the mark of a migration, and just long enough.
+    let moving = file_of(alloc, TORN, MARK, &[])?;
+    assert!(rt; 13 <= moving.len());
+    let unknown = Some(JournalFault::BadVersion { found: 0x77 });
+    let short = Some(JournalFault::BadJournal { at: 13 });
+    assert!(rt;
+        scan(alloc, &moving[..12], &[64]).err() == unknown
+            && scan(alloc, &moving[..13], &[64]).err() == short
+    );
+    Ok(())
+}
+
+/// Runs of one word each: slave, place and value.
+fn runs_of(alloc: Global, named: &[(u16, u16, u16)]) -> Result<Vec<Run>, AllocError> {
+    let mut runs = Vec::new(alloc);
+    for (slave, first, word) in named {
+        let words = [*word].to_vec(alloc)?;
+        let run = Run {
+            slave: *slave,
+            first: *first,
+            words: ItemList::from_vec(words),
+        };
+        runs.push(run)?;
+    }
+    Ok(runs)
+}
+
+fn have_one_word(runs: &[Run]) -> bool
+    ensures { IsTrue result ↔ All (λ run. length run.words ≡ 1) runs.now }
+{
+    runs.iter().all(|run| run.words.as_slice().len() == 1)
+}
+
+/// The size of one command with these runs, and the bytes of a batch of it.
+fn encoded(alloc: Global, runs: Vec<Run>) -> Result<(u32, Vec<u8>), AllocError>
+    requires few { length runs.items ≤ 8 }
+    requires one_word { All (λ run. length run.words ≡ 1) runs.items }
+{
+    let size = size_of(&runs);
+    let entries = [Entry {
+        number: 0,
+        runs: ItemList::from_vec(runs),
+    }];
+    Ok((size, encode_batch(alloc, 0, &entries)?))
+}
+
+/// Whether a batch of one command with these runs has these bytes behind its gate.
+fn is_spelt(alloc: Global, named: &[(u16, u16, u16)], bytes: &[u8]) -> Result<bool, AllocError> {
+    let runs = runs_of(alloc, named)?;
+    if runs.len() > 8 || !have_one_word(&runs) || bytes.len() < 6 {
+        return Ok(false);
+    }
+    let (size, spelt) = encoded(alloc, runs)?;
+    Ok(
+        spelt.as_slice() == &bytes[1..]
+            && payload_length(bytes).checked_sub(2) == Some(size)
+            && gate(bytes) == OPEN
+            && generation(bytes) == 0,
+    )
+}
+
+const SPELT: &[(&[(u16, u16, u16)], &[u8])] = &[
+    (&[(0, 4, 0), (0, 7, 0x30), (1, 4, 1), (1, 7, 0x19)], SWAP),
+    (&[(0, 4, 1), (0, 7, 0x19)], ALIAS),
+    (&[], EMPTY),
+];
+
+#[test]
+fn batches_are_spelt(rt: HostRuntime) -> Result<(), Fail> {
+    for (named, bytes) in SPELT {
+        assert!(rt; is_spelt(rt.alloc(), named, bytes)?);
+    }
+    Ok(())
+}
+
+#[test]
+fn header_has_its_fields(rt: HostRuntime) {
+    let file = header(2, 4096);
+    assert!(rt;
+        file == TWO
+            && gate(&file) == OPEN
+            && version(&file) == 2
+            && slave_count(&file) == 2
+            && capacity(&file) == 4096
+    );
+}

@@ -1,0 +1,178 @@
+//! Words of devices and of image files, plants, and lists. The check bytes are those of EEPROMs in use.
+
+use lists::ItemList;
+use sii_words::{
+    Identity, ImageFile, Plant, Words, WordsFault, bytes_of_words, is_device_size, is_image_size,
+    words_of_bytes,
+};
+use std::alloc::{AllocError, Global};
+use std::test::Fail;
+
+/// Aliases of devices whose other words are zeros, and their check bytes.
+const CHECK_BYTES: &[(u16, u8)] = &[(0x0000, 0x30), (0x0001, 0x19), (0xFFFF, 0xA6)];
+
+/// The identity in 128 bytes each of which is its own index.
+const COUNTED_IDENTITY: Identity = Identity {
+    vendor: 0x1312_1110,
+    product: 0x1716_1514,
+    revision: 0x1B1A_1918,
+    serial: 0x1F1E_1D1C,
+};
+
+/// Numbers of bytes, and why they are no device and no image.
+const SIZES: &[(usize, Option<WordsFault>, Option<WordsFault>)] = &[
+    (126, Some(WordsFault::BadSize), Some(WordsFault::BadSize)),
+    (
+        127,
+        Some(WordsFault::OddLength),
+        Some(WordsFault::OddLength),
+    ),
+    (128, None, None),
+    (130, Some(WordsFault::BadSize), None),
+    (8_192, None, None),
+    (8_194, Some(WordsFault::BadSize), Some(WordsFault::BadSize)),
+];
+
+fn counted_bytes() -> [u8; 128] {
+    let mut bytes = [0; 128];
+    for i in 0..128u8 {
+        bytes[usize::from(i)] = i;
+    }
+    bytes
+}
+
+fn bytes_with_alias(alias: u16, check: u8) -> [u8; 128] {
+    let mut bytes = [0; 128];
+    let [low, high] = alias.to_le_bytes();
+    bytes[8] = low;
+    bytes[9] = high;
+    bytes[14] = check;
+    bytes
+}
+
+/// The alias and the check byte of a device, its check byte with alias 1, and whether it is right.
+fn checked_words(alloc: Global, bytes: &[u8]) -> Result<(u16, u8, u8, bool), WordsFault> {
+    let words = Words::from_bytes(alloc, bytes)?;
+    Ok((
+        words.alias(),
+        words.check_byte(),
+        words.check_byte_with(1),
+        words.check_ok(),
+    ))
+}
+
+/// The alias and the check byte of an image file, and whether it is right.
+fn checked_image(alloc: Global, bytes: &[u8]) -> Result<(u16, u8, bool), WordsFault> {
+    let image = ImageFile::from_bytes(alloc, bytes)?;
+    Ok((image.alias(), image.check_byte(), image.check_ok()))
+}
+
+#[test]
+fn check_bytes_of_aliases(rt: HostRuntime) -> Result<(), Fail> {
+    for (alias, check) in CHECK_BYTES {
+        let bytes = bytes_with_alias(*alias, *check);
+        assert!(rt; checked_words(rt.alloc(), &bytes)? == (*alias, *check, 0x19, true));
+        assert!(rt; checked_image(rt.alloc(), &bytes)? == (*alias, *check, true));
+    }
+    Ok(())
+}
+
+fn faults_of(
+    alloc: Global,
+    length: usize,
+) -> Result<(Option<WordsFault>, Option<WordsFault>), AllocError> {
+    let bytes = vec![in alloc; 0u8; length]?;
+    Ok((
+        Words::from_bytes(alloc, &bytes).err(),
+        ImageFile::from_bytes(alloc, &bytes).err(),
+    ))
+}
+
+#[test]
+fn sizes(rt: HostRuntime) -> Result<(), Fail> {
+    for (length, of_words, of_image) in SIZES {
+        assert!(rt;
+            faults_of(rt.alloc(), *length)? == (*of_words, *of_image),
+            "at {length}"
+        );
+    }
+    assert!(rt; is_device_size(128) && !is_device_size(65) && is_image_size(65));
+    Ok(())
+}
+
+/// The number of words of a device, its identity, its last word once that is changed, and that of an earlier copy.
+fn changed_words(alloc: Global, bytes: &[u8]) -> Result<(usize, Identity, u16, u16), WordsFault> {
+    let mut words = Words::from_bytes(alloc, bytes)?;
+    let copy = words.try_copy()?;
+    words.set(63, 0xABCD);
+    Ok((
+        words.len(),
+        words.identity(),
+        words.get(63),
+        copy.as_slice()[63],
+    ))
+}
+
+/// The identity in an image, its last word once that is changed, and that of an earlier copy.
+fn changed_image(alloc: Global, bytes: &[u8]) -> Result<(Identity, u16, u16), WordsFault> {
+    let mut image = ImageFile::from_bytes(alloc, bytes)?;
+    let copy = image.try_copy()?;
+    image.set(63, 0xABCD);
+    Ok((image.identity(), image.as_slice()[63], copy.as_slice()[63]))
+}
+
+/// The bytes of an image, written again.
+fn written_image(alloc: Global, bytes: &[u8; 128]) -> Result<[u8; 128], WordsFault> {
+    let image = ImageFile::from_bytes(alloc, bytes)?;
+    let mut written = [0; 128];
+    if image.as_slice().len() == 64 {
+        image.as_bytes_into(&mut written);
+    }
+    Ok(written)
+}
+
+#[test]
+fn words_read_changed_and_written(rt: HostRuntime) -> Result<(), Fail> {
+    let bytes = counted_bytes();
+    let words = changed_words(rt.alloc(), &bytes)?;
+    assert!(rt; words == (64, COUNTED_IDENTITY, 0xABCD, 0x7F7E));
+    let image = changed_image(rt.alloc(), &bytes)?;
+    assert!(rt; image == (COUNTED_IDENTITY, 0xABCD, 0x7F7E));
+    assert!(rt; written_image(rt.alloc(), &bytes)? == bytes);
+    let device = Words::from_bytes(rt.alloc(), &bytes)?;
+    assert!(rt; device.to_bytes()?.as_slice() == bytes.as_slice());
+    Ok(())
+}
+
+fn plant_of_two(alloc: Global) -> Result<Plant, WordsFault> {
+    let first = Words::from_bytes(alloc, &counted_bytes())?;
+    let second = Words::from_bytes(alloc, &counted_bytes())?;
+    Ok(Plant::of(Vec::from_array(alloc, [first, second])?))
+}
+
+/// How many slaves a plant has, and the aliases of the second one before and after a change.
+fn changed_plant(alloc: Global) -> Result<(usize, u16, u16), WordsFault> {
+    let mut plant = plant_of_two(alloc)?;
+    if plant.len() < 2 || plant.slave(1).len() < 64 {
+        return Ok((0, 0, 0));
+    }
+    let copy = plant.try_copy()?;
+    plant.set(1, 4, 0x0003);
+    Ok((plant.len(), copy.slave(1).alias(), plant.slave(1).alias()))
+}
+
+#[test]
+fn a_plant_of_two(rt: HostRuntime) -> Result<(), Fail> {
+    assert!(rt; changed_plant(rt.alloc())? == (2, 0x0908, 0x0003));
+    Ok(())
+}
+
+#[test]
+fn words_and_their_bytes(rt: HostRuntime) -> Result<(), Fail> {
+    let words = words_of_bytes(rt.alloc(), &[0x00, 0x16, 0xAB, 0xCD])?;
+    let list = ItemList::from_vec(words).try_copy()?;
+    assert!(rt; list.as_slice() == [0x1600, 0xCDAB].as_slice());
+    let bytes = bytes_of_words(rt.alloc(), &list.into_vec())?;
+    assert!(rt; bytes.as_slice() == [0x00, 0x16, 0xAB, 0xCD].as_slice());
+    Ok(())
+}

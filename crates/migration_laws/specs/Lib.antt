@@ -1,4 +1,0 @@
-pub mod OldFile
-pub mod OldDoing
-pub mod OldQueue
-pub mod Below

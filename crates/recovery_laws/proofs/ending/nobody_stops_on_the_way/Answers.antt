@@ -1,6 +1,0 @@
-use Rattle.recovery_laws.proofs.DiskLaws.{disk-goes}
-use Rattle.recovery_laws.proofs.EndLaws.{slave-goes}
-use Rattle.recovery_laws.proofs.ending.nobody_stops_on_the_way.Goals as goal
-
-pub returns : goal.returns
-returns c = record { disk = disk-goes; slave = slave-goes }

@@ -1,0 +1,9 @@
+pub mod AskLaws
+pub mod HalfPlaces
+mod PartLaws
+pub mod SlaveLaws
+mod LeftLaws
+pub mod DeskLaws
+pub mod RoundLaws
+pub mod RoundServing
+pub mod RoundSubmitting

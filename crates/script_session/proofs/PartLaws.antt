@@ -1,0 +1,65 @@
+-- EEPROM halves that are put into sites, and taken from them, one by one.
+use Rattle.std.proofs.Common.{◌≡◌, ℕ, ◌+◌, List, [], ◌∷◌, ◌++◌, length, Some, None, Option, Result, Ok, Err, refl, sym, ◌∙◌, ap, subst, arith}
+use Rattle.std.specs.Prelude.{is_some, IfSome, IfOk, IsTrue}
+use Rattle.std.specs.Global.{Vec}
+use Rattle.std.proofs.lemmas.Bool.{false≢true}
+use Rattle.std.proofs.lemmas.List.{length-map, map-append}
+use Rattle.esc_model.specs.SlaveHalf.{SlaveHalf}
+use Rattle.site_shadow.specs.Line.{half_of, halves_of}
+use Rattle.site_shadow.specs.Site.{SiteValue}
+use Rattle.site_shadow.specs.Parts.{bytes_or_none, site_of}
+use Rattle.site_shadow.specs.declared.site.Parts.{Parts}
+use Rattle.site_shadow.specs.Unsynced.{of_bytes}
+use Rattle.station_threads.specs.declared.closing.Ends.{Ends}
+use Rattle.station_jobs.specs.declared.log.SlaveLog.{SlaveLog}
+use Rattle.station_jobs.specs.Ends.{Stay}
+use Rattle.station_threads.specs.Places.{AllPlaced}
+use Rattle.station_threads.proofs.PlaceLaws.{placed-long, placed-more}
+use Rattle.script_session.specs.Parts.{HasDiskOf, HasHalf, EndsWith, IsLineOf, IsTogether}
+
+-- one site more
+pub sites-more : (halves : List (Option SlaveHalf)) (sites : List SiteValue) (half : Option SlaveHalf) (site : SiteValue) (slave : ℕ) → AllPlaced HasHalf 0 (halves_of halves) sites → slave ≡ length sites → HasHalf slave (half_of half) site
+    → AllPlaced HasHalf 0 (halves_of (halves ++ half ∷ [])) (sites ++ site ∷ [])
+sites-more halves sites half site slave all is has =
+    let long = placed-long HasHalf 0 (halves_of halves) sites all in
+    let here : slave ≡ 0 + length (halves_of halves) = omega (arith, long, is) in
+    subst (λ (l : List SlaveHalf). AllPlaced HasHalf 0 l (sites ++ site ∷ [])) (sym (map-append half_of halves (half ∷ [])))
+    (placed-more HasHalf 0 (halves_of halves) sites (half_of half) site all (subst (λ (n : ℕ). HasHalf n (half_of half) site) here has))
+
+-- one half more
+pub halves-more : (ends : List (Stay SiteValue SlaveLog)) (halves : List (Option SlaveHalf)) (end : Stay SiteValue SlaveLog) (half : Option SlaveHalf) (slave : ℕ) → AllPlaced EndsWith 0 ends (halves_of halves) → slave ≡ length halves → EndsWith slave end (half_of half)
+    → AllPlaced EndsWith 0 (ends ++ end ∷ []) (halves_of (halves ++ half ∷ []))
+halves-more ends halves end half slave all is has =
+    let long = placed-long EndsWith 0 ends (halves_of halves) all in
+    let many = length-map halves half_of in
+    let here : slave ≡ 0 + length ends = omega (arith, long, many, is) in
+    subst (λ (l : List SlaveHalf). AllPlaced EndsWith 0 (ends ++ end ∷ []) l) (sym (map-append half_of halves (half ∷ [])))
+    (placed-more EndsWith 0 ends (halves_of halves) end (half_of half) all (subst (λ (n : ℕ). EndsWith n end (half_of half)) here has))
+
+-- ---- what is put together
+
+made-of : (disk : Option (Vec ℕ)) (parts : Parts) → parts.disk ≡ disk → HasDiskOf disk (site_of parts)
+made-of (Some b) parts is = ap (λ (d : Option (Vec ℕ)). of_bytes (bytes_or_none d)) is
+made-of None parts is = ap (λ (d : Option (Vec ℕ)). is_some d) is
+
+-- a site of these parts has their bytes
+pub disk-of-parts : (site : SiteValue) (parts : Parts) → site ≡ site_of parts → HasDiskOf parts.disk site
+disk-of-parts site parts is = subst (λ (s : SiteValue). HasDiskOf parts.disk s) (sym is) (made-of parts.disk parts refl)
+
+bytes-same : (disk : Option (Vec ℕ)) (site : SiteValue) (bytes : List ℕ) → IsTrue site.line.has_disk → HasDiskOf disk site → IfSome disk (λ (b : Vec ℕ). b.items ≡ bytes) → site.seen.state.disk ≡ of_bytes bytes
+bytes-same (Some b) site bytes has_disk is same = is ∙ ap of_bytes same
+bytes-same None site bytes has_disk is same = absurd (false≢true (sym is ∙ has_disk))
+
+-- the line of these ends
+pub puts-together : {E : Type 0} (result : Result SiteValue E) (slaves : ℕ) (site : SiteValue) (disk : Option (Vec ℕ)) (halves : List (Option SlaveHalf)) (workers : List (Stay SiteValue SlaveLog)) (ends : Ends SiteValue)
+    → IfOk result (λ (whole : SiteValue). (whole ≡ site) × IsLineOf slaves whole.line) → HasDiskOf disk site
+    → IfSome disk (λ (b : Vec ℕ). b.items ≡ ends.flusher.site.seen.state.disk.bytes) → site.seen.state.halves ≡ halves_of halves → workers ≡ ends.workers.items → AllPlaced EndsWith 0 workers (halves_of halves)
+    → IfOk result (λ (whole : SiteValue). IsTogether ends whole × IsLineOf slaves whole.line)
+puts-together (Ok whole) slaves site disk halves workers ends is there bytes held same all =
+    let has_disk : IsTrue site.line.has_disk = subst (λ (s : SiteValue). IsTrue s.line.has_disk) is.0 is.1.disk in
+    let here : IsTogether ends site = record {
+      disk = bytes-same disk site ends.flusher.site.seen.state.disk.bytes has_disk there bytes;
+      halves = subst (λ (l : List SlaveHalf). AllPlaced EndsWith 0 ends.workers.items l) (sym held) (subst (λ (l : List (Stay SiteValue SlaveLog)). AllPlaced EndsWith 0 l (halves_of halves)) same all);
+    } in
+    (subst (λ (s : SiteValue). IsTogether ends s) (sym is.0) here, is.1)
+puts-together (Err fault) slaves site disk halves workers ends is there bytes held same all = tt

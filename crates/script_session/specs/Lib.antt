@@ -1,0 +1,4 @@
+pub mod Asking
+pub mod Parts
+pub mod AtDesk
+pub mod Rounds

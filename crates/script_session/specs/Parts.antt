@@ -1,0 +1,61 @@
+-- A line that is taken apart into sites, and put together again.
+use Rattle.std.specs.Prelude.{◌≡◌, ◌≤◌, ◌+◌, ℕ, true, length, Option, Some, is_some, slice_get, IsTrue, None, false}
+use Rattle.std.specs.Global.{Vec}
+use Rattle.esc_model.specs.SlaveHalf.{SlaveHalf}
+use Rattle.site_core.specs.Line as lines
+use Rattle.site_core.specs.State.{State}
+use Rattle.site_shadow.specs.Unsynced.{of_bytes}
+use Rattle.esc_rom.specs.Owned.{OwnsAll}
+use Rattle.site_shadow.specs.Site.{SiteValue}
+use Rattle.station_jobs.specs.declared.log.SlaveLog.{SlaveLog}
+use Rattle.station_jobs.specs.Ends.{Stay}
+use Rattle.station_threads.specs.declared.parts.PerDevice.{PerDevice}
+use Rattle.station_threads.specs.declared.closing.Ends.{Ends}
+use Rattle.station_threads.specs.Places.{AllPlaced}
+use Rattle.station_threads.specs.Sites.{OwnParts, AreEndsOfSites, IsEndOfTurns}
+
+-- a site for the disk, one for each slave, and one for the process data
+abbrev pub Sites : Type 0
+Sites = PerDevice SiteValue SiteValue SiteValue
+
+-- the site holds this EEPROM half for this slave
+abbrev pub HasHalf : ℕ → SlaveHalf → SiteValue → Type 0
+HasHalf slave half site = slice_get site.seen.state.halves slave ≡ Some half
+
+-- the site's disk has these bytes, all of them synced; for None the site has no disk
+abbrev pub HasDiskOf : Option (Vec ℕ) → SiteValue → Type 0
+HasDiskOf (Some bytes) site = site.seen.state.disk ≡ of_bytes bytes.items
+HasDiskOf None site = site.line.has_disk ≡ false
+
+-- The sites hold the bytes of the line's disk, all of them synced, and each slave's EEPROM half, and there is a site for process data.
+pub record IsApart (whole : State) (sites : Sites) : Type 0 where
+  pub disk : sites.disk.seen.state.disk ≡ of_bytes whole.disk.bytes
+  pub slaves : AllPlaced HasHalf 0 whole.halves sites.slaves.items
+  pub turning : is_some sites.cycle ≡ true
+
+-- The line is taken apart so, each site owns its part, and the disk reaches to the end of a journal's area of this capacity.
+pub record IsServable (capacity : ℕ) (whole : State) (sites : Sites) : Type 0 where
+  pub apart : IsApart whole sites
+  pub owned : OwnParts (λ (s : SiteValue). s.line) sites.disk sites.slaves.items sites.cycle
+  pub long : 8 + capacity ≤ length sites.disk.seen.state.disk.bytes
+
+-- These are the ends of the threads that served these sites: each began with its site.
+pub record AreEndsOfParts (sites : Sites) (ends : Ends SiteValue) : Type 0 where
+  pub flusher : ends.flusher.start ≡ sites.disk
+  pub workers : AreEndsOfSites sites.slaves.items ends.workers.items
+  pub cycle : IsEndOfTurns sites.cycle ends.cycle
+
+-- this is the EEPROM half of this slave at the end of its worker
+abbrev pub EndsWith : ℕ → Stay SiteValue SlaveLog → SlaveHalf → Type 0
+EndsWith slave end half = HasHalf slave half end.site
+
+-- The site's disk has the bytes that the flusher left, all of them synced, and each slave's EEPROM half is as its worker left it.
+pub record IsTogether (ends : Ends SiteValue) (site : SiteValue) : Type 0 where
+  pub disk : site.seen.state.disk ≡ of_bytes ends.flusher.site.seen.state.disk.bytes
+  pub halves : AllPlaced EndsWith 0 ends.workers.items site.seen.state.halves
+
+-- this is a line of this many slaves, all of them owned, with its disk
+pub record IsLineOf (slaves : ℕ) (line : lines.Line) : Type 0 where
+  pub disk : IsTrue line.has_disk
+  pub owned : OwnsAll line
+  pub count : length line.sizes ≡ slaves

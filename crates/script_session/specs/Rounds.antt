@@ -1,0 +1,50 @@
+-- A station on which the commands of a script are submitted one by one and served in rounds.
+use Rattle.std.specs.Prelude.{◌≡◌, ◌⊎◌, ℕ, List, [], ◌∷◌, length, is_some, true, Result, OnOk, ⊤}
+use Rattle.sii_edit.specs.declared.command.Command.{Command}
+use Rattle.book_model.specs.Book.{Book}
+use Rattle.book_model.specs.Reading.{live_bytes}
+use Rattle.station_alone.specs.declared.choice.Answer.{Answer}
+use Rattle.station_alone.specs.declared.choice.Answer.TheVariants.{Accepted}
+use Rattle.station_alone.specs.Station.{Station}
+use Rattle.station_alone.specs.Keeping.{GoesOn, Keeps}
+use Rattle.station_files.specs.declared.faults.ExitStatus.{ExitStatus}
+use Rattle.station_files.specs.declared.faults.ExitStatus.TheVariants.{Done}
+
+-- The session went on with these commands accepted. If a power cut before could leave only what is kept, so it could at each moment since.
+pub record Goes (commands : List Command) (old new : Station) : Type 0 where
+  pub most : ℕ
+  pub on : GoesOn commands most old new
+  pub keeps : Keeps commands old new
+
+-- all accepted commands are durable, and nothing is live
+pub record IsServed (book : Book) : Type 0 where
+  pub durable : book.durable ≡ length book.accepted
+  pub nothing : live_bytes book ≡ 0
+
+-- the book is served, or a fault has closed it
+abbrev pub IsServedOrClosed : Book → Type 0
+IsServedOrClosed book = IsServed book ⊎ (is_some book.fault ≡ true)
+
+-- the answer accepts the command
+abbrev pub IsAccepted : Answer → Type 0
+IsAccepted (Accepted number) = ⊤
+IsAccepted answer = ⊥
+
+-- these are some of the commands, in the same order
+abbrev pub AreAmong : List Command → List Command → Type 0
+AreAmong some [] = some ≡ []
+AreAmong some (command ∷ commands) = ((rest : List Command) × (some ≡ command ∷ rest) × AreAmong rest commands) ⊎ AreAmong some commands
+
+-- Some of these commands were accepted: all of them if the result is no fault and none was refused.
+pub record SubmitsSo {E : Type 0} (commands : List Command) (result : Result (Unit {0}) E) (before after : ExitStatus)
+    (old new : Station) : Type 0 where
+  pub accepted : List Command
+  pub goes : Goes accepted old new
+  pub among : AreAmong accepted commands
+  pub all : OnOk result (after ≡ Done → (before ≡ Done) × (accepted ≡ commands))
+
+-- The commands were submitted so, and then served if the result is no fault.
+pub record ServesSo {E : Type 0} (commands : List Command) (result : Result (Unit {0}) E) (before after : ExitStatus)
+    (old new : Station) : Type 0 where
+  pub submits : SubmitsSo commands result before after old new
+  pub served : OnOk result (IsServed new.book)

@@ -1,0 +1,88 @@
+//! The refusals and faults of a book as the program prints them.
+
+ghost use Rattle.std.specs.Prelude.{◌≢◌};
+ghost use Rattle.desk_book.specs.Calls.{AreAnswered};
+
+use book_model::{Fault as BookFault, SubmitRefusal};
+use station_files::{ExitStatus, Fault, Refused, worse};
+use station_listing::Code;
+use station_threads::{Refusals, Served, Tickets};
+use std::io::Write;
+
+/// The refusal of a command, as it is printed.
+pub(crate) fn refused_as(refusal: SubmitRefusal) -> Refused {
+    let code = match refusal {
+        SubmitRefusal::Command(refusal) => return Refused::from(refusal),
+        SubmitRefusal::TooLarge => Code::TooLarge,
+        SubmitRefusal::Full => Code::Full,
+        SubmitRefusal::Closed => Code::Closed,
+        SubmitRefusal::OldJournal => Code::OldJournal,
+    };
+    Refused {
+        code,
+        position: None,
+    }
+}
+
+/// The program's fault for the fault that closed a book.
+pub(crate) fn fault_of_book(fault: BookFault) -> Fault {
+    match fault {
+        BookFault::Disk => Fault::Disk,
+        BookFault::Stopped => Fault::Stopped,
+        BookFault::SlaveDead { slave } => Fault::SlaveDead { slave },
+    }
+}
+
+/// Prints that the command at this place of the script, counted from 0, is accepted and has this number.
+///
+/// # Errors
+///
+/// `File` or `Memory` where the output can't be written.
+pub(crate) fn print_accepted<W: Write>(
+    place: usize,
+    number: u64,
+    output: &mut W,
+) -> Result<(), Fault> {
+    writeln!(output, "command {place} accepted {number}")?;
+    Ok(())
+}
+
+/// Prints why the command at this place of the script, counted from 0, is refused, and raises the status.
+///
+/// # Errors
+///
+/// `File` or `Memory` where the output can't be written.
+pub(crate) fn print_refused<W: Write>(
+    place: usize,
+    refused: Refused,
+    output: &mut W,
+    status: &mut ExitStatus,
+) -> Result<(), Fault>
+    ensures { status.new ≢ ExitStatus.Done }
+{
+    *status = worse(*status, refused.status());
+    writeln!(output, "command {place} {refused}")?;
+    Ok(())
+}
+
+/// Prints how many commands a book has accepted, and how many of them are durable and settled, if `is_asked`.
+pub(crate) fn print_totals<T: Tickets, R: Refusals, O: Write>(
+    book: &Served<T, R>,
+    is_asked: bool,
+    output: &mut O,
+) -> Result<(), Fault>
+    ensures { AreAnswered T.opened book.now.calls }
+{
+    let accepted = book.accepted().len();
+    if !is_asked {
+        return Ok(());
+    }
+    let totals = book.status();
+    let (durable, settled) = (totals.durable, totals.settled);
+    writeln!(
+        output,
+        "accepted {accepted} durable {durable} settled {settled}"
+    )?;
+    output.flush()?;
+    Ok(())
+}

@@ -1,0 +1,237 @@
+//! Takes a line apart into sites: one for the disk, one for each slave, and one for the process data.
+
+ghost use Rattle.std.specs.Prelude.{◌≡◌, ◌↔◌, ◌+◌, ◌<◌, ◌≤◌, true, length, slice_set, vec_len, is_some, IfOk, IsSomeAnd, IsTrue};
+ghost use Rattle.site_shadow.specs.Line.{half_of, halves_of};
+ghost use Rattle.site_shadow.specs.Parts.{site_of};
+ghost use Rattle.site_shadow.specs.Site.{SiteValue};
+ghost use Rattle.station_threads.specs.Places.{AllPlaced};
+ghost use Rattle.station_threads.specs.Sites.{OwnParts};
+ghost use Rattle.script_session.specs.Parts.{HasDiskOf, HasHalf, IsServable};
+
+use esc_model::{FIRST_STATION, ProcessHalf, RomHalf};
+use site_shadow::{Device, Parts, ShadowSite};
+use station_files::Fault;
+use station_threads::{PerDevice, Sites, own_parts};
+use std::alloc::{AllocError, Global};
+
+/// The parts of a site that owns nothing of the line. `sizes` is the number of words of each slave.
+fn nothing(alloc: Global, sizes: &Vec<u16>) -> Result<Parts, AllocError> {
+    let mut halves = Vec::with_capacity(alloc, sizes.len())?;
+    for _slave in 0..sizes.len() {
+        halves.push(None)?;
+    }
+    Ok(Parts {
+        sizes: sizes.clone()?,
+        disk: None,
+        halves,
+        process: None,
+    })
+}
+
+/// The site with these parts and this device.
+///
+/// # Errors
+///
+/// `Unserved` where the parts are not whole (`Parts::is_whole`).
+pub(crate) fn site_of<D: Device + Copy>(
+    alloc: Global,
+    parts: Parts,
+    device: D,
+) -> Result<ShadowSite<D>, Fault>
+    ensures made { IfOk result (λ site. site ≡ site_of parts) }
+    ensures disk { IfOk result (λ site. HasDiskOf parts.disk site) }
+{
+    if !parts.is_whole() {
+        return Err(Fault::Unserved);
+    }
+    Ok(ShadowSite::of_parts(alloc, parts, device))
+}
+
+/// These parts, with `half` as the EEPROM half of this slave.
+fn with_half(parts: Parts, slave: usize, half: Option<RomHalf>) -> Parts
+    requires { slave < vec_len parts.halves }
+    ensures { result.halves.items ≡ slice_set parts.halves.items slave half }
+{
+    let mut parts = parts;
+    parts.halves[slave] = half;
+    parts
+}
+
+/// A site that owns the EEPROM half of this slave, and nothing else.
+fn slave_site<D: Device + Copy>(
+    alloc: Global,
+    device: D,
+    sizes: &Vec<u16>,
+    slave: usize,
+    half: Option<RomHalf>,
+) -> Result<ShadowSite<D>, Fault>
+    ensures { IfOk result (λ site. HasHalf slave (half_of half) site) }
+{
+    let parts = nothing(alloc, sizes)?;
+    if slave >= parts.halves.len() {
+        return Err(Fault::Unserved);
+    }
+    let parts = with_half(parts, slave, half);
+    site_of(alloc, parts, device)
+}
+
+/// A site for each slave, which owns its EEPROM half alone.
+fn slave_sites<D: Device + Copy>(
+    alloc: Global,
+    device: D,
+    sizes: &Vec<u16>,
+    halves: Vec<Option<RomHalf>>,
+) -> Result<Vec<ShadowSite<D>>, Fault>
+    ensures { IfOk result (λ sites. AllPlaced HasHalf 0 (halves_of halves.items) sites.items) }
+{
+    let mut sites = Vec::with_capacity(alloc, halves.len())?;
+    for half in halves {
+        let slave = sites.len();
+        let site = slave_site(alloc, device, sizes, slave, half)?;
+        sites.push(site)?;
+    }
+    Ok(sites)
+}
+
+/// The process half of this slave, just switched on.
+fn process_of(alloc: Global, slave: usize, half: &Option<RomHalf>) -> Result<ProcessHalf, Fault> {
+    let Ok(place) = u16::try_from(slave) else {
+        return Err(Fault::Unserved);
+    };
+    let Some(half) = half else {
+        return Err(Fault::Unserved);
+    };
+    let station = FIRST_STATION.wrapping_add(place);
+    Ok(ProcessHalf::power_up(alloc, half.words(), station)?)
+}
+
+/// The process halves of the slaves, just switched on.
+fn processes(alloc: Global, halves: &[Option<RomHalf>]) -> Result<Vec<ProcessHalf>, Fault> {
+    let mut processes = Vec::with_capacity(alloc, halves.len())?;
+    for (slave, half) in halves.iter().enumerate() {
+        processes.push(process_of(alloc, slave, half)?)?;
+    }
+    Ok(processes)
+}
+
+/// A site that owns this disk, and nothing else.
+fn disk_site<D: Device + Copy>(
+    alloc: Global,
+    device: D,
+    sizes: &Vec<u16>,
+    disk: Option<Vec<u8>>,
+) -> Result<ShadowSite<D>, Fault>
+    ensures { IfOk result (λ site. HasDiskOf disk site) }
+{
+    let mut parts = nothing(alloc, sizes)?;
+    parts.disk = disk;
+    site_of(alloc, parts, device)
+}
+
+/// A site that owns the process halves of these slaves, just switched on, and nothing else.
+fn cycle_site<D: Device + Copy>(
+    alloc: Global,
+    device: D,
+    sizes: &Vec<u16>,
+    halves: &[Option<RomHalf>],
+) -> Result<ShadowSite<D>, Fault> {
+    let processes = processes(alloc, halves)?;
+    let mut parts = nothing(alloc, sizes)?;
+    parts.process = Some(processes);
+    site_of(alloc, parts, device)
+}
+
+/// A site that owns this disk alone, and one that owns the process halves of these slaves alone.
+fn disk_and_cycle<D: Device + Copy>(
+    alloc: Global,
+    device: D,
+    sizes: &Vec<u16>,
+    disk: Option<Vec<u8>>,
+    halves: &[Option<RomHalf>],
+) -> Result<(ShadowSite<D>, ShadowSite<D>), Fault>
+    ensures { IfOk result (λ sites. HasDiskOf disk sites.0) }
+{
+    let cycle = cycle_site(alloc, device, sizes, halves)?;
+    match disk_site(alloc, device, sizes, disk) {
+        Ok(disk) => Ok((disk, cycle)),
+        Err(fault) => {
+            drop(cycle);
+            Err(fault)
+        }
+    }
+}
+
+/// The sites of the line's parts, each with a copy of the device. The process halves are just switched on.
+fn sites_of<D: Device + Copy>(
+    alloc: Global,
+    device: D,
+    line: Parts,
+) -> Result<Sites<ShadowSite<D>>, Fault>
+    ensures disk { IfOk result (λ sites. HasDiskOf line.disk sites.disk) }
+    ensures slaves { IfOk result (λ sites. AllPlaced HasHalf 0 (halves_of line.halves.items) sites.slaves.items) }
+    ensures turning { IfOk result (λ sites. is_some sites.cycle ≡ true) }
+{
+    let Parts {
+        sizes,
+        disk,
+        halves,
+        ..
+    } = line;
+    let (disk, cycle) = disk_and_cycle(alloc, device, &sizes, disk, &halves)?;
+    match slave_sites(alloc, device, &sizes, halves) {
+        Ok(slaves) => Ok(PerDevice {
+            disk,
+            slaves,
+            cycle: Some(cycle),
+        }),
+        Err(fault) => {
+            drop(disk);
+            drop(cycle);
+            Err(fault)
+        }
+    }
+}
+
+/// Whether the disk reaches to the end of a journal's area of `capacity` bytes.
+fn reaches(parts: &Parts, capacity: u32) -> bool
+    ensures { IsTrue result ↔ IsSomeAnd parts.now.disk (λ bytes. 8 + capacity ≤ length bytes.items) }
+{
+    match &parts.disk {
+        Some(bytes) => bytes.len() >= 8 + capacity as usize,
+        None => false,
+    }
+}
+
+/// The sites, if each owns its part (`own_parts`); otherwise `Unserved`.
+fn whole_sites<D: Device + Copy>(sites: Sites<ShadowSite<D>>) -> Result<Sites<ShadowSite<D>>, Fault>
+    ensures { IfOk result (λ same. (same ≡ sites) × OwnParts (λ (s : SiteValue). s.line) same.disk same.slaves.items same.cycle) }
+{
+    if own_parts(&sites) {
+        Ok(sites)
+    } else {
+        drop(sites);
+        Err(Fault::Unserved)
+    }
+}
+
+/// Takes a line apart into sites, each with a copy of its device. The disk must reach to the end of a journal's area of `capacity` bytes.
+/// The process halves are just switched on.
+///
+/// # Errors
+///
+/// `Unserved` where the site isn't a whole line with such a disk; `Memory`. The site is dropped.
+pub(crate) fn take_apart<D: Device + Copy>(
+    alloc: Global,
+    site: ShadowSite<D>,
+    capacity: u32,
+) -> Result<Sites<ShadowSite<D>>, Fault>
+    ensures { IfOk result (λ sites. IsServable capacity site.seen.state sites) }
+{
+    let (parts, device) = site.into_parts();
+    if !reaches(&parts, capacity) {
+        drop(parts);
+        return Err(Fault::Unserved);
+    }
+    let sites = sites_of(alloc, device, parts)?;
+    whole_sites(sites)
+}

@@ -1,0 +1,181 @@
+//! Closes a desk with the share and the receipts of the submitter and the ends of the threads.
+
+ghost use Rattle.std.specs.Prelude.{◌≡◌, ◌≤◌, [], true, is_err, vec_capacity, MatchResult, Ok, OnOk};
+ghost use Rattle.desk_book.specs.Calls.{AreAnswered};
+ghost use Rattle.script_session.specs.Asking.{fault_of, receipts_of};
+ghost use Rattle.script_session.specs.AtDesk.{Closes, EndsSo, IsStopped};
+
+use crate::answers::{fault_of_book, print_totals};
+use crate::asked::Asked;
+use crate::submitter::Submitter;
+use site_core::Site;
+use site_shadow::{Device, ShadowSite};
+use station_files::{ExitStatus, Fault};
+use station_threads::{
+    CloseFault, Closed, Desk, Ends, NotClosed, Receipt, Refusals, Served, Share, Tickets, close,
+};
+use std::alloc::Global;
+use std::io::Write;
+
+/// How the work at a desk ended.
+#[derive(Drop)]
+pub struct Ending {
+    /// Whether the commands were submitted. If a thread can't be started, none is.
+    pub is_driven: bool,
+    /// Whether the share, the receipts and the ends that were handed in match what the desk handed out.
+    pub is_matched: bool,
+    /// The highest status of the answers to the commands: `Done` if none was refused.
+    pub status: ExitStatus,
+    /// The fault that ended the work, if one did.
+    pub ended: Result<(), Fault>,
+}
+
+/// What a closed desk leaves: the ends of its threads, and how the work ended.
+#[derive(Drop)]
+pub(crate) struct AtDesk<S: Site> {
+    pub(crate) ends: Ends<S>,
+    pub(crate) ending: Ending,
+}
+
+/// Closes the desk with the submitter's share and receipts and the ends of the threads. Prints the totals if the submitter got its receipts.
+/// `room` is an empty list with room for the share.
+pub(crate) fn hand_in<T: Tickets, R: Refusals, C: Asked, O: Write, D: Device + Copy>(
+    desk: Desk<T, R>,
+    submitter: Submitter<'_, '_, T, R, C, O>,
+    room: Vec<Share<T, R>>,
+    ends: Ends<ShadowSite<D>>,
+) -> AtDesk<ShadowSite<D>>
+    requires { (room.items ≡ []) × (1 ≤ vec_capacity room) }
+    ensures ends { result.ends ≡ ends }
+    ensures ending { EndsSo T.opened C.commands ends result.ending }
+{
+    let Submitter {
+        alloc,
+        output,
+        share,
+        status,
+        came,
+        ..
+    } = submitter;
+    let mut shares = room;
+    shares.push_reserved(share);
+    let is_driven = came.is_some();
+    let has_totals = has_receipts(&came);
+    let (receipts, asked) = received(alloc, came);
+    let (ends, is_matched, closed) = close_desk(desk, shares, receipts, ends, has_totals, output);
+    let ending = Ending {
+        is_driven,
+        is_matched,
+        status,
+        ended: told_of(asked, closed),
+    };
+    AtDesk { ends, ending }
+}
+
+/// Whether the submitter got its receipts.
+fn has_receipts(came: &Option<Result<Vec<Receipt>, Fault>>) -> bool {
+    matches!(came, Some(Ok(_)))
+}
+
+/// The receipts of the submitter, if it got any, and its fault, if it met one.
+fn received(
+    alloc: Global,
+    came: Option<Result<Vec<Receipt>, Fault>>,
+) -> (Vec<Receipt>, Result<(), Fault>)
+    ensures receipts { result.0.items ≡ receipts_of came }
+    ensures fault { result.1 ≡ fault_of came }
+{
+    match came {
+        Some(Ok(receipts)) => (receipts, Ok(())),
+        Some(Err(fault)) => (Vec::new(alloc), Err(fault)),
+        None => (Vec::new(alloc), Ok(())),
+    }
+}
+
+/// The result of the work, from that of the submitter and that of closing the desk. A fault of the submitter comes first, but its
+/// `Unserved` gives way to the fault of the desk.
+fn told_of(asked: Result<(), Fault>, closed: Result<(), Fault>) -> Result<(), Fault>
+    ensures { OnOk result ((asked ≡ Ok tt) × (closed ≡ Ok tt)) }
+{
+    match (asked, closed) {
+        (Ok(()), end) => end,
+        (Err(Fault::Unserved), Err(why)) => Err(why),
+        (Err(fault), _) => Err(fault),
+    }
+}
+
+/// What closing a desk returns: the ends, whether what was handed in matches, and why the desk isn't closed or the totals aren't printed.
+type Told<D> = (Ends<ShadowSite<D>>, bool, Result<(), Fault>);
+
+/// Closes the desk, and prints the totals if `has_totals`.
+///
+/// # Errors
+///
+/// If the desk isn't closed, the fault of the book, or `Unserved` if it has none. Otherwise `File` or `Memory`, where the totals can't be
+/// printed.
+fn close_desk<T: Tickets, R: Refusals, O: Write, D: Device + Copy>(
+    desk: Desk<T, R>,
+    shares: Vec<Share<T, R>>,
+    receipts: Vec<Receipt>,
+    ends: Ends<ShadowSite<D>>,
+    has_totals: bool,
+    output: &mut O,
+) -> Told<D>
+    ensures ends { result.0 ≡ ends }
+    ensures closes { MatchResult result.2 (λ done. Closes T.opened shares.items receipts.items ends) (λ fault. IsStopped T.opened result.1 ends) }
+{
+    match close(desk, shares, receipts, ends) {
+        Ok(closed) => tell_closed(closed, has_totals, output),
+        Err(left) => tell_open(left, has_totals, output),
+    }
+}
+
+/// Prints the totals of a closed desk, if `has_totals`.
+fn tell_closed<T: Tickets, R: Refusals, O: Write, D: Device + Copy>(
+    closed: Closed<T, R, ShadowSite<D>>,
+    has_totals: bool,
+    output: &mut O,
+) -> Told<D>
+    ensures ends { (result.0 ≡ closed.ends) × (result.1 ≡ true) }
+    ensures answered { AreAnswered T.opened closed.book.calls }
+{
+    let Closed { book, ends } = closed;
+    let printed = print_totals(&book, has_totals, output);
+    drop(book);
+    (ends, true, printed)
+}
+
+/// Gives the reason why a desk isn't closed, and prints the totals if `has_totals`.
+fn tell_open<T: Tickets, R: Refusals, O: Write, D: Device + Copy>(
+    left: NotClosed<T, R, ShadowSite<D>>,
+    has_totals: bool,
+    output: &mut O,
+) -> Told<D>
+    ensures ends { result.0 ≡ left.ends }
+    ensures unserved { result.1 ≡ true → left.fault ≡ CloseFault.Unserved }
+    ensures matched { left.fault ≡ CloseFault.Unserved → result.1 ≡ true }
+    ensures fault { is_err result.2 ≡ true }
+    ensures answered { AreAnswered T.opened left.book.calls }
+{
+    let NotClosed {
+        fault,
+        book,
+        shares,
+        receipts,
+        ends,
+    } = left;
+    let _printed = print_totals(&book, has_totals, output);
+    let why = why_open(&book);
+    drop(book);
+    drop(shares);
+    drop(receipts);
+    (ends, fault == CloseFault::Unserved, Err(why))
+}
+
+/// Why a desk isn't closed: the fault of the book, or `Unserved` if it has none.
+fn why_open<T: Tickets, R: Refusals>(book: &Served<T, R>) -> Fault {
+    match book.fault() {
+        Some(fault) => fault_of_book(fault),
+        None => Fault::Unserved,
+    }
+}

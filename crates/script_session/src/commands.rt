@@ -1,0 +1,119 @@
+//! Submits the commands of a script to a station on one thread, and serves them.
+ghost use Rattle.std.specs.Prelude.{◌≡◌, ◌∷◌, [], IsTrue, OnOk, None};
+ghost use Rattle.script_session.specs.Rounds.{IsAccepted, ServesSo, SubmitsSo};
+
+use crate::answers::{fault_of_book, print_accepted, print_refused, refused_as};
+use crate::rounds::{serve_all, serve_round};
+use book_core::Core;
+use book_model::SubmitRefusal;
+use sii_edit::Command;
+use site_core::Site;
+use station_alone::{Alone, Answer};
+use station_files::{ExitStatus, Fault, Refused};
+use station_listing::Code;
+use std::io::Write;
+
+/// Submits the commands in order to a station of `slaves` slaves, prints the answer to each, serves them in rounds, and prints the totals.
+/// A refusal raises the status.
+///
+/// # Errors
+///
+/// `File` where the output fails; `Memory` at any point, also where a round had no memory; `Unserved` where 2^64 - 1 rounds don't suffice;
+/// and, once the totals are printed, the fault that closed the book. Commands that were accepted before stay accepted.
+pub fn serve_commands<S: Site, W: Write>(
+    alone: &mut Alone<S>,
+    slaves: u16,
+    commands: &[Command],
+    output: &mut W,
+    status: &mut ExitStatus,
+) -> Result<(), Fault>
+    ensures { ServesSo commands.now result status.old status.new alone.old alone.new }
+{
+    submit_all(alone, slaves, commands, output, status)?;
+    serve_all(alone, slaves)?;
+    end_session(alone.core(), output)
+}
+
+/// Prints the totals, and gives the fault that closed the book, if one did.
+fn end_session<W: Write>(core: &Core, output: &mut W) -> Result<(), Fault>
+    ensures { OnOk result (core.now.fault ≡ None) }
+{
+    let totals = core.status();
+    let (accepted, durable, settled) = (totals.accepted, totals.durable, totals.settled);
+    writeln!(
+        output,
+        "accepted {accepted} durable {durable} settled {settled}"
+    )?;
+    output.flush()?;
+    match core.fault() {
+        Some(fault) => Err(fault_of_book(fault)),
+        None => Ok(()),
+    }
+}
+
+/// Submits the commands in order, and prints the answer to each.
+fn submit_all<S: Site, W: Write>(
+    alone: &mut Alone<S>,
+    slaves: u16,
+    commands: &[Command],
+    output: &mut W,
+    status: &mut ExitStatus,
+) -> Result<(), Fault>
+    ensures { SubmitsSo commands.now result status.old status.new alone.old alone.new }
+{
+    for (place, command) in commands.iter().enumerate() {
+        submit_one(alone, slaves, place, command, output, status)?;
+    }
+    Ok(())
+}
+
+/// Submits the command at position `place` of the script, from 0, and prints the answer. While the book is full, it makes a round and
+/// submits the command again.
+fn submit_one<S: Site, W: Write>(
+    alone: &mut Alone<S>,
+    slaves: u16,
+    place: usize,
+    command: &Command,
+    output: &mut W,
+    status: &mut ExitStatus,
+) -> Result<(), Fault>
+    ensures { SubmitsSo (command.now ∷ []) result status.old status.new alone.old alone.new }
+{
+    for _round in 0..u64::MAX {
+        let answer = alone.submit(command);
+        if !is_full(answer) {
+            return print_answer(place, answer, output, status);
+        }
+        serve_round(alone, slaves)?;
+    }
+    Err(Fault::Unserved)
+}
+
+/// Whether the book is full, so that the command has to wait.
+fn is_full(answer: Answer) -> bool
+    ensures { IsTrue result → ¬ IsAccepted answer }
+{
+    matches!(answer, Answer::Refused(SubmitRefusal::Full))
+}
+
+/// Prints the answer to the command at position `place` of the script. A refusal raises the status.
+fn print_answer<W: Write>(
+    place: usize,
+    answer: Answer,
+    output: &mut W,
+    status: &mut ExitStatus,
+) -> Result<(), Fault>
+    ensures { status.new ≡ ExitStatus.Done → (status.old ≡ ExitStatus.Done) × IsAccepted answer }
+{
+    let refused = match answer {
+        Answer::Accepted(number) => return print_accepted(place, number, output),
+        Answer::Refused(refusal) => refused_as(refusal),
+        Answer::NoMemory | Answer::Did | Answer::Idle | Answer::Ended | Answer::Failed(_) => {
+            Refused {
+                code: Code::Memory,
+                position: None,
+            }
+        }
+    };
+    print_refused(place, refused, output, status)
+}

@@ -1,0 +1,18 @@
+//! Serves the commands of a script. By threads: takes a line apart, has a desk serve the parts while the commands are submitted there, and
+//! puts the line together again. Or on one thread, in rounds.
+#![tactic(auto)]
+
+mod answers;
+mod apart;
+mod asked;
+mod closing;
+mod commands;
+mod rounds;
+mod submitter;
+mod submitting;
+mod threads;
+mod together;
+
+pub use closing::Ending;
+pub use commands::serve_commands;
+pub use threads::{Left, serve_by_threads};

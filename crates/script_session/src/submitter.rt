@@ -1,0 +1,57 @@
+//! The client of a desk that submits the commands of a script.
+
+ghost use Rattle.std.specs.Prelude.{◌≡◌, None};
+
+use crate::asked::Asked;
+use crate::submitting::submit_and_wait;
+use sii_edit::Command;
+use station_files::{ExitStatus, Fault};
+use station_threads::{Client, Desk, Receipt, Refusals, Share, Tickets};
+use std::alloc::Global;
+use std::io::Write;
+use std::marker::{Model, PhantomData};
+use std::sync::Wait;
+use std::thread::Threads;
+
+/// A client that submits the commands of the type `C` once. Contracts see the counts of its share, the highest status of the answers, and
+/// its result, once it has submitted.
+#[derive(Drop)]
+pub(crate) struct Submitter<'c, 'o, T: Tickets, R: Refusals, C: Asked, O: Write> {
+    pub(crate) alloc: Global,
+    pub(crate) commands: &'c [Command],
+    pub(crate) output: &'o mut O,
+    pub(crate) share: Share<T, R>,
+    pub(crate) status: ExitStatus,
+    pub(crate) came: Option<Result<Vec<Receipt>, Fault>>,
+    pub(crate) of: PhantomData<C>,
+}
+
+impl<'c, 'o, T: Tickets, R: Refusals, C: Asked, O: Write> Model for Submitter<'c, 'o, T, R, C, O> {
+    ghost use Rattle.std.specs.Prelude.{◌≡◌};
+    ghost use Rattle.script_session.specs.Asking.{ComesTo, Submission};
+
+    ghost Value = { Submission };
+
+    ghost view = { λ s. record { counts = s.share; status = s.status; came = s.came } };
+
+    ghost invariant = { λ s. (s.commands.now ≡ C.commands) × ComesTo C.commands s.status s.share s.came };
+}
+
+impl<'c, 'o, T: Tickets, R: Refusals, C: Asked, O: Write> Client<T, R>
+    for Submitter<'c, 'o, T, R, C, O> {
+    fn drive<W: Wait + Threads + Sync>(&mut self, rt: &W, desk: &Desk<T, R>) {
+        if self.came.is_some() {
+            return;
+        }
+        let came = submit_and_wait(
+            rt,
+            self.alloc,
+            desk,
+            &mut self.share,
+            self.commands,
+            self.output,
+            &mut self.status,
+        );
+        self.came = Some(came);
+    }
+}

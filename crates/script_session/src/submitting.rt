@@ -1,0 +1,180 @@
+//! Submits commands at a desk, one by one, and waits for their receipts.
+
+ghost use Rattle.std.specs.Prelude.{◌≡◌, ◌+◌, ◌++◌, option_to_list, IfErr, IfOk, OnOk};
+ghost use Rattle.script_session.specs.Asking.{AreInOrder, Asks, AsksAll, Receives};
+
+use crate::answers::{print_accepted, print_refused, refused_as};
+use book_model::SubmitRefusal;
+use sii_edit::{Cause, Command, Refusal};
+use station_files::{ExitStatus, Fault};
+use station_threads::{Desk, Receipt, Refusals, Refused, Share, Ticket, Tickets};
+use std::alloc::Global;
+use std::io::Write;
+use std::sync::Wait;
+
+/// The refusal of a command for which memory was refused.
+const NO_MEMORY: SubmitRefusal = SubmitRefusal::Command(Refusal {
+    cause: Cause::Memory,
+    position: None,
+});
+
+/// Submits a command. While the book is full, it waits until the book has changed and submits the command again.
+fn ask<T: Tickets, R: Refusals, W: Wait>(
+    rt: &W,
+    desk: &Desk<T, R>,
+    share: &mut Share<T, R>,
+    command: Command,
+) -> Result<Ticket, SubmitRefusal>
+    ensures command { IfOk result (λ ticket. ticket.command ≡ command) }
+    ensures counted { IfOk result (λ ticket. share.new.tickets ≡ share.old.tickets + 1) }
+    ensures uncounted { IfErr result (λ refusal. share.new.tickets ≡ share.old.tickets) }
+{
+    let mut asked = command;
+    for _try in rt.forever() {
+        let seen = desk.status(rt);
+        match desk.submit(rt, share, asked) {
+            Ok(ticket) => return Ok(ticket),
+            Err(refused) => {
+                let Refused { refusal, command } = refused;
+                if refusal != SubmitRefusal::Full {
+                    return Err(refusal);
+                }
+                let _now = desk.changed(rt, &seen);
+                asked = command;
+            }
+        }
+    }
+    unreachable!()
+}
+
+/// Submits a copy of the command.
+fn ask_copy<T: Tickets, R: Refusals, W: Wait>(
+    rt: &W,
+    desk: &Desk<T, R>,
+    share: &mut Share<T, R>,
+    command: &Command,
+) -> Result<Ticket, SubmitRefusal>
+    ensures command { IfOk result (λ ticket. ticket.command ≡ command.now) }
+    ensures counted { IfOk result (λ ticket. share.new.tickets ≡ share.old.tickets + 1) }
+    ensures uncounted { IfErr result (λ refusal. share.new.tickets ≡ share.old.tickets) }
+{
+    match command.try_copy() {
+        Ok(copy) => ask(rt, desk, share, copy),
+        Err(_) => Err(NO_MEMORY),
+    }
+}
+
+/// Submits the command at position `place` of the script, and prints the answer. A refusal raises the status.
+fn ask_one<T: Tickets, R: Refusals, O: Write, W: Wait>(
+    rt: &W,
+    desk: &Desk<T, R>,
+    share: &mut Share<T, R>,
+    place: usize,
+    command: &Command,
+    output: &mut O,
+    status: &mut ExitStatus,
+) -> Result<Option<Ticket>, Fault>
+    ensures { IfOk result (λ ticket. Asks command.now status.old status.new share.old share.new ticket) }
+{
+    match ask_copy(rt, desk, share, command) {
+        Ok(ticket) => {
+            print_accepted(place, ticket.number(), output)?;
+            Ok(Some(ticket))
+        }
+        Err(refusal) => {
+            print_refused(place, refused_as(refusal), output, status)?;
+            Ok(None)
+        }
+    }
+}
+
+/// Appends the ticket, if there is one.
+fn keep(tickets: &mut Vec<Ticket>, asked: Option<Ticket>) -> Result<(), Fault>
+    ensures { OnOk result (tickets.new.items ≡ tickets.old.items ++ option_to_list asked) }
+{
+    match asked {
+        Some(ticket) => {
+            tickets.push(ticket)?;
+            Ok(())
+        }
+        None => Ok(()),
+    }
+}
+
+/// Submits the commands in order, and prints the answer to each. Returns the tickets of the accepted ones.
+fn ask_all<T: Tickets, R: Refusals, O: Write, W: Wait>(
+    rt: &W,
+    alloc: Global,
+    desk: &Desk<T, R>,
+    share: &mut Share<T, R>,
+    commands: &[Command],
+    output: &mut O,
+    status: &mut ExitStatus,
+) -> Result<Vec<Ticket>, Fault>
+    ensures { IfOk result (λ tickets. AsksAll commands.now status.old status.new share.old share.new tickets.items) }
+{
+    let mut tickets = Vec::with_capacity(alloc, commands.len())?;
+    for (place, command) in commands.iter().enumerate() {
+        let asked = ask_one(rt, desk, share, place, command, output, status)?;
+        keep(&mut tickets, asked)?;
+    }
+    Ok(tickets)
+}
+
+/// Waits until the command of this ticket is durable. A ticket with another number than `number` gives `Unserved`.
+fn receive<T: Tickets, R: Refusals, W: Wait>(
+    rt: &W,
+    desk: &Desk<T, R>,
+    ticket: Ticket,
+    number: u64,
+) -> Result<Receipt, Fault>
+    ensures same { IfOk result (λ receipt. receipt ≡ ticket) }
+    ensures number { IfOk result (λ receipt. receipt.number ≡ number) }
+{
+    let Ok(receipt) = desk.wait(rt, ticket) else {
+        return Err(Fault::Unserved);
+    };
+    if receipt.number() != number {
+        return Err(Fault::Unserved);
+    }
+    Ok(receipt)
+}
+
+/// Waits for the receipt of each ticket, in order. The number of each must be its place in the list.
+fn receive_all<T: Tickets, R: Refusals, W: Wait>(
+    rt: &W,
+    alloc: Global,
+    desk: &Desk<T, R>,
+    tickets: Vec<Ticket>,
+) -> Result<Vec<Receipt>, Fault>
+    ensures same { IfOk result (λ receipts. receipts.items ≡ tickets.items) }
+    ensures in_order { IfOk result (λ receipts. AreInOrder receipts.items) }
+{
+    let mut receipts = Vec::with_capacity(alloc, tickets.len())?;
+    for ticket in tickets {
+        let receipt = receive(rt, desk, ticket, receipts.len() as u64)?;
+        receipts.push(receipt)?;
+    }
+    Ok(receipts)
+}
+
+/// Submits the commands in order, prints the answer to each, and waits until all accepted ones are durable.
+///
+/// # Errors
+///
+/// `File` where an answer can't be printed; `Unserved` where a command doesn't become durable; `Memory` at any point. Commands that were
+/// accepted before stay accepted.
+pub(crate) fn submit_and_wait<T: Tickets, R: Refusals, O: Write, W: Wait>(
+    rt: &W,
+    alloc: Global,
+    desk: &Desk<T, R>,
+    share: &mut Share<T, R>,
+    commands: &[Command],
+    output: &mut O,
+    status: &mut ExitStatus,
+) -> Result<Vec<Receipt>, Fault>
+    ensures { IfOk result (λ receipts. Receives commands.now status.old status.new share.old share.new receipts.items) }
+{
+    let tickets = ask_all(rt, alloc, desk, share, commands, output, status)?;
+    receive_all(rt, alloc, desk, tickets)
+}

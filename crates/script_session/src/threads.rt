@@ -1,0 +1,295 @@
+//! Serves a line by threads.
+
+ghost use Rattle.std.specs.Prelude.{◌≡◌, ◌+◌, ◌≤◌, [], length, vec_capacity, IfOk};
+ghost use Rattle.site_shadow.specs.Site.{SiteValue};
+ghost use Rattle.station_threads.specs.Sites.{OwnParts};
+ghost use Rattle.script_session.specs.Asking.{no_counts};
+ghost use Rattle.script_session.specs.AtDesk.{EndsSo, LeavesSo};
+ghost use Rattle.script_session.specs.Parts.{AreEndsOfParts, IsLineOf, IsServable, IsTogether};
+
+use crate::apart::take_apart;
+use crate::asked::Asked;
+use crate::closing::{AtDesk, Ending, hand_in};
+use crate::submitter::Submitter;
+use crate::together::put_together;
+use book_core::Core;
+use esc_model::RomHalf;
+use sii_edit::Command;
+use site_shadow::{Device, ShadowSite};
+use station_alone::Alone;
+use station_files::{ExitStatus, Fault};
+use station_jobs::NoHook;
+use station_threads::{
+    BlankLedger, Client, Desk, Ends, Refusals, Share, Sites, Tickets, serve_line,
+};
+use std::alloc::{AllocError, Global};
+use std::io::Write;
+use std::marker::{Brand, PhantomData};
+use std::sync::Wait;
+use std::thread::Threads;
+
+/// A line after it was served at a desk.
+#[derive(Drop)]
+pub struct Left<S> {
+    /// The line, put together again.
+    pub site: S,
+    /// How the work ended.
+    pub ending: Ending,
+}
+
+/// Serves the commands by threads on the line of this station, which has `slaves` slaves, and puts the line together again. Prints the
+/// answer to each command, and the totals. If a thread can't be started, no command is submitted. The station must not have accepted a
+/// command yet.
+///
+/// # Errors
+///
+/// `Unserved` where the station's site, or what is put together in the end, isn't a line with its disk and `slaves` slaves; `Memory`. The
+/// site is dropped. A fault during the work is no error here: `Left::ending` has it.
+pub fn serve_by_threads<D: Device + Copy + Send, O: Write, W: Wait + Threads + Sync>(
+    rt: &W,
+    alloc: Global,
+    alone: Alone<ShadowSite<D>>,
+    slaves: usize,
+    commands: &[Command],
+    output: &mut O,
+) -> Result<Left<ShadowSite<D>>, Fault>
+    requires { alone.book.accepted ≡ [] }
+    ensures line { IfOk result (λ left. IsLineOf slaves left.site.line) }
+    ensures left { IfOk result (λ left. LeavesSo alone commands.now left.ending left.site) }
+{
+    let (core, site) = alone.into_parts();
+    let (sites, room) = match prepare(alloc, site, core.capacity(), slaves) {
+        Ok(prepared) => prepared,
+        Err(fault) => {
+            drop(core);
+            return Err(fault);
+        }
+    };
+    let at = serve_at_desk::<Brand, Brand, Brand, D, O, W>(
+        rt,
+        alloc,
+        core,
+        BlankLedger::new(2),
+        BlankLedger::new(2),
+        sites,
+        commands,
+        output,
+    )?;
+    put_back(alloc, room, slaves, at)
+}
+
+/// The sites of a line, and an empty list with room for the halves of its slaves.
+fn prepare<D: Device + Copy>(
+    alloc: Global,
+    site: ShadowSite<D>,
+    capacity: u32,
+    slaves: usize,
+) -> Result<(Sites<ShadowSite<D>>, Vec<Option<RomHalf>>), Fault>
+    ensures sites { IfOk result (λ prepared. IsServable capacity site.seen.state prepared.0) }
+    ensures room { IfOk result (λ prepared. prepared.1.items ≡ []) }
+{
+    let sites = take_apart(alloc, site, capacity)?;
+    match Vec::with_capacity(alloc, slaves) {
+        Ok(room) => Ok((sites, room)),
+        Err(AllocError) => {
+            drop(sites);
+            Err(Fault::Memory)
+        }
+    }
+}
+
+/// Puts a line of `slaves` slaves together again.
+fn put_back<D: Device + Copy>(
+    alloc: Global,
+    room: Vec<Option<RomHalf>>,
+    slaves: usize,
+    at: AtDesk<ShadowSite<D>>,
+) -> Result<Left<ShadowSite<D>>, Fault>
+    requires { room.items ≡ [] }
+    ensures line { IfOk result (λ left. IsLineOf slaves left.site.line) }
+    ensures left { IfOk result (λ left. IsTogether at.ends left.site × (left.ending ≡ at.ending)) }
+{
+    let AtDesk { ends, ending } = at;
+    let site = put_together(alloc, room, slaves, ends)?;
+    Ok(Left { site, ending })
+}
+
+/// Makes a desk of the book, serves the sites there while the commands are submitted, and closes the desk.
+fn serve_at_desk<
+    'c,
+    'o,
+    T: Tickets + Send + Sync,
+    R: Refusals + Send + Sync,
+    C: Asked,
+    D: Device + Copy + Send,
+    O: Write,
+    W: Wait + Threads + Sync,
+>(
+    rt: &W,
+    alloc: Global,
+    core: Core,
+    tickets: BlankLedger,
+    refusals: BlankLedger,
+    sites: Sites<ShadowSite<D>>,
+    commands: &'c [Command],
+    output: &'o mut O,
+) -> Result<AtDesk<ShadowSite<D>>, Fault>
+    requires core { core ≡ T.opened }
+    requires none { core.accepted ≡ [] }
+    requires tickets { (tickets.name ≡ T.name) × (tickets.count ≡ T.parts) }
+    requires refusals { (refusals.name ≡ R.name) × (refusals.count ≡ R.parts) }
+    requires commands { commands.now ≡ C.commands }
+    requires owned { OwnParts (λ (s : SiteValue). s.line) sites.disk sites.slaves.items sites.cycle }
+    requires long { 8 + core.capacity ≤ length sites.disk.seen.state.disk.bytes }
+    ensures of_sites { IfOk result (λ at. AreEndsOfParts sites at.ends) }
+    ensures ending { IfOk result (λ at. EndsSo T.opened C.commands at.ends at.ending) }
+{
+    match open_desk::<T, R, W>(rt, alloc, core, tickets, refusals) {
+        Ok(opened) => serve_opened::<T, R, C, D, O, W>(rt, alloc, opened, sites, commands, output),
+        Err(fault) => {
+            drop(sites);
+            Err(fault)
+        }
+    }
+}
+
+/// Serves the sites at a new desk while the commands are submitted, and closes the desk.
+fn serve_opened<
+    'c,
+    'o,
+    T: Tickets + Send + Sync,
+    R: Refusals + Send + Sync,
+    C: Asked,
+    D: Device + Copy + Send,
+    O: Write,
+    W: Wait + Threads + Sync,
+>(
+    rt: &W,
+    alloc: Global,
+    opened: Opened<T, R>,
+    sites: Sites<ShadowSite<D>>,
+    commands: &'c [Command],
+    output: &'o mut O,
+) -> Result<AtDesk<ShadowSite<D>>, Fault>
+    requires room { (opened.room.items ≡ []) × (1 ≤ vec_capacity opened.room) }
+    requires share { opened.share ≡ no_counts }
+    requires commands { commands.now ≡ C.commands }
+    requires owned { OwnParts (λ (s : SiteValue). s.line) sites.disk sites.slaves.items sites.cycle }
+    requires long { opened.desk.limit ≤ length sites.disk.seen.state.disk.bytes }
+    ensures of_sites { IfOk result (λ at. AreEndsOfParts sites at.ends) }
+    ensures ending { IfOk result (λ at. EndsSo T.opened C.commands at.ends at.ending) }
+{
+    let Opened { desk, share, room } = opened;
+    let submitter = Submitter::<'c, 'o, T, R, C, O> {
+        alloc,
+        commands,
+        output,
+        share,
+        status: ExitStatus::Done,
+        came: None,
+        of: PhantomData,
+    };
+    serve_submitter(rt, alloc, desk, submitter, room, sites)
+}
+
+/// Serves the sites at the desk while the submitter submits, and closes the desk.
+fn serve_submitter<
+    T: Tickets + Send + Sync,
+    R: Refusals + Send + Sync,
+    C: Asked,
+    D: Device + Copy + Send,
+    O: Write,
+    W: Wait + Threads + Sync,
+>(
+    rt: &W,
+    alloc: Global,
+    desk: Desk<T, R>,
+    submitter: Submitter<'_, '_, T, R, C, O>,
+    room: Vec<Share<T, R>>,
+    sites: Sites<ShadowSite<D>>,
+) -> Result<AtDesk<ShadowSite<D>>, Fault>
+    requires room { (room.items ≡ []) × (1 ≤ vec_capacity room) }
+    requires owned { OwnParts (λ (s : SiteValue). s.line) sites.disk sites.slaves.items sites.cycle }
+    requires long { desk.limit ≤ length sites.disk.seen.state.disk.bytes }
+    ensures of_sites { IfOk result (λ at. AreEndsOfParts sites at.ends) }
+    ensures ending { IfOk result (λ at. EndsSo T.opened C.commands at.ends at.ending) }
+{
+    let mut submitter = submitter;
+    match serve_sites(rt, alloc, &desk, sites, &NoHook, &mut submitter) {
+        Ok(ends) => Ok(hand_in(desk, submitter, room, ends)),
+        Err(sites) => {
+            drop(sites);
+            drop(desk);
+            drop(submitter);
+            drop(room);
+            Err(Fault::Memory)
+        }
+    }
+}
+
+/// A new desk, a share for the submitter, and an empty list with room for that share.
+#[derive(Drop)]
+struct Opened<T: Tickets, R: Refusals> {
+    desk: Desk<T, R>,
+    share: Share<T, R>,
+    room: Vec<Share<T, R>>,
+}
+
+/// A new desk of this book, with a share for the submitter.
+fn open_desk<T: Tickets, R: Refusals, W: Wait>(
+    rt: &W,
+    alloc: Global,
+    core: Core,
+    tickets: BlankLedger,
+    refusals: BlankLedger,
+) -> Result<Opened<T, R>, Fault>
+    requires core { core ≡ T.opened }
+    requires none { core.accepted ≡ [] }
+    requires tickets { (tickets.name ≡ T.name) × (tickets.count ≡ T.parts) }
+    requires refusals { (refusals.name ≡ R.name) × (refusals.count ≡ R.parts) }
+    ensures limit { IfOk result (λ opened. opened.desk.limit ≡ 8 + core.capacity) }
+    ensures share { IfOk result (λ opened. opened.share ≡ no_counts) }
+    ensures room { IfOk result (λ opened. (opened.room.items ≡ []) × (1 ≤ vec_capacity opened.room)) }
+{
+    let desk = Desk::of(alloc, core, tickets, refusals)?;
+    share_of(rt, alloc, desk)
+}
+
+/// This desk, with a share of it and room for the share.
+fn share_of<T: Tickets, R: Refusals, W: Wait>(
+    rt: &W,
+    alloc: Global,
+    desk: Desk<T, R>,
+) -> Result<Opened<T, R>, Fault>
+    ensures limit { IfOk result (λ opened. opened.desk.limit ≡ desk.limit) }
+    ensures share { IfOk result (λ opened. opened.share ≡ no_counts) }
+    ensures room { IfOk result (λ opened. (opened.room.items ≡ []) × (1 ≤ vec_capacity opened.room)) }
+{
+    let Ok(share) = desk.share(rt) else {
+        return Err(Fault::Unserved);
+    };
+    let room = Vec::with_capacity(alloc, 1)?;
+    Ok(Opened { desk, share, room })
+}
+
+/// Serves the sites at the desk while the client drives it. If memory is refused, nothing is started and the sites are handed back.
+fn serve_sites<
+    T: Tickets + Send + Sync,
+    R: Refusals + Send + Sync,
+    D: Device + Copy + Send,
+    K: Client<T, R>,
+    W: Wait + Threads + Sync,
+>(
+    rt: &W,
+    alloc: Global,
+    desk: &Desk<T, R>,
+    sites: Sites<ShadowSite<D>>,
+    hook: &NoHook,
+    client: &mut K,
+) -> Result<Ends<ShadowSite<D>>, Sites<ShadowSite<D>>>
+    requires owned { OwnParts (λ (s : SiteValue). s.line) sites.disk sites.slaves.items sites.cycle }
+    requires long { desk.now.limit ≤ length sites.disk.seen.state.disk.bytes }
+    ensures { IfOk result (λ ends. AreEndsOfParts sites ends) }
+{
+    serve_line(rt, alloc, desk, sites, hook, client)
+}

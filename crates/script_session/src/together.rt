@@ -1,0 +1,124 @@
+//! Puts a line together again from the ends of its threads.
+
+ghost use Rattle.std.specs.Prelude.{◌≡◌, [], IfOk, IfSome, IsTrue};
+ghost use Rattle.site_shadow.specs.Line.{half_of, halves_of};
+ghost use Rattle.station_threads.specs.Places.{AllPlaced};
+ghost use Rattle.script_session.specs.Parts.{EndsWith, HasDiskOf, IsLineOf, IsTogether};
+
+use crate::apart::site_of;
+use esc_model::RomHalf;
+use esc_rom::owns_all;
+use site_core::Site;
+use site_shadow::{Device, Parts, ShadowSite};
+use station_files::Fault;
+use station_jobs::{End, SlaveLog};
+use station_threads::Ends;
+use std::alloc::Global;
+
+/// The EEPROM half of this slave, as its worker left it.
+fn half_at<D: Device + Copy>(
+    slave: usize,
+    end: End<ShadowSite<D>, SlaveLog>,
+) -> Result<Option<RomHalf>, Fault>
+    ensures { IfOk result (λ half. EndsWith slave end (half_of half)) }
+{
+    let (site, _log) = end.into_parts();
+    let (parts, _device) = site.into_parts();
+    let Parts { mut halves, .. } = parts;
+    if slave >= halves.len() {
+        return Err(Fault::Unserved);
+    }
+    Ok(halves.swap_remove(slave))
+}
+
+/// The EEPROM halves of all slaves, in order, as their workers left them.
+fn halves_at<D: Device + Copy>(
+    room: Vec<Option<RomHalf>>,
+    workers: Vec<End<ShadowSite<D>, SlaveLog>>,
+) -> Result<Vec<Option<RomHalf>>, Fault>
+    requires { room.items ≡ [] }
+    ensures { IfOk result (λ halves. AllPlaced EndsWith 0 workers.items (halves_of halves.items)) }
+{
+    let mut halves = room;
+    for end in workers {
+        let slave = halves.len();
+        let half = half_at(slave, end)?;
+        halves.push(half)?;
+    }
+    Ok(halves)
+}
+
+/// Whether the site is a line of `slaves` slaves, all of them owned, with its disk.
+fn is_line_of<D: Device + Copy>(site: &ShadowSite<D>, slaves: usize) -> bool
+    ensures { IsTrue result → IsLineOf slaves site.now.line }
+{
+    site.has_disk() && usize::from(site.slaves()) == slaves && owns_all(site)
+}
+
+/// The parts and the device of the flusher's site, and the ends of the workers.
+fn split<D: Device + Copy>(
+    ends: Ends<ShadowSite<D>>,
+) -> ((Parts, D), Vec<End<ShadowSite<D>, SlaveLog>>)
+    ensures disk { IfSome result.0.0.disk (λ bytes. bytes.items ≡ ends.flusher.site.seen.state.disk.bytes) }
+    ensures workers { result.1 ≡ ends.workers }
+{
+    let Ends {
+        flusher,
+        workers,
+        ..
+    } = ends;
+    let (site, _log) = flusher.into_parts();
+    (site.into_parts(), workers)
+}
+
+/// The line with the disk of these parts and these EEPROM halves.
+fn line_of<D: Device + Copy>(
+    alloc: Global,
+    line: Parts,
+    device: D,
+    halves: Vec<Option<RomHalf>>,
+) -> Result<ShadowSite<D>, Fault>
+    ensures disk { IfOk result (λ site. HasDiskOf line.disk site) }
+    ensures halves { IfOk result (λ site. site.seen.state.halves ≡ halves_of halves.items) }
+{
+    let Parts { sizes, disk, .. } = line;
+    let parts = Parts {
+        sizes,
+        disk,
+        halves,
+        process: None,
+    };
+    site_of(alloc, parts, device)
+}
+
+/// The site, if it is a line of `slaves` slaves with its disk; otherwise `Unserved`.
+fn whole_line<D: Device + Copy>(site: ShadowSite<D>, slaves: usize) -> Result<ShadowSite<D>, Fault>
+    ensures { IfOk result (λ whole. (whole ≡ site) × IsLineOf slaves whole.line) }
+{
+    if is_line_of(&site, slaves) {
+        Ok(site)
+    } else {
+        Err(Fault::Unserved)
+    }
+}
+
+/// The line of these ends: its disk and each slave's EEPROM half as the threads left them. `room` is an empty list with room for the
+/// halves.
+///
+/// # Errors
+///
+/// `Unserved` where these are not the ends of one line of `slaves` slaves; `Memory`. The ends are dropped.
+pub(crate) fn put_together<D: Device + Copy>(
+    alloc: Global,
+    room: Vec<Option<RomHalf>>,
+    slaves: usize,
+    ends: Ends<ShadowSite<D>>,
+) -> Result<ShadowSite<D>, Fault>
+    requires { room.items ≡ [] }
+    ensures { IfOk result (λ site. IsTogether ends site × IsLineOf slaves site.line) }
+{
+    let ((line, device), workers) = split(ends);
+    let halves = halves_at(room, workers)?;
+    let site = line_of(alloc, line, device, halves)?;
+    whole_line(site, slaves)
+}

@@ -1,4 +1,0 @@
-pub mod RedoLaws
-mod GivenLaws
-pub mod StretchLaws
-pub mod RunLaws

@@ -1,5 +1,0 @@
-use Rattle.sii_runs.proofs.RunLaws.{redone-runs_between}
-use Rattle.sii_runs.proofs.laws.redo_of_runs_between.Goals as goal
-
-pub returns : goal.returns
-returns c = redone-runs_between

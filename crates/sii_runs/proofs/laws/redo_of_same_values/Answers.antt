@@ -1,5 +1,0 @@
-use Rattle.sii_runs.proofs.RedoLaws.{redone-same}
-use Rattle.sii_runs.proofs.laws.redo_of_same_values.Goals as goal
-
-pub returns : goal.returns
-returns c = redone-same

@@ -1,5 +1,0 @@
-use Rattle.sii_runs.proofs.RedoLaws.{redone-elsewhere}
-use Rattle.sii_runs.proofs.laws.redo_over_anything.Goals as goal
-
-pub returns : goal.returns
-returns c = redone-elsewhere

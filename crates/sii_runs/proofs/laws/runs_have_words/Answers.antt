@@ -1,5 +1,0 @@
-use Rattle.sii_runs.proofs.RunLaws.{some-runs_between}
-use Rattle.sii_runs.proofs.laws.runs_have_words.Goals as goal
-
-pub returns : goal.returns
-returns c = some-runs_between

@@ -1,5 +1,0 @@
-use Rattle.sii_runs.proofs.RunLaws.{LiesInside-runs_between}
-use Rattle.sii_runs.proofs.laws.runs_lie_inside.Goals as goal
-
-pub returns : goal.returns
-returns c = LiesInside-runs_between

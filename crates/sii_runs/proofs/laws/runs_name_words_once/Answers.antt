@@ -1,5 +1,0 @@
-use Rattle.sii_runs.proofs.RunLaws.{apart-runs_between}
-use Rattle.sii_runs.proofs.laws.runs_name_words_once.Goals as goal
-
-pub returns : goal.returns
-returns c = apart-runs_between

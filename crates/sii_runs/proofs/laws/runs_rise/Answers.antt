@@ -1,5 +1,0 @@
-use Rattle.sii_runs.proofs.RunLaws.{rising-runs_between}
-use Rattle.sii_runs.proofs.laws.runs_rise.Goals as goal
-
-pub returns : goal.returns
-returns c = rising-runs_between

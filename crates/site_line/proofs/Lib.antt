@@ -1,4 +1,0 @@
-pub mod Counting
-pub mod SlaveLaws
-pub mod LineLaws
-pub mod SizeLaws

@@ -1,5 +1,0 @@
-use Rattle.site_line.proofs.SizeLaws.{FirstSizes}
-use Rattle.site_line.proofs.owned.line_sizes.Given as goal
-
-abbrev pub invariant-loop-slave : goal.invariant-loop-slave
-invariant-loop-slave g l = FirstSizes l.slave l.sizes.items (g.S.Site.line l.fn.site) (g.S.Site.seen l.fn.site)

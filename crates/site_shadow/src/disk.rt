@@ -1,0 +1,140 @@
+ghost use Rattle.std.specs.Prelude.{◌≡◌, ℕ, ◌+◌, ◌<◌, ◌≤◌, ◌^◌, List, length, slice_get, OnOk, OnErr, IfOk, take};
+ghost use Rattle.site_core.specs.Disk.{Disk, IsSynced, overlaid, write_begun, synced, DiskStopped, StopImage};
+ghost use Rattle.site_shadow.specs.Unsynced.{Covers, IsUnmarked, Remembers, of_bytes};
+
+use crate::marks::{hold, lay_over, leave};
+use crate::pattern::Pattern;
+use lists::History;
+use std::alloc::{AllocError, Global};
+use std::marker::Model;
+
+/// A range of bytes that was written.
+#[derive(Drop)]
+struct Stretch {
+    start: usize,
+    count: usize,
+}
+
+impl Model for Stretch {
+    ghost use Rattle.site_core.specs.Disk.{Range};
+
+    ghost Value = { Range };
+
+    ghost view = { λ s. record { start = s.start; count = s.count } };
+}
+
+/// A disk in memory. For each byte that was written since the last sync, it remembers the byte at that sync.
+#[derive(Drop)]
+pub struct MemDisk {
+    bytes: Vec<u8>,
+    /// By place, the byte at the last sync, if it was written since.
+    before: Vec<Option<u8>>,
+    synced_length: usize,
+    unsynced: History<Stretch>,
+}
+
+impl Model for MemDisk {
+    ghost use Rattle.site_core.specs.Disk.{Disk};
+
+    ghost Value = { Disk };
+
+    ghost use Rattle.std.specs.Prelude.{reverse};
+    ghost use Rattle.site_shadow.specs.Unsynced.{Remembers};
+
+    ghost view = { λ d. record { bytes = d.bytes.items; unsynced = reverse d.unsynced; synced_length = d.synced_length } };
+
+    ghost invariant = { λ d. Remembers d.before.items
+        (record { bytes = d.bytes.items; unsynced = reverse d.unsynced; synced_length = d.synced_length }) };
+}
+
+impl MemDisk {
+    /// Makes a disk of these bytes, all of them synced.
+    pub fn of(alloc: Global, bytes: Vec<u8>) -> MemDisk
+        ensures { result ≡ of_bytes bytes.items }
+    {
+        let synced_length = bytes.len();
+        MemDisk {
+            bytes,
+            before: Vec::new(alloc),
+            synced_length,
+            unsynced: History::new(),
+        }
+    }
+
+    /// The disk's bytes, as a read gives them.
+    pub fn bytes(&self) -> &[u8]
+        ensures { result.now ≡ self.now.bytes }
+    {
+        &self.bytes
+    }
+
+    /// Takes the disk apart: its bytes, as a read gives them.
+    pub fn into_bytes(self) -> Vec<u8>
+        ensures { result.items ≡ self.bytes }
+    {
+        let MemDisk { bytes, .. } = self;
+        bytes
+    }
+
+    /// Begins a write of `count` bytes: its range is unsynced from now on. `at` must not lie past the disk's end, and
+    /// `count` must be below 2^63.
+    ///
+    /// # Errors
+    ///
+    /// `AllocError` if the memory to remember the old bytes is refused. The write has begun then too.
+    pub fn begin(&mut self, at: usize, count: usize) -> Result<(), AllocError>
+        requires inside { at ≤ length self.old.bytes }
+        requires count { count < 2 ^ 63 }
+        ensures { self.new ≡ write_begun self.old at count }
+    {
+        self.unsynced.note(&Stretch { start: at, count });
+        hold(&mut self.before, &self.bytes, at, count)
+    }
+
+    /// Overwrites the bytes from `at` on, which must not lie past the disk's end. Their write must have begun. The disk grows if they reach
+    /// past its end.
+    ///
+    /// # Errors
+    ///
+    /// `AllocError` if memory is refused. The disk is unchanged then.
+    pub fn lay(&mut self, at: usize, over: &[u8]) -> Result<(), AllocError>
+        requires inside { at ≤ length self.old.bytes }
+        requires begun { Covers self.old at (length over.now) }
+        ensures ok { OnOk result (self.new ≡ record self.old { bytes = overlaid self.old.bytes at over.now }) }
+        ensures err { OnErr result (self.new ≡ self.old) }
+    {
+        lay_over(&mut self.bytes, at, over)
+    }
+
+    /// Syncs all bytes.
+    pub fn sync(&mut self)
+        ensures { self.new ≡ synced self.old }
+    {
+        self.before.clear();
+        self.synced_length = self.bytes.len();
+        self.unsynced = History::new();
+    }
+
+    /// Cuts the power: unsynced bytes become those of the pattern, and all bytes count as synced.
+    pub fn stop(&mut self, pattern: Pattern)
+        ensures { DiskStopped self.old self.new }
+    {
+        leave(&mut self.bytes, &self.before, self.synced_length, pattern);
+        self.before.clear();
+        self.synced_length = self.bytes.len();
+        self.unsynced = History::new();
+    }
+
+    /// Returns the bytes that a power cut now would leave, by this pattern.
+    ///
+    /// # Errors
+    ///
+    /// `AllocError` if memory is refused.
+    pub fn snapshot(&self, pattern: Pattern) -> Result<Vec<u8>, AllocError>
+        ensures { IfOk result (λ bytes. StopImage self.now bytes.items) }
+    {
+        let mut bytes = self.bytes.clone()?;
+        leave(&mut bytes, &self.before, self.synced_length, pattern);
+        Ok(bytes)
+    }
+}

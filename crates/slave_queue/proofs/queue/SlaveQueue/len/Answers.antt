@@ -1,9 +1,0 @@
-use Rattle.std.proofs.Common.{◌∙◌, ap, sym, length}
-use Rattle.std.proofs.lemmas.List.{length-map}
-use Rattle.slave_queue.specs.Pending.{Pending}
-use Rattle.slave_queue.specs.Queue.{pair_of}
-use Rattle.slave_queue.proofs.queue.SlaveQueue.len.Goals as goal
-
-pub returns : goal.returns
-returns c =
-    c.len.ensures ∙ c.self.inside.namings.ok.0 ∙ sym (length-map c.self.inside.namings.items pair_of) ∙ ap (λ (p : Pending). length p.live) c.self.view_is

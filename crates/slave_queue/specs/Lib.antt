@@ -1,3 +1,0 @@
-pub mod Cells
-pub mod Pending
-pub mod Queue

@@ -1,0 +1,97 @@
+-- Steps of a recovery in a row.
+use Rattle.std.proofs.Common.{◌≡◌, ℕ, ◌+◌, ◌<◌, ◌≤◌, Bool, false, List, [], length, refl, sym, ◌∙◌, ap, subst, arith, Result, Ok, Err, IsErrAnd}
+use Rattle.std.specs.Prelude.{is_some}
+use Rattle.std.proofs.lemmas.List.{append-nil}
+use Rattle.esc_rom.specs.declared.fault.RomFault.TheVariants as rom
+use Rattle.site_core.specs.declared.fault.DeviceFault.TheVariants as device
+use Rattle.site_core.specs.State.{State, clock}
+use Rattle.site_journal.specs.declared.fault.ReadFault.TheVariants as read
+use Rattle.sii_words.proofs.RedoLaws.{SameShape-redone}
+use Rattle.sii_edit.proofs.FoldLaws.{SameShape-contents}
+use Rattle.book_model.specs.Entries.{runs_of}
+use Rattle.book_model.specs.Book.{Book, base_of, contents_of}
+use Rattle.book_model.specs.Machine.{Machine}
+use Rattle.book_laws.proofs.BookLaws.{length-all_cells}
+use Rattle.book_laws.specs.Frame.{JournalFrame}
+use Rattle.book_laws.specs.Up.{Up}
+use Rattle.runner_laws.specs.Left.{calls_left}
+use Rattle.station_alone.specs.declared.fault.OpenFault.{OpenFault}
+use Rattle.station_alone.specs.declared.fault.OpenFault.TheVariants as why
+use Rattle.station_alone.specs.Station.{Station}
+use Rattle.station_alone.specs.Keeping.{GoesOn}
+use Rattle.station_alone.proofs.KeepLaws.{keeps-then, keeps-while-still}
+use Rattle.station_alone.specs.Recovery.{Breaks}
+use Rattle.station_alone.specs.Rounds.{IsWorking, StaysKept, Works, EndsEarly}
+
+-- the fault that is handed on
+pub handed_on : {T : Type 0} (result : Result T OpenFault) (fault : OpenFault) → IsErrAnd result (λ other. other ≡ fault) → result ≡ Err fault
+handed_on (Ok value) fault is = absurd is
+handed_on (Err other) fault is = ap Err is
+
+-- what a station that works is up as
+pub up-of : (s : Station) → IsWorking s → (frame : JournalFrame) × (took : List Bool) × (machine : Machine) × Up frame s.book s.seen.state took machine
+up-of s w = w.stands.ready.up w.sound
+
+-- its book has as many slaves as it was opened with
+pub slaves-of : (s : Station) → IsWorking s → length s.book.slaves ≡ length s.book.words
+slaves-of s w = let u = up-of s w in omega (arith, length-all_cells s.book.slaves, u.3.same.slaves)
+
+-- so have its contents
+pub count-of : (s : Station) → IsWorking s → length (contents_of s.book) ≡ length s.book.slaves
+count-of s w =
+    let base = base_of s.book in
+    omega (arith, slaves-of s w, (SameShape-contents base s.book.accepted).slaves, (SameShape-redone s.book.words (runs_of s.book.found)).slaves)
+
+-- ---- no step
+
+pub kept-none : (s : Station) → StaysKept s s
+kept-none s = record {
+  session = record { line = refl; words = refl; found = refl; accepted = sym (append-nil s.book.accepted); durable = omega arith; within = omega arith };
+  keeps = keeps-while-still s s refl refl;
+}
+
+pub works-none : (s : Station) → IsWorking s → Works 0 s s
+works-none s w = record { working = w; kept = kept-none s; faults = omega arith; left = omega arith; issued = omega arith }
+
+-- ---- one behind another
+
+kept-then : (a b c : Station) → clock b.seen + calls_left b.book ≤ clock a.seen + calls_left a.book → StaysKept a b → StaysKept b c → StaysKept a c
+kept-then a b c few one two =
+    let first = one.session in
+    let second = two.session in
+    let durable = first.durable in
+    let later = second.durable in
+    let within = second.within in
+    record {
+      session = record {
+        line = second.line ∙ first.line;
+        words = second.words ∙ first.words;
+        found = second.found ∙ first.found;
+        accepted = second.accepted ∙ append-nil b.book.accepted ∙ first.accepted;
+        durable = omega (arith, durable, later);
+        within = omega (arith, within, few);
+      };
+      keeps = keeps-then [] [] (calls_left a.book) a b c one.session one.keeps two.keeps;
+    }
+
+pub works-then : (m n : ℕ) (a b c : Station) → Works m a b → Works n b c → Works (m + n) a c
+works-then m n a b c one two = record {
+  working = two.working;
+  kept = kept-then a b c one.left one.kept two.kept;
+  faults = omega (arith, one.faults, two.faults);
+  left = omega (arith, one.left, two.left);
+  issued = omega (arith, one.issued, two.issued);
+}
+
+breaks-later : (fault : OpenFault) (a b c : Station) → a.seen.faults ≤ b.seen.faults → Breaks fault b.seen c → Breaks fault a.seen c
+breaks-later (why.Journal (read.Device device.Disk)) a b c more breaks = omega (arith, more, breaks)
+breaks-later (why.Journal (read.Device device.Lost)) a b c more breaks = absurd breaks
+breaks-later (why.Journal (read.Device device.Stopped)) a b c more breaks = breaks
+breaks-later (why.Journal (read.Journal fault)) a b c more breaks = absurd breaks
+breaks-later (why.Slave (rom.SlaveDead slave)) a b c more breaks = breaks
+breaks-later (why.Slave rom.Memory) a b c more breaks = absurd breaks
+breaks-later (why.Slave rom.Stopped) a b c more breaks = absurd breaks
+breaks-later why.Memory a b c more breaks = tt
+
+pub cut-then : (m : ℕ) (fault : OpenFault) (a b c : Station) → Works m a b → EndsEarly fault b c → EndsEarly fault a c
+cut-then m fault a b c one cut = record { kept = kept-then a b c one.left one.kept cut.kept; breaks = breaks-later fault a b c one.faults cut.breaks }

@@ -1,9 +1,0 @@
-use Rattle.recovery_laws.specs.Left.{calls_left}
-use Rattle.station_recovery.specs.Rounds.{Works}
-use Rattle.station_recovery.proofs.rounds.redo.Given as goal
-
-abbrev pub invariant-loop-station : goal.invariant-loop-station
-invariant-loop-station g l = Works l.words l.fn.station l.station
-
-abbrev pub decreases-loop-station : goal.decreases-loop-station
-decreases-loop-station g l = calls_left l.station.book

@@ -1,6 +1,0 @@
-use Rattle.std.proofs.Common.{◌≡◌, length}
-use Rattle.station_recovery.proofs.RoundLaws.{InRound}
-use Rattle.station_recovery.proofs.rounds.round.Given as goal
-
-abbrev pub invariant-loop-slave : goal.invariant-loop-slave
-invariant-loop-slave g l = InRound l.words l.slave l.fn.station l.station × (l.slaves ≡ length l.fn.station.book.slaves)

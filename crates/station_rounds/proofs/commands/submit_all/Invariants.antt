@@ -1,7 +1,0 @@
-use Rattle.std.proofs.Common.{take, Ok}
-use Rattle.station_files.specs.declared.faults.Fault.{Fault}
-use Rattle.station_rounds.specs.Rounds.{SubmitsSo}
-use Rattle.station_rounds.proofs.commands.submit_all.Given as goal
-
-abbrev pub invariant-loop-place : goal.invariant-loop-place
-invariant-loop-place g l = SubmitsSo {E = Fault} (take l.place l.commands) (Ok tt) l.fn.status l.status l.fn.alone l.alone

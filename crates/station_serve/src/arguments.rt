@@ -1,0 +1,454 @@
+//! Reads the arguments of the program; also has the help texts.
+
+use clap::error::ErrorKind;
+use clap::{Arg, ArgAction, ArgMatches, Command, Error, value_parser};
+use station_listing::{Code, find_code};
+use station_session::Fuse;
+use std::alloc::{AllocError, Global};
+
+/// What a command line asks for: a subcommand with its arguments.
+#[derive(Clone, Copy)]
+pub enum Task<'a> {
+    /// Sets the configured station alias of the image on standard input.
+    Alias {
+        /// The new alias.
+        value: u16,
+        /// Whether input and output are hexadecimal text.
+        hex: bool,
+    },
+    /// Prints the listing of the image on standard input.
+    Show {
+        /// Whether the input is hexadecimal text.
+        hex: bool,
+    },
+    /// Makes an empty journal for a line.
+    Init {
+        /// The name of the line file.
+        line: &'a str,
+    },
+    /// Runs a script on a line.
+    Run {
+        /// The name of the line file.
+        line: &'a str,
+        /// The name of the script file.
+        script: &'a str,
+        /// A planned power cut, if there is one.
+        cut: Option<Fuse>,
+    },
+    /// Recovers a line.
+    Recover {
+        /// The name of the line file.
+        line: &'a str,
+    },
+    /// Prints the process image of a line.
+    Layout {
+        /// The name of the line file.
+        line: &'a str,
+    },
+    /// Explains one code, or all of them.
+    Explain {
+        /// The code; `None` for all codes.
+        code: Option<Code>,
+    },
+}
+
+/// The version, which `--version` prints after the program's name.
+const VERSION: &str = "0.1.0";
+
+/// The help text on line files.
+const LINE_FILE: &str = "The line file: the slaves' image files and the journal's, in TOML:
+
+  journal = \"journal.bin\"
+  area = 65536
+  [[slave]]
+  image = \"s0.bin\"
+  [[slave]]
+  image = \"s1.bin\"
+
+The journal's area has 4096 to 4194304 bytes, 65536 where nothing is said.
+There are 1 to 64 slaves, numbered from 0. Each image is a whole EEPROM of
+64 to 4096 words, a multiple of 64. Names are relative to the current folder.";
+
+/// The help text on script files.
+const SCRIPT_FILE: &str = "The script file: the commands, in order, in TOML, here one of each kind:
+
+  [[command]]
+  alias = { slave = 0, value = 1001 }
+  [[command]]
+  swap = [0, 1]
+  [[command]]
+  category = { slave = 0, kind = 51, content = \"0016010000000000\" }
+  [[command]]
+  image = { slave = 1, file = \"new.bin\" }
+  [[command]]
+  group = [
+    { alias = { slave = 0, value = 7 } },
+    { alias = { slave = 1, value = 8 }, expect = { vendor = 2, product = 0, revision = 0 } },
+  ]
+
+A category's content is hexadecimal text of whole words; \"\" removes the
+category. A group is 1 to 64 edits, alias, category or image, that are done as
+one act. An edit with expect is refused where the slave has another identity.";
+
+/// The help text on what `init` prints, and on its exit status.
+const INIT_ANSWERS: &str = "Answers:
+  formatted AREA   the journal is there, and empty; its area has AREA bytes
+Faults go to standard error as: fault CODE NAME. The subcommand explain says what
+a code means.
+
+Exit status: 0 done, 2 wrong usage, 3 a file or its form, or a journal is there
+already, 4 a device, 5 no memory.
+
+Example:
+  sii_station init line.toml";
+
+/// The help text on what `run` prints, and on its exit status.
+const RUN_ANSWERS: &str = "Answers:
+  command I accepted N           command I of the script has number N, from 0
+  command I refused CODE NAME    it isn't done, and changes nothing
+  ... at P                       of a group, edit P is the reason
+  accepted A durable D settled S
+                                 how many commands were accepted, how many of
+                                 them no power cut can undo any more, and how
+                                 many are in the slaves
+Faults go to standard error as: fault CODE NAME. The subcommand explain says what
+a code means.
+
+With --fuse the power is cut: K writes to the journal and to the slaves pass, and
+the next one is torn. Unsynced bytes of the journal are left as the low byte of W,
+and a word that a slave was writing as W. What is left is saved, the run ends with
+fault 42 Stopped and status 4, and recover mends the line.
+
+Exit status: 0 done, 1 a command was refused, 2 wrong usage, 3 a file or its
+form, 4 a device or a power cut, 5 no memory. The highest that applies wins.
+
+Example:
+  sii_station run line.toml script.toml";
+
+/// The help text on what `recover` prints, and on its exit status.
+const RECOVER_ANSWERS: &str = "Answers:
+  recovered batches B commands C words W
+                   the journal held B batches that weren't done, with C commands,
+                   and W words of them were written to the slaves
+Each command of the journal is then done as a whole, or undone as a whole. A line
+can be recovered again at any time; of a line that is in order it says 0, 0, 0.
+Faults go to standard error as: fault CODE NAME. The subcommand explain says what
+a code means.
+
+Exit status: 0 done, 2 wrong usage, 3 a file or its form, 4 a device, 5 no memory.
+
+Example:
+  sii_station recover line.toml";
+
+/// The help text on what `layout` prints, and on its exit status.
+const LAYOUT_ANSWERS: &str = "Answers:
+  slave P sm M out offset O size S bits B
+                   the outputs of sync manager M of slave P: where they begin
+                   in the process image, and their length in bytes and in bits
+  slave P sm M in ..
+                   the same of inputs
+  outputs A inputs B counter C
+                   all outputs and inputs in bytes, and the working counter of
+                   a cycle that every slave takes part in
+
+Exit status: 0 done, 2 wrong usage, 3 a file or its form, or no process image,
+5 no memory.
+
+Example:
+  sii_station layout line.toml";
+
+/// Reads a command line. The first word is the program's name.
+///
+/// # Errors
+///
+/// The message for wrong arguments; or the text of the help or the version, where that is asked for; or, with kind `OutOfMemory`, memory was
+/// refused.
+pub fn read_arguments<'a>(alloc: Global, words: &'a [String]) -> Result<Task<'a>, Error> {
+    let mut command = station(alloc)?;
+    read_words(&mut command, words)
+}
+
+/// Reads a command line with this description of it.
+fn read_words<'a>(command: &mut Command<'a>, words: &'a [String]) -> Result<Task<'a>, Error> {
+    let matches = command.try_get_matches_from_mut(words)?;
+    task_of(command, &matches)
+}
+
+/// The task of the subcommand that was given.
+fn task_of<'a>(command: &mut Command<'a>, matches: &ArgMatches<'a>) -> Result<Task<'a>, Error> {
+    if let Some(alias) = matches.subcommand_matches("alias") {
+        return alias_task(command, alias);
+    }
+    if let Some(run) = matches.subcommand_matches("run") {
+        return run_task(command, run);
+    }
+    if let Some(explain) = matches.subcommand_matches("explain") {
+        return explain_task(command, explain);
+    }
+    match plain_task(matches) {
+        Some(task) => Ok(task),
+        None => refused(
+            command,
+            ErrorKind::MissingSubcommand,
+            "a subcommand is needed",
+        ),
+    }
+}
+
+/// The task of `show`, `init`, `recover` or `layout`, whose arguments need no further check.
+fn plain_task<'a>(matches: &ArgMatches<'a>) -> Option<Task<'a>> {
+    if let Some(show) = matches.subcommand_matches("show") {
+        return Some(Task::Show {
+            hex: show.get_flag("hex"),
+        });
+    }
+    if let Some(init) = matches.subcommand_matches("init") {
+        return Some(init_task(init));
+    }
+    if let Some(recover) = matches.subcommand_matches("recover") {
+        return Some(recover_task(recover));
+    }
+    let layout = matches.subcommand_matches("layout")?;
+    Some(layout_task(layout))
+}
+
+/// The description of the command line, with all subcommands.
+fn station<'a>(alloc: Global) -> Result<Command<'a>, AllocError> {
+    let station = Command::new(alloc, "sii_station")
+        .about("Reprograms the SII EEPROMs of a line of EtherCAT slaves")
+        .version(VERSION)
+        .after_help("Example:\n  sii_station alias 1001 < slave.bin > renamed.bin")
+        .subcommand_required(true);
+    let station = with_subcommand(station, show_command(alloc))?;
+    let station = with_subcommand(station, alias_command(alloc))?;
+    let station = with_subcommand(station, init_command(alloc))?;
+    let station = with_subcommand(station, run_command(alloc))?;
+    let station = with_subcommand(station, recover_command(alloc))?;
+    let station = with_subcommand(station, layout_command(alloc))?;
+    with_subcommand(station, explain_command(alloc))
+}
+
+/// The command with one more subcommand, if that one could be made.
+fn with_subcommand<'a>(
+    command: Command<'a>,
+    subcommand: Result<Command<'a>, AllocError>,
+) -> Result<Command<'a>, AllocError> {
+    command.subcommand(subcommand?)
+}
+
+fn hex_argument<'a>(alloc: Global, help: &'a str) -> Arg<'a> {
+    Arg::new(alloc, "hex")
+        .long("hex")
+        .help(help)
+        .action(ArgAction::SetTrue)
+}
+
+fn show_command<'a>(alloc: Global) -> Result<Command<'a>, AllocError> {
+    Command::new(alloc, "show")
+        .about("Prints what an EEPROM image says")
+        .long_about(
+            "Reads the image of a slave's EEPROM from standard input and prints its alias, whether its check byte is right, its identity and its categories. An image has 64 to 4096 words, low byte first.",
+        )
+        .after_help("Example:\n  sii_station show < slave.bin")
+        .arg(hex_argument(alloc, "Reads hexadecimal text in place of bytes"))
+}
+
+fn value_argument<'a>(alloc: Global) -> Arg<'a> {
+    Arg::new(alloc, "VALUE")
+        .help("The new alias, 0 to 65535")
+        .required(true)
+        .value_parser(value_parser!(u16))
+}
+
+fn alias_command<'a>(alloc: Global) -> Result<Command<'a>, AllocError> {
+    Command::new(alloc, "alias")
+        .about(
+            "Sets the configured station alias of an EEPROM image, and the check byte that goes with it",
+        )
+        .long_about(
+            "Reads the image of a slave's EEPROM from standard input, sets the configured station alias and the check byte that goes with it, and writes the image to standard output. An image has 64 to 4096 words, low byte first.",
+        )
+        .after_help("Example:\n  sii_station alias 1001 < slave.bin > renamed.bin")
+        .arg(value_argument(alloc))?
+        .arg(hex_argument(alloc, "Reads and writes hexadecimal text in place of bytes"))
+}
+
+fn init_command<'a>(alloc: Global) -> Result<Command<'a>, AllocError> {
+    Command::new(alloc, "init")
+        .about("Formats the journal of a line of slaves")
+        .long_about(
+            "Reads a line file and the EEPROM images that it names, and makes an empty journal in the file that it names for it. That file must not be there yet.",
+        )
+        .after_help("Example:\n  sii_station init line.toml")
+        .after_long_help(INIT_ANSWERS)
+        .arg(line_argument(alloc))
+}
+
+fn script_argument<'a>(alloc: Global) -> Arg<'a> {
+    Arg::new(alloc, "SCRIPT")
+        .help("The script file: the commands, in order")
+        .long_help(SCRIPT_FILE)
+        .required(true)
+}
+
+fn run_command<'a>(alloc: Global) -> Result<Command<'a>, AllocError> {
+    Command::new(alloc, "run")
+        .about("Runs a script of commands on a line of slaves")
+        .long_about(
+            "Reads a line file, the EEPROM images and the journal that it names and a script file, submits the script's commands in order and prints the answer to each, brings them to the slaves by way of the journal, and saves images and journal.",
+        )
+        .after_help("Example:\n  sii_station run line.toml script.toml")
+        .after_long_help(RUN_ANSWERS)
+        .arg(line_argument(alloc))?
+        .arg(script_argument(alloc))?
+        .arg(fuse_argument(alloc))?
+        .arg(left_argument(alloc))
+}
+
+fn fuse_argument<'a>(alloc: Global) -> Arg<'a> {
+    Arg::new(alloc, "fuse")
+        .long("fuse")
+        .value_name("K")
+        .help("Cuts the power once K writes have passed, 0 to 4294967295")
+        .value_parser(value_parser!(u32))
+}
+
+fn left_argument<'a>(alloc: Global) -> Arg<'a> {
+    Arg::new(alloc, "left")
+        .long("left")
+        .value_name("W")
+        .help("What a torn write leaves, 0 to 65535; 0 where nothing is said")
+        .value_parser(value_parser!(u16))
+}
+
+fn recover_command<'a>(alloc: Global) -> Result<Command<'a>, AllocError> {
+    Command::new(alloc, "recover")
+        .about("Ends what a run has left in the journal")
+        .long_about(
+            "Reads a line file, the EEPROM images and the journal that it names, brings to the slaves what the journal holds, and saves images and journal. A journal of version 1 becomes one of version 2.",
+        )
+        .after_help("Example:\n  sii_station recover line.toml")
+        .after_long_help(RECOVER_ANSWERS)
+        .arg(line_argument(alloc))
+}
+
+fn layout_command<'a>(alloc: Global) -> Result<Command<'a>, AllocError> {
+    Command::new(alloc, "layout")
+        .about("Prints the process image of a line of slaves")
+        .long_about(
+            "Reads a line file and the EEPROM images that it names, and prints where the process data of each sync manager lies in the process image, then the sizes of outputs and inputs in bytes and the working counter that is expected. No file is written.",
+        )
+        .after_help("Example:\n  sii_station layout line.toml")
+        .after_long_help(LAYOUT_ANSWERS)
+        .arg(line_argument(alloc))
+}
+
+fn line_argument<'a>(alloc: Global) -> Arg<'a> {
+    Arg::new(alloc, "LINE")
+        .help("The line file: the slaves' image files and the journal's")
+        .long_help(LINE_FILE)
+        .required(true)
+}
+
+fn explain_command<'a>(alloc: Global) -> Result<Command<'a>, AllocError> {
+    let code = Arg::new(alloc, "CODE").help("The number or the name of a fault or a refusal");
+    Command::new(alloc, "explain")
+        .about("Says what the code of a fault or a refusal means")
+        .long_about(
+            "Prints what the code of a fault or a refusal means, why it comes and what to do about it. Without CODE it prints that of all codes.",
+        )
+        .after_help("Example:\n  sii_station explain 15\n  sii_station explain BadCheck")
+        .arg(code)
+}
+
+/// The name is required, so it is there.
+fn init_task<'a>(matches: &ArgMatches<'a>) -> Task<'a> {
+    Task::Init {
+        line: matches.get_str("LINE").unwrap_or(""),
+    }
+}
+
+/// Both names are required, so they are there. `--left` is checked even without `--fuse`.
+fn run_task<'a>(command: &mut Command<'a>, matches: &ArgMatches<'a>) -> Result<Task<'a>, Error> {
+    let fuse = matches.get_str("fuse");
+    let left = matches.get_str("left");
+    if !fuse.is_none_or(is_digits) || !left.is_none_or(is_digits) {
+        return refused(
+            command,
+            ErrorKind::ValueValidation,
+            "K is a number in digits, 0 to 4294967295, and W one of 0 to 65535",
+        );
+    }
+    let left = matches.get_one::<u16>("left").unwrap_or(0);
+    let cut = match matches.get_one::<u32>("fuse") {
+        Some(writes) => Some(Fuse { writes, left }),
+        None => None,
+    };
+    Ok(Task::Run {
+        line: matches.get_str("LINE").unwrap_or(""),
+        script: matches.get_str("SCRIPT").unwrap_or(""),
+        cut,
+    })
+}
+
+/// The name is required, so it is there.
+fn recover_task<'a>(matches: &ArgMatches<'a>) -> Task<'a> {
+    Task::Recover {
+        line: matches.get_str("LINE").unwrap_or(""),
+    }
+}
+
+/// The name is required, so it is there.
+fn layout_task<'a>(matches: &ArgMatches<'a>) -> Task<'a> {
+    Task::Layout {
+        line: matches.get_str("LINE").unwrap_or(""),
+    }
+}
+
+/// The value is required, and may have digits only.
+fn alias_task<'a>(command: &mut Command<'a>, matches: &ArgMatches<'a>) -> Result<Task<'a>, Error> {
+    let text = matches.get_str("VALUE").unwrap_or("");
+    match matches.get_one::<u16>("VALUE") {
+        Some(value) if is_digits(text) => Ok(Task::Alias {
+            value,
+            hex: matches.get_flag("hex"),
+        }),
+        _ => refused(
+            command,
+            ErrorKind::ValueValidation,
+            "VALUE is a number in digits, 0 to 65535",
+        ),
+    }
+}
+
+/// Whether a text has digits only: a sign is not taken.
+fn is_digits(text: &str) -> bool {
+    text.bytes().all(|byte| byte.is_ascii_digit())
+}
+
+/// A code is given by its number or its name.
+fn explain_task<'a>(
+    command: &mut Command<'a>,
+    matches: &ArgMatches<'a>,
+) -> Result<Task<'a>, Error> {
+    let Some(text) = matches.get_str("CODE") else {
+        return Ok(Task::Explain { code: None });
+    };
+    match find_code(text) {
+        Some(code) => Ok(Task::Explain { code: Some(code) }),
+        None => refused(
+            command,
+            ErrorKind::ValueValidation,
+            "CODE is the number or the name of a fault or a refusal",
+        ),
+    }
+}
+
+/// The error for wrong arguments: this message, and the usage.
+fn refused<'a>(
+    command: &mut Command<'a>,
+    kind: ErrorKind,
+    message: &str,
+) -> Result<Task<'a>, Error> {
+    Err(command.error(kind, message)?)
+}

@@ -1,0 +1,52 @@
+use Rattle.std.proofs.Common.{◌≡◌, ◌∷◌, [], ◌∙◌, ℕ, length, ap, sym, refl, subst, append_assoc, arith}
+use Rattle.std.specs.Vec.Iter.{into_iter_items}
+use denote.Param.Send.{sendable}
+use Rattle.site_core.specs.Line.{Owns}
+use Rattle.station_threads.proofs.PlaceLaws.{place-of}
+use Rattle.station_threads.proofs.EndLaws.{parts-long, parts-more}
+use Rattle.station_threads.proofs.Sent.{rom-send}
+use Rattle.station_threads.proofs.sites.slave_parts.Goals as goal
+
+pub overflow_cast-slave : goal.overflow_cast-slave
+overflow_cast-slave g c =
+    let at = c.loop-site in
+    let site = c.in-Some.site in
+    let steps : into_iter_items at.site-iterator ≡ site ∷ into_iter_items c.next.new.self = c.in-Some.ensures.steps.0 in
+    let whole = rw steps at (at.invariant.0 ∙ c.into_iter-site-iterator.ensures.into_iter_gives.0) in
+    let owned = c.requires.owned (length at.yielded) site (place-of _ at.yielded _ site whole) in
+    let long = parts-long at.yielded at.parts.items at.invariant.3 in
+    omega (arith, owned.1, at.parts.ok.0, c.len-slave.ensures)
+
+pub new-requires-send-D : goal.new-requires-send-D
+new-requires-send-D g c κs lives = search (rom-send, sendable) depth 40
+
+pub new-requires-clause-owns : goal.new-requires-clause-owns
+new-requires-clause-owns g c κs lives =
+    let at = c.loop-site in
+    let site = c.in-Some.site in
+    let steps : into_iter_items at.site-iterator ≡ site ∷ into_iter_items c.next.new.self = c.in-Some.ensures.steps.0 in
+    let whole = rw steps at (at.invariant.0 ∙ c.into_iter-site-iterator.ensures.into_iter_gives.0) in
+    let owned = c.requires.owned (length at.yielded) site (place-of _ at.yielded _ site whole) in
+    let long = parts-long at.yielded at.parts.items at.invariant.3 in
+    let here : c.len-slave.result ≡ length at.yielded = omega (arith, at.parts.ok.0, c.len-slave.ensures) in
+    subst (λ (n : ℕ). Owns (g.S.Site.line site) n) (sym here) owned
+
+pub loop-site-preserved : goal.loop-site-preserved
+loop-site-preserved g c =
+    let at = c.loop-site in
+    let site = c.in-Some.site in
+    let part = c.new.result in
+    let steps : into_iter_items at.site-iterator ≡ site ∷ into_iter_items c.next.new.self = c.in-Some.ensures.steps.0 in
+    let gone = c.in-Some.ensures.steps.1 in
+    let short = ap length steps in
+    let was = at.invariant.1 in
+    let room = at.invariant.2 in
+    let long = parts-long at.yielded at.parts.items at.invariant.3 in
+    let here : c.len-slave.result ≡ length at.yielded = omega (arith, at.parts.ok.0, c.len-slave.ensures) in
+    let pushed = c.push_reserved.ensures.len in
+    let kept = c.push_reserved.ensures.capacity in (
+      append_assoc at.yielded (site ∷ []) _ ∙ rw (← steps) at.invariant.0,
+      omega arith,
+      omega arith,
+      rw c.push_reserved.ensures.items (rw c.new.ensures (parts-more at.yielded at.parts.items site _ at.invariant.3 here refl (c.rom_side.ensures.slave ∙ here))),
+    )

@@ -1,0 +1,176 @@
+//! The desk: a book under one lock, shared by the threads that submit and the threads that do its jobs.
+
+ghost use Rattle.std.specs.Prelude.{◌≡◌, ◌+◌, [], false, IfOk, IfErr};
+ghost use Rattle.desk_book.specs.Closing.{IsReceiptOf};
+ghost use Rattle.desk_book.specs.Submitting.{CountsRefusal};
+
+use crate::sides::{CycleSide, DiskSide, RomSide};
+use book_core::Core;
+use book_model::Status;
+use desk_book::{
+    BlankLedger, Receipt, Refusals, Refused, Served, Share, ShareFault, Ticket, Tickets,
+    Unacknowledged,
+};
+use jrn_format::AREA_START;
+use sii_edit::Command;
+use std::alloc::{AllocError, Global};
+use std::marker::Model;
+use std::sync::{Condvar, Mutex, Wait};
+
+/// A book of commands under one lock, with a condition variable for those who wait.
+///
+/// No device call is made while the lock is held. Contracts see where the journal's area ends.
+#[derive(Drop)]
+pub struct Desk<T: Tickets, R: Refusals> {
+    pub(crate) served: Mutex<Served<T, R>>,
+    pub(crate) changed: Condvar,
+    pub(crate) alloc: Global,
+    /// The byte of the file at which the journal's area ends: 8 plus its capacity.
+    pub(crate) limit: usize,
+}
+
+impl<T: Tickets, R: Refusals> Model for Desk<T, R> {
+    ghost use Rattle.station_threads.specs.Sides.{Limited};
+
+    ghost Value = { Limited };
+
+    ghost view = { λ desk. record { limit = desk.limit } };
+}
+
+impl<T: Tickets, R: Refusals> Desk<T, R> {
+    /// Makes a desk of a book that has accepted no command yet, with a ledger for its tickets and one for its refusals.
+    ///
+    /// The book has to be `T.opened`, and the ledgers those of `T` and `R`, with as many parts as these say.
+    ///
+    /// # Errors
+    ///
+    /// `AllocError`: memory was refused. The book is dropped.
+    pub fn of(
+        alloc: Global,
+        core: Core,
+        tickets: BlankLedger,
+        refusals: BlankLedger,
+    ) -> Result<Desk<T, R>, AllocError>
+        requires core { core ≡ T.opened }
+        requires none { core.accepted ≡ [] }
+        requires tickets { (tickets.name ≡ T.name) × (tickets.count ≡ T.parts) }
+        requires refusals { (refusals.name ≡ R.name) × (refusals.count ≡ R.parts) }
+        ensures { IfOk result (λ desk. desk.limit ≡ 8 + core.capacity) }
+    {
+        let limit = AREA_START + core.capacity() as usize;
+        let served = Served::of(alloc, core, tickets, refusals)?;
+        Ok(Desk {
+            served: Mutex::new(served),
+            changed: Condvar::new(),
+            alloc,
+            limit,
+        })
+    }
+
+    /// Gives out a share, the right to submit. It counts no tickets and no refusals yet.
+    ///
+    /// # Errors
+    ///
+    /// `NoShare`: one of the two ledgers has at most one part left, and the desk keeps one part of each. Nothing changes.
+    pub fn share<W: Wait>(&self, rt: &W) -> Result<Share<T, R>, ShareFault>
+        ensures { IfOk result (λ share. share ≡ record { tickets = 0; refusals = 0 }) }
+    {
+        match self.served.lock(rt).share() {
+            Some(share) => return Ok(share),
+            None => return Err(ShareFault::NoShare),
+        }
+    }
+
+    /// Submits a command. Answers a ticket for it, which the share counts.
+    ///
+    /// # Errors
+    ///
+    /// The command is handed back, and the book is unchanged. The first that applies is the reason: `Full`, once all shares together
+    /// count `u64::MAX` refusals; `Closed`; `OldJournal`; `Command`, with what is wrong with it on the current contents; `TooLarge`;
+    /// `Full`. Where memory was refused, the reason is `Command` with the cause `Memory`, in place of any but the first three. The share
+    /// counts each refusal, except the first kind of `Full` and those for memory.
+    pub fn submit<W: Wait>(
+        &self,
+        rt: &W,
+        share: &mut Share<T, R>,
+        command: Command,
+    ) -> Result<Ticket, Refused>
+        ensures command { IfOk result (λ ticket. ticket.command ≡ command) }
+        ensures counted { IfOk result (λ ticket. share.new ≡ record share.old { tickets = share.old.tickets + 1 }) }
+        ensures handed_back { IfErr result (λ refused. refused.command ≡ command) }
+        ensures refused { IfErr result (λ refused. CountsRefusal refused.refusal share.old share.new) }
+    {
+        let answer = self.served.lock(rt).submit(share, command);
+        self.changed.notify_all();
+        match answer {
+            Ok(ticket) => return Ok(ticket),
+            Err(refused) => return Err(refused),
+        }
+    }
+
+    /// Waits until the ticket's command is durable. Answers its receipt.
+    ///
+    /// It waits while the book has no fault and its number of durable commands isn't above the ticket's number.
+    ///
+    /// # Errors
+    ///
+    /// The ticket is handed back: a fault closed the book first, or the book's command of this number is another one, because the
+    /// ticket is of another desk.
+    pub fn wait<W: Wait>(&self, rt: &W, ticket: Ticket) -> Result<Receipt, Unacknowledged>
+        ensures receipt { IfOk result (λ receipt. receipt ≡ ticket) }
+        ensures stood { IfOk result (λ receipt. IsReceiptOf T.opened receipt) }
+        ensures handed_back { IfErr result (λ refused. refused.ticket ≡ ticket) }
+    {
+        let number = ticket.number();
+        let served = self.changed.wait_while(rt, self.served.lock(rt), |served| {
+            served.is_pending(number)
+        });
+        match served.receipt(ticket) {
+            Ok(receipt) => return Ok(receipt),
+            Err(refused) => return Err(refused),
+        }
+    }
+
+    /// Accepts no more commands. Those that were accepted are still carried out.
+    pub fn finish<W: Wait>(&self, rt: &W) {
+        self.served.lock(rt).finish();
+        self.changed.notify_all();
+    }
+
+    /// How many commands are accepted, durable and settled, and how many bytes of the journal are live.
+    pub fn status<W: Wait>(&self, rt: &W) -> Status {
+        self.served.lock(rt).status()
+    }
+
+    /// Waits until the book's status differs from `seen`, or the book accepts no commands. Answers its status then.
+    pub fn changed<W: Wait>(&self, rt: &W, seen: &Status) -> Status {
+        let seen = *seen;
+        let served = self.changed.wait_while(rt, self.served.lock(rt), |served| {
+            served.status() == seen && !served.is_closed()
+        });
+        served.status()
+    }
+
+    /// The dispatch of the disk's jobs. It hands out no write that begins behind the journal's area.
+    pub fn disk_side(&self) -> DiskSide<'_, T, R>
+        ensures limit { result.limit ≡ self.now.limit }
+        ensures fresh { (result.log ≡ []) × (result.has_job ≡ false) }
+    {
+        DiskSide::new(self)
+    }
+
+    /// The dispatch of one slave's jobs. Slaves are numbered from 0; for one that the line doesn't have, it answers `Stop`.
+    pub fn rom_side(&self, slave: u16) -> RomSide<'_, T, R>
+        ensures slave { result.slave ≡ slave }
+        ensures fresh { (result.log ≡ []) × (result.has_job ≡ false) }
+    {
+        RomSide::new(self, slave)
+    }
+
+    /// The dispatch of process data cycles. All their outputs are zero.
+    pub fn cycle_side(&self) -> CycleSide<'_, T, R>
+        ensures { result ≡ record { log = []; has_job = false } }
+    {
+        CycleSide::new(self)
+    }
+}

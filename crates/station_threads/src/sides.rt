@@ -1,0 +1,253 @@
+//! The dispatches of a desk: for the disk, for each slave, and for the process data.
+
+ghost use Rattle.std.specs.Prelude.{◌≡◌, [], false};
+ghost use Rattle.station_threads.specs.Sides.{begins_below};
+
+use crate::desk::Desk;
+use book_model::{DiskNext, RomNext, RomOutcome};
+use desk_book::{Heard, Refusals, Tickets, note_of};
+use lists::ItemList;
+use sii_image::Plan;
+use site_core::DeviceFault;
+use station_jobs::{
+    CycleJob, CycleLog, CycleNote, CycleOutcome, DiskLog, Dispatch, Notes, RomLog, Turn, zero_bytes,
+};
+use std::marker::Model;
+use std::sync::Wait;
+
+/// Hands out the disk's jobs: writes, gates to open or close, and syncs.
+#[derive(Drop)]
+pub struct DiskSide<'a, T: Tickets, R: Refusals> {
+    desk: &'a Desk<T, R>,
+    notes: Notes<DiskNext, Result<(), DeviceFault>>,
+    has_job: bool,
+    limit: usize,
+}
+
+impl<'a, T: Tickets, R: Refusals> Model for DiskSide<'a, T, R> {
+    ghost use Rattle.station_threads.specs.Sides.{DiskHands};
+
+    ghost Value = { DiskHands };
+
+    ghost view = { λ side. record { limit = side.limit; log = side.notes.entries; has_job = side.has_job } };
+}
+
+/// Hands out one slave's jobs: words of its EEPROM to issue and to settle.
+#[derive(Drop)]
+pub struct RomSide<'a, T: Tickets, R: Refusals> {
+    desk: &'a Desk<T, R>,
+    slave: u16,
+    notes: Notes<RomNext, RomOutcome>,
+    has_job: bool,
+}
+
+impl<'a, T: Tickets, R: Refusals> Model for RomSide<'a, T, R> {
+    ghost use Rattle.station_threads.specs.Sides.{RomHands};
+
+    ghost Value = { RomHands };
+
+    ghost view = { λ side. record { slave = side.slave; log = side.notes.entries; has_job = side.has_job } };
+}
+
+/// Hands out process data cycles.
+#[derive(Drop)]
+pub struct CycleSide<'a, T: Tickets, R: Refusals> {
+    desk: &'a Desk<T, R>,
+    turns: Vec<CycleNote>,
+    has_job: bool,
+}
+
+impl<'a, T: Tickets, R: Refusals> Model for CycleSide<'a, T, R> {
+    ghost use Rattle.station_threads.specs.Sides.{CycleHands};
+
+    ghost Value = { CycleHands };
+
+    ghost view = { λ side. record { log = side.turns.items; has_job = side.has_job } };
+}
+
+impl<'a, T: Tickets, R: Refusals> DiskSide<'a, T, R> {
+    pub(crate) fn new(desk: &'a Desk<T, R>) -> Self
+        ensures limit { result.limit ≡ desk.now.limit }
+        ensures fresh { (result.log ≡ []) × (result.has_job ≡ false) }
+    {
+        DiskSide {
+            desk,
+            notes: Notes::new(desk.alloc),
+            has_job: false,
+            limit: desk.limit,
+        }
+    }
+}
+
+impl<'a, T: Tickets, R: Refusals> RomSide<'a, T, R> {
+    pub(crate) fn new(desk: &'a Desk<T, R>, slave: u16) -> Self
+        ensures slave { result.slave ≡ slave }
+        ensures fresh { (result.log ≡ []) × (result.has_job ≡ false) }
+    {
+        RomSide {
+            desk,
+            slave,
+            notes: Notes::new(desk.alloc),
+            has_job: false,
+        }
+    }
+}
+
+impl<'a, T: Tickets, R: Refusals> CycleSide<'a, T, R> {
+    pub(crate) fn new(desk: &'a Desk<T, R>) -> Self
+        ensures { result ≡ record { log = []; has_job = false } }
+    {
+        CycleSide {
+            desk,
+            turns: Vec::new(desk.alloc),
+            has_job: false,
+        }
+    }
+}
+
+/// Whether this is an action, and not a write that begins behind byte `limit` of the file.
+fn begins_below(job: &DiskNext, limit: usize) -> bool
+    ensures { result ≡ begins_below limit job.now }
+{
+    match job {
+        DiskNext::Write { at, .. } => *at <= limit,
+        DiskNext::Gate { at, .. } => *at <= limit,
+        DiskNext::Sync => true,
+        DiskNext::Idle | DiskNext::Stop => false,
+    }
+}
+
+impl<'a, T: Tickets, R: Refusals> Dispatch<DiskLog> for DiskSide<'a, T, R> {
+    ghost use Rattle.std.specs.Prelude.{◌≡◌, true};
+    ghost use Rattle.station_threads.specs.Sides.{BeginsBelow};
+
+    ghost log = { λ side. side.log };
+
+    ghost has_job = { λ side. side.has_job };
+
+    ghost may_hand = { λ side job. BeginsBelow side.limit job };
+
+    /// The answer is `Stop` in place of a write that begins behind the journal's area.
+    fn next<W: Wait>(&mut self, rt: &W) -> Turn<DiskNext> {
+        let Ok(()) = self.notes.reserve() else {
+            return Turn::Again;
+        };
+        let desk = self.desk;
+        let mut served = desk.served.lock(rt);
+        match served.disk_next() {
+            Heard::Work((job, copy)) => {
+                if !begins_below(&job, self.limit) {
+                    return Turn::Stop;
+                }
+                self.notes.hand_out(copy);
+                self.has_job = true;
+                Turn::Work(job)
+            }
+            Heard::Nothing => {
+                desk.changed.wait(rt, served);
+                Turn::Again
+            }
+            Heard::NoMemory => Turn::Again,
+            Heard::Stop => Turn::Stop,
+        }
+    }
+
+    fn done<W: Wait>(&mut self, rt: &W, outcome: Result<(), DeviceFault>) {
+        let desk = self.desk;
+        desk.served.lock(rt).disk_done(outcome);
+        desk.changed.notify_all();
+        self.notes.tell(outcome);
+    }
+
+    fn into_log(self) -> DiskLog {
+        self.notes.into_list()
+    }
+}
+
+impl<'a, T: Tickets, R: Refusals> Dispatch<RomLog> for RomSide<'a, T, R> {
+    ghost use Rattle.std.specs.Prelude.{◌≡◌, true};
+    ghost use Rattle.desk_book.specs.Asking.{is_rom_job};
+
+    ghost log = { λ side. side.log };
+
+    ghost has_job = { λ side. side.has_job };
+
+    ghost may_hand = { λ _ job. is_rom_job job ≡ true };
+
+    fn next<W: Wait>(&mut self, rt: &W) -> Turn<RomNext> {
+        let Ok(()) = self.notes.reserve() else {
+            return Turn::Again;
+        };
+        let desk = self.desk;
+        let mut served = desk.served.lock(rt);
+        match served.slave_next(self.slave) {
+            Heard::Work(job) => {
+                self.notes.hand_out(job);
+                self.has_job = true;
+                Turn::Work(job)
+            }
+            Heard::Nothing => {
+                desk.changed.wait(rt, served);
+                Turn::Again
+            }
+            Heard::NoMemory => Turn::Again,
+            Heard::Stop => Turn::Stop,
+        }
+    }
+
+    fn done<W: Wait>(&mut self, rt: &W, outcome: RomOutcome) {
+        let desk = self.desk;
+        desk.served.lock(rt).slave_done(self.slave, outcome);
+        desk.changed.notify_all();
+        self.notes.tell(outcome);
+    }
+
+    fn into_log(self) -> RomLog {
+        self.notes.into_list()
+    }
+}
+
+/// One process data cycle by this plan, with all outputs zero.
+fn blank_turn(plan: Plan) -> CycleJob
+    ensures { result.plan ≡ plan }
+{
+    let outputs = zero_bytes(plan.image.outputs());
+    CycleJob { plan, outputs }
+}
+
+impl<'a, T: Tickets, R: Refusals> Dispatch<CycleLog> for CycleSide<'a, T, R> {
+    ghost log = { λ side. side.log };
+
+    ghost has_job = { λ side. side.has_job };
+
+    ghost may_hand = { λ _ _. Unit {0} };
+
+    fn next<W: Wait>(&mut self, rt: &W) -> Turn<CycleJob> {
+        let Ok(()) = self.turns.reserve(1) else {
+            return Turn::Again;
+        };
+        let desk = self.desk;
+        let mut served = desk.served.lock(rt);
+        match served.cycle_next() {
+            Heard::Work(plan) => {
+                self.turns.push_reserved(note_of(&plan));
+                self.has_job = true;
+                Turn::Work(blank_turn(plan))
+            }
+            Heard::Nothing => {
+                desk.changed.wait(rt, served);
+                Turn::Again
+            }
+            Heard::NoMemory => Turn::Again,
+            Heard::Stop => Turn::Stop,
+        }
+    }
+
+    fn done<W: Wait>(&mut self, _rt: &W, _outcome: CycleOutcome) {
+        self.has_job = false;
+    }
+
+    fn into_log(self) -> CycleLog {
+        ItemList::from_vec(self.turns)
+    }
+}

@@ -1,5 +1,0 @@
-use Rattle.up_laws.proofs.SubmitLaws.{up-submits}
-use Rattle.up_laws.proofs.calls.up_with_a_command_more.Goals as goal
-
-pub returns : goal.returns
-returns c = up-submits

@@ -1,5 +1,0 @@
-use Rattle.up_laws.proofs.LineLaws.{up-kept}
-use Rattle.up_laws.proofs.up.each_pair_is_kept.Goals as goal
-
-pub returns : goal.returns
-returns c = up-kept

@@ -1,4 +1,0 @@
-pub mod CountLaws
-pub mod SlaveLaws
-pub mod BookLaws
-pub mod Below

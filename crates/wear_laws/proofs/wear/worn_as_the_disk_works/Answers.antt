@@ -1,5 +1,0 @@
-use Rattle.wear_laws.proofs.BookLaws.{worn-disk_next, worn-disk_done}
-use Rattle.wear_laws.proofs.wear.worn_as_the_disk_works.Goals as goal
-
-pub returns : goal.returns
-returns c = record { begins = worn-disk_next; ends = worn-disk_done }
