@@ -4,6 +4,7 @@ mod process_data;
 mod process_half;
 mod rom_half;
 mod site_faults;
+mod wire;
 
 use ecat_frame::{Command, Frame, FrameFault, fp};
 use esc_model::{ProcessHalf, RomHalf};

@@ -1,0 +1,19 @@
+//! A line of slaves on a real wire: bringing it up, and the device behind the shadow that sends each frame and compares its answer.
+#![tactic(auto)]
+
+mod answers;
+mod bringing_up;
+mod device;
+mod ethernet;
+mod faults;
+mod numbered;
+mod practice;
+mod wire;
+
+pub use bringing_up::bring_up;
+pub use device::{WireDevice, WireSite};
+pub use ethernet::EthernetWire;
+pub use faults::{Difference, LineFault, StopReason};
+pub use numbered::NumberedWire;
+pub use practice::PracticeLine;
+pub use wire::Wire;

@@ -1,0 +1,22 @@
+//! What a station asks of a wire.
+
+use std::io;
+
+/// A wire with slaves on it, which carries EtherCAT frames (ETG.1000.4). It may lose frames, and double and delay them, but it keeps
+/// their order. No contract says what comes back, so the methods have no clauses.
+pub trait Wire {
+    /// Sends a frame of 1,500 bytes at most.
+    ///
+    /// # Errors
+    ///
+    /// Where the frame can't be sent.
+    fn send(&mut self, frame: &[u8]) -> io::Result<()>;
+
+    /// Waits for a frame, puts it at the front of `bytes`, which has room for 1,500, and gives its length in bytes. What isn't an
+    /// EtherCAT frame has the length 0.
+    ///
+    /// # Errors
+    ///
+    /// Where no frame comes within the wire's time-out, which is some milliseconds. `Interrupted` where the wait was cut short.
+    fn receive(&mut self, bytes: &mut [u8]) -> io::Result<usize>;
+}
