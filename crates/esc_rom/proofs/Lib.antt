@@ -6,6 +6,7 @@ pub mod Polls
 pub mod Writes
 pub mod Stops
 pub mod IssuedWords
+pub mod Clearing
 pub mod SettledWords
 pub mod OpenSlaves
 pub mod ReadPairs

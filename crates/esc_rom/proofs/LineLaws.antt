@@ -17,13 +17,13 @@ use Rattle.esc_rom.specs.declared.fault.RomFault.{RomFault}
 use Rattle.esc_rom.specs.declared.fault.RomFault.TheVariants as rom
 use Rattle.esc_rom.specs.Runs.{Quiet}
 use Rattle.esc_rom.proofs.Runs.{Quiet-none, Quiet-then}
-use Rattle.esc_rom.specs.Reading.{most_calls, ReadsSlave, WasOpened, ReadsLine, Dies, EndsLine}
+use Rattle.esc_rom.specs.Reading.{most_calls, ReadsSlave, WasRead, WereRead, ReadsLine, Dies, EndsLine}
 use Rattle.esc_rom.proofs.Counting.{calls_more, calls_within}
 
 -- the first `count` slaves were read, and these are their words
 pub record FirstRead (count : ℕ) (plant : List (List ℕ)) (sizes : List ℕ) (old now : Seen) : Type 0 where
   pub quiet : Quiet old (most_calls (take count sizes)) now
-  pub opened : (slave : ℕ) → slave < count → WasOpened slave old now
+  pub were_read : WereRead sizes count old now
   pub words : plant ≡ map (λ (half : SlaveHalf). half.words) (take count now.state.halves)
   pub idle : AllByRecursion IsIdle (take count now.state.halves)
   pub there : length now.state.halves ≡ length old.state.halves
@@ -37,7 +37,7 @@ no_halves (half ∷ halves) = refl
 pub first_none : (sizes : List ℕ) (seen : Seen) → FirstRead 0 [] sizes seen seen
 first_none sizes seen = record {
   quiet = Quiet-none seen (most_calls (take 0 sizes));
-  opened = λ slave below. absurd (omega arith);
+  were_read = λ slave below. absurd (omega arith);
   words = sym (ap (λ (hs : List SlaveHalf). map (λ (half : SlaveHalf). half.words) hs) (no_halves seen.state.halves));
   idle = subst (λ (hs : List SlaveHalf). AllByRecursion IsIdle hs) (sym (no_halves seen.state.halves)) tt;
   there = refl;
@@ -45,18 +45,34 @@ first_none sizes seen = record {
   going = λ some. absurd (omega arith);
 }
 
-opened_later : (slave : ℕ) (a b c : Seen) → WasOpened slave a b → Follows b c → WasOpened slave a c
-opened_later slave a b c was follows =
-    record { before = was.before; follows = was.follows; opened = was.opened; opens = was.opens; behind = Follows-then was.opened b c was.behind follows }
+read_later : (slave size : ℕ) (a b c : Seen) → WasRead slave size a b → Follows b c → WasRead slave size a c
+read_later slave size a b c was follows = record {
+  before = was.before;
+  follows = was.follows;
+  opened = was.opened;
+  opens = was.opens;
+  words = was.words;
+  read = was.read;
+  reads = was.reads;
+  behind = Follows-then was.read b c was.behind follows;
+}
 
-opened_behind : (slave : ℕ) (a b c : Seen) → Follows a b → WasOpened slave b c → WasOpened slave a c
-opened_behind slave a b c follows was =
-    record { before = was.before; follows = Follows-then a b was.before follows was.follows; opened = was.opened; opens = was.opens; behind = was.behind }
+read_behind : (slave size : ℕ) (a b c : Seen) → Follows a b → WasRead slave size b c → WasRead slave size a c
+read_behind slave size a b c follows was = record {
+  before = was.before;
+  follows = Follows-then a b was.before follows was.follows;
+  opened = was.opened;
+  opens = was.opens;
+  words = was.words;
+  read = was.read;
+  reads = was.reads;
+  behind = was.behind;
+}
 
-opened_more : (a b c : Seen) (count slave : ℕ) → slave < count + 1 → ((before : ℕ) → before < count → WasOpened before a b) → Follows a b → Follows b c → WasOpened count b c → WasOpened slave a c
-opened_more a b c count slave below first to_it behind last = elim (eqb_tells slave count) [
-  | inl same ↦ subst (λ (s : ℕ). WasOpened s a c) (sym same.1) (opened_behind count a b c to_it last)
-  | inr other ↦ opened_later slave a b c (first slave (let not = other.1 in omega arith)) behind
+read_more : (sizes : List ℕ) (a b c : Seen) (count : ℕ) → WereRead sizes count a b → Follows a b → Follows b c → WasRead count (slice_index sizes count) b c → WereRead sizes (count + 1) a c
+read_more sizes a b c count first to_it behind last slave below = elim (eqb_tells slave count) [
+  | inl same ↦ subst (λ (s : ℕ). WasRead s (slice_index sizes s) a c) (sym same.1) (read_behind count (slice_index sizes count) a b c to_it last)
+  | inr other ↦ read_later slave (slice_index sizes slave) a b c (first slave (let not = other.1 in omega arith)) behind
 ]
 
 -- one more
@@ -69,7 +85,7 @@ first_more sizes count plant words a b c inside first reads =
     ap (λ (s : State). take (count + 1) s.halves) goes.new_is ∙ take_more_set b.state.halves count later (slice_get_within b.state.halves count goes.half goes.here) in
     record {
       quiet = Quiet-then (let more = calls_more sizes count inside in omega arith) first.quiet reads.quiet;
-      opened = λ slave below. opened_more a b c count slave below first.opened first.quiet.follows reads.quiet.follows reads.opened;
+      were_read = read_more sizes a b c count first.were_read first.quiet.follows reads.quiet.follows reads.was_read;
       words = let last : words ≡ later.words = sym goes.goes.2 in
           ap (λ (ws : List (List ℕ)). ws ++ words ∷ []) first.words
           ∙ ap (λ (w : List ℕ). map (λ (half : SlaveHalf). half.words) (take count b.state.halves) ++ w ∷ []) last
@@ -94,7 +110,7 @@ all_read plant_of value sizes count a b all there some first =
     let words : plant_of value ≡ map (λ (half : SlaveHalf). half.words) b.state.halves = first.words ∙ ap (λ (hs : List SlaveHalf). map (λ (half : SlaveHalf). half.words) hs) halves in
     let idle : AllByRecursion IsIdle b.state.halves = subst (λ (hs : List SlaveHalf). AllByRecursion IsIdle hs) halves first.idle in
     record {
-      opened = λ slave inside. first.opened slave (omega arith);
+      were_read = λ slave inside. first.were_read slave (omega arith);
       quiet = subst (λ (ss : List ℕ). Quiet a (most_calls ss) b) (take_all count sizes (omega arith)) first.quiet;
       read = record {
         words = words;
@@ -118,7 +134,7 @@ pub line_fails : {T : Type 0} (plant_of : T → List (List ℕ)) (sizes : List �
     → ReadsSlave count (slice_index sizes count) b (Err fault) c → ReadsLine plant_of sizes a (Err fault) c
 line_fails plant_of sizes count plant fault a b c inside first reads = record {
   quiet = Quiet-then (calls_within sizes count inside) first.quiet reads.quiet;
-  opened = tt;
+  were_read = tt;
   read = tt;
   faults = ends fault reads;
   stopped = (λ stops. ap Err (same_fault fault rom.Stopped (Err fault) refl (reads.stopped.0 stops)), λ was. reads.stopped.1 (ap Err (same_fault fault rom.Stopped (Err fault) refl was)));
@@ -128,14 +144,14 @@ line_fails plant_of sizes count plant fault a b c inside first reads = record {
     ends rom.Memory so = tt
     ends rom.Stopped so = tt
     ends (rom.SlaveDead dead) so =
-        subst (λ (d : ℕ). Dies sizes d a c) (sym so.faults.0) (record { inside = inside; reached = b; before = first.quiet; gives_up = so.faults.1 })
+        subst (λ (d : ℕ). Dies sizes d a c) (sym so.faults.0) (record { inside = inside; reached = b; before = first.quiet; first = first.were_read; gives_up = so.faults.1 })
 
 -- memory is refused behind one
 pub line_refused : {T : Type 0} (plant_of : T → List (List ℕ)) (sizes : List ℕ) (count : ℕ) (plant : List (List ℕ)) (words : List ℕ) (a b c : Seen) → count < length sizes → FirstRead count plant sizes a b
     → ReadsSlave count (slice_index sizes count) b (Ok words) c → ReadsLine plant_of sizes a (Err rom.Memory) c
 line_refused plant_of sizes count plant words a b c inside first reads = record {
   quiet = Quiet-then (calls_within sizes count inside) first.quiet reads.quiet;
-  opened = tt;
+  were_read = tt;
   read = tt;
   faults = tt;
   stopped = (λ stops. let was = reads.stopped.0 stops in absurd cc, λ was. absurd cc);

@@ -15,11 +15,12 @@ use Rattle.esc_rom.specs.declared.fault.Stop.{Stop}
 use Rattle.esc_rom.specs.declared.fault.RomFault.{RomFault}
 use Rattle.esc_rom.specs.declared.fault.RomFault.TheVariants as rom
 use Rattle.esc_rom.specs.declared.poll.Rested.{Rested}
-use Rattle.esc_rom.specs.Past.{HalfAt, AreLost, IsReached}
+use Rattle.esc_rom.specs.Past.{HalfAt, AreLost, AreUncounted, IsNext}
 use Rattle.esc_rom.specs.Runs.{Ran, StopsQuietly, Performs, Waited, Tries, never, again, OnceRefused, Insists}
 use Rattle.esc_rom.specs.Access.{BecomesOpen, OpensSlave}
 use Rattle.esc_rom.proofs.Runs.{Ran-then, Ran-weaker, Ran-cut}
 use Rattle.esc_rom.proofs.Past.{Ran-tied, never_idle}
+use Rattle.esc_rom.proofs.Clearing.{clear_counted, clear_well}
 use Rattle.esc_rom.proofs.SettledWords.{Clears, clears_same, clears_then, clears_receives, seen_idle}
 
 -- what holds of one datagram, of none and of two in a row, holds of any number
@@ -39,7 +40,7 @@ module _ (slave : ℕ) (near : slave < 64) where
   clear_tries = tries_closed (clear_order slave) Clears clears_same clears_then (clears_receives slave near)
 
   -- the byte that was insisted on is there
-  pub access_is : (value : ℕ) (a b : Seen) (half later : SlaveHalf) → Insists (access_order slave value) a b true half later → OnlyRests half later × (access_byte later.registers ≡ value % 4)
+  pub access_is : (value : ℕ) (a b : Seen) (half later : SlaveHalf) → Insists (access_order slave value) a slave b true half later → OnlyRests half later × (access_byte later.registers ≡ value % 4)
   access_is value a b half later insists = (
     OnlyRests-then half insists.0 later (access_tries value half insists.0 insists.1)
         (Receives-only (access_order slave value) insists.0 later (access_gentle slave value near) (received (access_order slave value) insists.0 later insists.2)),
@@ -58,29 +59,30 @@ module _ (slave : ℕ) (near : slave < 64) where
       clear_refused once.refuses.rested slave near (ap (λ (h : SlaveHalf). h.activity) same ∙ clears.idle idle) once.refuses.refused
       (MayRest-station once.mid once.refuses.rested once.refuses.rests ∙ clears.only.station ∙ at)
 
--- three were lost, or the half is elsewhere
-abbrev Fails : (slave : ℕ) → Seen → Seen → SlaveHalf → Type 0
-Fails slave b c mid = ((clock c ≡ clock b + 3) × AreLost c (clock b) 3) ⊎ (¬ IsAt slave mid)
+-- the datagram wasn't counted three times: three frames were lost, or the half is elsewhere
+abbrev Fails : Pdu → (slave : ℕ) → Seen → Seen → SlaveHalf → Type 0
+Fails order slave b c mid = (clock c ≡ clock b + 3) × AreUncounted order c slave (clock b) 3 × (AreLost c (clock b) 3 ⊎ (¬ IsAt slave mid))
 
-given_up : (a b c : Seen) (slave : ℕ) (half mid later : SlaveHalf) → clock a ≤ clock b → OnlyRests half mid → HalfAt c slave (clock b) mid → (clock b ≡ clock a) ⊎ IsReached mid
-    → OnlyRests mid later → Fails slave b c mid → BecomesOpen a slave c false half later
-given_up a b c slave half mid later after only here phase then (inl lost) = (
+given_up : (order : Pdu) (a b c : Seen) (slave : ℕ) (half mid later : SlaveHalf) → clock a ≤ clock b → OnlyRests half mid → HalfAt c slave (clock b) mid → IsNext a slave (clock b) order mid
+    → OnlyRests mid later → Fails order slave b c mid → BecomesOpen a slave c false half later
+given_up order a b c slave half mid later after only here next then fails = (
   OnlyRests-then half mid later only then,
-  inr (inl (record {
+  inr (record {
+    order = order;
     from = clock b;
     after = after;
-    clock = lost.0;
-    lost = lost.1;
-    phase = elim phase [ inl first ↦ inl first | inr reached ↦ inr (record { half = mid; later = mid; first = here; last = here; goes = reached }) ];
-  })),
+    next = record { half = mid; later = mid; first = here; last = here; goes = next };
+    uncounted = fails.1;
+    why = elim fails.2 [ inl lost ↦ inl lost | inr elsewhere ↦ inr (λ at. elsewhere (only.station ∙ at)) ];
+    clock = fails.0;
+  }),
 )
-given_up a b c slave half mid later after only here phase then (inr elsewhere) = (OnlyRests-then half mid later only then, inr (inr (λ at. elsewhere (only.station ∙ at))))
 
-access_fails : (a b c : Seen) (slave value : ℕ) (half mid later : SlaveHalf) → slave < 64 → clock a ≤ clock b → OnlyRests half mid → HalfAt c slave (clock b) mid → (clock b ≡ clock a) ⊎ IsReached mid
-    → Insists (access_order slave value) b c false mid later → BecomesOpen a slave c false half later
-access_fails a b c slave value half mid later near after only here phase insists =
-    given_up a b c slave half mid later after only here phase (access_tries slave near value mid later insists.0)
-    (elim insists.1 [ inl lost ↦ inl lost | inr once ↦ inr (access_once slave near value mid once) ])
+access_fails : (a b c : Seen) (slave value : ℕ) (half mid later : SlaveHalf) → slave < 64 → clock a ≤ clock b → OnlyRests half mid → HalfAt c slave (clock b) mid → IsNext a slave (clock b) (access_order slave value) mid
+    → Insists (access_order slave value) b slave c false mid later → BecomesOpen a slave c false half later
+access_fails a b c slave value half mid later near after only here next insists =
+    given_up (access_order slave value) a b c slave half mid later after only here next (access_tries slave near value mid later insists.0)
+    (insists.1, insists.2, elim insists.3 [ inl lost ↦ inl lost | inr once ↦ inr (access_once slave near value mid once) ])
 
 -- IN A ROW
 
@@ -94,27 +96,29 @@ pub record IsFree (half later : SlaveHalf) : Type 0 where
   pub access : access_byte later.registers ≡ 0
   pub idle : IsIdle later
 
-cleared : (a : Seen) (slave : ℕ) → slave < 64 → (d e : Seen) (said : Bool) (half mid later : SlaveHalf) → clock a ≤ clock d → IsFree half mid → HalfAt e slave (clock d) mid × Insists (clear_order slave) d e said mid later
+cleared : (a : Seen) (slave : ℕ) → slave < 64 → (d e : Seen) (said : Bool) (half mid later : SlaveHalf) → clock a ≤ clock d → IsFree half mid → HalfAt e slave (clock d) mid × Insists (clear_order slave) d slave e said mid later
     → BecomesOpen a slave e said half later
 cleared a slave near d e true half mid later after so insists =
-    let clears = clears_then mid insists.1.0 later (clear_tries slave near mid insists.1.0 insists.1.1) (clears_receives slave near insists.1.0 later (received (clear_order slave) insists.1.0 later insists.1.2)) in
-    (OnlyRests-then half mid later so.only clears.only, clears.idle so.idle, clears.access so.access)
+    let tried = clear_tries slave near mid insists.1.0 insists.1.1 in
+    let clears = clears_then mid insists.1.0 later tried (clears_receives slave near insists.1.0 later (received (clear_order slave) insists.1.0 later insists.1.2)) in
+    let zero = clears.access so.access in
+    (OnlyRests-then half mid later so.only clears.only, clear_well later zero (clear_counted slave near insists.1.0 later (tried.idle so.idle) insists.1.2), zero)
 cleared a slave near d e false half mid later after so insists =
-    given_up a d e slave half mid later after so.only insists.0 (inr (inr (so.idle, so.access))) (clear_tries slave near mid later insists.1.0).only
-    (elim insists.1.1 [ inl lost ↦ inl lost | inr once ↦ inr (clear_once slave near mid so.idle once) ])
+    given_up (clear_order slave) a d e slave half mid later after so.only insists.0 (inr (inr (refl, so.idle, so.access))) (clear_tries slave near mid later insists.1.0).only
+    (insists.1.1, insists.1.2, elim insists.1.3 [ inl lost ↦ inl lost | inr once ↦ inr (clear_once slave near mid so.idle once) ])
 
 module _ {a : Seen} {slave : ℕ} (near : slave < 64) where
-  pub first_fails : {b : Seen} → Ran (Insists (access_order slave 2) a b false) a slave 3 b → Ran (BecomesOpen a slave b false) a slave 10009 b
-  first_fails {b} ran = Ran-weaker (omega arith) (λ half later here there insists. access_fails a a b slave 2 half half later near (omega arith) (OnlyRests-same half) insists.0 (inl refl) insists.1) (Ran-tied ran)
+  pub first_fails : {b : Seen} → Ran (Insists (access_order slave 2) a slave b false) a slave 3 b → Ran (BecomesOpen a slave b false) a slave 10009 b
+  first_fails {b} ran = Ran-weaker (omega arith) (λ half later here there insists. access_fails a a b slave 2 half half later near (omega arith) (OnlyRests-same half) insists.0 (inl (refl, refl)) insists.1) (Ran-tied ran)
 
-  pub forced : {b : Seen} → Ran (Insists (access_order slave 2) a b true) a slave 3 b → Ran (HasAccess 2) a slave 3 b
+  pub forced : {b : Seen} → Ran (Insists (access_order slave 2) a slave b true) a slave 3 b → Ran (HasAccess 2) a slave 3 b
   forced {b} ran = Ran-weaker (omega arith) (λ half later here there insists. let so = access_is slave near 2 a b half later insists in record { only = so.0; access = so.1 }) ran
 
-  pub second_fails : {b c : Seen} → Ran (HasAccess 2) a slave 3 b → Ran (Insists (access_order slave 0) b c false) b slave 3 c → Ran (BecomesOpen a slave c false) a slave 10009 c
+  pub second_fails : {b c : Seen} → Ran (HasAccess 2) a slave 3 b → Ran (Insists (access_order slave 0) b slave c false) b slave 3 c → Ran (BecomesOpen a slave c false) a slave 10009 c
   second_fails {b} {c} ran more =
-      Ran-then (omega arith) (λ half mid later so insists. access_fails a b c slave 0 half mid later near (Follows-clock a b ran.quiet.follows) so.only insists.0 (inr (inl so.access)) insists.1) ran (Ran-tied more)
+      Ran-then (omega arith) (λ half mid later so insists. access_fails a b c slave 0 half mid later near (Follows-clock a b ran.quiet.follows) so.only insists.0 (inr (inl (refl, so.access))) insists.1) ran (Ran-tied more)
 
-  pub freed : {b c : Seen} → Ran (HasAccess 2) a slave 3 b → Ran (Insists (access_order slave 0) b c true) b slave 3 c → Ran (HasAccess 0) a slave 6 c
+  pub freed : {b c : Seen} → Ran (HasAccess 2) a slave 3 b → Ran (Insists (access_order slave 0) b slave c true) b slave 3 c → Ran (HasAccess 0) a slave 6 c
   freed {b} {c} ran more =
       Ran-then (omega arith) (λ half mid later so insists. let then = access_is slave near 0 b c mid later insists in record { only = OnlyRests-then half mid later so.only then.0; access = then.1 }) ran more
 
@@ -130,7 +134,7 @@ module _ {a : Seen} {slave : ℕ} (near : slave < 64) where
         idle = seen_idle slave rested later waited.1;
       }) ran more
 
-  pub opens : {d : Seen} (result : Result Bool Stop) (e : Seen) → Ran IsFree a slave 10006 d → Performs (Insists (clear_order slave) d e) d slave 3 result e → Performs (BecomesOpen a slave e) a slave 10009 result e
+  pub opens : {d : Seen} (result : Result Bool Stop) (e : Seen) → Ran IsFree a slave 10006 d → Performs (Insists (clear_order slave) d slave e) d slave 3 result e → Performs (BecomesOpen a slave e) a slave 10009 result e
   opens {d} (Ok said) e ran more = Ran-then (omega arith) (λ half mid later so insists. cleared a slave near d e said half mid later (Follows-clock a d ran.quiet.follows) so insists) ran (Ran-tied more)
   opens (Err stop) e ran cut = Ran-cut (omega arith) ran cut
 

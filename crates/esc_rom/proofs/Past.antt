@@ -1,11 +1,12 @@
 -- The EEPROM half of a slave at each time of the past.
 use Rattle.std.proofs.Common.{◌≡◌, ℕ, ◌+◌, ◌<◌, ◌≤◌, Some, slice_get, refl, sym, ap, subst, ◌∙◌, inl, inr, arith}
 use Rattle.std.proofs.lemmas.Bool.Decides.{eqb_tells}
+use Rattle.ecat_frame.specs.Frame.{Pdu}
 use Rattle.esc_model.specs.SlaveHalf.{SlaveHalf}
 use Rattle.site_core.specs.State.{Seen, clock}
 use Rattle.site_core.specs.Times.{Instant, instant_at, FailsAt, Follows}
 use Rattle.site_core.proofs.Times.{instant-stays, instant-now, FailsAt-stays}
-use Rattle.esc_rom.specs.Past.{HalfAt, HalfWent, AreLost, PollsInVain, MissesIdle, NeverIdle, WaitsInVain, EndsTry, still_busy, command_lost, in_error, words_lost, FailTries, no_try, one_more_try}
+use Rattle.esc_rom.specs.Past.{HalfAt, HalfWent, AreLost, IsUncounted, AreUncounted, PollsInVain, MissesIdle, NeverIdle, WaitsInVain, EndsTry, still_busy, command_lost, in_error, words_lost, FailTries, no_try, one_more_try}
 use Rattle.esc_rom.specs.Runs.{Ran}
 use Rattle.esc_rom.proofs.Runs.{Ran-weaker}
 
@@ -33,6 +34,11 @@ HalfWent-stays a b slave from end follows before early weaker went = record {
 pub Ran-tied : {R : SlaveHalf → SlaveHalf → Type 0} {a b : Seen} {slave most : ℕ} → Ran R a slave most b → Ran (λ half later. HalfAt b slave (clock a) half × R half later) a slave most b
 Ran-tied {a = a} {b = b} {slave = slave} ran = Ran-weaker (omega arith) (λ half later here there goes. (HalfAt-then a b slave half ran.quiet.follows here, goes)) ran
 
+-- and with the half that it has at its end
+pub Ran-went : {R : SlaveHalf → SlaveHalf → Type 0} {a b : Seen} {slave most : ℕ} → Ran R a slave most b → Ran (λ half later. HalfAt b slave (clock a) half × HalfAt b slave (clock b) later × R half later) a slave most b
+Ran-went {a = a} {b = b} {slave = slave} ran =
+    Ran-weaker (omega arith) (λ half later here there goes. (HalfAt-then a b slave half ran.quiet.follows here, HalfAt-now b slave (clock b) later refl there, goes)) ran
+
 -- the last call failed
 pub FailsAt-last : (a b : Seen) → Follows a b → clock b ≡ clock a + 1 → a.faults < b.faults → FailsAt b (clock a)
 FailsAt-last a b follows one more =
@@ -51,6 +57,15 @@ more_in_row P from times now is so last k below = elim (eqb_tells k times) [
 pub AreLost-more : (a b : Seen) (from times : ℕ) → Follows a b → clock a ≡ from + times → AreLost a from times → FailsAt b (clock a) → AreLost b from (times + 1)
 AreLost-more a b from times follows is lost last =
     more_in_row (FailsAt b) from times (clock a) is (λ k below. FailsAt-stays a b (from + k) follows (omega arith) (lost k below)) last
+
+pub AreUncounted-more : (order : Pdu) (a b : Seen) (slave from times : ℕ) → Follows a b → clock a ≡ from + times → AreUncounted order a slave from times → IsUncounted order b slave (clock a)
+    → AreUncounted order b slave from (times + 1)
+AreUncounted-more order a b slave from times follows is uncounted last = more_in_row (IsUncounted order b slave) from times (clock a) is (λ k below. stays k below (uncounted k below)) last
+  where
+    stays : (k : ℕ) → k < times → IsUncounted order a slave (from + k) → IsUncounted order b slave (from + k)
+    stays k below was =
+        HalfWent-stays a b slave (from + k) (from + k + 1) follows (omega arith) (omega arith)
+        (λ half later why. elim why [ inl lost ↦ inl (FailsAt-stays a b (from + k) follows (omega arith) lost.0, lost.1) | inr refuses ↦ inr refuses ]) was
 
 pub PollsInVain-more : (a b : Seen) (slave from times : ℕ) → Follows a b → clock a ≡ from + times → PollsInVain a slave from times → MissesIdle b slave (clock a) → PollsInVain b slave from (times + 1)
 PollsInVain-more a b slave from times follows is polls last =

@@ -17,8 +17,8 @@ use Rattle.site_core.proofs.Times.{Follows-clock}
 use Rattle.esc_rom.specs.declared.poll.Rested.TheVariants.{Well, Failed}
 use Rattle.esc_rom.specs.declared.reading.WordPair.{WordPair}
 use Rattle.esc_rom.specs.declared.reading.Tried.TheVariants as tried
-use Rattle.esc_rom.specs.Past.{HalfAt, EndsTry, still_busy, command_lost, in_error, words_lost, FailTries, no_try, one_more_try}
-use Rattle.esc_rom.specs.Runs.{Ran, Waited, WasLost, Refuses, Wrote}
+use Rattle.esc_rom.specs.Past.{Refuses, HalfAt, EndsTry, still_busy, command_lost, in_error, words_lost, FailTries, no_try, one_more_try}
+use Rattle.esc_rom.specs.Runs.{Ran, Waited, WasLost, Wrote}
 use Rattle.esc_rom.specs.WordPairs.{pair_of, Fetched, IsRead, TriesRead, ReadsPair}
 use Rattle.esc_rom.proofs.Runs.{Ran-then, Ran-weaker, SoFar, so_then, so_over, so_clock}
 use Rattle.esc_rom.proofs.Past.{HalfAt-now, HalfAt-then, never_idle, NeverIdle-behind, FailTries-stays}

@@ -4,7 +4,7 @@ use Rattle.esc_model.specs.Registers.{access_byte}
 use Rattle.esc_model.specs.SlaveHalf.{SlaveHalf}
 use Rattle.esc_model.specs.Datagrams.{Receives}
 use Rattle.esc_model.specs.Orders.{clear_order}
-use Rattle.esc_model.specs.WordAccess.{IsIdle, OnlyRests}
+use Rattle.esc_model.specs.WordAccess.{IsAt, IsIdle, OnlyRests}
 use Rattle.esc_model.proofs.Resting.{MayRest-idle, MayRest-access}
 use Rattle.esc_model.proofs.OnlyResting.{OnlyRests-same, OnlyRests-then, MayRest-only, Receives-only}
 use Rattle.esc_model.proofs.Writing.{clear_only, clear_gentle, clear_access}
@@ -23,6 +23,7 @@ use Rattle.esc_rom.specs.Access.{BecomesSettled, SettlesSlave}
 use Rattle.esc_rom.proofs.Runs.{Ran-then, Ran-weaker}
 use Rattle.esc_rom.proofs.Past.{Ran-tied}
 use Rattle.esc_rom.proofs.Writes.{wrote_receives}
+use Rattle.esc_rom.proofs.Clearing.{clears_errors}
 
 -- CLEARING
 
@@ -57,6 +58,10 @@ pub seen_idle : (slave : ℕ) (rested : Rested) (half : SlaveHalf) → IsSeen sl
 seen_idle slave Well half seen = seen.1.idle
 seen_idle slave Failed half seen = seen.1
 
+seen_here : (slave : ℕ) (rested : Rested) (half : SlaveHalf) → IsSeen slave rested half → IsAt slave half
+seen_here slave Well half seen = seen.0
+seen_here slave Failed half seen = seen.0
+
 pub settled_well : (old : Seen) (slave : ℕ) (taken : Bool) (new : Seen) → IsTrue taken → Ran (Waited old slave new (Some Well)) old slave 10000 new
     → Ran (BecomesSettled old slave taken new settles.Written) old slave 10001 new
 settled_well old slave taken new wanted ran =
@@ -75,12 +80,22 @@ settled_again old slave taken b new rested value near why ran last =
 
     again : (half mid later : SlaveHalf) → Waited old slave b (Some rested) half mid → HalfAt new slave (clock b) mid → Wrote (clear_order slave) b new value mid later → BecomesSettled old slave taken new settles.Again half later
     again half mid later waited here wrote =
-        let clears = clears_wrote slave near b new value mid later wrote in (
+        let clears = clears_wrote slave near b new value mid later wrote in
+        let idle = seen_idle slave rested mid waited.1 in (
           OnlyRests-then half mid later (MayRest-only half mid waited.0) clears.only,
-          clears.idle (seen_idle slave rested mid waited.1),
+          clears.idle idle,
           λ wanted.
               let failed : IsSeen slave Failed mid = subst (λ (r : Rested). IsSeen slave r mid) (why wanted) waited.1 in
               record { time = clock b; after = Follows-clock old b ran.quiet.follows; last = one; rested = mid; here = here; rests = waited.0; idle = failed.1; error = failed.2 },
+          record {
+            time = clock b;
+            after = Follows-clock old b ran.quiet.follows;
+            last = one;
+            rested = mid;
+            here = here;
+            idle = idle;
+            cleared = clears_errors slave near b new value mid later (seen_here slave rested mid waited.1) idle wrote;
+          },
         )
 
 -- the public answer

@@ -8,10 +8,10 @@ use Rattle.esc_model.specs.Datagrams.{Receives}
 use Rattle.esc_model.proofs.Writing.{true_or_false}
 use Rattle.site_core.specs.State.{Seen, clock}
 use Rattle.site_core.specs.Times.{Follows}
-use Rattle.esc_rom.specs.Past.{AreLost}
-use Rattle.esc_rom.specs.Runs.{Ran, Refuses, WasLost, Wrote, Tries, never, again, OnceRefused, Insists}
+use Rattle.esc_rom.specs.Past.{HalfAt, AreLost, Refuses, IsUncounted, AreUncounted}
+use Rattle.esc_rom.specs.Runs.{Ran, WasLost, Wrote, Tries, never, again, OnceRefused, Insists}
 use Rattle.esc_rom.proofs.Runs.{Ran-weaker, SoFar, so_over}
-use Rattle.esc_rom.proofs.Past.{AreLost-more}
+use Rattle.esc_rom.proofs.Past.{Ran-went, AreLost-more, AreUncounted-more}
 use Rattle.esc_rom.proofs.Exchanges.{Answers}
 
 -- a half counts a write once or not at all
@@ -51,34 +51,60 @@ wrote_receives order old new false half later (inr refuses) = inr (record { rest
 
 -- INSISTING
 
--- this many were sent and all lost, or the half once refused one
-pub record TriedSo (order : Pdu) (old : Seen) (times : ℕ) (now : Seen) (half later : SlaveHalf) : Type 0 where
+-- a datagram that wasn't counted, as the past has it
+pub uncounted : (order : Pdu) {a b : Seen} {slave : ℕ} → Ran (Wrote order a b false) a slave 1 b
+    → Ran (λ half later. (clock b ≡ clock a + 1) × IsUncounted order b slave (clock a) × Wrote order a b false half later) a slave 1 b
+uncounted order {a = a} {b = b} {slave = slave} ran = Ran-weaker (omega arith) (λ half later here there went. (one, past half later went.0 went.1 went.2, went.2)) (Ran-went ran)
+  where
+    one : clock b ≡ clock a + 1
+    one = let more = ran.some in let most = ran.quiet.within in omega arith
+
+    past : (half later : SlaveHalf) → HalfAt b slave (clock a) half → HalfAt b slave (clock b) later → Wrote order a b false half later → IsUncounted order b slave (clock a)
+    past half later first last wrote = record {
+      half = half;
+      later = later;
+      first = first;
+      last = subst (λ (time : ℕ). HalfAt b slave time later) one last;
+      goes = elim wrote [ inl lost ↦ inl (lost.1, lost.2) | inr refuses ↦ inr refuses ];
+    }
+
+-- this many were sent and none was counted: all were lost, or the half once refused one
+pub record TriedSo (order : Pdu) (old : Seen) (slave times : ℕ) (now : Seen) (half later : SlaveHalf) : Type 0 where
   pub tried : Tries order half later
-  pub why : ((clock now ≡ clock old + times) × AreLost now (clock old) times) ⊎ OnceRefused order half
+  pub since : clock now ≡ clock old + times
+  pub uncounted : AreUncounted order now slave (clock old) times
+  pub why : AreLost now (clock old) times ⊎ OnceRefused order half
 
-pub tried_none : (order : Pdu) (seen : Seen) (half : SlaveHalf) → TriedSo order seen 0 seen half half
-tried_none order seen half = record { tried = never; why = inl (omega arith, λ k below. absurd (omega arith)) }
+pub tried_none : (order : Pdu) (seen : Seen) (slave : ℕ) (half : SlaveHalf) → TriedSo order seen slave 0 seen half half
+tried_none order seen slave half =
+    record { tried = never; since = omega arith; uncounted = λ k below. absurd (omega arith); why = inl (λ k below. absurd (omega arith)) }
 
-pub tried_more : (order : Pdu) (a b c : Seen) (times : ℕ) → Follows b c → (half mid later : SlaveHalf) → TriedSo order a times b half mid → Wrote order b c false mid later
-    → TriedSo order a (times + 1) c half later
-tried_more order a b c times follows half mid later so wrote = record { tried = tried (wrote_receives order b c false mid later wrote); why = why so.why wrote }
+pub tried_more : (order : Pdu) (a b c : Seen) (slave times : ℕ) → Follows b c → (half mid later : SlaveHalf) → TriedSo order a slave times b half mid
+    → (clock c ≡ clock b + 1) × IsUncounted order c slave (clock b) × Wrote order b c false mid later → TriedSo order a slave (times + 1) c half later
+tried_more order a b c slave times follows half mid later so last = record {
+  tried = tried (wrote_receives order b c false mid later last.2);
+  since = let before : clock b ≡ clock a + times = so.since in let one : clock c ≡ clock b + 1 = last.0 in omega arith;
+  uncounted = AreUncounted-more order b c slave (clock a) times follows so.since so.uncounted last.1;
+  why = why so.why last.2;
+}
   where
     tried : (later ≡ mid) ⊎ Receives order mid later → Tries order half later
     tried (inl same) = subst (λ (h : SlaveHalf). Tries order half h) (sym same) so.tried
     tried (inr took) = again so.tried took
 
-    why : ((clock b ≡ clock a + times) × AreLost b (clock a) times) ⊎ OnceRefused order half → WasLost order b c mid later ⊎ Refuses order mid later
-        → ((clock c ≡ clock a + (times + 1)) × AreLost c (clock a) (times + 1)) ⊎ OnceRefused order half
+    why : AreLost b (clock a) times ⊎ OnceRefused order half → WasLost order b c mid later ⊎ Refuses order mid later → AreLost c (clock a) (times + 1) ⊎ OnceRefused order half
     why (inr once) now = inr once
-    why (inl lost) (inl last) = inl (let first = lost.0 in let second = last.0 in omega arith, AreLost-more b c (clock a) times follows lost.0 lost.1 last.1)
+    why (inl lost) (inl now) = inl (AreLost-more b c (clock a) times follows so.since lost now.1)
     why (inl lost) (inr refuses) = inr (record { mid = mid; later = later; tried = so.tried; refuses = refuses })
 
-pub insist_took : (order : Pdu) (a b c : Seen) (times : ℕ) (half mid later : SlaveHalf) → TriedSo order a times b half mid → Wrote order b c true mid later → Insists order a c true half later
-insist_took order a b c times half mid later so counts = (mid, so.tried, counts)
+pub insist_took : (order : Pdu) (a b c : Seen) (slave times : ℕ) (half mid later : SlaveHalf) → TriedSo order a slave times b half mid → Wrote order b c true mid later → Insists order a slave c true half later
+insist_took order a b c slave times half mid later so counts = (mid, so.tried, counts)
 
-pub insist_failed : (order : Pdu) (a : Seen) (slave : ℕ) (b : Seen) (times : ℕ) → times ≡ 3 → SoFar (TriedSo order a times b) a slave times b → Ran (Insists order a b false) a slave 3 b
+pub insist_failed : (order : Pdu) (a : Seen) (slave : ℕ) (b : Seen) (times : ℕ) → times ≡ 3 → SoFar (TriedSo order a slave times b) a slave times b → Ran (Insists order a slave b false) a slave 3 b
 insist_failed order a slave b times all so =
     Ran-weaker (omega arith) (λ half later here there tried. (
       tried.tried,
-      elim tried.why [ inl lost ↦ inl (let late = lost.0 in omega arith, subst (λ (n : ℕ). AreLost b (clock a) n) all lost.1) | inr once ↦ inr once ],
+      let since : clock b ≡ clock a + times = tried.since in omega arith,
+      subst (λ (n : ℕ). AreUncounted order b slave (clock a) n) all tried.uncounted,
+      elim tried.why [ inl lost ↦ inl (subst (λ (n : ℕ). AreLost b (clock a) n) all lost) | inr once ↦ inr once ],
     )) (so_over (omega arith) so)

@@ -14,7 +14,7 @@ use Rattle.site_core.specs.Times.{FailsAt, Follows}
 use Rattle.site_core.specs.Passes.{StaysWithin}
 use Rattle.esc_rom.specs.declared.fault.RomFault.{RomFault}
 use Rattle.esc_rom.specs.declared.fault.RomFault.TheVariants as rom
-use Rattle.esc_rom.specs.Past.{RestsInError, WaitsInVain, NeverIdle, LosesThree, GivesUpReading}
+use Rattle.esc_rom.specs.Past.{RestsInError, ClearsErrors, WaitsInVain, NeverIdle, NeverCounted, GivesUpReading}
 use Rattle.esc_rom.specs.Runs.{Quiet}
 
 -- ISSUE
@@ -54,14 +54,14 @@ pub record IssuesWord (old : Seen) (slave word value : ℕ) (result : Result Iss
 -- SETTLE
 
 -- What becomes of the half, by the answer of `settle`; it may also have become idle. `Written`: the word was taken, and a word that
--- the half was writing has its new value. `Again`: the half is idle; if the word was taken, the half had become idle with an error.
--- `Dead`: 10,000 polls didn't see it idle.
+-- the half was writing has its new value. `Again`: the half is idle, and the last call cleared its errors; if the word was taken, the
+-- half had become idle with an error. `Dead`: 10,000 polls didn't see it idle.
 abbrev pub BecomesSettled : Seen → (slave : ℕ) → (taken : Bool) → Seen → Settled → SlaveHalf → SlaveHalf → Type 0
 BecomesSettled old slave taken new settled.Written half later =
     IsTrue taken × MayRest half later × IsWell later
     × ((word value : ℕ) → IsWritingOrInError word value half → IsWritten word value half later)
 BecomesSettled old slave taken new settled.Again half later =
-    OnlyRests half later × IsIdle later × (IsTrue taken → RestsInError old slave new half)
+    OnlyRests half later × IsIdle later × (IsTrue taken → RestsInError old slave new half) × ClearsErrors old slave new later
 BecomesSettled old slave taken new settled.Dead half later = MayRest half later × WaitsInVain old slave new
 
 -- `settle`: at most 10,001 device calls, at no point of which a power cut leaves anything new.
@@ -74,13 +74,12 @@ pub record SettlesSlave (old : Seen) (slave : ℕ) (taken : Bool) (result : Resu
 
 -- OPEN
 
--- What becomes of the half, by whether it was opened; it may also have become idle. If it was, it is idle, and 0x0500 is 0: the EEPROM
--- isn't offered to the PDI. If it wasn't, 10,000 polls in a row didn't see it idle, three datagrams in a row were lost, or it is at
--- another station address.
+-- What becomes of the half, by whether it was opened; it may also have become idle. If it was, it is idle without an error, and 0x0500
+-- is 0: the EEPROM isn't offered to the PDI. If it wasn't, 10,000 polls in a row didn't see it idle, or one datagram was sent three
+-- times in a row and never counted.
 abbrev pub BecomesOpen : Seen → (slave : ℕ) → Seen → Bool → SlaveHalf → SlaveHalf → Type 0
-BecomesOpen old slave new true half later = OnlyRests half later × IsIdle later × (access_byte later.registers ≡ 0)
-BecomesOpen old slave new false half later =
-    OnlyRests half later × (NeverIdle old slave new ⊎ (LosesThree old slave new ⊎ (¬ IsAt slave half)))
+BecomesOpen old slave new true half later = OnlyRests half later × IsWell later × (access_byte later.registers ≡ 0)
+BecomesOpen old slave new false half later = OnlyRests half later × (NeverIdle old slave new ⊎ NeverCounted old slave new half)
 
 -- `open_slave`: at most 10,009 device calls, at no point of which a power cut leaves anything new.
 pub record OpensSlave (old : Seen) (slave : ℕ) (result : Result (Unit {0}) RomFault) (new : Seen) : Type 0 where

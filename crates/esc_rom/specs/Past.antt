@@ -1,10 +1,11 @@
 -- Why a word is issued again, or a slave is given up, in terms of the past: the EEPROM half of the slave at each time of the clock, and
 -- which calls lost their frame.
-use Rattle.std.specs.Prelude.{◌≡◌, ◌⊎◌, ℕ, ◌+◌, ◌%◌, ◌<◌, ◌≤◌, Some, slice_get}
+use Rattle.std.specs.Prelude.{◌≡◌, ◌⊎◌, ℕ, ◌+◌, ◌%◌, ◌<◌, ◌≤◌, Some, IsTrue, slice_get}
 use Rattle.esc_model.specs.Registers.{access_byte}
 use Rattle.esc_model.specs.SlaveHalf.{SlaveHalf, MayRest}
-use Rattle.esc_model.specs.Datagrams.{Receives, CountsDatagram}
-use Rattle.esc_model.specs.Orders.{read_order}
+use Rattle.ecat_frame.specs.Frame.{Pdu}
+use Rattle.esc_model.specs.Datagrams.{served_datagram, Receives, CountsDatagram}
+use Rattle.esc_model.specs.Orders.{access_order, clear_order, read_order}
 use Rattle.esc_model.specs.WordAccess.{IsAt, IsIdle, HasError, IsWell}
 use Rattle.site_core.specs.State.{Seen, clock}
 use Rattle.site_core.specs.Times.{instant_at, FailsAt}
@@ -25,6 +26,17 @@ pub record HalfWent (R : SlaveHalf → SlaveHalf → Type 0) (seen : Seen) (slav
 abbrev pub AreLost : Seen → (from times : ℕ) → Type 0
 AreLost seen from times = (k : ℕ) → k < times → FailsAt seen (from + k)
 
+-- The call at this time lost its frame, with this datagram in it, and the half took the datagram or not.
+abbrev pub LosesDatagram : Pdu → Seen → (time : ℕ) → SlaveHalf → SlaveHalf → Type 0
+LosesDatagram order seen time half later = FailsAt seen time × ((later ≡ half) ⊎ Receives order half later)
+
+-- The half, perhaps after it became idle, adds 0 to the working counter of the datagram.
+pub record Refuses (order : Pdu) (half later : SlaveHalf) : Type 0 where
+  pub rested : SlaveHalf
+  pub rests : MayRest half rested
+  pub refused : (served_datagram rested order).added ≡ 0
+  pub is : later ≡ (served_datagram rested order).half
+
 -- A WORD THAT ISN'T WRITTEN
 
 -- Before the last call the half had become idle, with bit 13 or 14 set.
@@ -37,6 +49,18 @@ pub record RestsInError (old : Seen) (slave : ℕ) (new : Seen) (half : SlaveHal
   pub rests : MayRest half rested
   pub idle : IsIdle rested
   pub error : HasError rested
+
+-- The last call sent an idle half the datagram that clears errors. The half took it, and is without an error unless its EEPROM is
+-- offered to the PDI; or the frame was lost.
+pub record ClearsErrors (old : Seen) (slave : ℕ) (new : Seen) (later : SlaveHalf) : Type 0 where
+  pub time : ℕ
+  pub after : clock old ≤ time
+  pub last : clock new ≡ time + 1
+  pub rested : SlaveHalf
+  pub here : HalfAt new slave time rested
+  pub idle : IsIdle rested
+  pub cleared : LosesDatagram (clear_order slave) new time rested later
+      ⊎ (CountsDatagram (clear_order slave) rested later × (IsWell later ⊎ IsTrue later.registers.offered))
 
 -- A SLAVE THAT ISN'T IDLE
 
@@ -64,16 +88,32 @@ pub record NeverIdle (old : Seen) (slave : ℕ) (new : Seen) : Type 0 where
 
 -- A SLAVE THAT DOESN'T TAKE A DATAGRAM
 
--- 0x0500 is 2, which forces ECAT access, or it is 0 and the half is idle.
-abbrev pub IsReached : SlaveHalf → Type 0
-IsReached half = (access_byte half.registers ≡ 2) ⊎ (IsIdle half × (access_byte half.registers ≡ 0))
+-- The call at this time sent this datagram, and it wasn't counted: its frame was lost, or the half added 0 to its working counter.
+abbrev pub IsUncounted : Pdu → Seen → (slave time : ℕ) → Type 0
+IsUncounted order seen slave time =
+    HalfWent (λ half later. LosesDatagram order seen time half later ⊎ Refuses order half later) seen slave time (time + 1)
 
--- The last three calls lost their frame. They were the first three calls, or the datagrams before them had reached the half.
-pub record LosesThree (old : Seen) (slave : ℕ) (new : Seen) : Type 0 where
+-- This number of calls in a row sent this datagram, and it was counted in none of them.
+abbrev pub AreUncounted : Pdu → Seen → (slave from times : ℕ) → Type 0
+AreUncounted order seen slave from times = (k : ℕ) → k < times → IsUncounted order seen slave (from + k)
+
+-- The datagram is the next one of an opening: first the one that forces ECAT access; once 0x0500 is 2, the one that ends that; and
+-- once it is 0 and the half is idle, the one that clears errors.
+abbrev pub IsNext : Seen → (slave from : ℕ) → Pdu → SlaveHalf → Type 0
+IsNext old slave from order half =
+    ((order ≡ access_order slave 2) × (from ≡ clock old))
+    ⊎ (((order ≡ access_order slave 0) × (access_byte half.registers ≡ 2))
+    ⊎ ((order ≡ clear_order slave) × IsIdle half × (access_byte half.registers ≡ 0)))
+
+-- The last three calls all sent the same datagram of the opening, the next one, and it was never counted. All three frames were lost,
+-- or the half, which is `half` when the opening begins, is at another station address.
+pub record NeverCounted (old : Seen) (slave : ℕ) (new : Seen) (half : SlaveHalf) : Type 0 where
+  pub order : Pdu
   pub from : ℕ
   pub after : clock old ≤ from
-  pub lost : AreLost new from 3
-  pub phase : (from ≡ clock old) ⊎ HalfWent (λ half later. IsReached half) new slave from from
+  pub next : HalfWent (λ mid later. IsNext old slave from order mid) new slave from from
+  pub uncounted : AreUncounted order new slave from 3
+  pub why : AreLost new from 3 ⊎ (¬ IsAt slave half)
   pub clock : clock new ≡ from + 3
 
 -- A SLAVE WHOSE WORDS AREN'T READ

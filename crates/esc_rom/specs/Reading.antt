@@ -35,18 +35,21 @@ EndsSlave slave size old (rom.SlaveDead dead) new = (dead ≡ slave) × GivesUp 
 EndsSlave slave size old rom.Memory new = Unit {0}
 EndsSlave slave size old rom.Stopped new = Unit {0}
 
--- On the way the slave was opened.
-pub record WasOpened (slave : ℕ) (old new : Seen) : Type 0 where
+-- On the way the slave was opened, and then all its words were read.
+pub record WasRead (slave size : ℕ) (old new : Seen) : Type 0 where
   pub before : Seen
   pub follows : Follows old before
   pub opened : Seen
   pub opens : OpensSlave before slave (Ok tt) opened
-  pub behind : Follows opened new
+  pub words : List ℕ
+  pub read : Seen
+  pub reads : ReadsWords opened slave size (Ok words) read
+  pub behind : Follows read new
 
--- If it succeeds, the slave was opened, it is idle, and these are its words.
+-- If it succeeds, the slave was opened and read, it is idle, and these are its words.
 pub record ReadsSlave (slave size : ℕ) (old : Seen) (result : Result (List ℕ) RomFault) (new : Seen) : Type 0 where
   pub quiet : Quiet old (calls_for size) new
-  pub opened : IfOk result (λ words. WasOpened slave old new)
+  pub was_read : IfOk result (λ words. WasRead slave size old new)
   pub read : IfOk result (λ words. HalfGoes (BecomesRead words) old.state slave new.state)
   pub faults : IfErr result (λ fault. EndsSlave slave size old fault new)
   pub stopped : IsTrue new.is_stopped ↔ IsErrOf result rom.Stopped
@@ -61,11 +64,16 @@ pub record AreRead (plant : List (List ℕ)) (old new : State) : Type 0 where
   pub counts : map (λ (words : List ℕ). length words) plant ≡ word_counts old.halves
   pub disk : new.disk ≡ old.disk
 
--- The slave at this place of the line was given up, after those before it were read.
+-- The first `count` slaves were each opened and read.
+abbrev pub WereRead : List ℕ → (count : ℕ) → Seen → Seen → Type 0
+WereRead sizes count old new = (slave : ℕ) → slave < count → WasRead slave (slice_index sizes slave) old new
+
+-- The slave at this place of the line was given up. It is the first: those before it had been opened and read.
 pub record Dies (sizes : List ℕ) (slave : ℕ) (old new : Seen) : Type 0 where
   pub inside : slave < length sizes
   pub reached : Seen
   pub before : Quiet old (most_calls (take slave sizes)) reached
+  pub first : WereRead sizes slave old reached
   pub gives_up : GivesUp slave (slice_index sizes slave) reached new
 
 -- What each fault means for a line.
@@ -79,7 +87,7 @@ EndsLine sizes old rom.Stopped new = Unit {0}
 pub record ReadsLine {T : Type 0} (plant_of : T → List (List ℕ)) (sizes : List ℕ) (old : Seen) (result : Result T RomFault)
     (new : Seen) : Type 0 where
   pub quiet : Quiet old (most_calls sizes) new
-  pub opened : IfOk result (λ value. (slave : ℕ) → slave < length sizes → WasOpened slave old new)
+  pub were_read : IfOk result (λ value. WereRead sizes (length sizes) old new)
   pub read : IfOk result (λ value. AreRead (plant_of value) old.state new.state)
   pub faults : IfErr result (λ fault. EndsLine sizes old fault new)
   pub stopped : IsTrue new.is_stopped ↔ IsErrOf result rom.Stopped

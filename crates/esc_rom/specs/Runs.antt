@@ -2,7 +2,7 @@
 use Rattle.std.specs.Prelude.{◌≡◌, ◌⊎◌, ℕ, ◌+◌, ◌<◌, ◌≤◌, Bool, true, false, Option, Some, None, Result, Ok, Err, IsTrue}
 use Rattle.ecat_frame.specs.Frame.{Pdu}
 use Rattle.esc_model.specs.SlaveHalf.{SlaveHalf, MayRest}
-use Rattle.esc_model.specs.Datagrams.{served_datagram, Receives, CountsDatagram}
+use Rattle.esc_model.specs.Datagrams.{Receives, CountsDatagram}
 use Rattle.esc_model.specs.WordAccess.{IsAt, IsIdle, HasError, IsWell}
 use Rattle.site_core.specs.State.{Seen, HalfGoes, clock}
 use Rattle.site_core.specs.Times.{FailsAt, Follows}
@@ -10,7 +10,7 @@ use Rattle.site_core.specs.Passes.{AddsNothing}
 use Rattle.esc_rom.specs.declared.fault.Stop.{Stop}
 use Rattle.esc_rom.specs.declared.poll.Rested.{Rested}
 use Rattle.esc_rom.specs.declared.poll.Rested.TheVariants.{Well, Failed}
-use Rattle.esc_rom.specs.Past.{AreLost, MissesIdle, WaitsInVain}
+use Rattle.esc_rom.specs.Past.{Refuses, AreLost, AreUncounted, MissesIdle, WaitsInVain}
 
 -- At most `most` calls, at no point of which a power cut could leave what it couldn't have left before them.
 pub record Quiet (old : Seen) (most : ℕ) (new : Seen) : Type 0 where
@@ -56,13 +56,6 @@ Waited old slave new (Some rested) half later = MayRest half later × IsSeen sla
 
 -- WRITES TO A REGISTER
 
--- The half, perhaps after it became idle, adds 0 to the working counter of the datagram.
-pub record Refuses (order : Pdu) (half later : SlaveHalf) : Type 0 where
-  pub rested : SlaveHalf
-  pub rests : MayRest half rested
-  pub refused : (served_datagram rested order).added ≡ 0
-  pub is : later ≡ (served_datagram rested order).half
-
 -- The one call lost its frame, and the half took the datagram or not.
 abbrev pub WasLost : Pdu → Seen → Seen → SlaveHalf → SlaveHalf → Type 0
 WasLost order old new half later = (clock new ≡ clock old + 1) × FailsAt new (clock old) × ((later ≡ half) ⊎ Receives order half later)
@@ -84,9 +77,10 @@ pub record OnceRefused (order : Pdu) (half : SlaveHalf) : Type 0 where
   pub tried : Tries order half mid
   pub refuses : Refuses order mid later
 
--- The datagram was sent until the half added 1 to its working counter. Or it was given up: three frames were lost, or the half once
--- added 0.
-abbrev pub Insists : (order : Pdu) → Seen → Seen → Bool → SlaveHalf → SlaveHalf → Type 0
-Insists order old new true half later = (mid : SlaveHalf) × Tries order half mid × CountsDatagram order mid later
-Insists order old new false half later =
-    Tries order half later × (((clock new ≡ clock old + 3) × AreLost new (clock old) 3) ⊎ OnceRefused order half)
+-- The datagram was sent until the half added 1 to its working counter. Or it was given up, once it was sent three times and never
+-- counted: all three frames were lost, or the half once added 0.
+abbrev pub Insists : (order : Pdu) → Seen → (slave : ℕ) → Seen → Bool → SlaveHalf → SlaveHalf → Type 0
+Insists order old slave new true half later = (mid : SlaveHalf) × Tries order half mid × CountsDatagram order mid later
+Insists order old slave new false half later =
+    Tries order half later × (clock new ≡ clock old + 3) × AreUncounted order new slave (clock old) 3
+    × (AreLost new (clock old) 3 ⊎ OnceRefused order half)

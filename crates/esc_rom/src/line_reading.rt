@@ -27,8 +27,9 @@ fn read_slave<S: Site>(alloc: Global, site: &mut S, slave: u16) -> Result<Words,
 ///
 /// # Errors
 ///
-/// The first fault that occurs: `SlaveDead` for a slave that can't be opened or read, as for `open_slave` and `read_all`; `Stopped`
-/// once the site has stopped; `Memory`. A power cut leaves nothing that it couldn't leave before.
+/// The first fault that occurs: `SlaveDead` for the first slave that can't be opened or read, as for `open_slave` and `read_all`, once
+/// those before it were opened and read; `Stopped` once the site has stopped; `Memory`. A power cut leaves nothing that it couldn't
+/// leave before.
 pub fn read_slaves<S: Site>(alloc: Global, site: &mut S) -> Result<Vec<Words>, RomFault>
     requires { OwnsAll (S.line site.old) }
     ensures reads { ReadsLine (λ plant. plant.items) (S.line site.old).sizes (S.seen site.old) result (S.seen site.new) }

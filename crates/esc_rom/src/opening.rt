@@ -30,12 +30,12 @@ fn take_over<S: Site>(site: &mut S, slave: u16) -> Result<bool, Stop>
 }
 
 /// Opens the EEPROM of a slave for word access (ETG.1000.4, slave information interface): takes it from the PDI, waits until the slave
-/// is idle, and clears its errors. The site must own the EEPROM half of the slave.
+/// is idle, and clears its errors. Afterwards it is idle without an error. The site must own the EEPROM half of the slave.
 ///
 /// # Errors
 ///
-/// `Stopped` if the site has stopped, or stops in this call. `SlaveDead` if the slave doesn't take a datagram in three tries, or isn't
-/// seen idle in 10,000 polls. In both cases a power cut leaves nothing that it couldn't have left before the call.
+/// `Stopped` if the site has stopped, or stops in this call. `SlaveDead` if a datagram was sent three times and not counted, or the slave
+/// isn't seen idle in 10,000 polls. In both cases a power cut leaves nothing that it couldn't have left before the call.
 pub fn open_slave<S: Site>(site: &mut S, slave: u16) -> Result<(), RomFault>
     requires { Owns (S.line site.old) slave }
     ensures opens { OpensSlave (S.seen site.old) slave result (S.seen site.new) }

@@ -28,7 +28,8 @@ fn rest<S: Site>(site: &mut S, slave: u16, taken: bool) -> Result<Settled, Stop>
 }
 
 /// Waits until a slave to which a word was issued is idle, and returns whether the word is written (ETG.1000.4, slave information
-/// interface). `taken` says that `issue` returned `Taken`; otherwise the answer is never `Written`.
+/// interface). `taken` says that `issue` returned `Taken`; otherwise the answer is never `Written`. Before the answer `Again` it sends
+/// the slave the command that clears errors, once.
 ///
 /// The site must own the EEPROM half of the slave.
 ///

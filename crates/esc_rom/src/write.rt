@@ -44,7 +44,7 @@ pub(crate) fn insist<S: Site>(
     requires owned { Owns (S.line site.old) slave }
     requires short { length content.now ≤ 16 }
     requires gentle { IsGentle (sent Fpwr 0 (address_of slave register) content.now) }
-    ensures runs { Performs (Insists (sent Fpwr 0 (address_of slave register) content.now) (S.seen site.old) (S.seen site.new))
+    ensures runs { Performs (Insists (sent Fpwr 0 (address_of slave register) content.now) (S.seen site.old) slave (S.seen site.new))
         (S.seen site.old) slave 3 result (S.seen site.new) }
     ensures line { S.line site.new ≡ S.line site.old }
 {

@@ -1,5 +1,5 @@
 -- The process image of the new plant, judged last.
-use Rattle.std.proofs.Common.{◌≡◌, ◌⊎◌, ℕ, Bool, true, false, List, is_some, IsSome, Option, Some, None, Result, Ok, Err, refl, sym, ◌∙◌, inl, inr}
+use Rattle.std.proofs.Common.{◌≡◌, ◌⊎◌, ℕ, Bool, true, false, List, is_some, IsSome, Option, Some, None, Result, Ok, Err, refl, sym, subst, ◌∙◌, inl, inr}
 use Rattle.sii_image.specs.ProcessImage.{process_image}
 use Rattle.sii_edit.specs.declared.refusal.Cause.TheVariants.{ImageOverLimit}
 use Rattle.sii_edit.specs.declared.refusal.Refusal.{Refusal}
@@ -46,3 +46,19 @@ with_process_image_refuses (Ok given) refusal is =
       | inr none ↦ let same : Err (whole ImageOverLimit) ≡ Err refusal = sym (with_process_image-has_none given none) ∙ is in inr cc
     ]
 with_process_image_refuses (Err first) refusal is = inl is
+
+has_process_image-told : (plant : List (List ℕ)) → has_process_image plant ≡ true → IsSome (process_image plant)
+unfolding has_process_image
+has_process_image-told plant has = has
+
+-- what is accepted has a process image
+pub with_process_image_has : (judged : Result (List (List ℕ)) Refusal) (new : List (List ℕ)) → with_process_image judged ≡ Ok new → IsSome (process_image new)
+with_process_image_has (Ok given) new is =
+    elim (true_or_false (has_process_image given)) [
+      | inl has ↦
+          let same : Ok given ≡ Ok new = sym (with_process_image-has given has) ∙ is in
+          let e : given ≡ new = cc in
+          subst (λ (plant : List (List ℕ)). IsSome (process_image plant)) e (has_process_image-told given has)
+      | inr none ↦ let never : Err (whole ImageOverLimit) ≡ Ok new = sym (with_process_image-has_none given none) ∙ is in absurd cc
+    ]
+with_process_image_has (Err refusal) new is = absurd cc

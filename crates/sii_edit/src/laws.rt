@@ -1,10 +1,11 @@
 // Laws of commands. The contract of each function is a theorem, and its body does nothing at run time.
-ghost use Rattle.std.specs.Prelude.{◌≡◌, ◌≢◌, ◌<◌, ℕ, Option, [], ◌∷◌, ◌++◌, List, length};
+ghost use Rattle.std.specs.Prelude.{◌≡◌, ◌≢◌, ◌<◌, ℕ, Option, IsSome, [], ◌∷◌, ◌++◌, List, length};
 ghost use Rattle.sii_edit.specs.Alias.{ChangesAlias, with_alias};
 ghost use Rattle.sii_words.specs.Redo.{SameShape};
 ghost use Rattle.sii_edit.specs.Category.{ChangesCategory};
 ghost use Rattle.sii_edit.specs.Command.{edited_words, outcome};
-ghost use Rattle.sii_edit.specs.Fold.{contents, after};
+ghost use Rattle.sii_image.specs.ProcessImage.{process_image};
+ghost use Rattle.sii_edit.specs.Fold.{contents, contents_after, after};
 ghost use Rattle.sii_edit.specs.declared.command.Command.{Command};
 ghost use Rattle.sii_edit.specs.declared.command.Expect.{Expect};
 ghost use Rattle.sii_edit.specs.declared.refusal.Refusal.{Refusal};
@@ -42,6 +43,14 @@ pub fn commands_keep_the_shape()
 /// A list of commands keeps the number of slaves, and the number of words of each.
 pub fn contents_keep_the_shape()
     ensures { (base : List (List ℕ)) (commands : List Command) → SameShape base (contents base commands) }
+{}
+
+/// If a line's contents have a process image, so have the contents after each prefix of a list of commands.
+///
+/// So contents without a process image are met only on a line that was over the limit from the start.
+pub fn commands_keep_a_process_image()
+    ensures { (base : List (List ℕ)) (commands : List Command) (count : ℕ)
+        → IsSome (process_image base) → IsSome (process_image (contents_after base commands count)) }
 {}
 
 /// The definition of a command never gives `Memory`. So it is only ever answered in place of what the definition gives.

@@ -23,7 +23,7 @@ returns-in_err-insist-clause-runs g c = cut_as (BecomesOpen _ c.args.slave _) c.
 pub returns-then-not-branch-clause-runs : goal.returns-then-not-branch-clause-runs
 returns-then-not-branch-clause-runs g c =
     let not : c.in_ok-insist.field-0 ≡ false = first_of ((cc), search rules, grind (arith, common_steps)) in
-    first_fails c.requires.1 (Ran-told (Insists (access_order c.args.slave 2)) not c.in_ok-insist.ensures.runs)
+    first_fails c.requires.1 (Ran-told (λ old. Insists (access_order c.args.slave 2) old c.args.slave) not c.in_ok-insist.ensures.runs)
 
 pub returns-in_err-insist-2-clause-runs : goal.returns-in_err-insist-2-clause-runs
 returns-in_err-insist-2-clause-runs g c =
@@ -32,30 +32,30 @@ returns-in_err-insist-2-clause-runs g c =
 pub returns-then-not-branch-2-clause-runs : goal.returns-then-not-branch-2-clause-runs
 returns-then-not-branch-2-clause-runs g c =
     let yes : c.in_ok-insist.field-0 ≡ true = first_of ((cc), search rules, grind (arith, common_steps)) in
-    let first = forced c.requires.1 (Ran-told (Insists (access_order c.args.slave 2)) yes c.in_ok-insist.ensures.runs) in
+    let first = forced c.requires.1 (Ran-told (λ old. Insists (access_order c.args.slave 2) old c.args.slave) yes c.in_ok-insist.ensures.runs) in
     let not : c.in_ok-insist-2.field-0 ≡ false = first_of ((cc), search rules, grind (arith, common_steps)) in
-    second_fails c.requires.1 first (Ran-told (Insists (access_order c.args.slave 0)) not c.in_ok-insist-2.ensures.runs)
+    second_fails c.requires.1 first (Ran-told (λ old. Insists (access_order c.args.slave 0) old c.args.slave) not c.in_ok-insist-2.ensures.runs)
 
 pub returns-in_err-_rested-clause-runs : goal.returns-in_err-_rested-clause-runs
 returns-in_err-_rested-clause-runs g c =
     let yes : c.in_ok-insist.field-0 ≡ true = first_of ((cc), search rules, grind (arith, common_steps)) in
-    let first = forced c.requires.1 (Ran-told (Insists (access_order c.args.slave 2)) yes c.in_ok-insist.ensures.runs) in
+    let first = forced c.requires.1 (Ran-told (λ old. Insists (access_order c.args.slave 2) old c.args.slave) yes c.in_ok-insist.ensures.runs) in
     let also : c.in_ok-insist-2.field-0 ≡ true = first_of ((cc), search rules, grind (arith, common_steps)) in
-    let second = freed c.requires.1 first (Ran-told (Insists (access_order c.args.slave 0)) also c.in_ok-insist-2.ensures.runs) in
+    let second = freed c.requires.1 first (Ran-told (λ old. Insists (access_order c.args.slave 0) old c.args.slave) also c.in_ok-insist-2.ensures.runs) in
     cut_as (BecomesOpen _ c.args.slave _) c.args.slave c.from_residual-in_err-_rested.result c.from_residual-in_err-_rested.ensures.0 (Ran-cut (omega arith) second c.in_err-_rested.ensures.runs)
 
 pub returns-in_default-clause-runs : goal.returns-in_default-clause-runs
 returns-in_default-clause-runs g c =
     let yes : c.in_ok-insist.field-0 ≡ true = first_of ((cc), search rules, grind (arith, common_steps)) in
-    let first = forced c.requires.1 (Ran-told (Insists (access_order c.args.slave 2)) yes c.in_ok-insist.ensures.runs) in
+    let first = forced c.requires.1 (Ran-told (λ old. Insists (access_order c.args.slave 2) old c.args.slave) yes c.in_ok-insist.ensures.runs) in
     let also : c.in_ok-insist-2.field-0 ≡ true = first_of ((cc), search rules, grind (arith, common_steps)) in
-    let second = freed c.requires.1 first (Ran-told (Insists (access_order c.args.slave 0)) also c.in_ok-insist-2.ensures.runs) in
+    let second = freed c.requires.1 first (Ran-told (λ old. Insists (access_order c.args.slave 0) old c.args.slave) also c.in_ok-insist-2.ensures.runs) in
     wait_fails c.requires.1 second (Ran-told (λ old. Waited old c.args.slave) c.in_default.is c.in_ok-_rested.ensures.runs)
 
 pub returns-clause-runs : goal.returns-clause-runs
 returns-clause-runs g c =
     let yes : c.in_ok-insist.field-0 ≡ true = first_of ((cc), search rules, grind (arith, common_steps)) in
-    let first = forced c.requires.1 (Ran-told (Insists (access_order c.args.slave 2)) yes c.in_ok-insist.ensures.runs) in
+    let first = forced c.requires.1 (Ran-told (λ old. Insists (access_order c.args.slave 2) old c.args.slave) yes c.in_ok-insist.ensures.runs) in
     let also : c.in_ok-insist-2.field-0 ≡ true = first_of ((cc), search rules, grind (arith, common_steps)) in
-    let second = freed c.requires.1 first (Ran-told (Insists (access_order c.args.slave 0)) also c.in_ok-insist-2.ensures.runs) in
+    let second = freed c.requires.1 first (Ran-told (λ old. Insists (access_order c.args.slave 0) old c.args.slave) also c.in_ok-insist-2.ensures.runs) in
     opens c.requires.1 c.insist-3.result _ (free c.requires.1 c.in-Some._rested second (Ran-told (λ old. Waited old c.args.slave) c.in-Some.is c.in_ok-_rested.ensures.runs)) c.insist-3.ensures.runs

@@ -5,12 +5,12 @@ use Rattle.site_core.specs.Line.{Line, Owns}
 use Rattle.esc_model.specs.Orders.{address_of}
 use Rattle.esc_rom.specs.Runs.{Wrote, Insists}
 use Rattle.esc_rom.proofs.Runs.{none, some, so_then, so_cut, cut_as, Ran-value}
-use Rattle.esc_rom.proofs.Writes.{tried_none, tried_more, insist_took, insist_failed}
+use Rattle.esc_rom.proofs.Writes.{uncounted, tried_none, tried_more, insist_took, insist_failed}
 use Rattle.esc_rom.proofs.write.insist.Goals as goal
 
 pub loop-try-init : goal.loop-try-init
 loop-try-init g c = record {
-  so = none (record { no_calls = refl; same = refl; stays = tried_none (sent Fpwr 0 (address_of c.args.slave c.args.register) c.args.content.now) (g.S.Site.seen c.args.site.now) });
+  so = none (record { no_calls = refl; same = refl; stays = tried_none (sent Fpwr 0 (address_of c.args.slave c.args.register) c.args.content.now) (g.S.Site.seen c.args.site.now) c.args.slave });
   line = refl;
 }
 
@@ -20,7 +20,7 @@ write-requires-clause-owned g c = subst (λ (line : Line). Owns line c.args.slav
 pub returns-in_err-write-clause-runs : goal.returns-in_err-write-clause-runs
 returns-in_err-write-clause-runs g c =
     let order = sent Fpwr 0 (address_of c.args.slave c.args.register) c.args.content.now in
-    cut_as (Insists order (g.S.Site.seen c.args.site.now) (g.S.Site.seen c.write.new.site)) c.args.slave c.from_residual.result c.from_residual.ensures.0
+    cut_as (Insists order (g.S.Site.seen c.args.site.now) c.args.slave (g.S.Site.seen c.write.new.site)) c.args.slave c.from_residual.result c.from_residual.ensures.0
     (so_cut (omega arith) c.loop-try.invariant.so c.in_err-write.ensures.runs)
 
 pub returns-then-branch-clause-runs : goal.returns-then-branch-clause-runs
@@ -29,7 +29,7 @@ returns-then-branch-clause-runs g c =
     let old = g.S.Site.seen c.args.site.now in
     let mid = g.S.Site.seen c.loop-try.site in
     let new = g.S.Site.seen c.write.new.site in
-    so_then (omega arith) (insist_took order old mid new c.loop-try._try) c.loop-try.invariant.so (Ran-value (Wrote order mid new) c.if-branch.true c.in_ok-write.ensures.runs)
+    so_then (omega arith) (insist_took order old mid new c.args.slave c.loop-try._try) c.loop-try.invariant.so (Ran-value (Wrote order mid new) c.if-branch.true c.in_ok-write.ensures.runs)
 
 pub loop-try-preserved : goal.loop-try-preserved
 loop-try-preserved g c =
@@ -38,8 +38,8 @@ loop-try-preserved g c =
     let mid = g.S.Site.seen c.loop-try.site in
     let new = g.S.Site.seen c.write.new.site in
     record {
-      so = some (so_then (omega arith) (tried_more order old mid new c.loop-try._try c.in_ok-write.ensures.runs.quiet.follows) c.loop-try.invariant.so
-          (Ran-value (Wrote order mid new) c.if-branch.false c.in_ok-write.ensures.runs));
+      so = some (so_then (omega arith) (tried_more order old mid new c.args.slave c.loop-try._try c.in_ok-write.ensures.runs.quiet.follows) c.loop-try.invariant.so
+          (uncounted order (Ran-value (Wrote order mid new) c.if-branch.false c.in_ok-write.ensures.runs)));
       line = c.in_ok-write.ensures.line ∙ c.loop-try.invariant.line;
     }
 

@@ -8,6 +8,6 @@ use Rattle.esc_rom.proofs.write.insist.Given as goal
 
 abbrev pub invariant-loop-try : goal.invariant-loop-try
 invariant-loop-try g l = record {
-  so : SoFar (TriedSo (sent Fpwr 0 (address_of l.slave l.register) l.content) (g.S.Site.seen l.fn.site) l._try (g.S.Site.seen l.site)) (g.S.Site.seen l.fn.site) l.slave l._try (g.S.Site.seen l.site);
+  so : SoFar (TriedSo (sent Fpwr 0 (address_of l.slave l.register) l.content) (g.S.Site.seen l.fn.site) l.slave l._try (g.S.Site.seen l.site)) (g.S.Site.seen l.fn.site) l.slave l._try (g.S.Site.seen l.site);
   line : g.S.Site.line l.site ≡ g.S.Site.line l.fn.site;
 }
