@@ -1,4 +1,5 @@
 //! The codes of faults and refusals, as one table: the number, the name and the explanation of each.
+ghost use Rattle.std.specs.Prelude.{Contains};
 
 use std::fmt;
 
@@ -146,6 +147,11 @@ pub const CODES: [Code; 41] = [
     Code::Exists,
     Code::Busy,
 ];
+
+/// Law: each code stands in the table `CODES`.
+pub fn each_code_is_listed(code: Code)
+    ensures { Contains CODES code }
+{}
 
 /// Finds a code by its number or its name; `None` where there is no such code. The case of the letters doesn't matter.
 pub fn find_code(text: &str) -> Option<Code> {

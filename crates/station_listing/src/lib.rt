@@ -6,7 +6,7 @@ mod content;
 mod layout_listing;
 mod listing;
 
-pub use codes::{CODES, Code, CodeEntry, find_code};
+pub use codes::{CODES, Code, CodeEntry, each_code_is_listed, find_code};
 pub use content::Content;
 pub use layout_listing::{Direction, LayoutListing, ListedSegment, list_layout};
 pub use listing::{CheckByte, ListedCategory, ListedChain, Listing, list_image};
