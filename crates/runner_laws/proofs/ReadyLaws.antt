@@ -1,6 +1,6 @@
 -- A station stays ready.
 use Rattle.std.proofs.Common.{◌≡◌, ℕ, ◌<◌, Bool, true, false, List, [], length, refl, sym, ◌∙◌, ap, subst, arith, Result, Ok, Err}
-use Rattle.std.specs.Prelude.{is_some, nat_lt}
+use Rattle.std.specs.Prelude.{is_some, nat_lt, IsTrue}
 use Rattle.std.proofs.lemmas.Bool.Decides.{nat_tests}
 use Rattle.sii_words.specs.Redo.{redone}
 use Rattle.jrn_format.specs.declared.journal.Journal.{Journal}
@@ -60,8 +60,19 @@ called-action disk.Sync old result new call = tt
 called-action disk.Idle old result new call = absurd call
 called-action disk.Stop old result new call = absurd call
 
-closed-ready : (book : Book) (seen : Seen) → book.is_handed_out ≡ false → is_some book.fault ≡ true → IsReady book seen
-closed-ready book seen rests fault = record { rests = rests; up = λ none. let e : true ≡ false = sym fault ∙ none in absurd cc }
+-- the site has stopped, and that is a fault
+closed-ready : (book : Book) (seen : Seen) → book.is_handed_out ≡ false → is_some book.fault ≡ true → IsTrue seen.is_stopped → IsReady book seen
+closed-ready book seen rests fault stopped = record { rests = rests; up = λ none. let e : true ≡ false = sym fault ∙ none in absurd cc; going = λ still. absurd (still stopped) }
+
+disk-stopped : (action : DiskNext) (old : Seen) (result : Result (Unit {0}) DeviceFault) (new : Seen) → CallsDisk action old result new → result ≡ Err device.Stopped → IsTrue new.is_stopped
+disk-stopped (disk.Write at bytes) old (Ok done) new call is = absurd cc
+disk-stopped (disk.Write at bytes) old (Err fault) new call is = call.writes.call.stopped.1 cc
+disk-stopped (disk.Gate at closed) old (Ok done) new call is = absurd cc
+disk-stopped (disk.Gate at closed) old (Err fault) new call is = call.writes.call.stopped.1 cc
+disk-stopped disk.Sync old (Ok done) new call is = absurd cc
+disk-stopped disk.Sync old (Err fault) new call is = call.call.stopped.1 cc
+disk-stopped disk.Idle old result new call is = absurd call
+disk-stopped disk.Stop old result new call is = absurd call
 
 module _ (book : Book) (old new : Seen) (ready : IsReady book old) where
   disk-ready-as : (failed : Bool) (result : Result (Unit {0}) DeviceFault) → is_some book.fault ≡ failed → CallsDisk (disk_next book).0 old result new → IsReady (disk_done (disk_next book).1 result) new
@@ -70,14 +81,15 @@ module _ (book : Book) (old new : Seen) (ready : IsReady book old) where
       let u = ready.up fault in
       let out : (disk_next book).1.is_handed_out ≡ true = let o = out-of u.0 book u.1 u.2 old u.3 (disk_next book).0 refl (called-action (disk_next book).0 old result new call) in o.0 in
       let ran = disk-runs u.0 book u.1 u.2 old u.3 result new call in
-      by-result result out ran.1
+      by-result result out (disk-stopped (disk_next book).0 old result new call) ran.1
     where
-      by-result : (result : Result (Unit {0}) DeviceFault) → (disk_next book).1.is_handed_out ≡ true → UpAfterDisk (ready.up fault).0 (disk_next book).1 (ready.up fault).1 (ready.up fault).2 new result
-          → IsReady (disk_done (disk_next book).1 result) new
-      by-result (Ok done) out after = record { rests = rw out (went-rests (rested (disk_next book).1) (disk_next book).1.doing); up = λ none. (_, _, _, after) }
-      by-result (Err device.Disk) out after = closed-ready (disk_done (disk_next book).1 (Err device.Disk)) new (rw out refl) (rw out refl)
-      by-result (Err device.Lost) out after = absurd after
-      by-result (Err device.Stopped) out after = closed-ready (disk_done (disk_next book).1 (Err device.Stopped)) new (rw out refl) (rw out refl)
+      by-result : (result : Result (Unit {0}) DeviceFault) → (disk_next book).1.is_handed_out ≡ true → (result ≡ Err device.Stopped → IsTrue new.is_stopped)
+          → UpAfterDisk (ready.up fault).0 (disk_next book).1 (ready.up fault).1 (ready.up fault).2 new result → IsReady (disk_done (disk_next book).1 result) new
+      by-result (Ok done) out stopped after =
+          record { rests = rw out (went-rests (rested (disk_next book).1) (disk_next book).1.doing); up = λ none. (_, _, _, after); going = λ still. (_, _, _, after) }
+      by-result (Err device.Disk) out stopped after = record { rests = rw out refl; up = λ none. (_, _, _, after); going = λ still. (_, _, _, after) }
+      by-result (Err device.Lost) out stopped after = absurd after
+      by-result (Err device.Stopped) out stopped after = closed-ready (disk_done (disk_next book).1 (Err device.Stopped)) new (rw out refl) (rw out refl) (stopped refl)
 
   pub disk-ready : (result : Result (Unit {0}) DeviceFault) → CallsDisk (disk_next book).0 old result new → IsReady (disk_done (disk_next book).1 result) new
   disk-ready result call = disk-ready-as (is_some book.fault) result refl call
@@ -137,9 +149,10 @@ module _ (book : Book) (old new : Seen) (ready : IsReady book old) (i : ℕ) (wi
     issued (Ok how) issues none =
         let u = ready.up none in
         let ran = issue-runs u.0 book u.1 u.2 old i u.3 within word value is (Ok how) new issues in
-        record { rests = back (outcomes.Issued how); up = λ fine. (u.0, _, u.2, ran.1.1) }
+        record { rests = back (outcomes.Issued how); up = λ fine. (u.0, _, u.2, ran.1.1); going = λ still. (u.0, _, u.2, ran.1.1) }
     issued (Err fault) issues none =
-        closed-ready (rom_done later i outcomes.Stopped) new (back outcomes.Stopped) (rw (issues-as book i within word value (handed book i within) is) refl)
+        let e = issues.only_stopped in
+        closed-ready (rom_done later i outcomes.Stopped) new (back outcomes.Stopped) (rw (issues-as book i within word value (handed book i within) is) refl) (issues.stopped.1 (ap Err e))
 
     pub issue-ready : (result : Result Issued DeviceFault) → IssuesWord old i word value result new → IsReady (rom_done later i (issue_outcome result)) new
     issue-ready result issues = issued result issues (open-still (is_some book.fault) refl (λ none. subst events.IsNothing is none))
@@ -149,10 +162,11 @@ module _ (book : Book) (old new : Seen) (ready : IsReady book old) (i : ℕ) (wi
     settled (Ok how) settles none =
         let u = ready.up none in
         let ran = settle-runs u.0 book u.1 u.2 old i u.3 within taken is (Ok how) new settles in
-        record { rests = back (outcomes.Settled how); up = λ fine. (u.0, u.1, u.2, ran.1) }
+        record { rests = back (outcomes.Settled how); up = λ fine. (u.0, u.1, u.2, ran.1); going = λ still. (u.0, u.1, u.2, ran.1) }
     settled (Err fault) settles none =
         let s = settles-as book i within taken (handed book i within) is in
-        closed-ready (rom_done later i outcomes.Stopped) new (back outcomes.Stopped) (rw s.2 refl)
+        let e = settles.only_stopped in
+        closed-ready (rom_done later i outcomes.Stopped) new (back outcomes.Stopped) (rw s.2 refl) (settles.stopped.1 (ap Err e))
 
     pub settle-ready : (result : Result Settled DeviceFault) → SettlesSlave old i taken result new → IsReady (rom_done later i (settle_outcome result)) new
     settle-ready result settles = settled result settles (open-still (is_some book.fault) refl (λ none. subst events.IsNothing is none))
@@ -168,4 +182,4 @@ pub opened-ready : (journal : Journal) (seen : Seen) (took : List Bool) → leng
 opened-ready journal seen took long found =
     let machine : Machine = record { origin = redone (words_in seen.state.halves) (live_runs journal.batches); kept = []; accepted = []; acknowledged = 0 } in
     let o = up-opens journal seen.state took machine found long (found-kept journal seen found) in
-    record { rests = refl; up = λ none. (o.frame, took, _, o.up) }
+    record { rests = refl; up = λ none. (o.frame, took, _, o.up); going = λ still. (o.frame, took, _, o.up) }

@@ -1,22 +1,20 @@
 -- From the open of a recovery to its end.
-use Rattle.std.proofs.Common.{◌≡◌, ◌⊎◌, inl, inr, ℕ, ◌+◌, ◌*◌, ◌^◌, ◌<◌, ◌≤◌, Bool, true, false, List, [], ◌∷◌, ◌++◌, length, take, refl, sym, ◌∙◌, ap, subst, arith, Result, Ok, Err, IfOk, IfErr, MatchResult}
+use Rattle.std.proofs.Common.{◌≡◌, inr, ℕ, ◌+◌, ◌*◌, ◌≤◌, List, [], ◌∷◌, ◌++◌, length, take, sym, ◌∙◌, ap, subst, arith, Result, Ok, Err, IfOk, IfErr, MatchResult}
 use Rattle.std.specs.Prelude.{is_some}
 use Rattle.std.specs.Int.{w32}
 use Rattle.std.specs.List.{sum_by}
 use Rattle.std.proofs.Math.Seq.{take-nil}
-use Rattle.std.proofs.lemmas.List.{append-nil}
 use Rattle.sii_words.specs.declared.run.Run.{Run}
 use Rattle.sii_edit.specs.declared.command.Command.{Command}
 use Rattle.sii_edit.proofs.FoldLaws.{contents-append, none-taken}
 use Rattle.jrn_format.specs.declared.journal.Journal.{Journal}
 use Rattle.jrn_format.specs.Header.{field_at}
-use Rattle.jrn_format.specs.Journal.{IsJournal}
 use Rattle.jrn_format.proofs.JournalGrammar.{one_journal}
 use Rattle.jrn_format.proofs.OpenLaws.{journal-can-be-live, stated_capacity}
 use Rattle.esc_model.specs.SlaveHalf.{SlaveHalf}
 use Rattle.esc_model.proofs.Resting.{MayLeave-same}
 use Rattle.site_core.specs.Line.{Line}
-use Rattle.site_core.specs.State.{EachMayLeave, Leaves, Pair, Seen, State, clock}
+use Rattle.site_core.specs.State.{EachMayLeave, Leaves, Pair, Seen, clock}
 use Rattle.site_core.specs.Passes.{LeavesOnly}
 use Rattle.site_core.proofs.Runs.{Passes-weaker, Passes-stays}
 use Rattle.site_core.proofs.StopImages.{StopImage-same}
@@ -26,11 +24,9 @@ use Rattle.book_model.specs.Book.{Book, base_of}
 use Rattle.book_model.specs.Open.{open_book}
 use Rattle.book_model.specs.Machine as machines
 use Rattle.book_model.specs.Machine.{Machine, MayKeep, reopened}
-use Rattle.book_model.specs.Kept.{Kept}
 use Rattle.book_laws.proofs.CommandLaws.{length-entries}
-use Rattle.book_laws.specs.Keeping.{IsOfBook}
 use Rattle.book_laws.specs.Opening.{capacity_in, words_in}
-use Rattle.runner_laws.specs.Running.{KeepsAll, KeepsWith, KeptWith, with_commands}
+use Rattle.runner_laws.specs.Running.{KeepsAll, KeepsWith, KeptWith}
 use Rattle.runner_laws.proofs.GoLaws.{stays-then}
 use Rattle.runner_laws.specs.Left.{calls_left, migration_calls, words_named, words_issued}
 use Rattle.runner_laws.specs.Recovering.{IsRecovering}
@@ -44,8 +40,8 @@ use Rattle.station_alone.specs.Opening as opening
 use Rattle.station_alone.specs.Opening.{Begins, BeginsSession, FailsToOpen, KeepsOpening, OpensOn, OpensCounted}
 use Rattle.station_alone.proofs.KeepLaws.{of-later}
 use Rattle.station_alone.specs.declared.recovery.Recovered.{Recovered}
-use Rattle.station_alone.specs.Recovery.{BeginsRecovered, Breaks, CountsRecovered, FailsToRecover, IsCutShort, HasRecovered, KeepsRecovering, MakesFewCalls, recovery_calls}
-use Rattle.station_alone.specs.Rounds.{EndsEarly, IsDone, IsFinished, IsLeft, IsSmall, IsWorking, StaysKept, Works}
+use Rattle.station_alone.specs.Recovery.{BeginsRecovered, CountsRecovered, FailsToRecover, HasRecovered, KeepsRecovering, MakesFewCalls, recovery_calls}
+use Rattle.station_alone.specs.Rounds.{IsDone, IsFinished, IsLeft, IsSmall, IsWorking, StaysKept}
 use Rattle.station_alone.proofs.RowLaws.{up-of}
 
 -- ---- it is open

@@ -7,6 +7,7 @@ pub mod DiskLaws
 pub mod RunLaws
 pub mod OpenLaws
 pub mod SettledLaws
+pub mod FormattedLaws
 pub mod RowLaws
 pub mod RecoveryDiskLaws
 pub mod SlaveLaws

@@ -1,10 +1,9 @@
 -- An action for the disk as a step of a recovery.
-use Rattle.std.proofs.Common.{◌≡◌, ◌≢◌, inl, inr, ℕ, ◌+◌, ◌<◌, ◌≤◌, Bool, true, false, List, [], ◌∷◌, length, refl, sym, ◌∙◌, ap, subst, arith, Option, Some, None, Result, Ok, Err}
+use Rattle.std.proofs.Common.{◌≡◌, ◌≢◌, inl, inr, ◌≤◌, false, [], refl, sym, ◌∙◌, ap, subst, arith, Option, Some, None, Result, Ok, Err}
 use Rattle.std.specs.Prelude.{is_some, IsErrOf, IsTrue, ◌↔◌}
 use Rattle.site_core.specs.declared.fault.DeviceFault.{DeviceFault}
 use Rattle.site_core.specs.declared.fault.DeviceFault.TheVariants as device
-use Rattle.site_core.specs.State.{Seen, clock}
-use Rattle.site_core.specs.Calls.{Calls, faults_of}
+use Rattle.site_core.specs.State.{Seen}
 use Rattle.book_model.specs.declared.fault.Fault.{Fault}
 use Rattle.book_model.specs.declared.fault.Fault.TheVariants as faults
 use Rattle.book_model.specs.declared.next.DiskNext.{DiskNext}
@@ -13,16 +12,18 @@ use Rattle.book_model.specs.Book.{Book, first_fault}
 use Rattle.book_model.specs.DiskSteps.{disk_next, disk_done}
 use Rattle.runner_laws.specs.Running.{CallsDisk}
 use Rattle.runner_laws.proofs.DiskRuns.{IsAction}
-use Rattle.runner_laws.specs.Left.{calls_left, words_issued}
-use Rattle.runner_laws.specs.Recovering.{GetsNearer, HasAction, IsRecovering, fault_after}
+use Rattle.runner_laws.specs.Left.{calls_left}
+use Rattle.runner_laws.specs.Recovering.{GetsNearer, HasAction}
 use Rattle.runner_laws.proofs.DiskLaws.{action-done, action-fault, disk-goes}
+use Rattle.station_alone.specs.declared.choice.Choice.TheVariants as choices
 use Rattle.station_alone.specs.declared.choice.Answer.{Answer}
 use Rattle.station_alone.specs.declared.choice.Answer.TheVariants.{Did, Idle, Failed, NoMemory}
 use Rattle.station_alone.specs.Station.{Station, Stands}
-use Rattle.station_alone.specs.Steps.{DoesDisk, DoesNothing, CarriesOut, StepsDisk, carried_out, out_of_memory, done_with}
+use Rattle.station_alone.specs.Steps.{DoesDisk, CarriesOut, StepsDisk, carried_out, out_of_memory, done_with}
 use Rattle.station_alone.specs.Keeping.{GoesOn, Keeps}
-use Rattle.station_alone.specs.Rounds.{IsWorking, StaysKept, Works, EndsEarly, DiskRests, ServesDisk, told}
-use Rattle.station_alone.proofs.RowLaws.{up-of, kept-none, works-none}
+use Rattle.station_alone.specs.Recovery.{LeadsTo}
+use Rattle.station_alone.specs.Rounds.{IsWorking, StaysKept, DiskRests, ServesDisk, told}
+use Rattle.station_alone.proofs.RowLaws.{up-of, kept-none, leads-none, leads-one, works-none}
 
 -- ---- faults
 
@@ -34,15 +35,15 @@ pub first-is : (old : Option Fault) (fault : Fault) → is_some old ≡ false �
 first-is None fault is = refl
 first-is (Some other) fault is = absurd cc
 
--- ---- what a device call counts
+-- ---- how a device call ends
 
-call-counts : (action : DiskNext) (old new : Seen) (result : Result (Unit {0}) DeviceFault) → CallsDisk action old result new
-    → (new.faults ≡ old.faults + faults_of result) × (IsTrue new.is_stopped ↔ IsErrOf result device.Stopped) × (result ≢ Err device.Lost)
-call-counts (disk.Write at bytes) old new result call = (call.writes.call.counted, call.writes.call.stopped, call.writes.not_lost)
-call-counts (disk.Gate at closed) old new result call = (call.writes.call.counted, call.writes.call.stopped, call.writes.not_lost)
-call-counts disk.Sync old new result call = (call.call.counted, call.call.stopped, call.not_lost)
-call-counts disk.Idle old new result call = absurd call
-call-counts disk.Stop old new result call = absurd call
+call-ends : (action : DiskNext) (old new : Seen) (result : Result (Unit {0}) DeviceFault) → CallsDisk action old result new
+    → (IsTrue new.is_stopped ↔ IsErrOf result device.Stopped) × (result ≢ Err device.Lost)
+call-ends (disk.Write at bytes) old new result call = (call.writes.call.stopped, call.writes.not_lost)
+call-ends (disk.Gate at closed) old new result call = (call.writes.call.stopped, call.writes.not_lost)
+call-ends disk.Sync old new result call = (call.call.stopped, call.not_lost)
+call-ends disk.Idle old new result call = absurd call
+call-ends disk.Stop old new result call = absurd call
 
 has-action : (book : Book) (action : DiskNext) → (disk_next book).0 ≡ action → IsAction action → HasAction book
 has-action book (disk.Write at bytes) is some = (λ idle. absurd cc, λ stop. absurd cc)
@@ -64,15 +65,15 @@ module _ (old new : Station) (working : IsWorking old) (stands : Stands new) (go
       record { session = record { line = goes.line; words = goes.words; found = goes.found; accepted = goes.accepted; durable = goes.durable; within = omega (arith, within, some) }; keeps = keeps }
 
   -- it was done well
-  did : GetsNearer 1 0 old.book new.book → new.book.fault ≡ old.book.fault → new.seen.faults ≡ old.seen.faults + 0 → Served Did old new
-  did near same counted =
+  did : GetsNearer 1 0 old.book new.book → new.book.fault ≡ old.book.fault → LeadsTo old new → Served Did old new
+  did near same leads =
       let within = goes.within in
       let left = near.left in
       let issued = near.issued in record {
         goes = record {
           working = record { stands = stands; recovering = near.recovering; sound = ap is_some same ∙ working.sound };
           kept = kept (omega (arith, left));
-          faults = omega (arith, counted);
+          leads = leads;
           left = omega (arith, within, left);
           issued = issued;
         };
@@ -80,52 +81,51 @@ module _ (old new : Station) (working : IsWorking old) (stands : Stands new) (go
       }
 
   -- the disk failed, or the site has stopped
-  failed : GetsNearer 1 0 old.book (disk_done (disk_next old.book).1 (Ok tt)) → new.seen.faults ≡ old.seen.faults + 1 → Served (Failed faults.Disk) old new
-  failed near counted = let left = near.left in record { goes = record { kept = kept (omega (arith, left)); breaks = omega (arith, counted) }; moves = tt }
+  failed : GetsNearer 1 0 old.book (disk_done (disk_next old.book).1 (Ok tt)) → CallsDisk (disk_next old.book).0 old.seen (Err device.Disk) new.seen → Served (Failed faults.Disk) old new
+  failed near fails = let left = near.left in record { goes = record { kept = kept (omega (arith, left)); breaks = record { mid = old; leads = leads-none old; fails = fails } }; moves = tt }
 
   stopped : GetsNearer 1 0 old.book (disk_done (disk_next old.book).1 (Ok tt)) → IsTrue new.seen.is_stopped → Served (Failed faults.Stopped) old new
   stopped near is = let left = near.left in record { goes = record { kept = kept (omega (arith, left)); breaks = is }; moves = tt }
 
   -- after the outcome was reported to the book
-  module _ (action : DiskNext) (has : HasAction old.book) (near : GetsNearer 1 0 old.book (disk_done (disk_next old.book).1 (Ok tt))) where
-    after : (answer : Answer) (result : Result (Unit {0}) DeviceFault) → CallsDisk action old.seen result new.seen → new.book ≡ disk_done (disk_next old.book).1 result → answer ≡ done_with new.book.fault → Served answer old new
-    after answer (Ok done) calls book said =
+  module _ (action : DiskNext) (is_next : (disk_next old.book).0 ≡ action) (has : HasAction old.book) (near : GetsNearer 1 0 old.book (disk_done (disk_next old.book).1 (Ok tt))) where
+    after : (answer : Answer) → LeadsTo old new → (result : Result (Unit {0}) DeviceFault) → CallsDisk action old.seen result new.seen → new.book ≡ disk_done (disk_next old.book).1 result → answer ≡ done_with new.book.fault → Served answer old new
+    after answer leads (Ok done) calls book said =
         let same : new.book.fault ≡ old.book.fault = ap (λ (b : Book). b.fault) book ∙ action-fault old.book (Ok done) working.recovering has in
         let is : answer ≡ Did = said ∙ ap done_with (same ∙ none-of old.book.fault working.sound) in
-        let counts = call-counts action old.seen new.seen (Ok done) calls in
-        subst (λ (a : Answer). Served a old new) (sym is) (did (subst (GetsNearer 1 0 old.book) (sym book) near) same counts.0)
-    after answer (Err device.Disk) calls book said =
+        subst (λ (a : Answer). Served a old new) (sym is) (did (subst (GetsNearer 1 0 old.book) (sym book) near) same leads)
+    after answer leads (Err device.Disk) calls book said =
         let now : new.book.fault ≡ Some faults.Disk = ap (λ (b : Book). b.fault) book ∙ action-fault old.book (Err device.Disk) working.recovering has ∙ first-is old.book.fault faults.Disk working.sound in
         let is : answer ≡ Failed faults.Disk = said ∙ ap done_with now in
-        let counts = call-counts action old.seen new.seen (Err device.Disk) calls in
-        subst (λ (a : Answer). Served a old new) (sym is) (failed near counts.0)
-    after answer (Err device.Lost) calls book said = let counts = call-counts action old.seen new.seen (Err device.Lost) calls in absurd (counts.2 refl)
-    after answer (Err device.Stopped) calls book said =
+        let fails = subst (λ (a : DiskNext). CallsDisk a old.seen (Err device.Disk) new.seen) (sym is_next) calls in
+        subst (λ (a : Answer). Served a old new) (sym is) (failed near fails)
+    after answer leads (Err device.Lost) calls book said = let ends = call-ends action old.seen new.seen (Err device.Lost) calls in absurd (ends.1 refl)
+    after answer leads (Err device.Stopped) calls book said =
         let now : new.book.fault ≡ Some faults.Stopped = ap (λ (b : Book). b.fault) book ∙ action-fault old.book (Err device.Stopped) working.recovering has ∙ first-is old.book.fault faults.Stopped working.sound in
         let is : answer ≡ Failed faults.Stopped = said ∙ ap done_with now in
-        let counts = call-counts action old.seen new.seen (Err device.Stopped) calls in
-        subst (λ (a : Answer). Served a old new) (sym is) (stopped near (counts.1.1 refl))
+        let ends = call-ends action old.seen new.seen (Err device.Stopped) calls in
+        subst (λ (a : Answer). Served a old new) (sym is) (stopped near (ends.0.1 refl))
 
-  acts : (answer : Answer) (action : DiskNext) → (disk_next old.book).0 ≡ action → IsAction action → DoesDisk action old answer new → Served answer old new
-  acts answer action is some does =
+  acts : (answer : Answer) (action : DiskNext) → (disk_next old.book).0 ≡ action → IsAction action → StepsDisk old answer new → DoesDisk action old answer new → Served answer old new
+  acts answer action is some step does =
       let u = up-of old working in
       let has = has-action old.book action is some in
       let near = action-done u.0 old.book old.seen.state u.1 u.2 u.3 working.recovering has in
-      after action has near answer does.result does.calls does.book does.answered
+      after action is has near answer (leads-one choices.Disk answer old new tt step) does.result does.calls does.book does.answered
 
 rests : (old : Station) → IsWorking old → DiskRests old.book → Served Idle old old
 rests old working idle = record { goes = works-none old working; moves = inr (refl, idle) }
 
-carries : (old new : Station) (answer : Answer) (action : DiskNext) → IsWorking old → Stands new → GoesOn [] 1 old new → Keeps [] old new → (disk_next old.book).0 ≡ action → CarriesOut action old answer new → Served answer old new
-carries old new answer (disk.Write at bytes) working stands goes keeps is does = acts old new working stands goes keeps answer (disk.Write at bytes) is tt does
-carries old new answer (disk.Gate at closed) working stands goes keeps is does = acts old new working stands goes keeps answer (disk.Gate at closed) is tt does
-carries old new answer disk.Sync working stands goes keeps is does = acts old new working stands goes keeps answer disk.Sync is tt does
-carries old new answer disk.Idle working stands goes keeps is n =
+carries : (old new : Station) (answer : Answer) (action : DiskNext) → IsWorking old → Stands new → GoesOn [] 1 old new → Keeps [] old new → (disk_next old.book).0 ≡ action → StepsDisk old answer new → CarriesOut action old answer new → Served answer old new
+carries old new answer (disk.Write at bytes) working stands goes keeps is step does = acts old new working stands goes keeps answer (disk.Write at bytes) is tt step does
+carries old new answer (disk.Gate at closed) working stands goes keeps is step does = acts old new working stands goes keeps answer (disk.Gate at closed) is tt step does
+carries old new answer disk.Sync working stands goes keeps is step does = acts old new working stands goes keeps answer disk.Sync is tt step does
+carries old new answer disk.Idle working stands goes keeps is step n =
     subst (λ (a : Answer). Served a old new) (sym n.answered) (subst (λ (s : Station). Served Idle old s) (sym n.same) (rests old working is))
-carries old new answer disk.Stop working stands goes keeps is n = absurd (disk-goes old.book working.recovering working.sound is)
+carries old new answer disk.Stop working stands goes keeps is step n = absurd (disk-goes old.book working.recovering working.sound is)
 
 pub disk-serves : (old new : Station) (answer : Answer) → IsWorking old → Stands new → GoesOn [] 1 old new → Keeps [] old new → StepsDisk old answer new → ServesDisk (told answer) old new
-disk-serves old new answer working stands goes keeps (carried_out does) = carries old new answer (disk_next old.book).0 working stands goes keeps refl does
+disk-serves old new answer working stands goes keeps (carried_out does) = carries old new answer (disk_next old.book).0 working stands goes keeps refl (carried_out does) does
 disk-serves old new answer working stands goes keeps (out_of_memory n) =
     subst (λ (a : Answer). Served a old new) (sym n.answered)
-    (subst (λ (s : Station). Served NoMemory old s) (sym n.same) (record { goes = record { kept = kept-none old; breaks = tt }; moves = tt }))
+    (subst (λ (s : Station). Served NoMemory old s) (sym n.same) (record { goes = record { kept = kept-none old; breaks = leads-none old }; moves = tt }))

@@ -1,28 +1,30 @@
 -- A round of a recovery, and whether there is another.
-use Rattle.std.proofs.Common.{◌≡◌, ◌≢◌, ◌⊎◌, inl, inr, ℕ, ◌+◌, ◌*◌, ◌^◌, ◌<◌, ◌≤◌, Bool, true, false, List, [], length, refl, sym, ◌∙◌, ap, subst, arith, Ok}
-use Rattle.std.specs.Prelude.{◌||◌, is_some, IsTrue, if◌then◌else◌}
+use Rattle.std.proofs.Common.{◌≡◌, ◌⊎◌, inl, inr, ℕ, ◌+◌, ◌^◌, ◌<◌, ◌≤◌, Bool, true, false, List, [], length, refl, sym, ◌∙◌, ap, subst, arith, Ok}
+use Rattle.std.specs.Prelude.{is_some, if◌then◌else◌}
 use Rattle.std.specs.List.{sum_by}
 use Rattle.std.proofs.lemmas.Bool.{cases_lt}
 use Rattle.sii_words.specs.declared.run.Run.{Run}
 use Rattle.jrn_format.specs.declared.journal.Entry.{Entry}
 use Rattle.jrn_format.specs.Halves.{live}
-use Rattle.site_core.specs.State.{Seen, clock}
+use Rattle.site_core.specs.State.{clock}
 use Rattle.book_model.specs.Entries.{runs_of}
 use Rattle.book_model.specs.Book.{Book, is_closed, is_version_2}
 use Rattle.book_model.specs.Open.{migrate}
 use Rattle.book_model.specs.Reading.{live_bytes}
-use Rattle.runner_laws.specs.Left.{calls_left, words_issued}
+use Rattle.runner_laws.specs.Left.{calls_left}
 use Rattle.runner_laws.specs.Recovering.{GetsNearer}
 use Rattle.runner_laws.proofs.DiskLaws.{asked-for}
 use Rattle.runner_laws.proofs.EndLaws.{nothing-left, without-byte}
 use Rattle.runner_laws.proofs.WordLaws.{few-issued}
+use Rattle.station_alone.specs.declared.choice.Choice.TheVariants as choices
 use Rattle.station_alone.specs.declared.choice.Answer.{Answer}
 use Rattle.station_alone.specs.declared.choice.Answer.TheVariants.{Did, Idle}
 use Rattle.station_alone.specs.Station.{Station, Stands}
 use Rattle.station_alone.specs.Steps.{AsksMigration}
 use Rattle.station_alone.specs.Keeping.{GoesOn, Keeps}
-use Rattle.station_alone.specs.Rounds.{Asks, DiskRests, is_did, IsFinished, IsSmall, IsUnfinished, IsWorking, MovesOrRests, RestUpTo, Rounds, ServesSlave, SlaveRests, Works}
-use Rattle.station_alone.proofs.RowLaws.{slaves-of, works-none, works-then}
+use Rattle.station_alone.specs.Recovery.{LeadsTo}
+use Rattle.station_alone.specs.Rounds.{Asks, DiskRests, is_did, IsSmall, IsUnfinished, IsWorking, MovesOrRests, RestUpTo, Rounds, ServesSlave, SlaveRests, Works}
+use Rattle.station_alone.proofs.RowLaws.{leads-one, slaves-of, works-none, works-then}
 
 -- ---- in the middle of a round
 
@@ -103,16 +105,15 @@ open-still book false false going ok never sound = rw (going, ok) refl
 
 module _ (old new : Station) (working : IsWorking old) (stands : Stands new) (goes : GoesOn [] 0 old new) (keeps : Keeps [] old new) (none : live_bytes old.book ≡ 0) where
   -- the book is asked, and nothing is done
-  works : new.book ≡ (migrate old.book).1 → new.seen ≡ old.seen → is_some new.book.fault ≡ false → Works 0 old new
-  works book seen sound =
+  works : new.book ≡ (migrate old.book).1 → new.seen ≡ old.seen → is_some new.book.fault ≡ false → LeadsTo old new → Works 0 old new
+  works book seen sound leads =
       let near : GetsNearer 0 0 old.book new.book = subst (GetsNearer 0 0 old.book) (sym book) (asked-for old.book working.recovering) in
       let left = near.left in
       let time : clock new.seen ≡ clock old.seen = ap clock seen in
-      let count : new.seen.faults ≡ old.seen.faults = ap (λ (s : Seen). s.faults) seen in
       record {
         working = record { stands = stands; recovering = near.recovering; sound = sound };
         kept = record { session = record { line = goes.line; words = goes.words; found = goes.found; accepted = goes.accepted; durable = goes.durable; within = omega (arith, time) }; keeps = keeps };
-        faults = omega (arith, count);
+        leads = leads;
         left = omega (arith, time, left);
         issued = near.issued;
       }
@@ -124,7 +125,7 @@ module _ (old new : Station) (working : IsWorking old) (stands : Stands new) (go
       inr (
         idle,
         record {
-          works = works asks.book asks.seen (ap (λ (b : Book). is_some b.fault) same ∙ working.sound);
+          works = works asks.book asks.seen (ap (λ (b : Book). is_some b.fault) same ∙ working.sound) (leads-one choices.Migrate answer old new tt asks);
           left = let n : calls_left new.book ≡ calls_left old.book = ap calls_left same in omega (arith, n);
           yes = λ more. absurd cc;
           no = λ not. (ap (λ (b : Book). live b.halves) same ∙ (without-byte old.book).0 none, ap (λ (b : Book). is_version_2 b.form) same ∙ form);
@@ -136,7 +137,7 @@ module _ (old new : Station) (working : IsWorking old) (stands : Stands new) (go
       inl (
         did,
         record {
-          works = works asks.book asks.seen (ap (λ (b : Book). is_some b.fault) goes_to ∙ working.sound);
+          works = works asks.book asks.seen (ap (λ (b : Book). is_some b.fault) goes_to ∙ working.sound) (leads-one choices.Migrate answer old new tt asks);
           left = let n : calls_left new.book ≡ calls_left old.book = ap calls_left goes_to in omega (arith, n);
           yes = λ more. inr (ap (λ (b : Book). b.is_migrating) goes_to);
           no = λ not. absurd (not refl);

@@ -1,15 +1,15 @@
 -- Steps of a recovery in a row.
-use Rattle.std.proofs.Common.{◌≡◌, ℕ, ◌+◌, ◌<◌, ◌≤◌, Bool, false, List, [], length, refl, sym, ◌∙◌, ap, subst, arith, Result, Ok, Err, IsErrAnd}
-use Rattle.std.specs.Prelude.{is_some}
+use Rattle.std.proofs.Common.{◌≡◌, ℕ, ◌+◌, ◌≤◌, Bool, List, [], ◌∷◌, ◌++◌, length, refl, sym, ◌∙◌, ap, subst, arith, Result, Ok, Err, IsErrAnd}
 use Rattle.std.proofs.lemmas.List.{append-nil}
 use Rattle.esc_rom.specs.declared.fault.RomFault.TheVariants as rom
 use Rattle.site_core.specs.declared.fault.DeviceFault.TheVariants as device
-use Rattle.site_core.specs.State.{State, clock}
+use Rattle.site_core.specs.State.{clock}
+use Rattle.site_core.proofs.Runs.{all_append}
 use Rattle.site_journal.specs.declared.fault.ReadFault.TheVariants as read
 use Rattle.sii_words.proofs.RedoLaws.{SameShape-redone}
 use Rattle.sii_edit.proofs.FoldLaws.{SameShape-contents}
 use Rattle.book_model.specs.Entries.{runs_of}
-use Rattle.book_model.specs.Book.{Book, base_of, contents_of}
+use Rattle.book_model.specs.Book.{base_of, contents_of}
 use Rattle.book_model.specs.Machine.{Machine}
 use Rattle.book_laws.proofs.BookLaws.{length-all_cells}
 use Rattle.book_laws.specs.Frame.{JournalFrame}
@@ -17,10 +17,12 @@ use Rattle.book_laws.specs.Up.{Up}
 use Rattle.runner_laws.specs.Left.{calls_left}
 use Rattle.station_alone.specs.declared.fault.OpenFault.{OpenFault}
 use Rattle.station_alone.specs.declared.fault.OpenFault.TheVariants as why
+use Rattle.station_alone.specs.declared.choice.Choice.{Choice}
+use Rattle.station_alone.specs.declared.choice.Answer.{Answer}
 use Rattle.station_alone.specs.Station.{Station}
-use Rattle.station_alone.specs.Keeping.{GoesOn}
+use Rattle.station_alone.specs.Steps.{Steps, StepsInOrder}
 use Rattle.station_alone.proofs.KeepLaws.{keeps-then, keeps-while-still}
-use Rattle.station_alone.specs.Recovery.{Breaks}
+use Rattle.station_alone.specs.Recovery.{Breaks, IsOfRecovery, LeadsTo}
 use Rattle.station_alone.specs.Rounds.{IsWorking, StaysKept, Works, EndsEarly}
 
 -- the fault that is handed on
@@ -42,6 +44,28 @@ count-of s w =
     let base = base_of s.book in
     omega (arith, slaves-of s w, (SameShape-contents base s.book.accepted).slaves, (SameShape-redone s.book.words (runs_of s.book.found)).slaves)
 
+-- ---- steps that lead on
+
+steps-then : (choices more : List Choice) (answers others : List Answer) (a b c : Station) → StepsInOrder choices a answers b → StepsInOrder more b others c → StepsInOrder (choices ++ more) a (answers ++ others) c
+steps-then [] more [] others a b c first second = subst (λ (s : Station). StepsInOrder more s others c) first second
+steps-then [] more (told ∷ answers) others a b c first second = absurd first
+steps-then (choice ∷ choices) more [] others a b c first second = absurd first
+steps-then (choice ∷ choices) more (told ∷ answers) others a b c first second = (first.0, first.1, steps-then choices more answers others first.0 b c first.2 second)
+
+pub leads-none : (s : Station) → LeadsTo s s
+leads-none s = record { choices = []; answers = []; of_recovery = tt; steps = refl }
+
+pub leads-one : (choice : Choice) (answer : Answer) (old new : Station) → IsOfRecovery choice → Steps choice old answer new → LeadsTo old new
+leads-one choice answer old new is step = record { choices = choice ∷ []; answers = answer ∷ []; of_recovery = (is, tt); steps = (new, step, refl) }
+
+leads-then : (a b c : Station) → LeadsTo a b → LeadsTo b c → LeadsTo a c
+leads-then a b c one two = record {
+  choices = one.choices ++ two.choices;
+  answers = one.answers ++ two.answers;
+  of_recovery = all_append IsOfRecovery one.choices two.choices one.of_recovery two.of_recovery;
+  steps = steps-then one.choices two.choices one.answers two.answers a b c one.steps two.steps;
+}
+
 -- ---- no step
 
 pub kept-none : (s : Station) → StaysKept s s
@@ -51,7 +75,7 @@ kept-none s = record {
 }
 
 pub works-none : (s : Station) → IsWorking s → Works 0 s s
-works-none s w = record { working = w; kept = kept-none s; faults = omega arith; left = omega arith; issued = omega arith }
+works-none s w = record { working = w; kept = kept-none s; leads = leads-none s; left = omega arith; issued = omega arith }
 
 -- ---- one behind another
 
@@ -78,20 +102,21 @@ pub works-then : (m n : ℕ) (a b c : Station) → Works m a b → Works n b c �
 works-then m n a b c one two = record {
   working = two.working;
   kept = kept-then a b c one.left one.kept two.kept;
-  faults = omega (arith, one.faults, two.faults);
+  leads = leads-then a b c one.leads two.leads;
   left = omega (arith, one.left, two.left);
   issued = omega (arith, one.issued, two.issued);
 }
 
-breaks-later : (fault : OpenFault) (a b c : Station) → a.seen.faults ≤ b.seen.faults → Breaks fault b.seen c → Breaks fault a.seen c
-breaks-later (why.Journal (read.Device device.Disk)) a b c more breaks = omega (arith, more, breaks)
+breaks-later : (fault : OpenFault) (a b c : Station) → LeadsTo a b → Breaks fault b c → Breaks fault a c
+breaks-later (why.Journal (read.Device device.Disk)) a b c more breaks = record { mid = breaks.mid; leads = leads-then a b breaks.mid more breaks.leads; fails = breaks.fails }
 breaks-later (why.Journal (read.Device device.Lost)) a b c more breaks = absurd breaks
 breaks-later (why.Journal (read.Device device.Stopped)) a b c more breaks = breaks
 breaks-later (why.Journal (read.Journal fault)) a b c more breaks = absurd breaks
-breaks-later (why.Slave (rom.SlaveDead slave)) a b c more breaks = breaks
+breaks-later (why.Slave (rom.SlaveDead slave)) a b c more breaks =
+    record { mid = breaks.mid; leads = leads-then a b breaks.mid more breaks.leads; taken = breaks.taken; asked = breaks.asked; settles = breaks.settles }
 breaks-later (why.Slave rom.Memory) a b c more breaks = absurd breaks
 breaks-later (why.Slave rom.Stopped) a b c more breaks = absurd breaks
-breaks-later why.Memory a b c more breaks = tt
+breaks-later why.Memory a b c more breaks = leads-then a b c more breaks
 
 pub cut-then : (m : ℕ) (fault : OpenFault) (a b c : Station) → Works m a b → EndsEarly fault b c → EndsEarly fault a c
-cut-then m fault a b c one cut = record { kept = kept-then a b c one.left one.kept cut.kept; breaks = breaks-later fault a b c one.faults cut.breaks }
+cut-then m fault a b c one cut = record { kept = kept-then a b c one.left one.kept cut.kept; breaks = breaks-later fault a b c one.leads cut.breaks }

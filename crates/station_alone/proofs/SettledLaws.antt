@@ -14,13 +14,13 @@ use Rattle.book_laws.proofs.CommandLaws.{entries-contents}
 use Rattle.book_laws.proofs.PlantLaws.{plant-leads-retired}
 use Rattle.book_laws.proofs.SettledLaws.{retire-settled}
 use Rattle.book_laws.proofs.LineLaws.{holds-all}
-use Rattle.station_alone.specs.Station.{Station, Stands}
+use Rattle.runner_laws.specs.Ready.{IsUp}
+use Rattle.station_alone.specs.Station.{Station}
 use Rattle.station_alone.specs.Settled.{HasSettled, HoldsContents}
 
-pub settled-holds : (s : Station) → Stands s → HasSettled s.book → HoldsContents s
-settled-holds s stands settled pair leaves =
+pub settled-holds : (s : Station) → IsUp s.book s.seen → HasSettled s.book → HoldsContents s
+settled-holds s u settled pair leaves =
     let book = s.book in
-    let u = stands.ready.up settled.no_fault in
     let up = u.3 in
     let cells = all_cells book.slaves in
     let lives = live_runs (live book.halves) in

@@ -35,7 +35,7 @@ use Rattle.book_laws.proofs.CallLaws.{up-migrates, or-second}
 use Rattle.book_laws.proofs.SubmitLaws.{up-submits}
 use Rattle.book_laws.proofs.SlaveEventLaws.{IsNothing}
 use Rattle.runner_laws.specs.Running.{CallsDisk, KeepsAll, UpAfterDisk}
-use Rattle.runner_laws.specs.Ready.{IsReady, issue_outcome, settle_outcome}
+use Rattle.runner_laws.specs.Ready.{IsReady, IsUp, issue_outcome, settle_outcome}
 use Rattle.runner_laws.proofs.DiskRuns.{IsAction, disk-runs}
 use Rattle.runner_laws.proofs.GoLaws.{keeps-more}
 use Rattle.runner_laws.proofs.WordRuns.{issue-runs, settle-runs}
@@ -216,9 +216,10 @@ module _ (old : Station) (stands : Stands old) (command : Command) (fits : Comma
   accepted-goes : Goes (command ∷ []) 0 old with
   accepted-goes =
       let u = stands.ready.up ok in
+      let up-then : IsUp (with_command old.book command) old.seen = (u.0, u.1, accepts u.2 command, up-submits u.0 old.book old.seen.state u.1 u.2 command number u.3 is fits-then) in
       record {
         stands = stands-with old with stands refl refl fits-then
-            (record { rests = stands.ready.rests; up = λ none. (u.0, u.1, accepts u.2 command, up-submits u.0 old.book old.seen.state u.1 u.2 command number u.3 is fits-then) });
+            (record { rests = stands.ready.rests; up = λ none. up-then; going = λ still. up-then });
         goes_on = record { line = refl; words = refl; found = refl; accepted = refl; durable = omega arith; within = omega arith };
         keeps = λ m of kept.
             let up = up-submits u.0 old.book old.seen.state u.1 m command number (up-for u.0 old.book old.seen.state u.1 u.2 m u.3 of) is fits-then in
@@ -253,6 +254,8 @@ module _ (book : Book) where
         rests = rests.0 ∙ ready.rests;
         up = λ none.
             let u = ready.up (ap is_some (sym rests.1) ∙ none) in (u.0, u.1, u.2, up-migrates u.0 book seen.state u.1 u.2 u.3);
+        going = λ still.
+            let u = ready.going still in (u.0, u.1, u.2, up-migrates u.0 book seen.state u.1 u.2 u.3);
       }
 
 migration-goes : (old new : Station) (answer : Answer) → Stands old → new.line ≡ old.line → AsksMigration old answer new → Goes [] 0 old new

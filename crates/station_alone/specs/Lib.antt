@@ -3,5 +3,6 @@ pub mod Steps
 pub mod Keeping
 pub mod Opening
 pub mod Settled
+pub mod Formatted
 pub mod Recovery
 pub mod Rounds

@@ -1,5 +1,6 @@
 -- A recovery: a station is opened, what is live in its journal is redone and retired, and an old journal is migrated.
-use Rattle.std.specs.Prelude.{◌≡◌, ◌⊎◌, ℕ, ◌+◌, ◌*◌, ◌<◌, ◌≤◌, Bool, true, false, List, [], length, is_some, IsTrue}
+use Rattle.std.specs.Prelude.{◌≡◌, ◌⊎◌, ℕ, ◌+◌, ◌*◌, ◌≤◌, Bool, true, false, List, [], length, is_some, Err, IsTrue}
+use Rattle.std.specs.List.{AllByRecursion}
 use Rattle.jrn_format.specs.declared.journal.Journal.{Journal}
 use Rattle.jrn_format.specs.Journal.{IsJournal}
 use Rattle.jrn_format.specs.Halves.{live}
@@ -11,19 +12,24 @@ use Rattle.site_core.specs.Passes.{LeavesOnly}
 use Rattle.site_journal.specs.declared.fault.ReadFault.TheVariants as read
 use Rattle.esc_rom.specs.Reading.{most_calls}
 use Rattle.book_model.specs.declared.fault.Fault.TheVariants as faults
+use Rattle.book_model.specs.declared.next.RomNext.TheVariants.{Settle}
 use Rattle.book_model.specs.Entries.{entries_of}
 use Rattle.book_model.specs.Book.{base_of, is_version_2}
+use Rattle.book_model.specs.DiskSteps.{disk_next}
+use Rattle.book_model.specs.RomSteps.{rom_next}
 use Rattle.book_model.specs.Reading.{planned}
-use Rattle.book_model.specs.Machine.{Machine, MayKeep, reopened}
-use Rattle.book_laws.specs.Keeping.{IsOfBook}
+use Rattle.book_model.specs.Machine.{Machine}
 use Rattle.book_laws.specs.Opening.{words_in}
-use Rattle.runner_laws.specs.Running.{KeepsAll}
+use Rattle.runner_laws.specs.Running.{CallsDisk, KeepsAll}
 use Rattle.runner_laws.specs.Left.{migration_calls, words_named, words_issued}
 use Rattle.station_alone.specs.declared.fault.OpenFault.{OpenFault}
 use Rattle.station_alone.specs.declared.fault.OpenFault.TheVariants as why
+use Rattle.station_alone.specs.declared.choice.Choice.{Choice}
+use Rattle.station_alone.specs.declared.choice.Choice.TheVariants.{Submit}
+use Rattle.station_alone.specs.declared.choice.Answer.{Answer}
 use Rattle.station_alone.specs.declared.choice.Answer.TheVariants.{Failed}
 use Rattle.station_alone.specs.Station.{Station}
-use Rattle.station_alone.specs.Steps.{DoesSettle}
+use Rattle.station_alone.specs.Steps.{DoesSettle, StepsInOrder}
 use Rattle.station_alone.specs.Keeping.{KeptFor}
 use Rattle.station_alone.specs.Opening.{Opens, FailsToOpen, Begins}
 use Rattle.station_alone.specs.declared.recovery.Recovered.{Recovered}
@@ -65,14 +71,39 @@ pub record HasRecovered (s : Station) : Type 0 where
 
 -- ---- the recovery fails
 
+-- A step that a recovery may make: any but a command.
+abbrev pub IsOfRecovery : Choice → Type 0
+IsOfRecovery (Submit command) = ⊥
+IsOfRecovery choice = Unit {0}
+
+-- Such steps in a row lead from one station to another.
+pub record LeadsTo (old new : Station) : Type 0 where
+  pub choices : List Choice
+  pub answers : List Answer
+  pub of_recovery : AllByRecursion IsOfRecovery choices
+  pub steps : StepsInOrder choices old answers new
+
+-- Behind steps from the open on, the device call failed that carries out the book's next action for the disk.
+pub record DiskFails (opened last : Station) : Type 0 where
+  pub mid : Station
+  pub leads : LeadsTo opened mid
+  pub fails : CallsDisk (disk_next mid.book).0 mid.seen (Err device.Disk) last.seen
+
+-- Behind steps from the open on, the book asked to settle a word of this slave, and the settle gave the slave up.
+pub record SlaveDies (slave : ℕ) (opened last : Station) : Type 0 where
+  pub mid : Station
+  pub leads : LeadsTo opened mid
+  pub taken : Bool
+  pub asked : (rom_next mid.book slave).0 ≡ Settle taken
+  pub settles : DoesSettle slave taken mid (Failed (faults.SlaveDead slave)) last
+
 -- Why a recovery ended early after the open, and what its last step left: the disk failed, the site has stopped, a settle gave its
--- slave up, or memory was refused for the mark of a migration.
-abbrev pub Breaks : OpenFault → (opened : Seen) → (last : Station) → Type 0
-Breaks (why.Journal (read.Device device.Disk)) opened last = opened.faults < last.seen.faults
+-- slave up, or memory was refused for the mark of a migration and nothing more was done.
+abbrev pub Breaks : OpenFault → (opened last : Station) → Type 0
+Breaks (why.Journal (read.Device device.Disk)) opened last = DiskFails opened last
 Breaks (why.Journal (read.Device device.Stopped)) opened last = IsTrue last.seen.is_stopped
-Breaks (why.Slave (rom.SlaveDead slave)) opened last = (mid : Station) × (taken : Bool)
-    × DoesSettle slave taken mid (Failed (faults.SlaveDead slave)) last
-Breaks why.Memory opened last = Unit {0}
+Breaks (why.Slave (rom.SlaveDead slave)) opened last = SlaveDies slave opened last
+Breaks why.Memory opened last = LeadsTo opened last
 Breaks other opened last = ⊥
 
 -- The station was opened, and this fault then ended the recovery.
@@ -81,7 +112,7 @@ pub record IsCutShort (line : Line) (old : Seen) (fault : OpenFault) (new : Seen
   pub opens : Opens line old opened
   pub last : Station
   pub is : last.seen ≡ new
-  pub breaks : Breaks fault opened.seen last
+  pub breaks : Breaks fault opened last
 
 -- The open failed, or the recovery ended early after it.
 abbrev pub FailsToRecover : Line → Seen → OpenFault → (later : Line) → Seen → Type 0

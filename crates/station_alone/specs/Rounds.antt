@@ -1,5 +1,5 @@
 -- The rounds of a recovery: each is an action for the disk and then one for each slave.
-use Rattle.std.specs.Prelude.{◌≡◌, ◌⊎◌, ℕ, ◌+◌, ◌*◌, ◌^◌, ◌<◌, ◌≤◌, ◌↔◌, Bool, true, false, [], length, is_some, Result, Ok, Err, IfOk, IsTrue}
+use Rattle.std.specs.Prelude.{◌≡◌, ◌⊎◌, ℕ, ◌+◌, ◌*◌, ◌^◌, ◌<◌, ◌≤◌, Bool, true, false, [], length, is_some, Result, Ok, Err, IfOk, IsTrue}
 use Rattle.std.specs.List.{sum_by}
 use Rattle.sii_words.specs.declared.run.Run.{Run}
 use Rattle.jrn_format.specs.Halves.{live}
@@ -26,7 +26,7 @@ use Rattle.station_alone.specs.declared.opening.Found.{Found}
 use Rattle.station_alone.specs.Station.{Station, Stands}
 use Rattle.station_alone.specs.Keeping.{GoesOn, Keeps}
 use Rattle.station_alone.specs.declared.recovery.Recovered.{Recovered}
-use Rattle.station_alone.specs.Recovery.{Breaks}
+use Rattle.station_alone.specs.Recovery.{Breaks, LeadsTo}
 
 -- ---- what a step means to a recovery
 
@@ -72,14 +72,14 @@ pub record StaysKept (old new : Station) : Type 0 where
 pub record Works (words : ℕ) (old new : Station) : Type 0 where
   pub working : IsWorking new
   pub kept : StaysKept old new
-  pub faults : old.seen.faults ≤ new.seen.faults
+  pub leads : LeadsTo old new
   pub left : clock new.seen + calls_left new.book ≤ clock old.seen + calls_left old.book
   pub issued : words_issued new.book.slaves ≡ words_issued old.book.slaves + words
 
 -- Steps that ended with a fault: what a stop may leave stays kept.
 pub record EndsEarly (fault : OpenFault) (old new : Station) : Type 0 where
   pub kept : StaysKept old new
-  pub breaks : Breaks fault old.seen new
+  pub breaks : Breaks fault old new
 
 -- Steps in a row succeed, with the issues counted, or end with a fault.
 abbrev pub Goes : {T : Type 0} → (T → ℕ) → Result T OpenFault → Station → Station → Type 0

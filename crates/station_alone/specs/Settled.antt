@@ -1,5 +1,5 @@
 -- A station with everything settled that was found at the open or accepted since.
-use Rattle.std.specs.Prelude.{◌≡◌, true, false, [], is_some, length}
+use Rattle.std.specs.Prelude.{◌≡◌, true, [], length}
 use Rattle.site_core.specs.State.{Pair}
 use Rattle.site_core.specs.Passes.{LeavesOnly}
 use Rattle.jrn_format.specs.Halves.{live}
@@ -8,10 +8,8 @@ use Rattle.book_model.specs.Reading.{runs_settled}
 use Rattle.book_model.specs.Book.{Book, all_cells, contents_of}
 use Rattle.station_alone.specs.Station.{Station}
 
--- The book has no fault, all accepted commands are durable, and every word that a live batch names is in place. What is retired was
--- settled before.
+-- All accepted commands are durable, and every word that a live batch names is in place. What is retired was settled before.
 pub record HasSettled (book : Book) : Type 0 where
-  pub no_fault : is_some book.fault ≡ false
   pub durable : book.durable ≡ length book.accepted
   pub live : runs_settled (all_cells book.slaves) [] (live_runs (live book.halves)) ≡ true
 

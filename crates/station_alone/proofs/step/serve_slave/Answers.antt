@@ -1,7 +1,7 @@
-use Rattle.std.proofs.Common.{◌≡◌, ℕ, refl, sym, ◌∙◌, ap, subst, Result, Ok, Err}
+use Rattle.std.proofs.Common.{◌≡◌, ℕ, refl, sym, ◌∙◌, ap, subst, Result, Ok}
 use Rattle.book_model.specs.RomSteps.{rom_next}
 use Rattle.station_alone.specs.declared.fault.OpenFault.{OpenFault}
-use Rattle.station_alone.specs.Rounds.{ServesSlave, counted, told, words_of}
+use Rattle.station_alone.specs.Rounds.{ServesSlave, counted, words_of}
 use Rattle.station_alone.proofs.RowLaws.{handed_on}
 use Rattle.station_alone.proofs.SlaveLaws.{slave-serves}
 use Rattle.station_alone.proofs.step.serve_slave.Goals as goal
