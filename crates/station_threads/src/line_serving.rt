@@ -19,7 +19,8 @@ use std::thread::Threads;
 ///
 /// Each site has to own what it is served for, as `own_parts` checks. The disk has to reach at least to the end of the journal's area.
 ///
-/// If a thread can't be created, the desk is finished, that part is served on this thread, and the client isn't called.
+/// If a thread can't be created, the desk is finished, that part is served on this thread, and the client isn't called. The process data
+/// thread is started last, so that the threads whose work ends its cycles are there by then.
 ///
 /// # Errors
 ///
