@@ -110,12 +110,12 @@ impl<T: Tickets, R: Refusals> Desk<T, R> {
 
     /// Waits until the ticket's command is durable. Answers its receipt.
     ///
-    /// It waits while the book has no fault and its number of durable commands isn't above the ticket's number.
+    /// It waits while the book has no fault and its command of the ticket's number is accepted and not yet durable.
     ///
     /// # Errors
     ///
-    /// The ticket is handed back: a fault closed the book first, or the book's command of this number is another one, because the
-    /// ticket is of another desk.
+    /// The ticket is handed back: a fault closed the book first, or the ticket is of another desk. Then this book has accepted no command
+    /// of its number, or another one.
     pub fn wait<W: Wait>(&self, rt: &W, ticket: Ticket) -> Result<Receipt, Unacknowledged>
         ensures receipt { IfOk result (λ receipt. receipt ≡ ticket) }
         ensures stood { IfOk result (λ receipt. IsReceiptOf T.opened receipt) }
