@@ -24,7 +24,8 @@ use std::thread::Threads;
 ///
 /// # Errors
 ///
-/// The sites are handed back: memory was refused for the parts or their ends. Nothing was started.
+/// The sites are handed back, and nothing was started: there isn't one site for each slave of the desk's book (`Desk::slaves`), or
+/// memory was refused for the parts or their ends.
 pub fn serve_line<
     'e,
     T: Tickets + Send + Sync,
@@ -43,11 +44,15 @@ pub fn serve_line<
 ) -> Result<Ends<S>, Sites<S>>
     requires owned { OwnParts S.line sites.disk sites.slaves.items sites.cycle }
     requires long { desk.now.limit ≤ length (S.seen sites.disk).state.disk.bytes }
+    ensures count { IfOk result (λ _. length sites.slaves.items ≡ length T.opened.words) }
     ensures flusher { IfOk result (λ ends. ends.flusher.start ≡ sites.disk) }
     ensures workers { IfOk result (λ ends. AreEndsOfSites sites.slaves.items ends.workers.items) }
     ensures cycle { IfOk result (λ ends. IsEndOfTurns sites.cycle ends.cycle) }
     ensures handed_back { IfErr result (λ same. same ≡ sites) }
 {
+    if sites.slaves.len() != desk.slaves(rt) {
+        return Err(sites);
+    }
     let Ok(room) = Room::new(alloc, sites.slaves.len()) else {
         return Err(sites);
     };
