@@ -24,6 +24,13 @@ impl Core {
         self.work.unsettled().is_none()
     }
 
+    /// Whether the book was finished: it accepts no more commands.
+    pub fn is_finished(&self) -> bool
+        ensures { result ≡ self.now.is_finished }
+    {
+        self.is_finished
+    }
+
     /// The length of the journal's area in bytes.
     pub fn capacity(&self) -> u32
         ensures { result ≡ self.now.capacity }

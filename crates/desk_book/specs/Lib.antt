@@ -6,4 +6,5 @@ pub mod Logs
 pub mod Serving
 pub mod Submitting
 pub mod Asking
+pub mod Waiting
 pub mod Closing

@@ -1,8 +1,10 @@
 //! Reads the book's progress, and turns tickets into receipts.
 
-ghost use Rattle.std.specs.Prelude.{◌≡◌, IsTrue, IfOk, IfErr};
+ghost use Rattle.std.specs.Prelude.{◌≡◌, IsTrue, IfOk, IfErr, length};
+ghost use Rattle.book_model.specs.Book.{is_closed};
 ghost use Rattle.desk_book.specs.Calls.{replayed, AreAnswered};
 ghost use Rattle.desk_book.specs.Closing.{StandsAt};
+ghost use Rattle.desk_book.specs.Waiting.{is_pending};
 
 use crate::counting::stands_at;
 use crate::naming::{Refusals, Tickets};
@@ -16,6 +18,13 @@ impl<T: Tickets, R: Refusals> Served<T, R> {
         self.core.status()
     }
 
+    /// How many slaves the line has.
+    pub fn slaves(&self) -> usize
+        ensures { result ≡ length T.opened.words }
+    {
+        self.slaves.len()
+    }
+
     /// The fault that has closed the book, if there is one.
     pub fn fault(&self) -> Option<Fault>
         ensures { result ≡ (replayed T.opened self.now.calls).fault }
@@ -24,13 +33,18 @@ impl<T: Tickets, R: Refusals> Served<T, R> {
     }
 
     /// Whether the book accepts no commands: it was finished, or it has a fault.
-    pub fn is_closed(&self) -> bool {
-        self.is_finished || self.core.fault().is_some()
+    pub fn is_closed(&self) -> bool
+        ensures { result ≡ is_closed (replayed T.opened self.now.calls) }
+    {
+        self.core.is_finished() || self.core.fault().is_some()
     }
 
-    /// Whether the command of this number isn't durable yet, and the book has no fault.
-    pub fn is_pending(&self, number: u64) -> bool {
-        number >= self.core.status().durable && self.core.fault().is_none()
+    /// Whether the command of this number was accepted and isn't durable yet, and the book has no fault.
+    pub fn is_pending(&self, number: u64) -> bool
+        ensures { result ≡ is_pending (replayed T.opened self.now.calls) number }
+    {
+        let status = self.core.status();
+        self.core.fault().is_none() && status.durable <= number && number < status.accepted
     }
 
     /// Whether the ticket's command is the accepted one of its number, and durable.

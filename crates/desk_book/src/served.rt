@@ -23,7 +23,6 @@ pub struct Served<T: Tickets, R: Refusals> {
     pub(crate) alloc: Global,
     pub(crate) core: Core,
     pub(crate) history: History<Call>,
-    pub(crate) is_finished: bool,
     pub(crate) tickets: Book<T>,
     pub(crate) refusals: Book<R>,
     pub(crate) refused: u64,
@@ -109,7 +108,6 @@ impl<T: Tickets, R: Refusals> Served<T, R> {
             alloc,
             core,
             history: History::new(),
-            is_finished: false,
             tickets: ticket_book,
             refusals: refusal_book,
             refused: 0,
@@ -137,6 +135,5 @@ impl<T: Tickets, R: Refusals> Served<T, R> {
     {
         self.core.finish();
         self.history.note(&Call::Finished);
-        self.is_finished = true;
     }
 }

@@ -25,7 +25,7 @@ impl<T: Tickets, R: Refusals> Served<T, R> {
     /// Whether the book was finished, and all its commands are settled.
     fn is_done(&self) -> bool {
         let status = self.core.status();
-        self.is_finished && status.settled == status.accepted
+        self.core.is_finished() && status.settled == status.accepted
     }
 
     /// Whether there are no more cycles to do: no more commands will be settled, and the last cycle had the image after all of them.

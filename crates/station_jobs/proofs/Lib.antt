@@ -6,3 +6,4 @@ pub mod CallLaws
 pub mod TakingLaws
 pub mod CycleLaws
 pub mod NoteLaws
+pub mod CyclesLaws

@@ -1,6 +1,6 @@
 -- The last job of the notes, and its outcome.
 use Rattle.std.proofs.Common.{◌≡◌, ℕ, zero, suc, ◌-◌, List, [], ◌∷◌, ◌++◌, length, refl, ap, arith, Option, Some, None}
-use Rattle.std.specs.Prelude.{Bool, true, false, not, slice_get, slice_set, is_none, is_some}
+use Rattle.std.specs.Prelude.{Bool, true, false, not, slice_get, is_none, is_some}
 use Rattle.station_jobs.specs.declared.log.Assignment.{Assignment}
 use Rattle.station_jobs.specs.Dispatch.{with_outcome}
 use Rattle.station_jobs.specs.Noted.{is_waiting}

@@ -16,6 +16,12 @@ IfWork (Work job) P = P job
 IfWork Again P = Unit {0}
 IfWork Stop P = Unit {0}
 
+-- If there is no job, now or later, this holds.
+abbrev pub IfStop : {J : Type 0} → Turn J → Type 0 → Type 0
+IfStop (Work job) P = Unit {0}
+IfStop Again P = Unit {0}
+IfStop Stop P = P
+
 -- the log with this outcome of its last job
 abbrev pub with_outcome : {J O : Type 0} → List (Assignment J O) → O → List (Assignment J O)
 with_outcome [] outcome = []

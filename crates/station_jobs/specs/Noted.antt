@@ -1,5 +1,5 @@
 -- Notes of the jobs that were handed out to one thread.
-use Rattle.std.specs.Prelude.{ℕ, Bool, true, false, List, [], ◌∷◌, is_none}
+use Rattle.std.specs.Prelude.{ℕ, Bool, false, List, [], ◌∷◌, is_none}
 use Rattle.station_jobs.specs.declared.log.Assignment.{Assignment}
 
 -- the jobs in order, and how many more fit into the memory

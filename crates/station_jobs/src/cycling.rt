@@ -1,6 +1,7 @@
 //! The loop of the process data thread.
 
 ghost use Rattle.std.specs.Prelude.{◌≡◌, ◌≤◌, [], length, replicate, IsTrue};
+ghost use Rattle.station_jobs.specs.Cycling.{Cycles};
 ghost use Rattle.station_jobs.specs.Setting.{SetsLine, TakesJob};
 
 use crate::cycle::{CycleJob, CycleOutcome};
@@ -70,7 +71,8 @@ pub fn cycle_loop<S: Site, D: Dispatch<CycleLog>, R: Wait>(
 ) -> End<S, CycleLog>
     requires process { IsTrue (S.line site).has_process }
     requires fresh { D.log dispatch ≡ [] }
-    ensures { result.start ≡ site }
+    ensures start { result.start ≡ site }
+    ensures cycles { Cycles (length (S.line site).sizes) (D.has_ended dispatch) result.log (S.seen site) (S.seen result.site) }
 {
     let start = Snapshot::of(&site);
     let mut last = None;

@@ -1,7 +1,7 @@
 //! The source of a thread's jobs.
 
-ghost use Rattle.std.specs.Prelude.{◌≡◌, Bool, IsTrue};
-ghost use Rattle.station_jobs.specs.Dispatch.{log_behind, IfWork};
+ghost use Rattle.std.specs.Prelude.{◌≡◌, Bool, IsTrue, false};
+ghost use Rattle.station_jobs.specs.Dispatch.{log_behind, IfWork, IfStop};
 
 use crate::log::Log;
 use std::sync::Wait;
@@ -30,19 +30,26 @@ pub trait Dispatch<L: Log>: Send {
     /// The jobs that it may hand out from now on.
     ghost may_hand: { Self → L.Job → Type 0 };
 
+    /// What is known once it answers `Stop`, now or later.
+    ghost has_ended: { Self → Type 0 };
+
     /// Asks for the next job, and may wait for one. If memory is refused for the job or for its entry in the log, the answer is
     /// `Again` and nothing is handed out.
     fn next<R: Wait>(&mut self, rt: &R) -> Turn<L::Job>
         ensures log { log self.new ≡ log_behind L.handed (log self.old) result }
         ensures out { IfWork result (λ job. IsTrue (has_job self.new)) }
         ensures may { IfWork result (λ job. may_hand self.old job) }
-        ensures no_more { (job : L.Job) → may_hand self.new job → may_hand self.old job };
+        ensures no_more { (job : L.Job) → may_hand self.new job → may_hand self.old job }
+        ensures stop { IfStop result (has_ended self.old) }
+        ensures no_end { has_ended self.new → has_ended self.old };
 
-    /// Reports the outcome of the job that is out. There has to be one.
+    /// Reports the outcome of the job that is out. There has to be one, and none is out afterwards.
     fn done<R: Wait>(&mut self, rt: &R, outcome: L::Outcome)
         requires { IsTrue (has_job self.old) }
         ensures log { log self.new ≡ L.told (log self.old) outcome }
-        ensures no_more { (job : L.Job) → may_hand self.new job → may_hand self.old job };
+        ensures out { has_job self.new ≡ false }
+        ensures no_more { (job : L.Job) → may_hand self.new job → may_hand self.old job }
+        ensures no_end { has_ended self.new → has_ended self.old };
 
     /// Gives the log, once no more jobs are wanted.
     fn into_log(self) -> L

@@ -3,3 +3,4 @@ mod Workers
 pub mod Sent
 pub mod PlaceLaws
 mod EndLaws
+mod Turns

@@ -1,6 +1,7 @@
--- What has to be handed in to close a desk.
+-- What has to be handed in to close a desk, and what its process data cycles were.
 use Rattle.std.specs.Prelude.{◌≡◌, List, [], Option, Some, None}
-use Rattle.book_model.specs.Book.{Book}
+use Rattle.std.specs.List.{AllByRecursion}
+use Rattle.book_model.specs.Book.{Book, base_of}
 use Rattle.station_jobs.specs.declared.cycle.CycleNote.{CycleNote}
 use Rattle.station_jobs.specs.Ends.{Stay}
 use Rattle.desk_book.specs.declared.call.Call.{Call}
@@ -9,6 +10,7 @@ use Rattle.desk_book.specs.Logs.{disk_log, cycle_log}
 use Rattle.desk_book.specs.Numbered.{Numbered}
 use Rattle.desk_book.specs.Serving.{ShareCounts}
 use Rattle.desk_book.specs.Closing.{CountAll, AreReceiptsOf, AreWorkersOf}
+use Rattle.desk_laws.specs.Turns.{IsTurnOf, NeverFall, AppendsNext}
 use Rattle.station_threads.specs.declared.closing.Ends.{Ends}
 
 -- The cycle's log has the turns that the calls handed out. Without a cycle they handed out none.
@@ -29,3 +31,9 @@ pub record IsHandedIn {S : Type 0} (opened : Book) (calls : List Call) (shares :
   pub counted : CountAll (replayed opened calls) calls shares
   pub received : AreReceiptsOf (replayed opened calls) receipts
   pub ended : AreEndsOf opened calls ends
+
+-- Each cycle in the log is of the contents after a prefix of the accepted commands, with the size of their process image. No cycle has a
+-- shorter prefix than the one before it, unless other commands than the book's next ones were being appended when the desk was made.
+pub record AreTurnsOf (opened : Book) (calls : List Call) (log : List CycleNote) : Type 0 where
+  pub images : AllByRecursion (IsTurnOf (base_of opened) (replayed opened calls).accepted) log
+  pub rising : AppendsNext opened → NeverFall log

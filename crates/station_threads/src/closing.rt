@@ -1,13 +1,13 @@
 //! Closing a desk: what its users hold is handed in and compared with what the book handed out.
 
-ghost use Rattle.std.specs.Prelude.{◌≡◌, ◌↔◌, IsTrue, true, false, length, IfOk, IfErr};
+ghost use Rattle.std.specs.Prelude.{◌≡◌, ◌↔◌, IsTrue, true, false, length, IfOk, IfErr, IfSome};
 ghost use Rattle.desk_book.specs.Calls.{replayed};
 ghost use Rattle.desk_book.specs.Closing.{AllWorked, CountAll, is_served};
 ghost use Rattle.desk_laws.specs.Slaves.{IsJustOpened, AllReadAsContents};
 ghost use Rattle.desk_laws.specs.Joined.{IsKeptAs};
 ghost use Rattle.desk_laws.specs.Together.{AllEndSo, IsLeft};
 ghost use Rattle.station_jobs.specs.Flushing.{IsFlushed};
-ghost use Rattle.station_threads.specs.Closing.{IsCycleOf, AreEndsOf, IsHandedIn};
+ghost use Rattle.station_threads.specs.Closing.{IsCycleOf, AreEndsOf, AreTurnsOf, IsHandedIn};
 
 use crate::desk::Desk;
 use desk_book::{Receipt, Refusals, Served, Share, Tickets};
@@ -121,6 +121,10 @@ fn audit_all<T: Tickets, R: Refusals>(book: &mut Served<T, R>, shares: &mut Vec<
 /// redo of the live journal gives the contents after a prefix of the accepted commands, with every durable one in it. After `Ok` the
 /// prefix is all of them. After `Unserved` the state is recoverable too, whether there was a fault, a power cut, or work is left.
 ///
+/// Each process data cycle in the log of the cycle's end, after `Ok` and after `Unserved`, is of the contents after a prefix of the
+/// accepted commands, and its size is that of their process image. No cycle has a shorter prefix than the one before it, unless other
+/// commands than the book's next ones were being appended when the desk was made.
+///
 /// # Errors
 ///
 /// Everything is handed back, with the book out of its lock. The first that applies is the reason:
@@ -140,6 +144,7 @@ pub fn close<T: Tickets, R: Refusals, S: Site>(
     ensures contents { IfOk result (λ closed. IsJustOpened T.opened
         → AllReadAsContents T.opened (replayed T.opened closed.book.calls) S.seen closed.ends.workers.items) }
     ensures left { IfOk result (λ closed. AllEndSo IsLeft T.opened closed.book.calls S.seen closed.ends.flusher closed.ends.workers.items) }
+    ensures turns { IfOk result (λ closed. IfSome closed.ends.cycle (λ end. AreTurnsOf T.opened closed.book.calls end.log)) }
     ensures ends { IfOk result (λ closed. closed.ends ≡ ends) }
     ensures handed_back { IfErr result (λ left. (left.shares.items ≡ shares.items) × (left.receipts ≡ receipts) × (left.ends ≡ ends)) }
     ensures all_shares { IfErr result (λ left. length shares.items ≡ left.book.pool.given
@@ -149,6 +154,8 @@ pub fn close<T: Tickets, R: Refusals, S: Site>(
     ensures unserved { IfErr result (λ left. left.fault ≡ CloseFault.Unserved → is_served (replayed T.opened left.book.calls) ≡ false) }
     ensures kept { IfErr result (λ left. left.fault ≡ CloseFault.Unserved
         → AllEndSo IsKeptAs T.opened left.book.calls S.seen left.ends.flusher left.ends.workers.items) }
+    ensures turns_kept { IfErr result (λ left. left.fault ≡ CloseFault.Unserved
+        → IfSome left.ends.cycle (λ end. AreTurnsOf T.opened left.book.calls end.log)) }
 {
     let Desk { served, .. } = desk;
     let mut book = served.into_inner();

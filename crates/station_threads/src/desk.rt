@@ -1,6 +1,6 @@
 //! The desk: a book under one lock, shared by the threads that submit and the threads that do its jobs.
 
-ghost use Rattle.std.specs.Prelude.{◌≡◌, ◌+◌, [], false, IfOk, IfErr};
+ghost use Rattle.std.specs.Prelude.{◌≡◌, ◌+◌, [], false, length, IfOk, IfErr};
 ghost use Rattle.desk_book.specs.Closing.{IsReceiptOf};
 ghost use Rattle.desk_book.specs.Submitting.{CountsRefusal};
 
@@ -110,12 +110,12 @@ impl<T: Tickets, R: Refusals> Desk<T, R> {
 
     /// Waits until the ticket's command is durable. Answers its receipt.
     ///
-    /// It waits while the book has no fault and its number of durable commands isn't above the ticket's number.
+    /// It waits while the book has no fault and its command of the ticket's number is accepted and not yet durable.
     ///
     /// # Errors
     ///
-    /// The ticket is handed back: a fault closed the book first, or the book's command of this number is another one, because the
-    /// ticket is of another desk.
+    /// The ticket is handed back: a fault closed the book first, or the ticket is of another desk. Then this book has accepted no command
+    /// of its number, or another one.
     pub fn wait<W: Wait>(&self, rt: &W, ticket: Ticket) -> Result<Receipt, Unacknowledged>
         ensures receipt { IfOk result (λ receipt. receipt ≡ ticket) }
         ensures stood { IfOk result (λ receipt. IsReceiptOf T.opened receipt) }
@@ -140,6 +140,13 @@ impl<T: Tickets, R: Refusals> Desk<T, R> {
     /// How many commands are accepted, durable and settled, and how many bytes of the journal are live.
     pub fn status<W: Wait>(&self, rt: &W) -> Status {
         self.served.lock(rt).status()
+    }
+
+    /// How many slaves the line of the book has.
+    pub fn slaves<W: Wait>(&self, rt: &W) -> usize
+        ensures { result ≡ length T.opened.words }
+    {
+        self.served.lock(rt).slaves()
     }
 
     /// Waits until the book's status differs from `seen`, or the book accepts no commands. Answers its status then.

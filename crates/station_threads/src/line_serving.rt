@@ -19,11 +19,13 @@ use std::thread::Threads;
 ///
 /// Each site has to own what it is served for, as `own_parts` checks. The disk has to reach at least to the end of the journal's area.
 ///
-/// If a thread can't be created, the desk is finished, that part is served on this thread, and the client isn't called.
+/// If a thread can't be created, the desk is finished, that part is served on this thread, and the client isn't called. The process data
+/// thread is started last, so that the threads whose work ends its cycles are there by then.
 ///
 /// # Errors
 ///
-/// The sites are handed back: memory was refused for the parts or their ends. Nothing was started.
+/// The sites are handed back, and nothing was started: there isn't one site for each slave of the desk's book (`Desk::slaves`), or
+/// memory was refused for the parts or their ends.
 pub fn serve_line<
     'e,
     T: Tickets + Send + Sync,
@@ -42,11 +44,15 @@ pub fn serve_line<
 ) -> Result<Ends<S>, Sites<S>>
     requires owned { OwnParts S.line sites.disk sites.slaves.items sites.cycle }
     requires long { desk.now.limit ≤ length (S.seen sites.disk).state.disk.bytes }
+    ensures count { IfOk result (λ _. length sites.slaves.items ≡ length T.opened.words) }
     ensures flusher { IfOk result (λ ends. ends.flusher.start ≡ sites.disk) }
     ensures workers { IfOk result (λ ends. AreEndsOfSites sites.slaves.items ends.workers.items) }
     ensures cycle { IfOk result (λ ends. IsEndOfTurns sites.cycle ends.cycle) }
     ensures handed_back { IfErr result (λ same. same ≡ sites) }
 {
+    if sites.slaves.len() != desk.slaves(rt) {
+        return Err(sites);
+    }
     let Ok(room) = Room::new(alloc, sites.slaves.len()) else {
         return Err(sites);
     };

@@ -160,7 +160,7 @@ struct Prepared<S: Site, F: Dispatch<DiskLog>, D: Dispatch<RomLog>, C: Dispatch<
     ghost fits: { vec_len line.slaves ≤ room },
 }
 
-/// Serves all parts, with threads of this scope.
+/// Serves all parts, with threads of this scope. The process data comes last: if it has to be served on this thread, all workers are there.
 fn serve_in<
     's,
     E,
@@ -194,8 +194,8 @@ fn serve_in<
         cycle,
     } = line;
     let flusher = start_flusher(scope, rt, disk, meanwhile);
-    let turning = start_turning(scope, rt, cycle, meanwhile);
     let all_work = start_workers(scope, rt, hook, slaves, &mut workers, meanwhile);
+    let turning = start_turning(scope, rt, cycle, meanwhile);
     if all_work && flusher.is_ok() && !matches!(&turning, Some(Err(_))) {
         meanwhile.drive(rt);
     }
@@ -213,8 +213,9 @@ fn serve_in<
 /// Serves a line, each part on its own thread, while `meanwhile` drives the work on the calling thread. Then it finishes the work, and
 /// waits for the end of each part. The hook is for tests.
 ///
-/// If a thread can't be created, the work is finished, that part is served on the calling thread, and `drive` isn't called. The room has
-/// to be for at least as many slaves as the line has.
+/// If a thread can't be created, the work is finished, that part is served on the calling thread, and `drive` isn't called. The process
+/// data thread is started last: its cycles may end only once the others have done their work. The room has to be for at least as many
+/// slaves as the line has.
 pub fn serve<
     'e,
     S: Site + Send + Drop + 'e,

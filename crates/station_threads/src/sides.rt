@@ -127,6 +127,8 @@ impl<'a, T: Tickets, R: Refusals> Dispatch<DiskLog> for DiskSide<'a, T, R> {
 
     ghost may_hand = { λ side job. BeginsBelow side.limit job };
 
+    ghost has_ended = { λ _. Unit {0} };
+
     /// The answer is `Stop` in place of a write that begins behind the journal's area.
     fn next<W: Wait>(&mut self, rt: &W) -> Turn<DiskNext> {
         let Ok(()) = self.notes.reserve() else {
@@ -157,6 +159,7 @@ impl<'a, T: Tickets, R: Refusals> Dispatch<DiskLog> for DiskSide<'a, T, R> {
         desk.served.lock(rt).disk_done(outcome);
         desk.changed.notify_all();
         self.notes.tell(outcome);
+        self.has_job = false;
     }
 
     fn into_log(self) -> DiskLog {
@@ -173,6 +176,8 @@ impl<'a, T: Tickets, R: Refusals> Dispatch<RomLog> for RomSide<'a, T, R> {
     ghost has_job = { λ side. side.has_job };
 
     ghost may_hand = { λ _ job. is_rom_job job ≡ true };
+
+    ghost has_ended = { λ _. Unit {0} };
 
     fn next<W: Wait>(&mut self, rt: &W) -> Turn<RomNext> {
         let Ok(()) = self.notes.reserve() else {
@@ -200,6 +205,7 @@ impl<'a, T: Tickets, R: Refusals> Dispatch<RomLog> for RomSide<'a, T, R> {
         desk.served.lock(rt).slave_done(self.slave, outcome);
         desk.changed.notify_all();
         self.notes.tell(outcome);
+        self.has_job = false;
     }
 
     fn into_log(self) -> RomLog {
@@ -221,6 +227,8 @@ impl<'a, T: Tickets, R: Refusals> Dispatch<CycleLog> for CycleSide<'a, T, R> {
     ghost has_job = { λ side. side.has_job };
 
     ghost may_hand = { λ _ _. Unit {0} };
+
+    ghost has_ended = { λ _. Unit {0} };
 
     fn next<W: Wait>(&mut self, rt: &W) -> Turn<CycleJob> {
         let Ok(()) = self.turns.reserve(1) else {

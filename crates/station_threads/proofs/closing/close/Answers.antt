@@ -4,6 +4,7 @@ use Rattle.desk_book.specs.Serving.{ShareCounts}
 use Rattle.station_threads.specs.Closing.{IsHandedIn}
 use Rattle.desk_laws.proofs.SlaveLaws.{all-read}
 use Rattle.desk_laws.proofs.TogetherLaws.{all-kept, all-left}
+use Rattle.station_threads.proofs.Turns.{turns-of}
 use Rattle.station_threads.proofs.closing.close.Goals as goal
 
 pub returns-then-not-all_match-clause-mismatch : goal.returns-then-not-all_match-clause-mismatch
@@ -49,3 +50,13 @@ returns-then-not-is_served-clause-kept g c = λ unserved.
     let calls = c.audit_all.new.book.calls in
     let all = c.all_match.ensures.matches.0 c.if-not-all_match.false in
     all-kept opened calls g.S.Site.seen c.args.ends.flusher c.args.ends.workers.items (c.all_match.ensures.flushed c.if-not-all_match.false) all.ended.flusher all.ended.workers (c.all_match.ensures.worked c.if-not-all_match.false) c.is_served.ensures.answered
+
+pub returns-clause-turns : goal.returns-clause-turns
+returns-clause-turns g c =
+    let all = c.all_match.ensures.matches.0 c.if-not-all_match.false in
+    turns-of g.T.Tickets.opened c.audit_all.new.book.calls c.is_served.ensures.answered c.args.ends.cycle all.ended.cycle
+
+pub returns-then-not-is_served-clause-turns_kept : goal.returns-then-not-is_served-clause-turns_kept
+returns-then-not-is_served-clause-turns_kept g c = λ unserved.
+    let all = c.all_match.ensures.matches.0 c.if-not-all_match.false in
+    turns-of g.T.Tickets.opened c.audit_all.new.book.calls c.is_served.ensures.answered c.args.ends.cycle all.ended.cycle

@@ -25,3 +25,6 @@ returns-clause-workers g c = ends-of-sites c.args.sites.slaves.items c.parts_of-
 -- given, though a check finds it: of a body for which it is false the check would search for minutes
 pub returns-in_default-clause-handed_back : goal.returns-in_default-clause-handed_back
 returns-in_default-clause-handed_back g c = refl
+
+pub returns-clause-count : goal.returns-clause-count
+returns-clause-count g c = omega (arith, c.args.sites.slaves.ok.0, c.len.ensures, c.slaves.ensures, c.if-len-slaves.false)
