@@ -21,6 +21,7 @@ use Rattle.book_model.specs.Kept.{Kept}
 use Rattle.book_laws.proofs.FitLaws.{kept-live}
 use Rattle.book_laws.proofs.CommandLaws.{entries-contents, length-entries}
 use Rattle.book_laws.specs.Frame.{JournalFrame}
+use Rattle.book_laws.specs.Keeping.{IsOfBook}
 use Rattle.book_laws.specs.Up.{Up}
 use Rattle.book_laws.specs.Opening.{words_in}
 use Rattle.book_laws.proofs.LineLaws.{holds-all, up-kept}
@@ -88,6 +89,12 @@ stands-recovered world session (stands-up other frame is up of) book done =
     up-recovered frame world book session.machine (subst (λ (b : Book). Up frame b world.state world.took session.machine) same up) done
 stands-recovered world session (stands-down is kept long) book done = let both : None ≡ Some book = sym is ∙ done.up in absurd cc
 
+stands-known : (world : World) (session : Session) → Stands world session → (book : Book) → world.book ≡ Some book → IsOfBook book session.machine
+stands-known world session (stands-up other frame there up of) book is =
+    let same : other ≡ book = let both : Some other ≡ Some book = sym there ∙ is in cc in
+    subst (λ (b : Book). IsOfBook b session.machine) same up.of
+stands-known world session (stands-down none kept long) book is = let both : None ≡ Some book = sym none ∙ is in absurd cc
+
 stands-worn : (world : World) (session : Session) → Stands world session → (book : Book) → world.book ≡ Some book → (slave : ℕ) → slave < length book.slaves → (slave_at book slave).issues ≤ 3 * named_for (book.found ++ own book) slave
 stands-worn world session (stands-up other frame there up of) book is slave within =
     let same : other ≡ book = let both : Some other ≡ Some book = sym there ∙ is in cc in
@@ -96,7 +103,13 @@ stands-worn world session (stands-down none kept long) book is slave within = le
 
 pub stands-is_kept : (world : World) (session : Session) → Stands world session → IsKept world session.machine
 stands-is_kept world session stands =
-    record { kept = stands-kept world session stands; recovered = stands-recovered world session stands; opens = stands-opens world session stands; worn = stands-worn world session stands }
+    record {
+      kept = stands-kept world session stands;
+      recovered = stands-recovered world session stands;
+      opens = stands-opens world session stands;
+      known = stands-known world session stands;
+      worn = stands-worn world session stands;
+    }
 
 -- ---- a plan
 

@@ -17,6 +17,7 @@ use Rattle.book_model.specs.Book.{Book, own, slave_at}
 use Rattle.book_model.specs.Reading.{planned}
 use Rattle.book_model.specs.Machine.{Machine, base_of, accepts, reopened, MayKeep}
 use Rattle.book_model.specs.Kept.{Kept}
+use Rattle.book_laws.specs.Keeping.{IsOfBook}
 use Rattle.book_laws.specs.Opening.{words_in, IsAllSynced}
 use Rattle.book_laws.specs.Worn.{named_for}
 use Rattle.world_law.specs.World.{World, Event, Submit, Told, Nothing, Accepted, Refused, Acknowledged, Planned, Closed, Migrated, Opened, Step}
@@ -93,6 +94,9 @@ pub record IsKept (world : World) (machine : Machine) : Type 0 where
   pub recovered : (book : Book) → IsRecovered world book → HoldsBase world book machine
   -- if the station is down, or closed by a fault with nothing handed out, and no slave is busy, it can be opened
   pub opens : CanOpen world.book → AllByRecursion IsIdle world.state.halves → (told : Told) × (later : World) × Opens world told later
+  -- while the station is up, the machine is that of its book: same contents to begin with, same accepted commands, and the durable ones
+  -- acknowledged
+  pub known : (book : Book) → world.book ≡ Some book → IsOfBook book machine
   -- since the open each slave was issued at most three words for each word that the entries found then and the accepted commands
   -- name for it
   pub worn : (book : Book) → world.book ≡ Some book → (slave : ℕ) → slave < length book.slaves

@@ -16,6 +16,7 @@ ghost use Rattle.world_law.specs.Law.{EventFits, IsFormatted, Runs, Session, Sta
 /// - a station that is down, or closed by a fault with nothing handed out, can be opened once no slave is busy;
 /// - if a recovery is complete, the slaves hold the contents that the session began with: those after a prefix of the last session's
 ///   commands, with every acknowledged one in it;
+/// - while the station is up, its accepted commands are those that callers were told of, and its durable ones are acknowledged;
 /// - since the open, each slave was issued at most three words for each word that the entries found then and the accepted commands
 ///   name for it.
 pub fn law()

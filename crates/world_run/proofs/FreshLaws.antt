@@ -9,8 +9,11 @@ use Rattle.esc_model.specs.WordAccess.{IsIdle}
 use Rattle.site_core.specs.Disk.{Disk}
 use Rattle.site_core.specs.State.{State}
 use Rattle.site_journal.proofs.EmptyLaws.{zeros_halved}
-use Rattle.book_laws.specs.Opening.{words_in}
-use Rattle.world_law.specs.Law.{IsFormatted, Starts, blank}
+use Rattle.book_model.specs.Kept.{Kept}
+use Rattle.book_model.specs.Machine.{Machine}
+use Rattle.book_laws.specs.Opening.{words_in, IsAllSynced}
+use Rattle.world_law.specs.World.{World}
+use Rattle.world_law.specs.Law.{IsFormatted, MachineFits, Starts, blank}
 use Rattle.world_law.proofs.FormatLaws.{formatted-starts}
 use Rattle.world_run.specs.Torn.{synced_of}
 
@@ -42,3 +45,15 @@ fresh-starts halves took contents slaves capacity disk is count few capacity_is 
     let whole = formatted-starts made took ready (record { all = refl; whole = omega arith }) idle long (subst PlantFits (sym words) fits) in
     subst (λ (c : List (List ℕ)). Starts (record { book = None; state = record { disk = disk; halves = halves }; took = took }) (blank c)) words
     (subst (λ (d : Disk). Starts (record { book = None; state = record { disk = d; halves = halves }; took = took }) (blank (words_in halves))) (sym is) whole)
+
+-- a disk of bytes with a journal that is kept, all of them synced
+pub kept-starts : (world : World) (bytes : List ℕ) (machine : Machine) → world.book ≡ None → world.state.disk ≡ synced_of bytes → AllByRecursion IsIdle world.state.halves
+    → length world.took ≡ length world.state.halves → Kept bytes (words_in world.state.halves) machine → MachineFits machine → Starts world machine
+kept-starts world bytes machine down is idle long kept fits = record {
+  down = down;
+  synced = subst IsAllSynced (sym is) (record { all = refl; whole = omega arith });
+  idle = idle;
+  kept = subst (λ (d : Disk). Kept d.bytes (words_in world.state.halves) machine) (sym is) kept;
+  took = long;
+  fits = fits;
+}

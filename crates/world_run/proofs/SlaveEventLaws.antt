@@ -180,7 +180,7 @@ comes-back world book later slave outcome up inside may goes =
           is = ap (with_book world) goes ∙ sym (same-half world (rom_done book slave outcome) slave there.0 world.took there.1 refl);
         },
       ),
-    ) tt
+    ) refl
 
 pub never-back : (world : World) (book : Book) (slave : ℕ) (outcome : RomOutcome) → world.book ≡ Some book
     → ¬ MayReturn (asked_of (slave_at book slave).errand) outcome slave (sides_of world) → Happened (events.RomDone slave outcome) world world

@@ -36,6 +36,7 @@ abbrev pub sides_of : World → Sides
 sides_of world = record { halves = world.state.halves; took = world.took }
 
 -- The choices were followed: the bytes of a failed write, whether an issue is taken, how a slave comes to rest, and what a stop leaves.
+-- An action on a slave that ends leaves the disk and all slaves as they are.
 abbrev pub IsChosen : Event → World → World → Type 0
 IsChosen (events.DiskDone (ends.Failed fault bytes)) old new =
     (book : Book) (action : DiskNext) → old.book ≡ Some book → handed_out book ≡ Some action
@@ -43,6 +44,7 @@ IsChosen (events.DiskDone (ends.Failed fault bytes)) old new =
 IsChosen (events.RomIssue slave takes) old new =
     (book : Book) (word value : ℕ) → old.book ≡ Some book → (rom_next book slave).0 ≡ next.Issue word value
     → HandsWord slave takes word value (sides_of old) (sides_of new)
+IsChosen (events.RomDone slave outcome) old new = new.state ≡ old.state
 IsChosen (events.RomResolve slave end) old new = ComesToRest slave end (sides_of old) (sides_of new)
 IsChosen (events.Stop left) old new = StopsAs left.bytes.items old.state.disk new.state.disk
     × TornBy left.words.items old.state.halves new.state.halves

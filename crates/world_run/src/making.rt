@@ -1,4 +1,4 @@
-ghost use Rattle.std.specs.Prelude.{◌≡◌, ◌≤◌, ◌++◌, None, vec_len, replicate, All, IfOk};
+ghost use Rattle.std.specs.Prelude.{◌≡◌, ◌≤◌, ◌++◌, None, length, vec_len, replicate, All, IfOk};
 ghost use Rattle.std.specs.List.{AllByRecursion};
 ghost use Rattle.std.specs.Option.{option_copied};
 ghost use Rattle.esc_model.specs.WordAccess.{IsIdle};
@@ -85,6 +85,8 @@ impl World {
 
     /// A world of 1 to 64 idle slaves with these words, a disk of these bytes, all of them synced, and a station that is down.
     ///
+    /// The main law starts here if the bytes hold a journal that is kept: `laws::a_world_on_a_kept_disk_starts`.
+    ///
     /// # Errors
     ///
     /// `Memory`: memory was refused. The words and the bytes are dropped.
@@ -95,6 +97,7 @@ impl World {
         ensures words { IfOk result (λ world. words_in world.state.halves ≡ slaves.items) }
         ensures idle { IfOk result (λ world. AllByRecursion IsIdle world.state.halves) }
         ensures disk { IfOk result (λ world. world.state.disk ≡ synced_of bytes.items) }
+        ensures took { IfOk result (λ world. length world.took ≡ length world.state.halves) }
     {
         let disk = WorldDisk::of(alloc, bytes);
         let line = WorldLine::of(alloc, slaves)?;
