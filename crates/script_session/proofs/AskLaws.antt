@@ -3,7 +3,7 @@ use Rattle.std.proofs.Common.{◌≡◌, ℕ, zero, suc, ◌+◌, ◌<◌, ◌�
 use Rattle.std.proofs.lemmas.List.{append-nil, length-append, map-append, take_all, take_more}
 use Rattle.std.proofs.lemmas.Bool.{cases_lt}
 use Rattle.std.proofs.lemmas.Option.{slice_get_within, get_or_from_slice_get}
-use Rattle.std.specs.Prelude.{slice_get, is_some, All, IfOk}
+use Rattle.std.specs.Prelude.{slice_get, is_some, All, IfErr, IfOk}
 use Rattle.std.specs.Global.{Vec}
 use Rattle.sii_edit.specs.declared.command.Command.{Command}
 use Rattle.desk_book.specs.Numbered.{Numbered}
@@ -14,7 +14,7 @@ use Rattle.station_files.specs.declared.faults.ExitStatus.{ExitStatus}
 use Rattle.station_files.specs.declared.faults.ExitStatus.TheVariants.{Done}
 use Rattle.script_session.specs.Rounds.{AreAmong}
 use Rattle.script_session.proofs.RoundSubmitting.{among-then}
-use Rattle.script_session.specs.Asking.{commands_of, no_counts, AreInOrder, Asks, AsksAll, ComesTo, Receives}
+use Rattle.script_session.specs.Asking.{commands_of, no_counts, AreInOrder, Asks, AsksAll, ComesTo, GivesUp, Receives}
 
 -- no command was submitted yet
 pub asks-none : (status : ExitStatus) (counts : ShareCounts) → AsksAll [] status status counts counts []
@@ -106,10 +106,10 @@ pub comes-first : (commands : List Command) (status : ExitStatus) (counts : Shar
 comes-first commands status counts None none comes = comes
 comes-first commands status counts (Some result) none comes = absurd cc
 
-pub comes-to : (commands asked : List Command) (before after : ExitStatus) (had has : ShareCounts) (came : Result (Vec Numbered) Fault) → asked ≡ commands → (before ≡ Done) × (had.tickets ≡ 0) → IfOk came (λ (receipts : Vec Numbered). Receives asked before after had has receipts.items)
+pub comes-to : (commands asked : List Command) (before after : ExitStatus) (had has : ShareCounts) (came : Result (Vec Numbered) Fault) → asked ≡ commands → (before ≡ Done) × (had.tickets ≡ 0) → IfOk came (λ (receipts : Vec Numbered). Receives asked before after had has receipts.items) → IfErr came GivesUp
     → ComesTo commands after has (Some came)
-comes-to commands asked before after had has (Ok receipts) same first got = subst (λ (l : List Command). Receives l Done after no_counts has receipts.items) same (record {
+comes-to commands asked before after had has (Ok receipts) same first got gives = subst (λ (l : List Command). Receives l Done after no_counts has receipts.items) same (record {
   asked = record { among = got.asked.among; all = λ done. (refl, (got.asked.all done).1); counted = let a = got.asked.counted in let b = first.1 in omega (arith, a, b) };
   in_order = got.in_order;
 })
-comes-to commands asked before after had has (Err fault) same first got = tt
+comes-to commands asked before after had has (Err fault) same first got gives = gives

@@ -1,6 +1,6 @@
 -- A desk that was closed with what one submitter handed in.
-use Rattle.std.proofs.Common.{◌≡◌, ℕ, Bool, ◌+◌, ◌≤◌, true, false, List, [], ◌∷◌, length, refl, sym, ◌∙◌, ap, subst, arith, Option, Some, None, Result, Ok, Err}
-use Rattle.std.specs.Prelude.{is_err, is_some, IfOk, IfSome, IsSomeAnd, MatchResult, OnOk}
+use Rattle.std.proofs.Common.{◌≡◌, ℕ, Bool, ◌+◌, ◌≤◌, true, false, List, [], ◌∷◌, length, refl, sym, ◌∙◌, ap, subst, arith, inl, inr, Option, Some, None, Result, Ok, Err}
+use Rattle.std.specs.Prelude.{◌⊎◌, is_some, IfErr, IfOk, IfSome, IsSomeAnd, MatchResult, OnOk}
 use Rattle.std.specs.Global.{Vec}
 use Rattle.sii_edit.specs.declared.command.Command.{Command}
 use Rattle.esc_model.specs.SlaveHalf.{SlaveHalf}
@@ -22,35 +22,28 @@ use Rattle.station_threads.specs.Closing.{IsHandedIn}
 use Rattle.station_threads.specs.declared.closing.CloseFault.{CloseFault}
 use Rattle.station_threads.specs.declared.closing.CloseFault.TheVariants.{Unserved}
 use Rattle.station_threads.specs.declared.closing.Ends.{Ends}
+use Rattle.station_files.specs.Faults.{IsOfStream}
 use Rattle.station_files.specs.declared.faults.Fault.{Fault}
 use Rattle.station_files.specs.declared.faults.ExitStatus.{ExitStatus}
 use Rattle.station_files.specs.declared.faults.ExitStatus.TheVariants.{Done}
 use Rattle.script_session.specs.Rounds.{AreAmong}
 use Rattle.station_threads.specs.Places.{AllPlaced}
 use Rattle.station_threads.specs.Sites.{OwnParts}
-use Rattle.script_session.specs.Asking.{no_counts, ComesTo, Receives, fault_of, receipts_of}
+use Rattle.script_session.specs.Asking.{no_counts, ComesTo, GivesUp, Receives, fault_of, receipts_of}
 use Rattle.script_session.specs.declared.closing.AtDesk.{AtDesk}
 use Rattle.script_session.specs.declared.closing.Ending.{Ending}
 use Rattle.script_session.specs.declared.threads.Left.{Left}
 use Rattle.script_session.specs.Parts.{Sites, HasDiskOf, HasHalf, IsApart, IsServable, AreEndsOfParts, IsTogether}
-use Rattle.script_session.specs.AtDesk.{seen_of, Closes, ClosesWith, EndsSo, IsServedAtDesk, IsStopped, IsStoppedAtDesk, LeavesSo}
+use Rattle.script_session.specs.AtDesk.{fault_of_book, seen_of, Closes, ClosesWith, EndsSo, IsServedAtDesk, IsStopped, IsStoppedAtDesk, LeavesSo, TellsWhy}
 use Rattle.script_session.proofs.AskLaws.{all-received}
 use Rattle.script_session.proofs.SlaveLaws.{contents-together}
 use Rattle.script_session.proofs.LeftLaws.{kept-together, left-together}
 
--- of a desk that was closed a power cut leaves only what is kept
-stopped-left : (opened : Book) (is_matched : Bool) (calls : List Call) (ends : Ends SiteValue) → AreAnswered opened calls → AllEndSo IsLeft opened calls seen_of ends.flusher ends.workers.items → IsStopped opened is_matched ends
-stopped-left opened is_matched calls ends answered left = record {
-  calls = calls;
-  answered = answered;
-  kept = λ matched machine journal old new is desk first last. (left machine journal old new is desk first last).kept;
-}
-
--- the result for a closed desk, whether or not the totals can be printed
-pub closes-printed : {E : Type 0} (opened : Book) (calls : List Call) (shares : List ShareCounts) (receipts : List Numbered) (ends left : Ends SiteValue) (is_matched : Bool) (printed : Result (Unit {0}) E) → AreAnswered opened calls → is_served (replayed opened calls) ≡ true
-    → IsHandedIn opened calls shares receipts ends → (IsJustOpened opened → AllReadAsContents opened (replayed opened calls) seen_of left.workers.items) → AllEndSo IsLeft opened calls seen_of left.flusher left.workers.items → left ≡ ends
-    → MatchResult printed (λ done. Closes opened shares receipts ends) (λ fault. IsStopped opened is_matched ends)
-closes-printed opened calls shares receipts ends left is_matched (Ok done) answered served handed_in contents leaves same = record {
+-- the result for a closed desk
+pub closes-now : (opened : Book) (calls : List Call) (shares : List ShareCounts) (receipts : List Numbered) (ends left : Ends SiteValue) (closed : Result (Unit {0}) CloseFault) (told : Result (Unit {0}) Fault) → AreAnswered opened calls → is_served (replayed opened calls) ≡ true
+    → IsHandedIn opened calls shares receipts ends → (IsJustOpened opened → AllReadAsContents opened (replayed opened calls) seen_of left.workers.items) → AllEndSo IsLeft opened calls seen_of left.flusher left.workers.items → left ≡ ends → closed ≡ Ok tt
+    → MatchResult closed (λ done. Closes opened shares receipts ends) (λ why. IsStopped opened why told ends)
+closes-now opened calls shares receipts ends left (Ok done) told answered served handed_in contents leaves same is = record {
   calls = calls;
   closed = record {
     answered = answered;
@@ -60,30 +53,33 @@ closes-printed opened calls shares receipts ends left is_matched (Ok done) answe
     left = subst (λ (e : Ends SiteValue). AllEndSo IsLeft opened calls seen_of e.flusher e.workers.items) same leaves;
   };
 }
-closes-printed opened calls shares receipts ends left is_matched (Err fault) answered served handed_in contents leaves same =
-    stopped-left opened is_matched calls ends answered (subst (λ (e : Ends SiteValue). AllEndSo IsLeft opened calls seen_of e.flusher e.workers.items) same leaves)
+closes-now opened calls shares receipts ends left (Err why) told answered served handed_in contents leaves same is = absurd cc
 
--- a desk that isn't closed: not all is settled, or a fault has closed the book
-stops-unserved : (opened : Book) (calls : List Call) (ends left : Ends SiteValue) (is_matched : Bool) (why : CloseFault) → AreAnswered opened calls → (is_matched ≡ true → why ≡ Unserved)
-    → (why ≡ Unserved → AllEndSo IsKeptAs opened calls seen_of left.flusher left.workers.items) → left ≡ ends → IsStopped opened is_matched ends
-stops-unserved opened calls ends left is_matched why answered unserved kept same = record {
-  calls = calls;
-  answered = answered;
-  kept = λ matched. subst (λ (e : Ends SiteValue). AllEndSo IsKeptAs opened calls seen_of e.flusher e.workers.items) same (kept (unserved matched));
-}
+-- the fault of the desk is told
+tells-why : (book : Book) (told : Result (Unit {0}) Fault) → told ≡ Err (fault_of_book book.fault) → IfErr told (TellsWhy book)
+tells-why book (Ok done) is = tt
+tells-why book (Err fault) is = let same : fault ≡ fault_of_book book.fault = cc in inr same
 
--- the result for a desk that isn't closed
-pub stops-told : (opened : Book) (calls : List Call) (shares : List ShareCounts) (receipts : List Numbered) (ends left : Ends SiteValue) (is_matched : Bool) (why : CloseFault) (told : Result (Unit {0}) Fault) → AreAnswered opened calls → (is_matched ≡ true → why ≡ Unserved)
-    → (why ≡ Unserved → AllEndSo IsKeptAs opened calls seen_of left.flusher left.workers.items) → left ≡ ends → is_err told ≡ true → MatchResult told (λ done. Closes opened shares receipts ends) (λ fault. IsStopped opened is_matched ends)
-stops-told opened calls shares receipts ends left is_matched why (Ok done) answered unserved kept same fails = absurd cc
-stops-told opened calls shares receipts ends left is_matched why (Err fault) answered unserved kept same fails = stops-unserved opened calls ends left is_matched why answered unserved kept same
+-- the result for a desk that isn't closed: not all is settled, or a fault has closed the book
+pub stops-now : (opened : Book) (calls : List Call) (shares : List ShareCounts) (receipts : List Numbered) (ends left : Ends SiteValue) (why : CloseFault) (closed : Result (Unit {0}) CloseFault) (told : Result (Unit {0}) Fault) → AreAnswered opened calls
+    → (why ≡ Unserved → AllEndSo IsKeptAs opened calls seen_of left.flusher left.workers.items) → left ≡ ends → closed ≡ Err why → told ≡ Err (fault_of_book (replayed opened calls).fault)
+    → MatchResult closed (λ done. Closes opened shares receipts ends) (λ fault. IsStopped opened fault told ends)
+stops-now opened calls shares receipts ends left why (Ok done) told answered kept same is tells = absurd cc
+stops-now opened calls shares receipts ends left why (Err fault) told answered kept same is tells =
+    let here : fault ≡ why = cc in
+    record {
+      calls = calls;
+      answered = answered;
+      kept = λ unserved. subst (λ (e : Ends SiteValue). AllEndSo IsKeptAs opened calls seen_of e.flusher e.workers.items) same (kept (sym here ∙ unserved));
+      tells = tells-why (replayed opened calls) told tells;
+    }
 
 none-of : {A : Type 0} (items : List A) → length items ≡ 0 → items ≡ []
 none-of [] none = refl
 none-of (item ∷ items) none = absurd (omega (arith, none))
 
 closed-driven : (opened : Book) (commands : List Command) (status : ExitStatus) (counts : ShareCounts) (receipts : List Numbered) (ends : Ends SiteValue) → Receives commands Done status no_counts counts receipts → Closes opened (counts ∷ []) receipts ends
-    → ClosesWith opened commands true status ends
+    → ClosesWith opened commands true status (Ok tt) ends
 closed-driven opened commands status counts receipts ends got closes =
     let book = replayed opened closes.calls in
     let handed_in = closes.closed.handed_in in
@@ -97,39 +93,93 @@ closed-driven opened commands status counts receipts ends got closes =
       closed = closes.closed;
       acknowledged = sym same;
       accepts = (subst (λ (l : List Command). AreAmong l commands) (sym same) got.asked.among, λ done. same ∙ (got.asked.all done).1);
+      tells = tt;
     }
 
 closed-undriven : (opened : Book) (commands : List Command) (status : ExitStatus) (counts : ShareCounts) (ends : Ends SiteValue) → (status ≡ Done) × (counts.tickets ≡ 0) → Closes opened (counts ∷ []) [] ends
-    → ClosesWith opened commands false status ends
+    → ClosesWith opened commands false status (Ok tt) ends
 closed-undriven opened commands status counts ends none closes =
     let counted = closes.closed.handed_in.counted.tickets in
     let without = none.1 in
     let nothing = none-of (replayed opened closes.calls).accepted (omega (arith, counted, without)) in
-    record { calls = closes.calls; counts = counts; receipts = []; closed = closes.closed; acknowledged = sym nothing; accepts = (nothing, none.0) }
+    record { calls = closes.calls; counts = counts; receipts = []; closed = closes.closed; acknowledged = sym nothing; accepts = (nothing, none.0); tells = tt }
+
+-- the fault of a submitter
+gave-up : (commands : List Command) (status : ExitStatus) (counts : ShareCounts) (came : Option (Result (Vec Numbered) Fault)) (fault : Fault) → fault_of came ≡ Err fault → ComesTo commands status counts came → GivesUp fault
+gave-up commands status counts (Some (Ok got)) fault is comes = absurd cc
+gave-up commands status counts (Some (Err why)) fault is comes = let same : why ≡ fault = cc in subst GivesUp same comes
+gave-up commands status counts None fault is comes = absurd cc
+
+-- the fault of a stream is none of the desk's
+of-stream : (ended : Result (Unit {0}) Fault) (fault : Fault) → IfErr ended IsOfStream → ended ≡ Err fault → IsOfStream fault
+of-stream (Ok done) fault printed is = absurd cc
+of-stream (Err why) fault printed is = let same : why ≡ fault = cc in subst IsOfStream same printed
+
+of-desk : (book : Book) (ended : Result (Unit {0}) Fault) (fault : Fault) → IfErr ended (TellsWhy book) → ended ≡ Err fault → TellsWhy book fault
+of-desk book (Ok done) fault tells is = absurd cc
+of-desk book (Err why) fault tells is = let same : why ≡ fault = cc in subst (TellsWhy book) same tells
+
+-- what the user is told, from the results of the submitter and of the desk
+abbrev pub IsToldOf : (asked ended : Result (Unit {0}) Fault) → Fault → Type 0
+IsToldOf asked ended fault = IsOfStream fault ⊎ (ended ≡ Err fault) ⊎ ((asked ≡ Err fault) × (ended ≡ Ok tt))
 
 -- for each result of the submitter, and of closing the desk
-module _ (opened : Book) (commands : List Command) (status : ExitStatus) (counts : ShareCounts) (shares : List ShareCounts) (receipts : List Numbered) (ends : Ends SiteValue) (is_matched : Bool) (alone : shares ≡ counts ∷ []) where
-  abbrev Closed : Result (Unit {0}) Fault → Type 0
-  Closed closed = MatchResult closed (λ done. Closes opened shares receipts ends) (λ fault. IsStopped opened is_matched ends)
-
-  any-stopped : (closed : Result (Unit {0}) Fault) → Closed closed → IsStopped opened is_matched ends
-  any-stopped (Ok done) closes = stopped-left opened is_matched closes.calls ends closes.closed.answered closes.closed.left
-  any-stopped (Err fault) stops = stops
-
-  all-closed : (came : Option (Result (Vec Numbered) Fault)) → receipts ≡ receipts_of came → fault_of came ≡ Ok tt → ComesTo commands status counts came → Closes opened shares receipts ends → ClosesWith opened commands (is_some came) status ends
+module _ (opened : Book) (commands : List Command) (status : ExitStatus) (counts : ShareCounts) (shares : List ShareCounts) (receipts : List Numbered) (ends : Ends SiteValue) (alone : shares ≡ counts ∷ []) where
+  all-closed : (came : Option (Result (Vec Numbered) Fault)) → receipts ≡ receipts_of came → fault_of came ≡ Ok tt → ComesTo commands status counts came → Closes opened shares receipts ends → ClosesWith opened commands (is_some came) status (Ok tt) ends
   all-closed (Some (Ok got)) same none comes closes =
       closed-driven opened commands status counts receipts ends (subst (λ (l : List Numbered). Receives commands Done status no_counts counts l) (sym same) comes) (subst (λ (l : List ShareCounts). Closes opened l receipts ends) alone closes)
   all-closed (Some (Err fault)) same none comes closes = absurd cc
   all-closed None same none comes closes =
       closed-undriven opened commands status counts ends comes (subst (λ (l : List Numbered). Closes opened (counts ∷ []) l ends) same (subst (λ (l : List ShareCounts). Closes opened l receipts ends) alone closes))
 
+  -- the desk was closed, and a fault is told all the same
+  closed-told : (came : Option (Result (Vec Numbered) Fault)) (asked ended : Result (Unit {0}) Fault) (fault : Fault) (is_driven : Bool) → asked ≡ fault_of came → ComesTo commands status counts came → Closes opened shares receipts ends → IfErr ended IsOfStream
+      → IsToldOf asked ended fault → ClosesWith opened commands is_driven status (Err fault) ends
+  closed-told came asked ended fault is_driven is comes closes printed tells =
+      let one = subst (λ (l : List ShareCounts). Closes opened l receipts ends) alone closes in
+      record {
+        calls = one.calls;
+        counts = counts;
+        receipts = receipts;
+        closed = one.closed;
+        acknowledged = tt;
+        accepts = tt;
+        tells = elim tells [
+          | inl stream ↦ inl stream
+          | inr (inl same) ↦ inl (of-stream ended fault printed same)
+          | inr (inr same) ↦ gave-up commands status counts came fault (sym is ∙ same.0) comes
+        ];
+      }
+
+  -- the desk wasn't closed
+  stopped-told : (why : CloseFault) (asked ended told : Result (Unit {0}) Fault) → IsStopped opened why ended ends → (ended ≡ Ok tt → ⊥) → IfErr told (IsToldOf asked ended) → IsStopped opened why told ends
+  stopped-told why asked ended (Ok done) stops bad tells = record { calls = stops.calls; answered = stops.answered; kept = stops.kept; tells = tt }
+  stopped-told why asked ended (Err fault) stops bad tells = record {
+    calls = stops.calls;
+    answered = stops.answered;
+    kept = stops.kept;
+    tells = elim tells [
+      | inl stream ↦ inl stream
+      | inr (inl same) ↦ of-desk (replayed opened stops.calls) ended fault stops.tells same
+      | inr (inr same) ↦ absurd (bad same.1)
+    ];
+  }
+
   -- how the work ended
-  pub ends-so : (came : Option (Result (Vec Numbered) Fault)) (asked closed ended : Result (Unit {0}) Fault) (is_driven : Bool) → receipts ≡ receipts_of came → asked ≡ fault_of came → is_driven ≡ is_some came → ComesTo commands status counts came → Closed closed
-      → OnOk ended ((asked ≡ Ok tt) × (closed ≡ Ok tt)) → MatchResult ended (λ done. ClosesWith opened commands is_driven status ends) (λ fault. IsStopped opened is_matched ends)
-  ends-so came asked closed (Ok done) is_driven same is driven comes closes told =
-      let good : Closes opened shares receipts ends = subst Closed told.1 closes in
-      subst (λ (b : Bool). ClosesWith opened commands b status ends) (sym driven) (all-closed came same (sym is ∙ told.0) comes good)
-  ends-so came asked closed (Err fault) is_driven same is driven comes closes told = any-stopped closed closes
+  pub ends-so : (came : Option (Result (Vec Numbered) Fault)) (asked ended told : Result (Unit {0}) Fault) (closed : Result (Unit {0}) CloseFault) (is_driven : Bool) → receipts ≡ receipts_of came → asked ≡ fault_of came → is_driven ≡ is_some came → ComesTo commands status counts came
+      → MatchResult closed (λ done. Closes opened shares receipts ends) (λ why. IsStopped opened why ended ends) → OnOk ended (closed ≡ Ok tt) → OnOk closed (IfErr ended IsOfStream) → OnOk told ((asked ≡ Ok tt) × (ended ≡ Ok tt)) → IfErr told (IsToldOf asked ended)
+      → MatchResult closed (λ done. ClosesWith opened commands is_driven status told ends) (λ why. IsStopped opened why told ends)
+  ends-so came asked ended (Ok good) (Ok done) is_driven same is driven comes closes ends_well printed both tells =
+      subst (λ (b : Bool). ClosesWith opened commands b status (Ok tt) ends) (sym driven) (all-closed came same (sym is ∙ both.0) comes closes)
+  ends-so came asked ended (Err fault) (Ok done) is_driven same is driven comes closes ends_well printed both tells =
+      closed-told came asked ended fault is_driven is comes closes printed tells
+  ends-so came asked ended told (Err why) is_driven same is driven comes closes ends_well printed both tells =
+      stopped-told why asked ended told closes (λ well. let no : Err why ≡ Ok tt = subst (λ (r : Result (Unit {0}) Fault). OnOk r (Err why ≡ Ok tt)) well ends_well in absurd cc) tells
+
+  -- nothing is told only if the desk was closed
+  pub told-closed : (asked ended told : Result (Unit {0}) Fault) (closed : Result (Unit {0}) CloseFault) → OnOk ended (closed ≡ Ok tt) → OnOk told ((asked ≡ Ok tt) × (ended ≡ Ok tt)) → OnOk told (closed ≡ Ok tt)
+  told-closed asked ended (Ok good) closed ends_well both = subst (λ (r : Result (Unit {0}) Fault). OnOk r (closed ≡ Ok tt)) both.1 ends_well
+  told-closed asked ended (Err fault) closed ends_well both = tt
 
 -- ---- the disk of a line that is taken apart
 
@@ -149,10 +199,10 @@ servable (Err fault) sites capacity whole disk halves long bytes held of slaves 
 -- ---- a line that was served at a desk
 
 module _ (opened : Station) (commands : List Command) (sites : Sites) (ends : Ends SiteValue) (site : SiteValue) (apart : IsApart opened.seen.state sites) (of_sites : AreEndsOfParts sites ends) (together : IsTogether ends site) where
-  leaves-so : (is_driven is_matched : Bool) (status : ExitStatus) (ended : Result (Unit {0}) Fault)
-      → MatchResult ended (λ done. ClosesWith opened.book commands is_driven status ends) (λ fault. IsStopped opened.book is_matched ends)
-      → MatchResult ended (λ done. IsServedAtDesk opened commands is_driven status site) (λ fault. IsStoppedAtDesk opened is_matched site)
-  leaves-so is_driven is_matched status (Ok done) closes = record {
+  leaves-so : (is_driven : Bool) (status : ExitStatus) (told : Result (Unit {0}) Fault) (closed : Result (Unit {0}) CloseFault)
+      → MatchResult closed (λ done. ClosesWith opened.book commands is_driven status told ends) (λ why. IsStopped opened.book why told ends)
+      → MatchResult closed (λ done. IsServedAtDesk opened commands is_driven status told site) (λ why. IsStoppedAtDesk opened why told site)
+  leaves-so is_driven status told (Ok done) closes = record {
     sites = sites;
     apart = apart;
     ends = ends;
@@ -162,10 +212,11 @@ module _ (opened : Station) (commands : List Command) (sites : Sites) (ends : En
     contents = λ just. contents-together opened.book (replayed opened.book closes.calls) opened.seen.state sites ends site apart of_sites together (closes.closed.contents just);
     left = left-together opened closes.calls sites ends site apart of_sites together closes.closed.left;
   }
-  leaves-so is_driven is_matched status (Err fault) stops = record {
+  leaves-so is_driven status told (Err why) stops = record {
     calls = stops.calls;
     answered = stops.answered;
-    kept = λ matched. kept-together opened stops.calls sites ends site apart of_sites together (stops.kept matched);
+    kept = λ unserved. kept-together opened stops.calls sites ends site apart of_sites together (stops.kept unserved);
+    tells = stops.tells;
   }
 
 pub served-at-desk : {E : Type 0} (opened : Station) (commands : List Command) (book : Book) (seen : Seen) (sites : Sites) (at : AtDesk SiteValue) (result : Result (Left SiteValue) E) → book ≡ opened.book → seen ≡ opened.seen → IsApart seen.state sites → AreEndsOfParts sites at.ends
@@ -174,5 +225,12 @@ served-at-desk opened commands book seen sites at (Ok left) of_book of_seen apar
     let here : EndsSo opened.book commands at.ends at.ending = subst (λ (b : Book). EndsSo b commands at.ends at.ending) of_book ends in
     let same : EndsSo opened.book commands at.ends left.ending = subst (λ (e : Ending). EndsSo opened.book commands at.ends e) (sym is.1) here in
     let parts : IsApart opened.seen.state sites = subst (λ (s : Seen). IsApart s.state sites) of_seen apart in
-    leaves-so opened commands sites at.ends left.site parts of_sites is.0 left.ending.is_driven left.ending.is_matched left.ending.status left.ending.ended same
+    record { told = same.told; left = leaves-so opened commands sites at.ends left.site parts of_sites is.0 left.ending.is_driven left.ending.status left.ending.told left.ending.closed same.ended }
 served-at-desk opened commands book seen sites at (Err fault) of_book of_seen apart of_sites is ends = tt
+
+-- where no fault is told, the desk was closed, and the line was served
+pub served-told : (opened : Station) (commands : List Command) (ending : Ending) (site : SiteValue) → ending.told ≡ Ok tt → LeavesSo opened commands ending site → IsServedAtDesk opened commands ending.is_driven ending.status (Ok tt) site
+served-told opened commands ending site good leaves =
+    let closed : ending.closed ≡ Ok tt = subst (λ (r : Result (Unit {0}) Fault). OnOk r (ending.closed ≡ Ok tt)) good leaves.told in
+    subst (λ (told : Result (Unit {0}) Fault). IsServedAtDesk opened commands ending.is_driven ending.status told site) good
+    (subst (λ (r : Result (Unit {0}) CloseFault). MatchResult r (λ done. IsServedAtDesk opened commands ending.is_driven ending.status ending.told site) (λ why. IsStoppedAtDesk opened why ending.told site)) closed leaves.left)

@@ -1,17 +1,22 @@
 -- Commands that are submitted one by one, of which some are accepted.
-use Rattle.std.proofs.Common.{◌≡◌, ℕ, ◌+◌, ◌<◌, ◌≤◌, List, [], ◌∷◌, ◌++◌, length, take, drop, get_or, refl, sym, ◌∙◌, ap, subst, arith, inl, inr, Result, Ok, Err}
+use Rattle.std.proofs.Common.{◌≡◌, ℕ, ◌+◌, ◌<◌, ◌≤◌, List, [], ◌∷◌, ◌++◌, length, take, drop, get_or, refl, sym, ◌∙◌, ap, subst, inl, inr, Result, Ok, Err}
 use Rattle.std.specs.Prelude.{IsErrAnd, OnOk}
 use Rattle.std.proofs.lemmas.List.{append-nil, take_all, take_more, take-append-drop}
 use Rattle.sii_edit.specs.declared.command.Command.{Command}
+use Rattle.sii_edit.specs.declared.refusal.Cause.{Cause}
+use Rattle.sii_edit.specs.declared.refusal.Cause.TheVariants as causes
+use Rattle.book_model.specs.declared.refusal.SubmitRefusal.{SubmitRefusal}
+use Rattle.book_model.specs.declared.refusal.SubmitRefusal.TheVariants as refusals
 use Rattle.station_alone.specs.declared.choice.Choice.TheVariants.{Submit}
 use Rattle.station_alone.specs.declared.choice.Answer.{Answer}
 use Rattle.station_alone.specs.declared.choice.Answer.TheVariants.{Accepted, Refused, Did, Idle, Ended, Failed, NoMemory}
 use Rattle.station_alone.specs.Station.{Station}
+use Rattle.station_alone.specs.Steps.{told_number, told_refusal}
 use Rattle.station_alone.specs.Keeping.{Went, accepted_by}
 use Rattle.station_files.specs.declared.faults.Fault.{Fault}
 use Rattle.station_files.specs.declared.faults.ExitStatus.{ExitStatus}
 use Rattle.station_files.specs.declared.faults.ExitStatus.TheVariants.{Done}
-use Rattle.script_session.specs.Rounds.{AreAmong, Goes, IsAccepted, SubmitsSo}
+use Rattle.script_session.specs.Rounds.{AnswersCommand, AreAmong, Goes, IsAccepted, SubmitsSo}
 use Rattle.script_session.proofs.RoundLaws.{goes-by, goes-none, goes-then}
 
 -- ---- some of the commands
@@ -57,6 +62,34 @@ among-by command Idle = inr refl
 among-by command Ended = inr refl
 among-by command (Failed fault) = inr refl
 among-by command NoMemory = inr refl
+
+-- the answer to a command that was submitted
+told-cause : (refusal : SubmitRefusal) (cause : Cause) → AnswersCommand (told_refusal refusal cause)
+told-cause refusal (causes.BadCategory kind) = tt
+told-cause refusal causes.NoRoom = tt
+told-cause refusal causes.NoSlave = tt
+told-cause refusal causes.SameSlave = tt
+told-cause refusal causes.EmptyGroup = tt
+told-cause refusal causes.GroupTooLong = tt
+told-cause refusal causes.ImageTooLong = tt
+told-cause refusal causes.BadCheck = tt
+told-cause refusal causes.NoSuchCategory = tt
+told-cause refusal causes.SeveralCategories = tt
+told-cause refusal causes.BadChain = tt
+told-cause refusal causes.ImageOverLimit = tt
+told-cause refusal causes.Memory = tt
+told-cause refusal causes.WrongIdentity = tt
+
+told-number : (result : Result ℕ SubmitRefusal) → AnswersCommand (told_number result)
+told-number (Ok number) = tt
+told-number (Err (refusals.Command refusal)) = told-cause (refusals.Command refusal) refusal.cause
+told-number (Err refusals.TooLarge) = tt
+told-number (Err refusals.Full) = tt
+told-number (Err refusals.Closed) = tt
+told-number (Err refusals.OldJournal) = tt
+
+pub answers-command : (command : Command) (answer : Answer) (old new : Station) → Went (Submit command) old answer new → AnswersCommand answer
+answers-command command answer old new went = subst AnswersCommand (sym went.steps.answered) (told-number went.steps.result)
 
 pub goes-went : (command : Command) (answer : Answer) (old new : Station) → Went (Submit command) old answer new → Goes (accepted_by (Submit command) answer) old new
 goes-went command answer old new went = goes-by (accepted_by (Submit command) answer) 0 old new went.goes_on went.keeps

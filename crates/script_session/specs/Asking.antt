@@ -1,10 +1,12 @@
 -- Commands that are submitted at a desk, with their tickets, receipts and answers.
-use Rattle.std.specs.Prelude.{◌≡◌, ◌≢◌, ℕ, ◌+◌, List, [], map, length, slice_get, Option, Some, None, Result, Ok, Err, ⊤}
+use Rattle.std.specs.Prelude.{◌≡◌, ◌≢◌, ◌⊎◌, ℕ, ◌+◌, List, [], map, length, slice_get, Option, Some, None, Result, Ok, Err}
 use Rattle.std.specs.Global.{Vec}
 use Rattle.sii_edit.specs.declared.command.Command.{Command}
 use Rattle.desk_book.specs.Numbered.{Numbered}
 use Rattle.desk_book.specs.Serving.{ShareCounts}
+use Rattle.station_files.specs.Faults.{IsOfStream}
 use Rattle.station_files.specs.declared.faults.Fault.{Fault}
+use Rattle.station_files.specs.declared.faults.Fault.TheVariants.{Unserved}
 use Rattle.station_files.specs.declared.faults.ExitStatus.{ExitStatus}
 use Rattle.station_files.specs.declared.faults.ExitStatus.TheVariants.{Done}
 use Rattle.script_session.specs.Rounds.{AreAmong}
@@ -43,11 +45,15 @@ pub record Submission : Type 0 where
 abbrev pub no_counts : ShareCounts
 no_counts = record { tickets = 0; refusals = 0 }
 
+-- why a submitter gave up: an answer couldn't be printed, memory was refused, or a command didn't become durable
+abbrev pub GivesUp : Fault → Type 0
+GivesUp fault = IsOfStream fault ⊎ (fault ≡ Unserved)
+
 -- this is the result of a submitter of these commands, or it hasn't submitted any
 abbrev pub ComesTo : List Command → ExitStatus → ShareCounts → Option (Result (Vec Numbered) Fault) → Type 0
 ComesTo commands status counts None = (status ≡ Done) × (counts.tickets ≡ 0)
 ComesTo commands status counts (Some (Ok receipts)) = Receives commands Done status no_counts counts receipts.items
-ComesTo commands status counts (Some (Err fault)) = ⊤
+ComesTo commands status counts (Some (Err fault)) = GivesUp fault
 
 -- the receipts in a submitter's result, if it has any
 abbrev pub receipts_of : Option (Result (Vec Numbered) Fault) → List Numbered

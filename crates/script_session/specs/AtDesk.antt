@@ -1,5 +1,5 @@
 -- What holds of a line once its desk was closed, or a fault ended the work there.
-use Rattle.std.specs.Prelude.{◌≡◌, ℕ, Bool, true, false, List, [], ◌∷◌, MatchResult}
+use Rattle.std.specs.Prelude.{◌≡◌, ◌⊎◌, ℕ, Bool, true, false, List, [], ◌∷◌, Option, Some, None, Result, Ok, IfErr, MatchResult, OnOk}
 use Rattle.std.specs.List.{AllByRecursion}
 use Rattle.sii_edit.specs.declared.command.Command.{Command}
 use Rattle.jrn_format.specs.declared.journal.Journal.{Journal}
@@ -7,6 +7,8 @@ use Rattle.site_core.specs.State.{State, Seen}
 use Rattle.site_core.specs.Passes.{LeavesOnly}
 use Rattle.book_model.specs.Book.{Book}
 use Rattle.book_model.specs.Machine.{Machine}
+use Rattle.book_model.specs.declared.fault.Fault.{Fault as BookFault}
+use Rattle.book_model.specs.declared.fault.Fault.TheVariants as books
 use Rattle.site_shadow.specs.Site.{SiteValue}
 use Rattle.station_alone.specs.Station.{Station}
 use Rattle.station_alone.specs.Keeping.{KeptFor}
@@ -20,13 +22,18 @@ use Rattle.book_laws.specs.Opening.{IsFound, book_on}
 use Rattle.world_law.specs.Law.{MachineFits}
 use Rattle.desk_laws.specs.Joined.{CallFits, IsKeptAs}
 use Rattle.desk_laws.specs.Together.{AllEndSo, IsLeft}
+use Rattle.station_threads.specs.declared.closing.CloseFault.{CloseFault}
+use Rattle.station_threads.specs.declared.closing.CloseFault.TheVariants.{Unserved}
 use Rattle.station_threads.specs.declared.closing.Ends.{Ends}
 use Rattle.station_threads.specs.Closing.{IsHandedIn}
+use Rattle.station_files.specs.Faults.{IsOfStream}
+use Rattle.station_files.specs.declared.faults.Fault.{Fault}
+use Rattle.station_files.specs.declared.faults.Fault.TheVariants as faults
 use Rattle.station_files.specs.declared.faults.ExitStatus.{ExitStatus}
 use Rattle.station_files.specs.declared.faults.ExitStatus.TheVariants.{Done}
 use Rattle.script_session.specs.Rounds.{AreAmong}
 use Rattle.script_session.specs.declared.closing.Ending.{Ending}
-use Rattle.script_session.specs.Asking.{commands_of}
+use Rattle.script_session.specs.Asking.{commands_of, GivesUp}
 use Rattle.script_session.specs.Parts.{Sites, IsApart, AreEndsOfParts, IsTogether}
 
 -- the state of a site and its past
@@ -54,27 +61,43 @@ pub record Closes (opened : Book) (shares : List ShareCounts) (receipts : List N
   pub calls : List Call
   pub closed : IsClosed opened calls shares receipts ends
 
--- A desk of this book was closed with one share, and accepted of these commands those that it should. Each of them was acknowledged.
-pub record ClosesWith (opened : Book) (commands : List Command) (is_driven : Bool) (status : ExitStatus) (ends : Ends SiteValue) : Type 0 where
+-- the fault that tells why a desk isn't closed: that of its book, or `Unserved` where work is left or something isn't handed in
+abbrev pub fault_of_book : Option BookFault → Fault
+fault_of_book (Some books.Disk) = faults.Disk
+fault_of_book (Some books.Stopped) = faults.Stopped
+fault_of_book (Some (books.SlaveDead slave)) = faults.SlaveDead slave
+fault_of_book None = faults.Unserved
+
+-- A desk of this book was closed with one share. If no fault is told to the user, it accepted of these commands those that it should, and
+-- each of them was acknowledged.
+pub record ClosesWith (opened : Book) (commands : List Command) (is_driven : Bool) (status : ExitStatus) (told : Result (Unit {0}) Fault)
+    (ends : Ends SiteValue) : Type 0 where
   pub calls : List Call
   pub counts : ShareCounts
   pub receipts : List Numbered
   pub closed : IsClosed opened calls (counts ∷ []) receipts ends
-  pub acknowledged : commands_of receipts ≡ (replayed opened calls).accepted
-  pub accepts : AcceptsOf is_driven commands status (replayed opened calls).accepted
+  pub acknowledged : OnOk told (commands_of receipts ≡ (replayed opened calls).accepted)
+  pub accepts : OnOk told (AcceptsOf is_driven commands status (replayed opened calls).accepted)
+  pub tells : IfErr told GivesUp
 
--- A fault ended the work at a desk of this book. These are the calls of the book, each answered as the definition says. If what was handed
--- in matches what the desk handed out, a power cut leaves of disk and slaves only what is kept.
-pub record IsStopped (opened : Book) (is_matched : Bool) (ends : Ends SiteValue) : Type 0 where
+-- the fault that the user is told of where a desk isn't closed: a stream failed, memory was refused, or it is the fault of the book
+abbrev pub TellsWhy : Book → Fault → Type 0
+TellsWhy book fault = IsOfStream fault ⊎ (fault ≡ fault_of_book book.fault)
+
+-- A desk of this book wasn't closed. These are the calls of the book, each answered as the definition says. Unless what was handed in
+-- doesn't match what the desk handed out, a power cut leaves of disk and slaves only what is kept.
+pub record IsStopped (opened : Book) (why : CloseFault) (told : Result (Unit {0}) Fault) (ends : Ends SiteValue) : Type 0 where
   pub calls : List Call
   pub answered : AreAnswered opened calls
-  pub kept : is_matched ≡ true → AllEndSo IsKeptAs opened calls seen_of ends.flusher ends.workers.items
+  pub kept : why ≡ Unserved → AllEndSo IsKeptAs opened calls seen_of ends.flusher ends.workers.items
+  pub tells : IfErr told (TellsWhy (replayed opened calls))
 
--- The desk was closed if the work ended without a fault; otherwise it was stopped.
-abbrev pub EndsSo : (opened : Book) → (commands : List Command) → Ends SiteValue → Ending → Type 0
-EndsSo opened commands ends ending = MatchResult ending.ended
-    (λ done. ClosesWith opened commands ending.is_driven ending.status ends)
-    (λ fault. IsStopped opened ending.is_matched ends)
+-- How the desk was closed, or that it wasn't. If it wasn't, the user is told of a fault.
+pub record EndsSo (opened : Book) (commands : List Command) (ends : Ends SiteValue) (ending : Ending) : Type 0 where
+  pub told : OnOk ending.told (ending.closed ≡ Ok tt)
+  pub ended : MatchResult ending.closed
+      (λ done. ClosesWith opened commands ending.is_driven ending.status ending.told ends)
+      (λ why. IsStopped opened why ending.told ends)
 
 -- ---- a line that is put together again
 
@@ -95,26 +118,29 @@ AllLeftSo so opened calls site = (machine : Machine) → BeginsAs machine calls 
 -- The line of this station was taken apart, a desk of its book served the parts and was closed, and the line was put together again. If
 -- the book was just opened, each slave that was idle with the opening words before reads as the contents after all accepted commands. A
 -- power cut leaves only what is kept for the session with all of them, and redo of it gives these contents.
-pub record IsServedAtDesk (opened : Station) (commands : List Command) (is_driven : Bool) (status : ExitStatus) (site : SiteValue) : Type 0 where
+pub record IsServedAtDesk (opened : Station) (commands : List Command) (is_driven : Bool) (status : ExitStatus)
+    (told : Result (Unit {0}) Fault) (site : SiteValue) : Type 0 where
   pub sites : Sites
   pub apart : IsApart opened.seen.state sites
   pub ends : Ends SiteValue
   pub of_sites : AreEndsOfParts sites ends
-  pub closes : ClosesWith opened.book commands is_driven status ends
+  pub closes : ClosesWith opened.book commands is_driven status told ends
   pub together : IsTogether ends site
   pub contents : IsJustOpened opened.book → (slave : ℕ) → IsAsOpened opened.book opened.seen.state slave
       → ReadsAsContents (replayed opened.book closes.calls) site.seen.state slave
   pub left : AllLeftSo IsLeft opened closes.calls site
 
--- A fault ended the work at the desk. If what was handed in matches what the desk handed out, a power cut leaves only what is kept for the
+-- The desk wasn't closed. Unless what was handed in doesn't match what the desk handed out, a power cut leaves only what is kept for the
 -- session, with the commands that the book has accepted and each durable one acknowledged.
-pub record IsStoppedAtDesk (opened : Station) (is_matched : Bool) (site : SiteValue) : Type 0 where
+pub record IsStoppedAtDesk (opened : Station) (why : CloseFault) (told : Result (Unit {0}) Fault) (site : SiteValue) : Type 0 where
   pub calls : List Call
   pub answered : AreAnswered opened.book calls
-  pub kept : is_matched ≡ true → AllLeftSo IsKeptAs opened calls site
+  pub kept : why ≡ Unserved → AllLeftSo IsKeptAs opened calls site
+  pub tells : IfErr told (TellsWhy (replayed opened.book calls))
 
--- The line was served if the work ended without a fault; otherwise it was stopped.
-abbrev pub LeavesSo : (opened : Station) → (commands : List Command) → Ending → SiteValue → Type 0
-LeavesSo opened commands ending site = MatchResult ending.ended
-    (λ done. IsServedAtDesk opened commands ending.is_driven ending.status site)
-    (λ fault. IsStoppedAtDesk opened ending.is_matched site)
+-- The line was served if the desk was closed; otherwise it was stopped, and the user is told of a fault.
+pub record LeavesSo (opened : Station) (commands : List Command) (ending : Ending) (site : SiteValue) : Type 0 where
+  pub told : OnOk ending.told (ending.closed ≡ Ok tt)
+  pub left : MatchResult ending.closed
+      (λ done. IsServedAtDesk opened commands ending.is_driven ending.status ending.told site)
+      (λ why. IsStoppedAtDesk opened why ending.told site)

@@ -4,7 +4,7 @@ use Rattle.sii_edit.specs.declared.command.Command.{Command}
 use Rattle.book_model.specs.Book.{Book}
 use Rattle.book_model.specs.Reading.{live_bytes}
 use Rattle.station_alone.specs.declared.choice.Answer.{Answer}
-use Rattle.station_alone.specs.declared.choice.Answer.TheVariants.{Accepted}
+use Rattle.station_alone.specs.declared.choice.Answer.TheVariants.{Accepted, Refused, NoMemory}
 use Rattle.station_alone.specs.Station.{Station}
 use Rattle.station_alone.specs.Keeping.{GoesOn, Keeps}
 use Rattle.station_files.specs.declared.faults.ExitStatus.{ExitStatus}
@@ -29,6 +29,13 @@ IsServedOrClosed book = IsServed book ⊎ (is_some book.fault ≡ true)
 abbrev pub IsAccepted : Answer → Type 0
 IsAccepted (Accepted number) = ⊤
 IsAccepted answer = ⊥
+
+-- this is an answer to a command: it is accepted or refused, or memory was refused
+abbrev pub AnswersCommand : Answer → Type 0
+AnswersCommand (Accepted number) = ⊤
+AnswersCommand (Refused refusal) = ⊤
+AnswersCommand NoMemory = ⊤
+AnswersCommand answer = ⊥
 
 -- these are some of the commands, in the same order
 abbrev pub AreAmong : List Command → List Command → Type 0

@@ -1,7 +1,9 @@
 //! The refusals and faults of a book as the program prints them.
 
-ghost use Rattle.std.specs.Prelude.{◌≢◌};
+ghost use Rattle.std.specs.Prelude.{◌≡◌, ◌≢◌, IfErr, Some};
 ghost use Rattle.desk_book.specs.Calls.{AreAnswered};
+ghost use Rattle.station_files.specs.Faults.{IsOfStream};
+ghost use Rattle.script_session.specs.AtDesk.{fault_of_book};
 
 use book_model::{Fault as BookFault, SubmitRefusal};
 use station_files::{ExitStatus, Fault, Refused, worse};
@@ -25,7 +27,9 @@ pub(crate) fn refused_as(refusal: SubmitRefusal) -> Refused {
 }
 
 /// The program's fault for the fault that closed a book.
-pub(crate) fn fault_of_book(fault: BookFault) -> Fault {
+pub(crate) fn fault_of_book(fault: BookFault) -> Fault
+    ensures { result ≡ fault_of_book (Some fault) }
+{
     match fault {
         BookFault::Disk => Fault::Disk,
         BookFault::Stopped => Fault::Stopped,
@@ -42,7 +46,9 @@ pub(crate) fn print_accepted<W: Write>(
     place: usize,
     number: u64,
     output: &mut W,
-) -> Result<(), Fault> {
+) -> Result<(), Fault>
+    ensures { IfErr result IsOfStream }
+{
     writeln!(output, "command {place} accepted {number}")?;
     Ok(())
 }
@@ -58,7 +64,8 @@ pub(crate) fn print_refused<W: Write>(
     output: &mut W,
     status: &mut ExitStatus,
 ) -> Result<(), Fault>
-    ensures { status.new ≢ ExitStatus.Done }
+    ensures status { status.new ≢ ExitStatus.Done }
+    ensures failed { IfErr result IsOfStream }
 {
     *status = worse(*status, refused.status());
     writeln!(output, "command {place} {refused}")?;
@@ -71,7 +78,8 @@ pub(crate) fn print_totals<T: Tickets, R: Refusals, O: Write>(
     is_asked: bool,
     output: &mut O,
 ) -> Result<(), Fault>
-    ensures { AreAnswered T.opened book.now.calls }
+    ensures answered { AreAnswered T.opened book.now.calls }
+    ensures failed { IfErr result IsOfStream }
 {
     let accepted = book.accepted().len();
     if !is_asked {

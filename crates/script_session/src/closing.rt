@@ -1,9 +1,10 @@
 //! Closes a desk with the share and the receipts of the submitter and the ends of the threads.
 
-ghost use Rattle.std.specs.Prelude.{◌≡◌, ◌≤◌, [], true, is_err, vec_capacity, MatchResult, Ok, OnOk};
-ghost use Rattle.desk_book.specs.Calls.{AreAnswered};
+ghost use Rattle.std.specs.Prelude.{◌≡◌, ◌≤◌, ◌⊎◌, [], vec_capacity, IfErr, MatchResult, Ok, Err, OnOk};
+ghost use Rattle.desk_book.specs.Calls.{replayed, AreAnswered};
+ghost use Rattle.station_files.specs.Faults.{IsOfStream};
 ghost use Rattle.script_session.specs.Asking.{fault_of, receipts_of};
-ghost use Rattle.script_session.specs.AtDesk.{Closes, EndsSo, IsStopped};
+ghost use Rattle.script_session.specs.AtDesk.{fault_of_book, Closes, EndsSo, IsStopped};
 
 use crate::answers::{fault_of_book, print_totals};
 use crate::asked::Asked;
@@ -22,12 +23,13 @@ use std::io::Write;
 pub struct Ending {
     /// Whether the commands were submitted. If a thread can't be started, none is.
     pub is_driven: bool,
-    /// Whether the share, the receipts and the ends that were handed in match what the desk handed out.
-    pub is_matched: bool,
     /// The highest status of the answers to the commands: `Done` if none was refused.
     pub status: ExitStatus,
-    /// The fault that ended the work, if one did.
-    pub ended: Result<(), Fault>,
+    /// Why the desk wasn't closed, if it wasn't.
+    pub closed: Result<(), CloseFault>,
+    /// The fault that the user is told of, if there is one. The desk can be closed all the same: where an answer or the totals couldn't be
+    /// printed, or memory for a receipt was refused.
+    pub told: Result<(), Fault>,
 }
 
 /// What a closed desk leaves: the ends of its threads, and how the work ended.
@@ -62,12 +64,12 @@ pub(crate) fn hand_in<T: Tickets, R: Refusals, C: Asked, O: Write, D: Device + C
     let is_driven = came.is_some();
     let has_totals = has_receipts(&came);
     let (receipts, asked) = received(alloc, came);
-    let (ends, is_matched, closed) = close_desk(desk, shares, receipts, ends, has_totals, output);
+    let (ends, closed, ended) = close_desk(desk, shares, receipts, ends, has_totals, output);
     let ending = Ending {
         is_driven,
-        is_matched,
         status,
-        ended: told_of(asked, closed),
+        closed,
+        told: told_of(asked, ended),
     };
     AtDesk { ends, ending }
 }
@@ -92,27 +94,40 @@ fn received(
     }
 }
 
-/// The result of the work, from that of the submitter and that of closing the desk. A fault of the submitter comes first, but its
-/// `Unserved` gives way to the fault of the desk.
-fn told_of(asked: Result<(), Fault>, closed: Result<(), Fault>) -> Result<(), Fault>
-    ensures { OnOk result ((asked ≡ Ok tt) × (closed ≡ Ok tt)) }
+/// What the user is told, from the result of the submitter and that of closing the desk.
+fn told_of(asked: Result<(), Fault>, ended: Result<(), Fault>) -> Result<(), Fault>
+    ensures good { OnOk result ((asked ≡ Ok tt) × (ended ≡ Ok tt)) }
+    ensures fault { IfErr result (λ fault. IsOfStream fault ⊎ (ended ≡ Err fault) ⊎ ((asked ≡ Err fault) × (ended ≡ Ok tt))) }
 {
-    match (asked, closed) {
-        (Ok(()), end) => end,
-        (Err(Fault::Unserved), Err(why)) => Err(why),
-        (Err(fault), _) => Err(fault),
+    match asked {
+        Ok(()) => ended,
+        Err(fault) => Err(first_of(fault, ended)),
     }
 }
 
-/// What closing a desk returns: the ends, whether what was handed in matches, and why the desk isn't closed or the totals aren't printed.
-type Told<D> = (Ends<ShadowSite<D>>, bool, Result<(), Fault>);
+/// The fault that the user is told of where the submitter gave up: its own where a stream failed or memory was refused, otherwise that of the
+/// desk, if there is one.
+fn first_of(fault: Fault, ended: Result<(), Fault>) -> Fault
+    ensures { IsOfStream result ⊎ (ended ≡ Err result) ⊎ ((result ≡ fault) × (ended ≡ Ok tt)) }
+{
+    match fault {
+        Fault::File => Fault::File,
+        Fault::Memory => Fault::Memory,
+        _ => match ended {
+            Ok(()) => fault,
+            Err(why) => why,
+        },
+    }
+}
+
+/// What closing a desk returns: the ends, why the desk isn't closed, and the fault that the user is told of.
+type Told<D> = (
+    Ends<ShadowSite<D>>,
+    Result<(), CloseFault>,
+    Result<(), Fault>,
+);
 
 /// Closes the desk, and prints the totals if `has_totals`.
-///
-/// # Errors
-///
-/// If the desk isn't closed, the fault of the book, or `Unserved` if it has none. Otherwise `File` or `Memory`, where the totals can't be
-/// printed.
 fn close_desk<T: Tickets, R: Refusals, O: Write, D: Device + Copy>(
     desk: Desk<T, R>,
     shares: Vec<Share<T, R>>,
@@ -122,7 +137,9 @@ fn close_desk<T: Tickets, R: Refusals, O: Write, D: Device + Copy>(
     output: &mut O,
 ) -> Told<D>
     ensures ends { result.0 ≡ ends }
-    ensures closes { MatchResult result.2 (λ done. Closes T.opened shares.items receipts.items ends) (λ fault. IsStopped T.opened result.1 ends) }
+    ensures closes { MatchResult result.1 (λ done. Closes T.opened shares.items receipts.items ends) (λ why. IsStopped T.opened why result.2 ends) }
+    ensures told { OnOk result.2 (result.1 ≡ Ok tt) }
+    ensures printed { OnOk result.1 (IfErr result.2 IsOfStream) }
 {
     match close(desk, shares, receipts, ends) {
         Ok(closed) => tell_closed(closed, has_totals, output),
@@ -136,13 +153,14 @@ fn tell_closed<T: Tickets, R: Refusals, O: Write, D: Device + Copy>(
     has_totals: bool,
     output: &mut O,
 ) -> Told<D>
-    ensures ends { (result.0 ≡ closed.ends) × (result.1 ≡ true) }
+    ensures ends { (result.0 ≡ closed.ends) × (result.1 ≡ Ok tt) }
+    ensures printed { IfErr result.2 IsOfStream }
     ensures answered { AreAnswered T.opened closed.book.calls }
 {
     let Closed { book, ends } = closed;
     let printed = print_totals(&book, has_totals, output);
     drop(book);
-    (ends, true, printed)
+    (ends, Ok(()), printed)
 }
 
 /// Gives the reason why a desk isn't closed, and prints the totals if `has_totals`.
@@ -151,10 +169,8 @@ fn tell_open<T: Tickets, R: Refusals, O: Write, D: Device + Copy>(
     has_totals: bool,
     output: &mut O,
 ) -> Told<D>
-    ensures ends { result.0 ≡ left.ends }
-    ensures unserved { result.1 ≡ true → left.fault ≡ CloseFault.Unserved }
-    ensures matched { left.fault ≡ CloseFault.Unserved → result.1 ≡ true }
-    ensures fault { is_err result.2 ≡ true }
+    ensures ends { (result.0 ≡ left.ends) × (result.1 ≡ Err left.fault) }
+    ensures fault { result.2 ≡ Err (fault_of_book (replayed T.opened left.book.calls).fault) }
     ensures answered { AreAnswered T.opened left.book.calls }
 {
     let NotClosed {
@@ -169,11 +185,13 @@ fn tell_open<T: Tickets, R: Refusals, O: Write, D: Device + Copy>(
     drop(book);
     drop(shares);
     drop(receipts);
-    (ends, fault == CloseFault::Unserved, Err(why))
+    (ends, Err(fault), Err(why))
 }
 
 /// Why a desk isn't closed: the fault of the book, or `Unserved` if it has none.
-fn why_open<T: Tickets, R: Refusals>(book: &Served<T, R>) -> Fault {
+fn why_open<T: Tickets, R: Refusals>(book: &Served<T, R>) -> Fault
+    ensures { result ≡ fault_of_book (replayed T.opened book.now.calls).fault }
+{
     match book.fault() {
         Some(fault) => fault_of_book(fault),
         None => Fault::Unserved,

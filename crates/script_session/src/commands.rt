@@ -1,6 +1,6 @@
 //! Submits the commands of a script to a station on one thread, and serves them.
 ghost use Rattle.std.specs.Prelude.{◌≡◌, ◌∷◌, [], IsTrue, OnOk, None};
-ghost use Rattle.script_session.specs.Rounds.{IsAccepted, ServesSo, SubmitsSo};
+ghost use Rattle.script_session.specs.Rounds.{AnswersCommand, IsAccepted, ServesSo, SubmitsSo};
 
 use crate::answers::{fault_of_book, print_accepted, print_refused, refused_as};
 use crate::rounds::{serve_all, serve_round};
@@ -103,17 +103,17 @@ fn print_answer<W: Write>(
     output: &mut W,
     status: &mut ExitStatus,
 ) -> Result<(), Fault>
+    requires { AnswersCommand answer }
     ensures { status.new ≡ ExitStatus.Done → (status.old ≡ ExitStatus.Done) × IsAccepted answer }
 {
     let refused = match answer {
         Answer::Accepted(number) => return print_accepted(place, number, output),
         Answer::Refused(refusal) => refused_as(refusal),
-        Answer::NoMemory | Answer::Did | Answer::Idle | Answer::Ended | Answer::Failed(_) => {
-            Refused {
-                code: Code::Memory,
-                position: None,
-            }
-        }
+        Answer::NoMemory => Refused {
+            code: Code::Memory,
+            position: None,
+        },
+        Answer::Did | Answer::Idle | Answer::Ended | Answer::Failed(_) => unreachable!(),
     };
     print_refused(place, refused, output, status)
 }

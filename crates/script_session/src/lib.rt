@@ -15,4 +15,5 @@ mod together;
 
 pub use closing::Ending;
 pub use commands::serve_commands;
+pub use station_threads::CloseFault;
 pub use threads::{Left, serve_by_threads};

@@ -1,7 +1,8 @@
 //! Submits commands at a desk, one by one, and waits for their receipts.
 
 ghost use Rattle.std.specs.Prelude.{◌≡◌, ◌+◌, ◌++◌, option_to_list, IfErr, IfOk, OnOk};
-ghost use Rattle.script_session.specs.Asking.{AreInOrder, Asks, AsksAll, Receives};
+ghost use Rattle.station_files.specs.Faults.{IsOfStream};
+ghost use Rattle.script_session.specs.Asking.{AreInOrder, Asks, AsksAll, GivesUp, Receives};
 
 use crate::answers::{print_accepted, print_refused, refused_as};
 use book_model::SubmitRefusal;
@@ -74,7 +75,8 @@ fn ask_one<T: Tickets, R: Refusals, O: Write, W: Wait>(
     output: &mut O,
     status: &mut ExitStatus,
 ) -> Result<Option<Ticket>, Fault>
-    ensures { IfOk result (λ ticket. Asks command.now status.old status.new share.old share.new ticket) }
+    ensures asked { IfOk result (λ ticket. Asks command.now status.old status.new share.old share.new ticket) }
+    ensures failed { IfErr result IsOfStream }
 {
     match ask_copy(rt, desk, share, command) {
         Ok(ticket) => {
@@ -90,7 +92,8 @@ fn ask_one<T: Tickets, R: Refusals, O: Write, W: Wait>(
 
 /// Appends the ticket, if there is one.
 fn keep(tickets: &mut Vec<Ticket>, asked: Option<Ticket>) -> Result<(), Fault>
-    ensures { OnOk result (tickets.new.items ≡ tickets.old.items ++ option_to_list asked) }
+    ensures kept { OnOk result (tickets.new.items ≡ tickets.old.items ++ option_to_list asked) }
+    ensures failed { IfErr result IsOfStream }
 {
     match asked {
         Some(ticket) => {
@@ -111,7 +114,8 @@ fn ask_all<T: Tickets, R: Refusals, O: Write, W: Wait>(
     output: &mut O,
     status: &mut ExitStatus,
 ) -> Result<Vec<Ticket>, Fault>
-    ensures { IfOk result (λ tickets. AsksAll commands.now status.old status.new share.old share.new tickets.items) }
+    ensures asked { IfOk result (λ tickets. AsksAll commands.now status.old status.new share.old share.new tickets.items) }
+    ensures failed { IfErr result IsOfStream }
 {
     let mut tickets = Vec::with_capacity(alloc, commands.len())?;
     for (place, command) in commands.iter().enumerate() {
@@ -130,6 +134,7 @@ fn receive<T: Tickets, R: Refusals, W: Wait>(
 ) -> Result<Receipt, Fault>
     ensures same { IfOk result (λ receipt. receipt ≡ ticket) }
     ensures number { IfOk result (λ receipt. receipt.number ≡ number) }
+    ensures failed { IfErr result GivesUp }
 {
     let Ok(receipt) = desk.wait(rt, ticket) else {
         return Err(Fault::Unserved);
@@ -149,6 +154,7 @@ fn receive_all<T: Tickets, R: Refusals, W: Wait>(
 ) -> Result<Vec<Receipt>, Fault>
     ensures same { IfOk result (λ receipts. receipts.items ≡ tickets.items) }
     ensures in_order { IfOk result (λ receipts. AreInOrder receipts.items) }
+    ensures failed { IfErr result GivesUp }
 {
     let mut receipts = Vec::with_capacity(alloc, tickets.len())?;
     for ticket in tickets {
@@ -173,7 +179,8 @@ pub(crate) fn submit_and_wait<T: Tickets, R: Refusals, O: Write, W: Wait>(
     output: &mut O,
     status: &mut ExitStatus,
 ) -> Result<Vec<Receipt>, Fault>
-    ensures { IfOk result (λ receipts. Receives commands.now status.old status.new share.old share.new receipts.items) }
+    ensures received { IfOk result (λ receipts. Receives commands.now status.old status.new share.old share.new receipts.items) }
+    ensures failed { IfErr result GivesUp }
 {
     let tickets = ask_all(rt, alloc, desk, share, commands, output, status)?;
     receive_all(rt, alloc, desk, tickets)

@@ -1,6 +1,6 @@
 -- What the files of a line hold after a run by threads.
 use Rattle.std.proofs.Common.{◌≡◌, ℕ, Bool, true, false, List, refl, sym, subst, Result, Ok, Err}
-use Rattle.std.specs.Prelude.{MatchResult, OnErr, OnOk}
+use Rattle.std.specs.Prelude.{OnErr, OnOk}
 use Rattle.sii_edit.specs.declared.command.Command.{Command}
 use Rattle.site_core.specs.Line.{Line}
 use Rattle.site_core.specs.State.{State, Seen}
@@ -15,7 +15,8 @@ use Rattle.station_files.specs.declared.faults.ExitStatus.{ExitStatus}
 use Rattle.station_files.specs.declared.faults.ExitStatus.TheVariants.{Done}
 use Rattle.station_bench.specs.Site.{files_of, HoldsSite}
 use Rattle.script_session.specs.declared.threads.Left.{Left}
-use Rattle.script_session.specs.AtDesk.{IsServedAtDesk, IsStoppedAtDesk, LeavesSo}
+use Rattle.script_session.specs.AtDesk.{LeavesSo}
+use Rattle.script_session.proofs.DeskLaws.{served-told}
 use Rattle.script_session.specs.Parts.{IsLineOf}
 use Rattle.station_session.specs.Session.{EndsStation, HoldsBehind, SavesBehind, SavesLeft, SavesServed}
 use Rattle.station_session.proofs.Ending.{saved-still}
@@ -26,11 +27,6 @@ line-of line slaves count same is = subst (λ (n : ℕ). IsLineOf n line) same i
 -- nothing was served, and nothing is saved
 pub ends-unserved : (is_cut : Bool) (files : Known) (line : LineFile) (opened : Station) (commands : List Command) (status : ExitStatus) → ¬ IsFaultless status → EndsStation is_cut files files line opened commands status
 ends-unserved is_cut files line opened commands status bad = record { others = λ other out. refl; saved = λ good. absurd (bad good) }
-
-served-of : (opened : Station) (commands : List Command) (is_driven is_matched : Bool) (status : ExitStatus) (site : SiteValue) (ended : Result (Unit {0}) Fault) → ended ≡ Ok tt
-    → MatchResult ended (λ done. IsServedAtDesk opened commands is_driven status site) (λ fault. IsStoppedAtDesk opened is_matched site) → IsServedAtDesk opened commands is_driven status site
-served-of opened commands is_driven is_matched status site (Ok done) is served = served
-served-of opened commands is_driven is_matched status site (Err fault) is served = absurd cc
 
 pub ends-left : (old new : Known) (line : LineFile) (opened : Station) (commands : List Command) (left : Left SiteValue) (status : ExitStatus) → LeavesSo opened commands left.ending left.site → ChangesAmong old new (files_of line)
     → (IsFaultless status → SavesLeft new line left commands status) → EndsStation false old new line opened commands status
@@ -43,7 +39,7 @@ ends-left old new line opened commands left status served others saved = record 
         answers = left.ending.status;
         worst = s.worst;
         site = left.site;
-        served = served-of opened commands left.ending.is_driven left.ending.is_matched left.ending.status left.site left.ending.ended s.ended served;
+        served = served-told opened commands left.ending left.site s.told served;
         behind = s.behind;
       };
 }
@@ -55,14 +51,29 @@ holds-worse : (is_driven : Bool) (files : Known) (line : LineFile) (r : Station)
 holds-worse true files line r commands one final done_too holds = holds
 holds-worse false files line r commands one final done_too holds = serves-worse files line r commands one final done_too holds
 
--- the status of the answers is at most that of the run
-pub saves-left : (files : Known) (line : LineFile) (left : Left SiteValue) (commands : List Command) (saved final : ExitStatus) → left.ending.ended ≡ Ok tt → (final ≡ Done → (left.ending.status ≡ Done) × (saved ≡ Done)) → SavesBehind files line left.site.seen left.ending.is_driven commands saved
-    → SavesLeft files line left commands final
-saves-left files line left commands saved final ended done_too behind = record {
-  worst = λ done. (done_too done).0;
-  ended = ended;
-  behind = record { r = behind.r; recovered = behind.recovered; begins = behind.begins; holds = holds-worse left.ending.is_driven files line behind.r commands saved final (λ done. (done_too done).1) behind.holds };
-}
+-- no fault is told where the status has none
+well-told : (told : Result (Unit {0}) Fault) (one : ExitStatus) → OnErr told (¬ IsFaultless one) → IsFaultless one → told ≡ Ok tt
+well-told (Ok done) one bad good = refl
+well-told (Err fault) one bad good = absurd (bad good)
+
+-- the desk was closed, so the line was saved
+saved-closed : {F : Type 0} (closed : Result (Unit {0}) F) (told : Result (Unit {0}) Fault) (P : Type 0) → told ≡ Ok tt → OnOk told (closed ≡ Ok tt) → OnOk closed P → P
+saved-closed (Ok done) told P good closes saved = saved
+saved-closed (Err why) told P good closes saved = let is : Err why ≡ Ok tt = subst (λ (r : Result (Unit {0}) Fault). OnOk r (Err why ≡ Ok tt)) good closes in absurd cc
+
+-- The status of the answers, that of what is told and that of saving are at most that of the run.
+pub saves-left : (files : Known) (line : LineFile) (left : Left SiteValue) (commands : List Command) (one saved both final : ExitStatus) → OnOk left.ending.told (left.ending.closed ≡ Ok tt) → OnErr left.ending.told (¬ IsFaultless one)
+    → (IsFaultless saved → OnOk left.ending.closed (SavesBehind files line left.site.seen left.ending.is_driven commands saved)) → (both ≡ Done → (one ≡ Done) × (saved ≡ Done)) → (IsFaultless both → IsFaultless one × IsFaultless saved)
+    → (final ≡ Done → (left.ending.status ≡ Done) × (both ≡ Done)) → (IsFaultless final → IsFaultless left.ending.status × IsFaultless both) → IsFaultless final → SavesLeft files line left commands final
+saves-left files line left commands one saved both final closes bad keeps both_done both_good final_done final_good good =
+    let each = both_good (final_good good).1 in
+    let told = well-told left.ending.told one bad each.0 in
+    let behind = saved-closed left.ending.closed left.ending.told (SavesBehind files line left.site.seen left.ending.is_driven commands saved) told closes (keeps each.1) in
+    record {
+      worst = λ done. (final_done done).0;
+      told = told;
+      behind = record { r = behind.r; recovered = behind.recovered; begins = behind.begins; holds = holds-worse left.ending.is_driven files line behind.r commands saved final (λ done. (both_done (final_done done).1).1) behind.holds };
+    }
 
 -- the files hold the line after its recovery
 pub saves_behind : (files : Known) (line : LineFile) (before : Seen) (r : Station) (is_driven : Bool) (commands : List Command) (status : ExitStatus) → HasRecovered r → BeginsRecovered before r

@@ -118,10 +118,10 @@ pub record SavesBehind (files : Known) (line : LineFile) (before : Seen) (is_dri
   pub begins : BeginsRecovered before r
   pub holds : HoldsBehind is_driven files line r commands status
 
--- No fault ended the work at the desk, and the files hold the line after it.
+-- No fault was told of the work at the desk, which was closed, and the files hold the line after it.
 pub record SavesLeft (files : Known) (line : LineFile) (left : Left SiteValue) (commands : List Command) (status : ExitStatus) : Type 0 where
   pub worst : status ≡ Done → left.ending.status ≡ Done
-  pub ended : left.ending.ended ≡ Ok tt
+  pub told : left.ending.told ≡ Ok tt
   pub behind : SavesBehind files line left.site.seen left.ending.is_driven commands status
 
 -- The line of this station was taken apart, served by threads at a desk, put together again and recovered, and the files hold the result.
@@ -131,7 +131,7 @@ pub record SavesAtDesk (files : Known) (line : LineFile) (opened : Station) (com
   pub answers : ExitStatus
   pub worst : status ≡ Done → answers ≡ Done
   pub site : SiteValue
-  pub served : IsServedAtDesk opened commands is_driven answers site
+  pub served : IsServedAtDesk opened commands is_driven answers (Ok tt) site
   pub behind : SavesBehind files line site.seen is_driven commands status
 
 -- A run with a planned power cut is served on one thread, any other by threads.

@@ -1,4 +1,6 @@
 //! The program's faults for those of opening and recovering a line.
+ghost use Rattle.std.specs.Prelude.{◌≡◌};
+ghost use Rattle.station_session.specs.Faults.{of_journal, of_open, of_slave};
 
 use esc_rom::RomFault;
 use jrn_format::JournalFault;
@@ -8,7 +10,9 @@ use station_bench::of_device;
 use station_files::Fault;
 
 /// The program's fault for a station that can't be opened or recovered.
-pub(crate) fn of_open(fault: OpenFault) -> Fault {
+pub(crate) fn of_open(fault: OpenFault) -> Fault
+    ensures { result ≡ of_open fault }
+{
     match fault {
         OpenFault::Memory => Fault::Memory,
         OpenFault::Journal(ReadFault::Device(fault)) => of_device(fault),
@@ -17,7 +21,10 @@ pub(crate) fn of_open(fault: OpenFault) -> Fault {
     }
 }
 
-fn of_journal(fault: JournalFault) -> Fault {
+/// The program's fault for a file that is no journal, or a journal that can't be read.
+fn of_journal(fault: JournalFault) -> Fault
+    ensures { result ≡ of_journal fault }
+{
     match fault {
         JournalFault::Memory => Fault::Memory,
         JournalFault::NotAJournal => Fault::NotAJournal,
@@ -27,7 +34,10 @@ fn of_journal(fault: JournalFault) -> Fault {
     }
 }
 
-fn of_slave(fault: RomFault) -> Fault {
+/// The program's fault for a slave that can't be opened or read.
+fn of_slave(fault: RomFault) -> Fault
+    ensures { result ≡ of_slave fault }
+{
     match fault {
         RomFault::Memory => Fault::Memory,
         RomFault::SlaveDead { slave } => Fault::SlaveDead { slave },

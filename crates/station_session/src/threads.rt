@@ -1,5 +1,5 @@
 //! Runs commands by threads, on the files of a line.
-ghost use Rattle.std.specs.Prelude.{◌≡◌, [], false, true, length, IsTrue, Ok};
+ghost use Rattle.std.specs.Prelude.{◌≡◌, [], false, true, length, IfErr, IsTrue, Ok, OnOk};
 ghost use Rattle.station_files.specs.Faults.{IsFaultless};
 ghost use Rattle.station_files.specs.Files.{ChangesAmong};
 ghost use Rattle.station_bench.specs.Site.{files_of};
@@ -7,7 +7,7 @@ ghost use Rattle.script_session.specs.Parts.{IsLineOf};
 ghost use Rattle.station_session.specs.Session.{EndsStation, HoldsBehind, SavesBehind, SavesLeft};
 
 use crate::faults::of_open;
-use script_session::{Ending, Left, serve_by_threads, serve_commands};
+use script_session::{CloseFault, Ending, Left, serve_by_threads, serve_commands};
 use sii_edit::Command;
 use site_shadow::{Device, ShadowSite};
 use station_alone::{Alone, recover};
@@ -46,7 +46,7 @@ pub(crate) fn run_threads<
     }
 }
 
-/// Recovers and saves the line that was served. After a fault nothing more is written.
+/// Tells how the line was served, and recovers and saves it.
 fn end_threads<D: Device + Copy, S: Store, W: Write, E: Write>(
     alloc: Global,
     line: &LineFile,
@@ -57,6 +57,7 @@ fn end_threads<D: Device + Copy, S: Store, W: Write, E: Write>(
     faults: &mut E,
 ) -> ExitStatus
     requires line { IsLineOf (length line.now.images.items) left.site.line }
+    requires told { OnOk left.ending.told (left.ending.closed ≡ Ok tt) }
     ensures others { ChangesAmong (S.files store.old) (S.files store.new) (files_of line.now) }
     ensures saved { IsFaultless result → SavesLeft (S.files store.new) line.now left commands.now result }
 {
@@ -64,20 +65,41 @@ fn end_threads<D: Device + Copy, S: Store, W: Write, E: Write>(
     let Ending {
         is_driven,
         status,
-        ended,
-        ..
+        closed,
+        told,
     } = ending;
-    match ended {
-        Ok(()) => {
-            let saved = save_behind(
-                alloc, line, site, is_driven, commands, store, output, faults,
-            );
-            worse(status, saved)
-        }
-        Err(fault) => {
+    let told = status_of(told, faults);
+    let saved = save_closed(
+        alloc, line, site, closed, is_driven, commands, store, output, faults,
+    );
+    worse(status, worse(told, saved))
+}
+
+/// If the desk was closed, recovers the line and saves what it holds, also where an answer couldn't be printed. Otherwise nothing more is
+/// written.
+fn save_closed<D: Device + Copy, S: Store, W: Write, E: Write>(
+    alloc: Global,
+    line: &LineFile,
+    site: ShadowSite<D>,
+    closed: Result<(), CloseFault>,
+    is_driven: bool,
+    commands: &[Command],
+    store: &mut S,
+    output: &mut W,
+    faults: &mut E,
+) -> ExitStatus
+    requires line { IsLineOf (length line.now.images.items) site.line }
+    ensures others { ChangesAmong (S.files store.old) (S.files store.new) (files_of line.now) }
+    ensures saved { IsFaultless result → OnOk closed (SavesBehind (S.files store.new) line.now site.seen is_driven commands.now result) }
+    ensures open { IfErr closed (λ why. S.files store.new ≡ S.files store.old) }
+{
+    match closed {
+        Ok(()) => save_behind(
+            alloc, line, site, is_driven, commands, store, output, faults,
+        ),
+        Err(_) => {
             drop(site);
-            let told = report_fault(fault, faults);
-            worse(status, told)
+            ExitStatus::Done
         }
     }
 }

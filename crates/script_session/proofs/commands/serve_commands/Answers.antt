@@ -1,11 +1,10 @@
-use Rattle.std.proofs.Common.{◌≡◌, ap, sym, ◌∙◌, subst, Option, None, Result}
-use Rattle.std.specs.Prelude.{OnOk}
+use Rattle.std.proofs.Common.{ap, sym, ◌∙◌, subst, Result}
 use Rattle.std.proofs.lemmas.Result.{on_ok_weaker}
 use Rattle.book_model.specs.Book.{Book}
 use Rattle.station_files.specs.declared.faults.Fault.{Fault}
 use Rattle.script_session.specs.Rounds.{ServesSo}
 use Rattle.script_session.proofs.RoundSubmitting.{handed_on}
-use Rattle.script_session.proofs.RoundServing.{serves-on, serves-unserved, serves-unsubmitted}
+use Rattle.script_session.proofs.RoundServing.{serves-on, serves-unserved}
 use Rattle.script_session.proofs.commands.serve_commands.Goals as goal
 
 pub returns-in_err-serve_all : goal.returns-in_err-serve_all

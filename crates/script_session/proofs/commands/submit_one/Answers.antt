@@ -3,11 +3,14 @@ use Rattle.station_files.specs.declared.faults.Fault.{Fault}
 use Rattle.station_files.specs.declared.faults.Fault.TheVariants.{Unserved}
 use Rattle.script_session.specs.Rounds.{SubmitsSo}
 use Rattle.script_session.proofs.RoundLaws.{goes-none, goes-still}
-use Rattle.script_session.proofs.RoundSubmitting.{goes-refused, submits-failed, submits-one, handed_on}
+use Rattle.script_session.proofs.RoundSubmitting.{answers-command, goes-refused, submits-failed, submits-one, handed_on}
 use Rattle.script_session.proofs.commands.submit_one.Goals as goal
 
 pub loop-round-init : goal.loop-round-init
 loop-round-init g c = record { goes = goes-none c.args.alone.now; same = refl }
+
+pub print_answer-requires : goal.print_answer-requires
+print_answer-requires g c = answers-command c.args.command.now c.submit-answer.result c.loop-round.alone c.submit-answer.new.self c.submit-answer.ensures
 
 pub returns-then-not-is_full : goal.returns-then-not-is_full
 returns-then-not-is_full g c =

@@ -1,0 +1,32 @@
+-- The program's fault for each fault of opening and recovering a line.
+use Rattle.esc_rom.specs.declared.fault.RomFault.{RomFault}
+use Rattle.esc_rom.specs.declared.fault.RomFault.TheVariants as slaves
+use Rattle.jrn_format.specs.declared.fault.JournalFault.{JournalFault}
+use Rattle.jrn_format.specs.declared.fault.JournalFault.TheVariants as journals
+use Rattle.site_journal.specs.declared.fault.ReadFault.TheVariants as read
+use Rattle.station_alone.specs.declared.fault.OpenFault.{OpenFault}
+use Rattle.station_alone.specs.declared.fault.OpenFault.TheVariants as why
+use Rattle.station_bench.specs.Faults.{of_device}
+use Rattle.station_files.specs.declared.faults.Fault.{Fault}
+use Rattle.station_files.specs.declared.faults.Fault.TheVariants.{Memory, Stopped, SlaveDead, NotAJournal, BadVersion, BadJournal, WrongLine}
+
+-- the fault for a file that is no journal, or a journal that can't be read
+abbrev pub of_journal : JournalFault → Fault
+of_journal journals.Memory = Memory
+of_journal journals.NotAJournal = NotAJournal
+of_journal (journals.BadVersion found) = BadVersion found
+of_journal journals.WrongLine = WrongLine
+of_journal (journals.BadJournal at) = BadJournal at
+
+-- the fault for a slave that can't be opened or read
+abbrev pub of_slave : RomFault → Fault
+of_slave slaves.Memory = Memory
+of_slave (slaves.SlaveDead slave) = SlaveDead slave
+of_slave slaves.Stopped = Stopped
+
+-- the fault for a station that can't be opened or recovered
+abbrev pub of_open : OpenFault → Fault
+of_open why.Memory = Memory
+of_open (why.Journal (read.Device fault)) = of_device fault
+of_open (why.Journal (read.Journal fault)) = of_journal fault
+of_open (why.Slave fault) = of_slave fault
