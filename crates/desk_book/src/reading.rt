@@ -47,6 +47,18 @@ impl<T: Tickets, R: Refusals> Served<T, R> {
         self.core.fault().is_none() && status.durable <= number && number < status.accepted
     }
 
+    /// Notes that memory stays refused, so that the jobs stop. The book isn't told.
+    pub fn stop_for_memory(&mut self)
+        ensures { self.new ≡ self.old }
+    {
+        self.is_out_of_memory = true;
+    }
+
+    /// Whether the jobs have stopped for want of memory.
+    pub fn is_out_of_memory(&self) -> bool {
+        self.is_out_of_memory
+    }
+
     /// Whether the ticket's command is the accepted one of its number, and durable.
     fn is_durable(&self, ticket: &Ticket) -> bool
         ensures answered { AreAnswered T.opened self.now.calls }

@@ -23,6 +23,8 @@ pub struct Served<T: Tickets, R: Refusals> {
     pub(crate) alloc: Global,
     pub(crate) core: Core,
     pub(crate) history: History<Call>,
+    /// Whether the jobs have stopped for want of memory.
+    pub(crate) is_out_of_memory: bool,
     pub(crate) tickets: Book<T>,
     pub(crate) refusals: Book<R>,
     pub(crate) refused: u64,
@@ -108,6 +110,7 @@ impl<T: Tickets, R: Refusals> Served<T, R> {
             alloc,
             core,
             history: History::new(),
+            is_out_of_memory: false,
             tickets: ticket_book,
             refusals: refusal_book,
             refused: 0,

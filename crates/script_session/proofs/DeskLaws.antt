@@ -34,7 +34,7 @@ use Rattle.script_session.specs.declared.closing.AtDesk.{AtDesk}
 use Rattle.script_session.specs.declared.closing.Ending.{Ending}
 use Rattle.script_session.specs.declared.threads.Left.{Left}
 use Rattle.script_session.specs.Parts.{Sites, HasDiskOf, HasHalf, IsApart, IsServable, AreEndsOfParts, IsTogether}
-use Rattle.script_session.specs.AtDesk.{fault_of_book, seen_of, Closes, ClosesWith, EndsSo, IsServedAtDesk, IsStopped, IsStoppedAtDesk, LeavesSo, TellsWhy}
+use Rattle.script_session.specs.AtDesk.{seen_of, Closes, ClosesWith, EndsSo, IsServedAtDesk, IsStopped, IsStoppedAtDesk, LeavesSo, TellsWhy}
 use Rattle.script_session.proofs.AskLaws.{all-received}
 use Rattle.script_session.proofs.SlaveLaws.{contents-together}
 use Rattle.script_session.proofs.LeftLaws.{kept-together, left-together}
@@ -55,14 +55,17 @@ closes-now opened calls shares receipts ends left (Ok done) told answered served
 }
 closes-now opened calls shares receipts ends left (Err why) told answered served handed_in contents leaves same is = absurd cc
 
--- the fault of the desk is told
-tells-why : (book : Book) (told : Result (Unit {0}) Fault) → told ≡ Err (fault_of_book book.fault) → IfErr told (TellsWhy book)
-tells-why book (Ok done) is = tt
-tells-why book (Err fault) is = let same : fault ≡ fault_of_book book.fault = cc in inr same
+-- the user is told why the desk isn't closed
+abbrev pub IsToldWhy : Book → Result (Unit {0}) Fault → Type 0
+IsToldWhy book told = MatchResult told (λ done. ⊥) (TellsWhy book)
+
+tells-why : (book : Book) (told : Result (Unit {0}) Fault) → IsToldWhy book told → IfErr told (TellsWhy book)
+tells-why book (Ok done) why = tt
+tells-why book (Err fault) why = why
 
 -- the result for a desk that isn't closed: not all is settled, or a fault has closed the book
 pub stops-now : (opened : Book) (calls : List Call) (shares : List ShareCounts) (receipts : List Numbered) (ends left : Ends SiteValue) (why : CloseFault) (closed : Result (Unit {0}) CloseFault) (told : Result (Unit {0}) Fault) → AreAnswered opened calls
-    → (why ≡ Unserved → AllEndSo IsKeptAs opened calls seen_of left.flusher left.workers.items) → left ≡ ends → closed ≡ Err why → told ≡ Err (fault_of_book (replayed opened calls).fault)
+    → (why ≡ Unserved → AllEndSo IsKeptAs opened calls seen_of left.flusher left.workers.items) → left ≡ ends → closed ≡ Err why → IsToldWhy (replayed opened calls) told
     → MatchResult closed (λ done. Closes opened shares receipts ends) (λ fault. IsStopped opened fault told ends)
 stops-now opened calls shares receipts ends left why (Ok done) told answered kept same is tells = absurd cc
 stops-now opened calls shares receipts ends left why (Err fault) told answered kept same is tells =

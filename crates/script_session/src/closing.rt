@@ -4,7 +4,7 @@ ghost use Rattle.std.specs.Prelude.{◌≡◌, ◌≤◌, ◌⊎◌, [], vec_cap
 ghost use Rattle.desk_book.specs.Calls.{replayed, AreAnswered};
 ghost use Rattle.station_files.specs.Faults.{IsOfStream};
 ghost use Rattle.script_session.specs.Asking.{fault_of, receipts_of};
-ghost use Rattle.script_session.specs.AtDesk.{fault_of_book, Closes, EndsSo, IsStopped};
+ghost use Rattle.script_session.specs.AtDesk.{Closes, EndsSo, IsStopped, TellsWhy};
 
 use crate::answers::{fault_of_book, print_totals};
 use crate::asked::Asked;
@@ -170,7 +170,7 @@ fn tell_open<T: Tickets, R: Refusals, O: Write, D: Device + Copy>(
     output: &mut O,
 ) -> Told<D>
     ensures ends { (result.0 ≡ left.ends) × (result.1 ≡ Err left.fault) }
-    ensures fault { result.2 ≡ Err (fault_of_book (replayed T.opened left.book.calls).fault) }
+    ensures fault { MatchResult result.2 (λ done. ⊥) (TellsWhy (replayed T.opened left.book.calls)) }
     ensures answered { AreAnswered T.opened left.book.calls }
 {
     let NotClosed {
@@ -188,12 +188,13 @@ fn tell_open<T: Tickets, R: Refusals, O: Write, D: Device + Copy>(
     (ends, Err(fault), Err(why))
 }
 
-/// Why a desk isn't closed: the fault of the book, or `Unserved` if it has none.
+/// Why a desk isn't closed: the fault of the book; if it has none, `Memory` where its jobs stopped for want of it, or `Unserved`.
 fn why_open<T: Tickets, R: Refusals>(book: &Served<T, R>) -> Fault
-    ensures { result ≡ fault_of_book (replayed T.opened book.now.calls).fault }
+    ensures { TellsWhy (replayed T.opened book.now.calls) result }
 {
     match book.fault() {
         Some(fault) => fault_of_book(fault),
+        None if book.is_out_of_memory() => Fault::Memory,
         None => Fault::Unserved,
     }
 }

@@ -19,7 +19,8 @@ const NO_MEMORY: SubmitRefusal = SubmitRefusal::Command(Refusal {
     position: None,
 });
 
-/// Submits a command. While the book is full, it waits until the book has changed and submits the command again.
+/// Submits a command. While the book is full, it waits until the book has changed and submits the command again. It is refused with
+/// `Memory` where the desk has stopped for want of memory.
 fn ask<T: Tickets, R: Refusals, W: Wait>(
     rt: &W,
     desk: &Desk<T, R>,
@@ -41,6 +42,10 @@ fn ask<T: Tickets, R: Refusals, W: Wait>(
                     return Err(refusal);
                 }
                 let _now = desk.changed(rt, &seen);
+                if desk.is_out_of_memory(rt) {
+                    drop(command);
+                    return Err(NO_MEMORY);
+                }
                 asked = command;
             }
         }

@@ -110,12 +110,13 @@ impl<T: Tickets, R: Refusals> Desk<T, R> {
 
     /// Waits until the ticket's command is durable. Answers its receipt.
     ///
-    /// It waits while the book has no fault and its command of the ticket's number is accepted and not yet durable.
+    /// It waits while the book has no fault, the jobs haven't stopped for want of memory, and the book's command of the ticket's number is
+    /// accepted and not yet durable.
     ///
     /// # Errors
     ///
-    /// The ticket is handed back: a fault closed the book first, or the ticket is of another desk. Then this book has accepted no command
-    /// of its number, or another one.
+    /// The ticket is handed back: a fault or want of memory came first, or the ticket is of another desk. Then this book has accepted no
+    /// command of its number, or another one.
     pub fn wait<W: Wait>(&self, rt: &W, ticket: Ticket) -> Result<Receipt, Unacknowledged>
         ensures receipt { IfOk result (λ receipt. receipt ≡ ticket) }
         ensures stood { IfOk result (λ receipt. IsReceiptOf T.opened receipt) }
@@ -123,7 +124,7 @@ impl<T: Tickets, R: Refusals> Desk<T, R> {
     {
         let number = ticket.number();
         let served = self.changed.wait_while(rt, self.served.lock(rt), |served| {
-            served.is_pending(number)
+            served.is_pending(number) && !served.is_out_of_memory()
         });
         match served.receipt(ticket) {
             Ok(receipt) => return Ok(receipt),
@@ -149,11 +150,23 @@ impl<T: Tickets, R: Refusals> Desk<T, R> {
         self.served.lock(rt).slaves()
     }
 
-    /// Waits until the book's status differs from `seen`, or the book accepts no commands. Answers its status then.
+    /// Whether the jobs have stopped because memory stayed refused. What was accepted is then left to a recovery.
+    pub fn is_out_of_memory<W: Wait>(&self, rt: &W) -> bool {
+        self.served.lock(rt).is_out_of_memory()
+    }
+
+    /// Stops the jobs for want of memory, and wakes all who wait at the desk.
+    pub(crate) fn stop_for_memory<W: Wait>(&self, rt: &W) {
+        self.served.lock(rt).stop_for_memory();
+        self.changed.notify_all();
+    }
+
+    /// Waits until the book's status differs from `seen`, the book accepts no commands, or the jobs have stopped for want of memory.
+    /// Answers its status then.
     pub fn changed<W: Wait>(&self, rt: &W, seen: &Status) -> Status {
         let seen = *seen;
         let served = self.changed.wait_while(rt, self.served.lock(rt), |served| {
-            served.status() == seen && !served.is_closed()
+            served.status() == seen && !served.is_closed() && !served.is_out_of_memory()
         });
         served.status()
     }

@@ -6,6 +6,7 @@ mod closing;
 mod desk;
 mod line_serving;
 mod parts;
+mod patience;
 mod serving;
 mod sides;
 mod sites;

@@ -4,6 +4,7 @@ ghost use Rattle.std.specs.Prelude.{◌≡◌, [], false};
 ghost use Rattle.station_threads.specs.Sides.{begins_below};
 
 use crate::desk::Desk;
+use crate::patience::Patience;
 use book_model::{DiskNext, RomNext, RomOutcome};
 use desk_book::{Heard, Refusals, Tickets, note_of};
 use lists::ItemList;
@@ -22,6 +23,7 @@ pub struct DiskSide<'a, T: Tickets, R: Refusals> {
     notes: Notes<DiskNext, Result<(), DeviceFault>>,
     has_job: bool,
     limit: usize,
+    patience: Patience,
 }
 
 impl<'a, T: Tickets, R: Refusals> Model for DiskSide<'a, T, R> {
@@ -39,6 +41,7 @@ pub struct RomSide<'a, T: Tickets, R: Refusals> {
     slave: u16,
     notes: Notes<RomNext, RomOutcome>,
     has_job: bool,
+    patience: Patience,
 }
 
 impl<'a, T: Tickets, R: Refusals> Model for RomSide<'a, T, R> {
@@ -55,6 +58,7 @@ pub struct CycleSide<'a, T: Tickets, R: Refusals> {
     desk: &'a Desk<T, R>,
     turns: Vec<CycleNote>,
     has_job: bool,
+    patience: Patience,
 }
 
 impl<'a, T: Tickets, R: Refusals> Model for CycleSide<'a, T, R> {
@@ -75,6 +79,7 @@ impl<'a, T: Tickets, R: Refusals> DiskSide<'a, T, R> {
             notes: Notes::new(desk.alloc),
             has_job: false,
             limit: desk.limit,
+            patience: Patience::new(),
         }
     }
 }
@@ -89,6 +94,7 @@ impl<'a, T: Tickets, R: Refusals> RomSide<'a, T, R> {
             slave,
             notes: Notes::new(desk.alloc),
             has_job: false,
+            patience: Patience::new(),
         }
     }
 }
@@ -101,6 +107,7 @@ impl<'a, T: Tickets, R: Refusals> CycleSide<'a, T, R> {
             desk,
             turns: Vec::new(desk.alloc),
             has_job: false,
+            patience: Patience::new(),
         }
     }
 }
@@ -129,13 +136,21 @@ impl<'a, T: Tickets, R: Refusals> Dispatch<DiskLog> for DiskSide<'a, T, R> {
 
     ghost has_ended = { λ _. Unit {0} };
 
-    /// The answer is `Stop` in place of a write that begins behind the journal's area.
+    /// The answer is `Stop` in place of a write that begins behind the journal's area. It is `Stop` too once memory stayed refused.
     fn next<W: Wait>(&mut self, rt: &W) -> Turn<DiskNext> {
+        let desk = self.desk;
+        if self.patience.has_ended(rt) {
+            desk.stop_for_memory(rt);
+            return Turn::Stop;
+        }
         let Ok(()) = self.notes.reserve() else {
+            self.patience.refused();
             return Turn::Again;
         };
-        let desk = self.desk;
         let mut served = desk.served.lock(rt);
+        if served.is_out_of_memory() {
+            return Turn::Stop;
+        }
         match served.disk_next() {
             Heard::Work((job, copy)) => {
                 if !begins_below(&job, self.limit) {
@@ -143,13 +158,18 @@ impl<'a, T: Tickets, R: Refusals> Dispatch<DiskLog> for DiskSide<'a, T, R> {
                 }
                 self.notes.hand_out(copy);
                 self.has_job = true;
+                self.patience.granted();
                 Turn::Work(job)
             }
             Heard::Nothing => {
+                self.patience.granted();
                 desk.changed.wait(rt, served);
                 Turn::Again
             }
-            Heard::NoMemory => Turn::Again,
+            Heard::NoMemory => {
+                self.patience.refused();
+                Turn::Again
+            }
             Heard::Stop => Turn::Stop,
         }
     }
@@ -180,22 +200,35 @@ impl<'a, T: Tickets, R: Refusals> Dispatch<RomLog> for RomSide<'a, T, R> {
     ghost has_ended = { λ _. Unit {0} };
 
     fn next<W: Wait>(&mut self, rt: &W) -> Turn<RomNext> {
+        let desk = self.desk;
+        if self.patience.has_ended(rt) {
+            desk.stop_for_memory(rt);
+            return Turn::Stop;
+        }
         let Ok(()) = self.notes.reserve() else {
+            self.patience.refused();
             return Turn::Again;
         };
-        let desk = self.desk;
         let mut served = desk.served.lock(rt);
+        if served.is_out_of_memory() {
+            return Turn::Stop;
+        }
         match served.slave_next(self.slave) {
             Heard::Work(job) => {
                 self.notes.hand_out(job);
                 self.has_job = true;
+                self.patience.granted();
                 Turn::Work(job)
             }
             Heard::Nothing => {
+                self.patience.granted();
                 desk.changed.wait(rt, served);
                 Turn::Again
             }
-            Heard::NoMemory => Turn::Again,
+            Heard::NoMemory => {
+                self.patience.refused();
+                Turn::Again
+            }
             Heard::Stop => Turn::Stop,
         }
     }
@@ -231,22 +264,35 @@ impl<'a, T: Tickets, R: Refusals> Dispatch<CycleLog> for CycleSide<'a, T, R> {
     ghost has_ended = { λ _. Unit {0} };
 
     fn next<W: Wait>(&mut self, rt: &W) -> Turn<CycleJob> {
+        let desk = self.desk;
+        if self.patience.has_ended(rt) {
+            desk.stop_for_memory(rt);
+            return Turn::Stop;
+        }
         let Ok(()) = self.turns.reserve(1) else {
+            self.patience.refused();
             return Turn::Again;
         };
-        let desk = self.desk;
         let mut served = desk.served.lock(rt);
+        if served.is_out_of_memory() {
+            return Turn::Stop;
+        }
         match served.cycle_next() {
             Heard::Work(plan) => {
                 self.turns.push_reserved(note_of(&plan));
                 self.has_job = true;
+                self.patience.granted();
                 Turn::Work(blank_turn(plan))
             }
             Heard::Nothing => {
+                self.patience.granted();
                 desk.changed.wait(rt, served);
                 Turn::Again
             }
-            Heard::NoMemory => Turn::Again,
+            Heard::NoMemory => {
+                self.patience.refused();
+                Turn::Again
+            }
             Heard::Stop => Turn::Stop,
         }
     }
