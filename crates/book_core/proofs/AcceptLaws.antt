@@ -1,5 +1,5 @@
 -- The book's invariant holds again once one more command is accepted.
-use Rattle.std.proofs.Common.{◌≡◌, ◌∙◌, ℕ, ◌+◌, ◌-◌, ◌≤◌, Bool, true, false, List, [], ◌∷◌, ◌++◌, length, take, drop, Option, refl, sym, ap, subst, arith, length-append, length-drop}
+use Rattle.std.proofs.Common.{◌≡◌, ◌∙◌, ℕ, ◌+◌, ◌-◌, ◌≤◌, true, false, List, [], ◌∷◌, ◌++◌, length, take, drop, refl, sym, ap, subst, arith, length-append, length-drop}
 use Rattle.std.specs.Prelude.{map}
 use Rattle.std.proofs.lemmas.List.{take-append-le, drop-append-le}
 use Rattle.sii_edit.specs.declared.command.Command.{Command}
@@ -9,21 +9,21 @@ use Rattle.jrn_format.specs.declared.journal.Form.{Form}
 use Rattle.jrn_format.specs.declared.journal.Form.TheVariants.{Two}
 use Rattle.jrn_format.specs.Batch.{PayloadFits}
 use Rattle.jrn_format.specs.Halves.{Place, fits, batches_in}
-use Rattle.book_model.specs.declared.fault.Fault.{Fault}
 use Rattle.book_model.specs.Entries.{runs_of}
-use Rattle.book_model.specs.Book.{Book, all_cells, is_version_2}
+use Rattle.book_model.specs.Book.{all_cells, is_version_2}
 use Rattle.book_model.specs.Reading.{settled_prefix}
 use Rattle.book_model.specs.Submit as submit
 use Rattle.book_laws.proofs.CommandLaws.{entries-push, entry_after, length-entries}
-use Rattle.book_parts.specs.Line.{LineState, HasRoom}
+use Rattle.book_laws.specs.Worn.{named_for}
+use Rattle.book_parts.specs.Line.{LineState, HasRoom, slave_at}
 use Rattle.book_parts.specs.Room.{Room, half_room}
 use Rattle.book_parts.specs.Spot.{as_place}
 use Rattle.book_parts.specs.Ledger.{Ledger, own, appended, with_command}
-use Rattle.book_parts.specs.Shown.{Shown, IsAfter}
+use Rattle.book_parts.specs.Shown.{Shown}
 use Rattle.book_core.specs.declared.step.Step.{Step}
 use Rattle.book_core.specs.declared.step.Step.TheVariants.{Resting, Payload, PayloadSync, OpenGate, OpenSync, CloseGate, CloseSync, FarGate, Mark, MarkSync, Version, VersionSync}
 use Rattle.book_core.specs.Parts.{doing_of, book_of}
-use Rattle.book_core.specs.Stands.{IsAppending, StepStands, IsShown, PartsStand, Stands, as_found, applied_of}
+use Rattle.book_core.specs.Stands.{ErrandStands, live_for, IsAppending, StepStands, IsShown, Stands, as_found}
 use Rattle.book_core.specs.declared.book.Core.TheInside.{Inside}
 use Rattle.book_core.proofs.ShownLaws.{applied-few}
 
@@ -94,7 +94,8 @@ accepted-stands core command two stands =
       old_journal = λ old. absurd (not-old core.area.form two old);
       durable = omega (arith, stands.durable, length-append ledger.accepted (command ∷ []));
       cells = stands.cells;
-      errands = stands.errands;
+      errands = λ i inside.
+          subst (λ (l : List Entry). ErrandStands (named_for (core.found ++ l) i) (live_for core.work i) core.fault (slave_at core.work i)) (sym (front-kept ledger command ledger.durable durable)) (stands.errands i inside);
       live = stands.live;
       latest = record { gone = stands.latest.gone; all = stands.latest.all ∙ ap (λ (l : List Entry). map as_found core.found ++ l) (sym (front-kept ledger command ledger.durable durable)) };
       doing = step-kept core.step core.area ledger new core.work (appended-kept ledger command stands.durable) refl stands.doing;

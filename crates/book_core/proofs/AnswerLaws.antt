@@ -1,8 +1,7 @@
 -- The answer to a submitted command, once it is judged.
-use Rattle.std.proofs.Common.{◌≡◌, ◌∙◌, ◌⊎◌, inl, inr, ℕ, Bool, true, false, List, [], ◌∷◌, length, Result, Ok, Err, refl, sym, ap, subst}
+use Rattle.std.proofs.Common.{◌≡◌, ◌∙◌, inl, inr, ℕ, Bool, true, false, List, length, Result, Ok, Err, refl, sym, ap, subst}
 use Rattle.std.specs.Prelude.{IsErrAnd, is_some, if◌then◌else◌}
 use Rattle.sii_words.specs.declared.run.Run.{Run}
-use Rattle.sii_words.specs.Redo.{redone}
 use Rattle.sii_edit.specs.declared.command.Command.{Command}
 use Rattle.sii_edit.specs.declared.applying.Change.{Change}
 use Rattle.sii_edit.specs.declared.refusal.Refusal.{Refusal}

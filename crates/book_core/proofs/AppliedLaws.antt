@@ -1,15 +1,13 @@
 -- How many commands are settled without a gap: those before the first live entry that isn't.
 use Rattle.std.proofs.Common.{◌≡◌, ℕ, zero, suc, ◌+◌, ◌-◌, ◌≤◌, Bool, true, false, List, [], ◌∷◌, ◌++◌, length, take, map, refl, sym, ◌∙◌, ap, subst, arith, Option, Some, None, zero-add, suc-add}
-use Rattle.std.specs.Prelude.{nat_le, slice_get, if◌then◌else◌}
+use Rattle.std.specs.Prelude.{slice_get, if◌then◌else◌}
 use Rattle.std.proofs.lemmas.List.{length-append, length-map, map-append}
-use Rattle.std.proofs.lemmas.Bool.Decides.{nat_tests}
 use Rattle.sii_words.specs.declared.run.Run.{Run}
 use Rattle.sii_words.specs.Redo.{redone}
 use Rattle.sii_edit.specs.declared.command.Command.{Command}
 use Rattle.sii_edit.specs.Fold.{after}
 use Rattle.jrn_format.specs.declared.journal.Entry.{Entry}
 use Rattle.book_model.specs.Cells.{Cell, cell_of}
-use Rattle.book_model.specs.Pending.{values_of, namings_settled}
 use Rattle.book_model.proofs.SettledLaws.{settled-all}
 use Rattle.book_model.specs.Entries.{runs_of, namings, values, entries_from}
 use Rattle.book_model.specs.Book.{all_cells, cell_at}

@@ -1,7 +1,5 @@
 -- A step that succeeded leaves the book as `disk_done` says.
-use Rattle.std.proofs.Common.{◌≡◌, ℕ, ◌+◌, false, List, length, refl, sym, ◌∙◌, ap}
-use Rattle.jrn_format.specs.declared.journal.Entry.{Entry}
-use Rattle.book_model.specs.Entries.{runs_of}
+use Rattle.std.proofs.Common.{◌≡◌, ℕ, ◌+◌, false, List, length, sym, ◌∙◌, ap}
 use Rattle.book_model.specs.Book.{Book, Slave}
 use Rattle.book_model.specs.DiskSteps.{went_on, went_live}
 use Rattle.book_parts.specs.declared.spot.Spot.{Spot}

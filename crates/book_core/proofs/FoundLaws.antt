@@ -1,16 +1,15 @@
 -- The open takes in the live batches one by one.
-use Rattle.std.proofs.Common.{◌≡◌, ℕ, zero, suc, ◌+◌, ◌-◌, ◌<◌, ◌≤◌, Bool, true, false, List, [], ◌∷◌, ◌++◌, length, get_or, take, drop, set, map, refl, sym, ◌∙◌, ap, subst, arith, append_assoc}
-use Rattle.std.specs.Prelude.{if◌then◌else◌, ◌==◌}
-use Rattle.std.specs.List.{All, AllByRecursion, filter}
-use Rattle.std.proofs.lemmas.List.{append-nil, take_more, take_all, map-append, length-map, length-set, drop-set-lt, drop_more, take_at, drop_at}
-use Rattle.std.proofs.lemmas.List.Elements.{All-append, All-map, All-cons, All-nil, filter-append}
+use Rattle.std.proofs.Common.{◌≡◌, ℕ, zero, suc, ◌+◌, ◌<◌, List, [], ◌∷◌, ◌++◌, length, get_or, take, drop, set, map, refl, sym, ◌∙◌, ap, subst, arith, append_assoc}
+use Rattle.std.specs.List.{All, AllByRecursion}
+use Rattle.std.proofs.lemmas.List.{append-nil, take_more, map-append, length-set, drop-set-lt, drop_more, take_at, drop_at}
+use Rattle.std.proofs.lemmas.List.Elements.{All-append, All-map, All-cons, All-nil}
 use Rattle.std.proofs.lemmas.Grind.{flat_map-append}
 use Rattle.sii_words.specs.declared.run.Run.{Run}
 use Rattle.sii_words.specs.Redo.{redone, LiesInside}
 use Rattle.sii_words.proofs.RedoLaws.{redone-append}
 use Rattle.jrn_format.specs.declared.journal.Entry.{Entry}
 use Rattle.jrn_format.specs.declared.journal.Batch.{Batch}
-use Rattle.jrn_format.specs.Batch.{LiesWithin, LieWithin, IsWithin}
+use Rattle.jrn_format.specs.Batch.{LiesWithin, LieWithin}
 use Rattle.jrn_format.proofs.Within.{inside_plant}
 use Rattle.jrn_format.specs.Halves.{live}
 use Rattle.jrn_format.specs.Halves as places

@@ -1,14 +1,12 @@
 -- The book's own entries are the ledger's.
-use Rattle.std.proofs.Common.{◌≡◌, ◌∙◌, ℕ, ◌+◌, ◌≤◌, List, [], ◌∷◌, ◌++◌, length, take, drop, Option, Some, None, refl, sym, ap, arith, length-take-le, length-drop}
+use Rattle.std.proofs.Common.{◌≡◌, ◌∙◌, ℕ, ◌+◌, ◌≤◌, List, length, drop, sym, ap, arith, length-take-le, length-drop}
 use Rattle.jrn_format.specs.declared.journal.Entry.{Entry}
-use Rattle.book_model.specs.declared.fault.Fault.{Fault}
 use Rattle.book_model.specs.Book.{Book, being_appended}
 use Rattle.book_model.specs.Book as book
 use Rattle.book_laws.proofs.CommandLaws.{length-entries}
 use Rattle.book_parts.specs.Line.{LineState}
 use Rattle.book_parts.specs.Room.{Room}
 use Rattle.book_parts.specs.Ledger.{Ledger, contents_of, own, appended, queued}
-use Rattle.book_parts.specs.Shown.{Shown}
 use Rattle.book_core.specs.declared.step.Step.{Step}
 use Rattle.book_core.specs.declared.step.Step.TheVariants.{Resting, Payload, PayloadSync, OpenGate, OpenSync, CloseGate, CloseSync, FarGate, Mark, MarkSync, Version, VersionSync}
 use Rattle.book_core.specs.Parts.{doing_of, book_of}

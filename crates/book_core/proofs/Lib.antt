@@ -1,6 +1,7 @@
 pub mod RunLaws
 pub mod SlaveLaws
 pub mod RomLaws
+pub mod WearLaws
 pub mod WorkLaws
 pub mod OrderLaws
 pub mod InsideLaws

@@ -1,35 +1,39 @@
 -- The book's invariant holds again once a batch goes live, the older half is retired, or a migration ends.
-use Rattle.std.proofs.Common.{◌≡◌, ℕ, zero, suc, ◌+◌, ◌-◌, ◌<◌, ◌≤◌, false, List, [], ◌∷◌, ◌++◌, length, get_or, map, take, drop, Option, Some, refl, sym, ◌∙◌, ap, subst, arith, append_assoc, add-zero, suc-add, add-suc}
+use Rattle.std.proofs.Common.{◌≡◌, ℕ, zero, suc, ◌+◌, ◌<◌, ◌≤◌, true, List, [], ◌∷◌, ◌++◌, length, get_or, map, take, Option, Some, refl, sym, ◌∙◌, ap, subst, arith, append_assoc, length-append, add-zero, suc-add, add-suc}
 use Rattle.std.specs.Prelude.{is_some}
 use Rattle.std.proofs.Math.Seq.{take-add}
-use Rattle.std.proofs.lemmas.List.{append-nil, length-map, map-append}
+use Rattle.std.proofs.lemmas.List.{append-nil, map-append}
 use Rattle.std.proofs.lemmas.List.Concat.{flat_map-append}
 use Rattle.sii_words.specs.declared.run.Run.{Run}
 use Rattle.jrn_format.specs.declared.journal.Entry.{Entry}
 use Rattle.jrn_format.specs.declared.journal.Batch.{Batch}
-use Rattle.jrn_format.specs.declared.journal.Form.{Form}
 use Rattle.jrn_format.specs.declared.journal.Form.TheVariants.{Two}
 use Rattle.jrn_format.specs.Halves.{Halves, Place, InOlder, InNewer, with_batch, batch_in, live, left_of}
 use Rattle.jrn_format.specs.Halves as halves
-use Rattle.book_model.specs.Cells.{Cell, since, cell_of}
+use Rattle.book_model.specs.Cells.{Cell, cell_of}
 use Rattle.book_model.specs.declared.fault.Fault.{Fault}
-use Rattle.book_model.specs.Entries.{runs_of, entries_of, values}
+use Rattle.book_model.specs.Pending.{namings_settled}
+use Rattle.book_model.specs.Entries.{namings, runs_of, entries_of, values}
 use Rattle.book_model.specs.Book.{Slave, Errand, nobody, all_cells, cell_at, IsAbout}
 use Rattle.book_model.specs.Open.{owing_words, owing_slaves}
 use Rattle.book_model.specs.Reading.{settled_prefix}
 use Rattle.book_laws.specs.Fits.{OwesNoMore}
-use Rattle.book_laws.proofs.BookLaws.{length-all_cells}
-use Rattle.book_laws.proofs.CellLaws.{length-all_named}
-use Rattle.book_laws.proofs.SettledLaws.{prefix-stays}
-use Rattle.book_parts.specs.Line.{LineState, slave_at, retired}
-use Rattle.book_parts.proofs.OwingLaws.{SameButOwed, owing-keeps, sizes-owing, length-owing_slaves}
+use Rattle.book_laws.specs.Worn.{named_for}
+use Rattle.book_laws.proofs.BookLaws.{cells_of, length-all_cells}
+use Rattle.book_laws.proofs.CellLaws.{length-all_named, namings-append}
+use Rattle.book_laws.proofs.FitLaws.{runs_of-append}
+use Rattle.book_laws.proofs.SettledLaws.{prefix-stays, slave-settled}
+use Rattle.book_laws.proofs.WornSlaves.{worn-failed, worn-owing}
+use Rattle.book_parts.specs.Line.{LineState, is_settled, slave_at, retired}
+use Rattle.book_parts.proofs.OwingLaws.{SameButOwed, owed-slave, owing-keeps, slave-owing, sizes-owing, length-owing_slaves}
 use Rattle.book_parts.specs.Room.{Room}
 use Rattle.book_parts.specs.Ledger.{Ledger, own, appended, gone_durable}
 use Rattle.book_parts.specs.Shown.{Shown}
 use Rattle.book_core.specs.declared.step.Step.{Step}
 use Rattle.book_core.specs.declared.step.Step.TheVariants.{Resting}
-use Rattle.book_core.specs.Stands.{as_found, ErrandStands, ErrandsStand, runs_each, HasLive, AreLatest, IsAppending, IsRetiring, IsMigrating, applied_of, IsShown, PartsStand}
+use Rattle.book_core.specs.Stands.{as_found, ErrandStands, ErrandsStand, runs_each, HasLive, AreLatest, OwesLast, applied_of, live_for, named_since, PartsStand}
 use Rattle.book_core.specs.Live.{joined, with_live}
+use Rattle.book_core.proofs.WearLaws.{last-left, last-owing, owed-owing}
 
 -- ---- the slaves
 
@@ -37,18 +41,48 @@ pub joined-slaves : (place : Place) (line : LineState) (entries : List Entry) �
 joined-slaves InOlder line entries = refl
 joined-slaves InNewer line entries = refl
 
-errand-owed : (fault : Option Fault) (old new : Slave) → SameButOwed old new → ErrandStands fault old → ErrandStands fault new
-errand-owed fault old new same stands = record {
+errand-owed : (named : ℕ) (live : List (ℕ × ℕ)) (fault : Option Fault) (runs : List Run) (i : ℕ) (old : Slave) → SameButOwed old (owed-slave runs i old) → ErrandStands named live fault old
+    → ErrandStands (named + length (namings runs i)) (live ++ namings runs i) fault (owed-slave runs i old)
+errand-owed named live fault runs i old same stands = record {
   word = λ at is. let inside : at < length old.cells = stands.word at (subst (λ (e : Errand). IsAbout e at) same.errand is) in omega (arith, same.words);
   issues = λ none at. rw (same.known at) (stands.issues none at);
   others = λ none at not. rw (same.known at) (stands.others none at (λ is. not (subst (λ (e : Errand). IsAbout e at) (sym same.errand) is)));
+  worn = worn-owing named (is_some fault) old runs i stands.worn;
+  owed = owed-owing runs i old.cells old.errand stands.owed;
+  last = last-owing runs i live old.cells stands.last;
 }
 
-errands-owed : (fault : Option Fault) (runs : List Run) (slaves later : List Slave) → later ≡ owing_slaves runs 0 slaves
-    → ((i : ℕ) → i < length slaves → ErrandStands fault (get_or slaves i nobody)) → (i : ℕ) → i < length later → ErrandStands fault (get_or later i nobody)
-errands-owed fault runs slaves later is stand i inside =
-    rw is (errand-owed fault (get_or slaves i nobody) (get_or (owing_slaves runs 0 slaves) i nobody) (owing-keeps runs 0 slaves i)
-    (stand i (omega (arith, ap length is, length-owing_slaves runs 0 slaves))))
+pub errands-owed : (named : ℕ → ℕ) (live : ℕ → List (ℕ × ℕ)) (fault : Option Fault) (runs : List Run) (slaves later : List Slave) → later ≡ owing_slaves runs 0 slaves
+    → ((i : ℕ) → i < length slaves → ErrandStands (named i) (live i) fault (get_or slaves i nobody)) → (i : ℕ) → i < length later
+    → ErrandStands (named i + length (namings runs i)) (live i ++ namings runs i) fault (get_or later i nobody)
+errands-owed named live fault runs slaves later is stand i inside =
+    let within : i < length slaves = omega (arith, ap length is, length-owing_slaves runs 0 slaves) in
+    let old = get_or slaves i nobody in
+    let new_is : get_or later i nobody ≡ owed-slave runs i old =
+    ap (λ (l : List Slave). get_or l i nobody) is ∙ slave-owing runs 0 slaves i within ∙ ap (λ (n : ℕ). owed-slave runs n old) (omega arith) in
+    let same : SameButOwed old (owed-slave runs i old) = subst (SameButOwed old) (ap (λ (l : List Slave). get_or l i nobody) (sym is) ∙ new_is) (owing-keeps runs 0 slaves i) in
+    subst (ErrandStands (named i + length (namings runs i)) (live i ++ namings runs i) fault) (sym new_is) (errand-owed (named i) (live i) fault runs i old same (stand i within))
+
+-- what is named since the open, and what is live, once the batch has gone live
+named-joined : (found : List Entry) (ledger : Ledger) (i : ℕ) → named_since found ledger i + length (namings (runs_of (appended ledger)) i) ≡ named_since found (gone_durable ledger) i
+named-joined found ledger i =
+    let before : List Entry = found ++ take ledger.durable (own ledger) in
+    let all : before ++ appended ledger ≡ found ++ take (ledger.durable + ledger.begun) (own ledger) =
+    append_assoc found (take ledger.durable (own ledger)) (appended ledger) ∙ ap (λ (l : List Entry). found ++ l) (sym (take-add ledger.durable ledger.begun (own ledger))) in
+    let both : namings (runs_of (before ++ appended ledger)) i ≡ namings (runs_of before) i ++ namings (runs_of (appended ledger)) i =
+    ap (λ (l : List Run). namings l i) (runs_of-append before (appended ledger)) ∙ namings-append (runs_of before) (runs_of (appended ledger)) i in
+    sym (length-append (namings (runs_of before) i) (namings (runs_of (appended ledger)) i)) ∙ sym (ap length both) ∙ ap (λ (l : List Entry). named_for l i) all
+
+errands-joined : (place : Place) (found : List Entry) (ledger : Ledger) (fault : Option Fault) (work : LineState) → (joined place work (appended ledger)).older ++ (joined place work (appended ledger)).newer ≡ (work.older ++ work.newer) ++ appended ledger
+    → ErrandsStand found ledger fault work → ErrandsStand found (gone_durable ledger) fault (joined place work (appended ledger))
+errands-joined place found ledger fault work behind stand = λ i inside.
+    let runs = runs_of (appended ledger) in
+    let new = joined place work (appended ledger) in
+    let here = errands-owed (named_since found ledger) (live_for work) fault runs work.slaves new.slaves (joined-slaves place work (appended ledger)) stand i inside in
+    let live_is : live_for work i ++ namings runs i ≡ live_for new i =
+    sym (namings-append (runs_of (work.older ++ work.newer)) runs i) ∙ ap (λ (l : List Run). namings l i) (sym (runs_of-append (work.older ++ work.newer) (appended ledger)) ∙ ap runs_of (sym behind)) in
+    subst (λ (n : ℕ). ErrandStands n (live_for new i) fault (get_or new.slaves i nobody)) (named-joined found ledger i)
+    (subst (λ (l : List (ℕ × ℕ)). ErrandStands (named_since found ledger i + length (namings runs i)) l fault (get_or new.slaves i nobody)) live_is here)
 
 pub owes-word : (runs : List Run) (slave first : ℕ) (cells : List Cell) (k : ℕ)
     → length (cell_of (owing_words runs slave first cells) k).owed ≤ length (cell_of cells k).owed + length (values runs slave (first + k))
@@ -126,7 +160,7 @@ live-stands words found area step ledger work shown fault place alone stands = r
   old_journal = stands.old_journal;
   durable = omega (arith, stands.durable);
   cells = ap (λ (l : List Slave). map (λ (s : Slave). length s.cells) l) (joined-slaves place work (appended ledger)) ∙ sizes-owing (runs_of (appended ledger)) 0 work.slaves ∙ stands.cells;
-  errands = errands-owed fault (runs_of (appended ledger)) work.slaves (joined place work (appended ledger)).slaves (joined-slaves place work (appended ledger)) stands.errands;
+  errands = errands-joined place found ledger fault work (behind-all place work (appended ledger) alone) stands.errands;
   live = live-joined place area.halves work (appended ledger) stands.live;
   latest = latest-joined place found ledger work alone stands.latest;
   doing = refl;
@@ -139,15 +173,37 @@ live-left : (halves : Halves) (newer : List Batch) (work : LineState) → runs_e
 live-left halves [] work same = record { older = same; newer = refl }
 live-left halves (b ∷ newer) work same = record { older = same; newer = refl }
 
+-- the live namings are those of the newer half then
+errands-left : (found : List Entry) (ledger : Ledger) (fault : Option Fault) (work : LineState) → is_settled work ≡ true → ErrandsStand found ledger fault work → ErrandsStand found ledger fault (retired work)
+errands-left found ledger fault work settled stand = λ i inside.
+    let s = stand i inside in
+    let cells = (slave_at work i).cells in
+    let older = namings (runs_of work.older) i in
+    let newer = namings (runs_of work.newer) i in
+    let both : live_for work i ≡ older ++ newer = ap (λ (l : List Run). namings l i) (runs_of-append work.older work.newer) ∙ namings-append (runs_of work.older) (runs_of work.newer) i in
+    let left : live_for (retired work) i ≡ newer = ap (λ (l : List Entry). namings (runs_of l) i) (append-nil work.newer) in
+    let at : namings_settled (get_or (all_cells work.slaves) i []) newer older ≡ true =
+    subst (λ (n : ℕ). namings_settled (get_or (all_cells work.slaves) i []) (namings (runs_of work.newer) n) (namings (runs_of work.older) n) ≡ true) (omega arith)
+    (slave-settled 0 (all_cells work.slaves) (runs_of work.newer) (runs_of work.older) i settled (omega (arith, inside, length-all_cells work.slaves))) in
+    let here : namings_settled cells newer older ≡ true = subst (λ (c : List Cell). namings_settled c newer older ≡ true) (cells_of work.slaves i) at in
+    record {
+      word = s.word;
+      issues = s.issues;
+      others = s.others;
+      worn = s.worn;
+      owed = s.owed;
+      last = subst (λ (l : List (ℕ × ℕ)). OwesLast l cells) (sym left) (last-left older newer cells here (subst (λ (l : List (ℕ × ℕ)). OwesLast l cells) both s.last));
+    }
+
 pub retired-stands : (words : List (List ℕ)) (found : List Entry) (area : Room) (step : Step) (ledger : Ledger) (work : LineState) (shown : Shown) (fault : Option Fault)
-    → ledger.begun ≡ 0 → PartsStand words found area step ledger work shown fault
+    → ledger.begun ≡ 0 → is_settled work ≡ true → PartsStand words found area step ledger work shown fault
     → PartsStand words found (record area { halves = halves.retired area.halves }) Resting ledger (retired work) shown fault
-retired-stands words found area step ledger work shown fault none stands = record {
+retired-stands words found area step ledger work shown fault none settled stands = record {
   base = stands.base;
   old_journal = stands.old_journal;
   durable = stands.durable;
   cells = stands.cells;
-  errands = stands.errands;
+  errands = errands-left found ledger fault work settled stands.errands;
   live = live-left area.halves area.halves.newer work stands.live.newer;
   latest = record {
     gone = stands.latest.gone ++ work.older;
@@ -183,7 +239,15 @@ failed-stands words found area step ledger work shown fault first stands = recor
   old_journal = stands.old_journal;
   durable = stands.durable;
   cells = stands.cells;
-  errands = λ i inside. record { word = (stands.errands i inside).word; issues = λ none at. absurd (cc none); others = λ none at not. absurd (cc none) };
+  errands = λ i inside.
+      let s = stands.errands i inside in record {
+        word = s.word;
+        issues = λ none at. absurd (cc none);
+        others = λ none at not. absurd (cc none);
+        worn = worn-failed (named_since found ledger i) (is_some fault) (slave_at work i) (slave_at work i).errand s.worn;
+        owed = s.owed;
+        last = s.last;
+      };
   live = stands.live;
   latest = stands.latest;
   doing = stands.doing;

@@ -1,8 +1,8 @@
 -- The invariant of a book that was just opened.
-use Rattle.std.proofs.Common.{◌≡◌, ℕ, zero, suc, ◌+◌, ◌<◌, ◌≤◌, false, List, [], ◌∷◌, ◌++◌, length, get_or, take, map, Option, None, refl, sym, ◌∙◌, ap, subst, arith}
+use Rattle.std.proofs.Common.{◌≡◌, inl, ℕ, zero, suc, ◌+◌, ◌<◌, List, [], ◌∷◌, ◌++◌, length, get_or, map, None, refl, sym, ◌∙◌, ap, subst, arith}
 use Rattle.std.specs.List.{AllByRecursion, filter}
 use Rattle.std.specs.Prelude.{◌==◌, not, true}
-use Rattle.std.proofs.lemmas.List.{append-nil, map-append}
+use Rattle.std.proofs.lemmas.List.{append-nil, get_or-map, length-map, map-append}
 use Rattle.std.proofs.lemmas.Grind.{flat_map-append}
 use Rattle.std.proofs.lemmas.Bool.Decides.{nat_tests}
 use Rattle.sii_words.specs.declared.run.Run.{Run}
@@ -11,25 +11,26 @@ use Rattle.jrn_format.specs.declared.journal.Entry.{Entry}
 use Rattle.jrn_format.specs.declared.journal.Batch.{Batch}
 use Rattle.jrn_format.specs.declared.journal.Form.{Form}
 use Rattle.jrn_format.specs.declared.journal.Form.TheVariants.{One, Two, Moving}
-use Rattle.jrn_format.specs.declared.journal.Journal.{Journal}
 use Rattle.jrn_format.specs.declared.journal.Spelling.TheVariants.{Plain}
 use Rattle.jrn_format.specs.Batch.{CanStand}
 use Rattle.jrn_format.specs.Halves.{live}
 use Rattle.jrn_format.specs.Live.{halves_in, FitForm}
-use Rattle.book_model.specs.Cells.{Cell, since, cell_of, opened}
-use Rattle.book_model.specs.declared.fault.Fault.{Fault}
-use Rattle.book_model.specs.Entries.{runs_of, entries_of, live_runs, sizes_of}
-use Rattle.book_model.specs.Book.{Book, Slave, Errand, Free, Resting, nobody, IsAbout}
-use Rattle.book_model.specs.Open.{opened_slave, owing_slaves, open_book}
+use Rattle.book_model.specs.Cells.{since, cell_of, opened}
+use Rattle.book_model.specs.Entries.{namings, runs_of, entries_of, live_runs, sizes_of}
+use Rattle.book_model.specs.Book.{Slave, Free, nobody}
+use Rattle.book_model.specs.Open.{opened_slave, owing_slaves}
+use Rattle.book_laws.specs.Worn.{named_for, owed_in}
 use Rattle.book_parts.specs.Line.{LineState}
-use Rattle.book_parts.proofs.OwingLaws.{owing-keeps, sizes-owing}
+use Rattle.book_parts.proofs.OwingLaws.{sizes-owing}
 use Rattle.book_parts.specs.Room.{Room}
 use Rattle.book_parts.specs.Ledger.{Ledger}
 use Rattle.book_parts.specs.Ledger as ledgers
 use Rattle.book_parts.specs.Shown.{Shown}
 use Rattle.book_core.specs.declared.step.Step.TheVariants as steps
-use Rattle.book_core.specs.Stands.{as_found, cell_counts, runs_each, ErrandStands, PartsStand}
+use Rattle.book_core.specs.Stands.{as_found, cell_counts, runs_each, ErrandStands, ErrandsStand, live_for, PartsStand}
 use Rattle.book_core.specs.Found.{TakenUp, IsTaken}
+use Rattle.book_core.proofs.LiveLaws.{errands-owed}
+use Rattle.book_core.proofs.RunLaws.{same-runs}
 
 -- ---- the batches stand in their halves
 
@@ -87,16 +88,49 @@ opened-known [] i at = refl
 opened-known (w ∷ ws) zero at = word-known w at
 opened-known (w ∷ ws) (suc i) at = opened-known ws i at
 
-errand-opened : (runs : List Run) (words : List (List ℕ)) (fault : Option Fault) (i : ℕ) → ErrandStands fault (get_or (owing_slaves runs 0 (map opened_slave words)) i nobody)
-errand-opened runs words fault i =
-    let new : Slave = get_or (owing_slaves runs 0 (map opened_slave words)) i nobody in
-    let same = owing-keeps runs 0 (map opened_slave words) i in
-    let free : new.errand ≡ Free = same.errand ∙ opened-free words i in
-    record {
-      word = λ at is. absurd (subst (λ (e : Errand). IsAbout e at) free is);
-      issues = λ none at. rw (same.known at) (omega (arith, opened-known words i at));
-      others = λ none at not. rw (same.known at) (omega (arith, opened-known words i at));
-    }
+none-owed : (values : List ℕ) → owed_in (map opened values) ≡ 0
+none-owed [] = refl
+none-owed (v ∷ vs) = none-owed vs
+
+word-owed : (values : List ℕ) (at : ℕ) → (cell_of (map opened values) at).owed ≡ []
+word-owed [] at = refl
+word-owed (v ∷ vs) zero = refl
+word-owed (v ∷ vs) (suc at) = word-owed vs at
+
+-- a slave whose words were just read: nothing was named for it yet
+errand-read : (values : List ℕ) → ErrandStands 0 [] None (opened_slave values)
+errand-read values = record {
+  word = λ at is. absurd is;
+  issues = λ none at. omega (arith, word-known values at);
+  others = λ none at not. omega (arith, word-known values at);
+  worn = record {
+    few = omega (arith, none-owed values);
+    most = λ at. omega (arith, word-known values at);
+    three = λ at. omega (arith, word-known values at);
+    calm = λ ok at. inl (omega (arith, word-known values at));
+  };
+  owed = tt;
+  last = λ at w some. let none : length (cell_of (map opened values) at).owed ≡ 0 = ap (λ (l : List ℕ). length l) (word-owed values at) in absurd (omega (arith, some, none));
+}
+
+errand-opened : (runs : List Run) (words : List (List ℕ)) (i : ℕ) → i < length (owing_slaves runs 0 (map opened_slave words))
+    → ErrandStands (length (namings runs i)) (namings runs i) None (get_or (owing_slaves runs 0 (map opened_slave words)) i nobody)
+errand-opened runs words i inside =
+    let count : 0 + length (namings runs i) ≡ length (namings runs i) = omega arith in
+    subst (λ (n : ℕ). ErrandStands n (namings runs i) None (get_or (owing_slaves runs 0 (map opened_slave words)) i nobody)) count
+    (errands-owed (λ k. 0) (λ k. []) None runs (map opened_slave words) (owing_slaves runs 0 (map opened_slave words)) refl
+    (λ k within. subst (ErrandStands 0 [] None) (sym (get_or-map opened_slave words k [] nobody (omega (arith, within, length-map words opened_slave)))) (errand-read (get_or words k []))) i inside)
+
+-- the errands of a book that was just opened
+errands-found : (batches : List Batch) (words : List (List ℕ)) (work : LineState) → work.slaves ≡ owing_slaves (live_runs batches) 0 (map opened_slave words) → runs_of (work.older ++ work.newer) ≡ live_runs batches
+    → ErrandsStand (entries_of batches) (ledgers.opened (redone words (live_runs batches))) None work
+errands-found batches words work slaves runs = λ i inside.
+    let within : i < length (owing_slaves (live_runs batches) 0 (map opened_slave words)) = subst (λ (l : List Slave). i < length l) slaves inside in
+    let named : length (namings (live_runs batches) i) ≡ named_for (entries_of batches ++ []) i = ap (λ (l : List Entry). named_for l i) (sym (append-nil (entries_of batches))) in
+    subst (λ (l : List Slave). ErrandStands (named_for (entries_of batches ++ []) i) (live_for work i) None (get_or l i nobody)) (sym slaves)
+    (subst (λ (n : ℕ). ErrandStands n (live_for work i) None (get_or (owing_slaves (live_runs batches) 0 (map opened_slave words)) i nobody)) named
+    (subst (λ (l : List (ℕ × ℕ)). ErrandStands (length (namings (live_runs batches) i)) l None (get_or (owing_slaves (live_runs batches) 0 (map opened_slave words)) i nobody)) (ap (λ (l : List Run). namings l i) (sym runs))
+    (errand-opened (live_runs batches) words i within)))
 
 -- ---- all of it
 
@@ -128,7 +162,9 @@ first-stands words form capacity batches work all taken = record {
   old_journal = λ is. refl;
   durable = omega arith;
   cells = ap cell_counts taken.slaves ∙ sizes-owing (live_runs batches) 0 (map opened_slave words) ∙ counts-opened words;
-  errands = λ i inside. subst (λ (l : List Slave). ErrandStands None (get_or l i nobody)) (sym taken.slaves) (errand-opened (live_runs batches) words None i);
+  errands = errands-found batches words work taken.slaves
+      (ap runs_of (all-found batches work words all taken ∙ append-nil (map as_found (entries_of batches)))
+      ∙ same-runs (map as_found (entries_of batches)) (entries_of batches) (each-found (entries_of batches)));
   live = record {
     older = ap runs_each taken.older ∙ each-found (entries_of (halves_in batches).older);
     newer = ap runs_each taken.newer ∙ each-found (entries_of (halves_in batches).newer);

@@ -1,19 +1,15 @@
 -- What is handed out for a slave is what `rom_next` says.
 use Rattle.std.proofs.Common.{◌≡◌, ℕ, zero, suc, ◌<◌, Bool, true, false, List, [], ◌∷◌, ◌++◌, length, Some, None, refl, sym, ◌∙◌, ap, subst, arith}
 use Rattle.std.specs.Prelude.{is_some, nat_lt, filter, if◌then◌else◌}
-use Rattle.std.specs.List.{flat_map}
 use Rattle.std.proofs.lemmas.Bool.Decides.{nat_tests}
 use Rattle.sii_words.specs.declared.run.Run.{Run}
-use Rattle.jrn_format.specs.declared.journal.Entry.{Entry}
-use Rattle.jrn_format.specs.Halves.{Halves, live}
 use Rattle.book_model.specs.Cells.{Cell, cell_of, is_any}
 use Rattle.book_model.specs.Pending.{first, last_of}
 use Rattle.book_model.specs.Pending as pending
 use Rattle.book_model.specs.declared.next.RomNext.TheVariants as next
-use Rattle.book_model.specs.Entries.{runs_of, entries_of, live_runs, namings}
+use Rattle.book_model.specs.Entries.{runs_of, namings}
 use Rattle.book_model.specs.Book.{Book, Slave, Free, slave_at}
 use Rattle.book_model.specs.RomSteps.{rom_next, to_do, with_issue, without_work}
-use Rattle.book_laws.proofs.FitLaws.{runs_of-append, live_runs-append}
 use Rattle.book_parts.specs.Line.{LineState}
 use Rattle.book_parts.specs.Line as line
 use Rattle.book_core.specs.Stands.{HasLive}
@@ -33,7 +29,7 @@ owed-inside [] at is = absurd (cc is)
 owed-inside (c ∷ cs) zero is = omega arith
 owed-inside (c ∷ cs) (suc at) is = omega (arith, owed-inside cs at is)
 
-kept-by : (cells : List Cell) (ns : List (ℕ × ℕ)) (w : ℕ × ℕ) → first (filter (λ (n : ℕ × ℕ). is_any (cell_of cells n.0).owed) ns) ≡ Some w → is_any (cell_of cells w.0).owed ≡ true
+pub kept-by : (cells : List Cell) (ns : List (ℕ × ℕ)) (w : ℕ × ℕ) → first (filter (λ (n : ℕ × ℕ). is_any (cell_of cells n.0).owed) ns) ≡ Some w → is_any (cell_of cells w.0).owed ≡ true
 kept-by cells [] w is = absurd (cc is)
 kept-by cells (n ∷ ns) w is = one (is_any (cell_of cells n.0).owed) refl (λ rest. kept-by cells ns w rest) is
   where

@@ -1,5 +1,5 @@
 -- If no live entry is unsettled, everything is settled.
-use Rattle.std.proofs.Common.{◌≡◌, ℕ, suc, ◌+◌, ◌≤◌, ◌<◌, Bool, true, false, List, [], ◌∷◌, ◌++◌, length, take, map, refl, sym, ◌∙◌, ap, arith, Option, Some, None}
+use Rattle.std.proofs.Common.{◌≡◌, ℕ, suc, ◌+◌, ◌<◌, Bool, true, false, List, [], ◌∷◌, ◌++◌, length, take, map, refl, sym, ◌∙◌, ap, arith, Option, Some, None}
 use Rattle.std.specs.Prelude.{◌==◌, is_none, is_some, not, if◌then◌else◌}
 use Rattle.std.proofs.lemmas.List.{length-append, length-map}
 use Rattle.std.proofs.lemmas.Bool.Decides.{nat_tests}
@@ -12,7 +12,7 @@ use Rattle.book_model.specs.Reading.{runs_settled, settled_prefix}
 use Rattle.book_parts.specs.Line.{LineState, first_unsettled, OweNoMore}
 use Rattle.book_parts.specs.Ledger.{Ledger, own}
 use Rattle.book_core.specs.Stands.{as_found, AreLatest}
-use Rattle.book_core.proofs.AppliedLaws.{prefix-few, prefix-found, prefix-gone}
+use Rattle.book_core.proofs.AppliedLaws.{prefix-found, prefix-gone}
 
 -- what is found says whether the prefix is whole
 abbrev Whole : Option ℕ → (prefix all : ℕ) → Type 0

@@ -1,5 +1,5 @@
 -- How many commands are settled: no more than are durable, and so no more than were accepted.
-use Rattle.std.proofs.Common.{◌+◌, ◌-◌, ◌≤◌, List, ◌++◌, length, take, subst, arith, length-append, length-take}
+use Rattle.std.proofs.Common.{◌-◌, ◌≤◌, List, ◌++◌, length, take, subst, arith, length-append, length-take}
 use Rattle.jrn_format.specs.declared.journal.Entry.{Entry}
 use Rattle.book_model.specs.Book.{all_cells}
 use Rattle.book_model.specs.Reading.{settled_prefix, applied}

@@ -1,16 +1,22 @@
 -- A change of one slave keeps what holds of each slave.
-use Rattle.std.proofs.Common.{◌≡◌, ◌≢◌, ◌⊎◌, inl, inr, ℕ, zero, suc, ◌+◌, ◌<◌, ◌≤◌, false, List, [], ◌∷◌, length, get_or, set, Option, Some, refl, sym, ◌∙◌, ap, subst, arith}
+use Rattle.std.proofs.Common.{◌≡◌, ◌≢◌, ◌⊎◌, inl, inr, ℕ, zero, suc, ◌+◌, ◌<◌, ◌≤◌, Bool, false, List, [], ◌∷◌, length, get_or, set, Option, Some, refl, sym, ◌∙◌, ap, subst, arith}
 use Rattle.std.specs.Prelude.{is_some}
 use Rattle.std.proofs.lemmas.List.{length-set, get_or-set_same, get_or-set_other}
 use Rattle.std.proofs.lemmas.Bool.{cases_eq}
 use Rattle.book_model.specs.Cells.{Cell, Known, Holds, Unsure, nothing, cell_of, since, next_issue, asked, written}
 use Rattle.book_model.specs.declared.fault.Fault.{Fault}
 use Rattle.book_model.specs.Book.{Slave, Errand, Free, Issuing, Unsettled, Settling, nobody, all_cells, cell_at, IsAbout}
+use Rattle.jrn_format.specs.declared.journal.Entry.{Entry}
 use Rattle.book_laws.specs.Fits.{OwesNoMore}
+use Rattle.book_laws.specs.Owed.{IsAmong}
+use Rattle.book_laws.specs.Worn.{SlaveWorn}
+use Rattle.book_laws.proofs.WornSlaves.{worn-asked, worn-errand, worn-failed, worn-written}
 use Rattle.book_laws.proofs.BookLaws.{cells_of}
 use Rattle.book_laws.proofs.CellLaws.{length-all_named}
 use Rattle.book_parts.specs.Line.{LineState, slave_at, with_slave}
-use Rattle.book_core.specs.Stands.{cell_counts, ErrandStands, ErrandsStand}
+use Rattle.book_parts.specs.Ledger.{Ledger}
+use Rattle.book_core.specs.Stands.{cell_counts, ErrandStands, ErrandsStand, IsOwed, live_for, named_since}
+use Rattle.book_core.proofs.WearLaws.{last-set, last-written}
 
 -- What a slave does leaves the number of its words, and is owed no more.
 pub record GoesOn (old new : Slave) : Type 0 where
@@ -42,16 +48,28 @@ owes-set slaves i s within goes = λ slave at. one slave at (cases_eq slave i)
 -- ---- the errands
 
 -- with a fault nothing more is said, and nothing more is wanted
-pub errands-set : (fault later : Option Fault) (line : LineState) (i : ℕ) (s : Slave) → (is_some later ≡ false → is_some fault ≡ false) → i < length line.slaves
-    → ErrandsStand fault line → ErrandStands later s → ErrandsStand later (with_slave line i s)
-errands-set fault later line i s same within stand here = λ k inside. one k (omega (arith, length-set line.slaves i s)) (cases_eq k i)
+pub errands-set : (found : List Entry) (ledger : Ledger) (fault later : Option Fault) (line : LineState) (i : ℕ) (s : Slave) → (is_some later ≡ false → is_some fault ≡ false) → i < length line.slaves
+    → ErrandsStand found ledger fault line → ErrandStands (named_since found ledger i) (live_for line i) later s → ErrandsStand found ledger later (with_slave line i s)
+errands-set found ledger fault later line i s same within stand here = λ k inside. one k (omega (arith, length-set line.slaves i s)) (cases_eq k i)
   where
-    still : (t : Slave) → ErrandStands fault t → ErrandStands later t
-    still t stands = record { word = stands.word; issues = λ none. stands.issues (same none); others = λ none. stands.others (same none) }
+    still : (named : ℕ) (live : List (ℕ × ℕ)) (t : Slave) → ErrandStands named live fault t → ErrandStands named live later t
+    still named live t stands =
+        let worn = stands.worn in record {
+          word = stands.word;
+          issues = λ none. stands.issues (same none);
+          others = λ none. stands.others (same none);
+          worn = record { few = worn.few; most = worn.most; three = worn.three; calm = λ none. worn.calm (same none) };
+          owed = stands.owed;
+          last = stands.last;
+        }
 
-    one : (k : ℕ) → k < length line.slaves → (k ≡ i) ⊎ (k ≢ i) → ErrandStands later (slave_at (with_slave line i s) k)
-    one k inside (inl is) = subst (λ (n : ℕ). ErrandStands later (slave_at (with_slave line i s) n)) (sym is) (rw (get_or-set_same line.slaves i s nobody within) here)
-    one k inside (inr other) = rw (get_or-set_other line.slaves i k s nobody other) (still (get_or line.slaves k nobody) (stand k inside))
+    one : (k : ℕ) → k < length line.slaves → (k ≡ i) ⊎ (k ≢ i) → ErrandStands (named_since found ledger k) (live_for line k) later (slave_at (with_slave line i s) k)
+    one k inside (inl is) =
+        subst (λ (n : ℕ). ErrandStands (named_since found ledger n) (live_for line n) later (slave_at (with_slave line i s) n)) (sym is)
+        (subst (ErrandStands (named_since found ledger i) (live_for line i) later) (sym (get_or-set_same line.slaves i s nobody within)) here)
+    one k inside (inr other) =
+        subst (ErrandStands (named_since found ledger k) (live_for line k) later) (sym (get_or-set_other line.slaves i k s nobody other))
+        (still (named_since found ledger k) (live_for line k) (get_or line.slaves k nobody) (stand k inside))
 
 pub about-one : (errand : Errand) (a b : ℕ) → IsAbout errand a → IsAbout errand b → a ≡ b
 about-one Free a b one other = absurd one
@@ -60,24 +78,39 @@ about-one (Unsettled word value taken) a b one other = sym one ∙ other
 about-one (Settling word value taken) a b one other = sym one ∙ other
 
 -- another errand about the same word
-pub errand-same : (fault : Option Fault) (s : Slave) (errand : Errand) → ((at : ℕ) → IsAbout s.errand at → IsAbout errand at) → ((at : ℕ) → IsAbout errand at → IsAbout s.errand at)
-    → ErrandStands fault s → ErrandStands fault (record s { errand = errand })
-errand-same fault s errand on back stands = record {
+pub errand-same : (named : ℕ) (live : List (ℕ × ℕ)) (fault : Option Fault) (s : Slave) (errand : Errand) → ((at : ℕ) → IsAbout s.errand at → IsAbout errand at) → ((at : ℕ) → IsAbout errand at → IsAbout s.errand at)
+    → (IsOwed s.errand s.cells → IsOwed errand s.cells) → ErrandStands named live fault s → ErrandStands named live fault (record s { errand = errand })
+errand-same named live fault s errand on back owed stands = record {
   word = λ at is. stands.word at (back at is);
   issues = stands.issues;
   others = λ none at not. stands.others none at (λ is. not (on at is));
+  worn = worn-errand named (is_some fault) s errand on stands.worn;
+  owed = owed stands.owed;
+  last = stands.last;
 }
 
-pub errand-given_up : (fault : Fault) (s : Slave) → ErrandStands (Some fault) (record s { errand = Free })
-errand-given_up fault s = record { word = λ at is. absurd is; issues = λ none at. absurd (cc none); others = λ none at not. absurd (cc none) }
+pub errand-given_up : (named : ℕ) (live : List (ℕ × ℕ)) (before : Option Fault) (fault : Fault) (s : Slave) → ErrandStands named live before s → ErrandStands named live (Some fault) (record s { errand = Free })
+errand-given_up named live before fault s stands = record {
+  word = λ at is. absurd is;
+  issues = λ none at. absurd (cc none);
+  others = λ none at not. absurd (cc none);
+  worn = worn-failed named (is_some before) s Free stands.worn;
+  owed = tt;
+  last = stands.last;
+}
 
 -- the word has issues left
-pub errand-again : (fault : Option Fault) (s : Slave) (word : ℕ) → IsAbout s.errand word → since (cell_of s.cells word).known ≤ 2 → ErrandStands fault s → ErrandStands fault (record s { errand = Free })
-errand-again fault s word about few stands = record {
-  word = λ at is. absurd is;
-  issues = stands.issues;
-  others = λ none at not. one none at (cases_eq at word);
-}
+pub errand-again : (named : ℕ) (live : List (ℕ × ℕ)) (fault : Option Fault) (s : Slave) (word : ℕ) → IsAbout s.errand word → since (cell_of s.cells word).known ≤ 2 → ErrandStands named live fault s
+    → ErrandStands named live fault (record s { errand = Free })
+errand-again named live fault s word about few stands =
+    let worn = stands.worn in record {
+      word = λ at is. absurd is;
+      issues = stands.issues;
+      others = λ none at not. one none at (cases_eq at word);
+      worn = record { few = worn.few; most = worn.most; three = worn.three; calm = λ none at. inl (one none at (cases_eq at word)) };
+      owed = tt;
+      last = stands.last;
+    }
   where
     one : is_some fault ≡ false → (at : ℕ) → (at ≡ word) ⊎ (at ≢ word) → since (cell_of s.cells at).known ≤ 2
     one none at (inl same) = subst (λ (n : ℕ). since (cell_of s.cells n).known ≤ 2) (sym same) few
@@ -113,11 +146,15 @@ issued_slave s word value = record { cells = set s.cells word (asked (cell_of s.
 pub issued-goes : (s : Slave) (word value : ℕ) → word < length s.cells → GoesOn s (issued_slave s word value)
 issued-goes s word value within = cell-goes s word (asked (cell_of s.cells word)) (Issuing word value) (s.issues + 1) within (omega arith)
 
-pub errand-issued : (fault : Option Fault) (s : Slave) (word value : ℕ) → s.errand ≡ Free → word < length s.cells → ErrandStands fault s → ErrandStands fault (issued_slave s word value)
-errand-issued fault s word value free within stands = record {
+pub errand-issued : (named : ℕ) (live : List (ℕ × ℕ)) (fault : Option Fault) (s : Slave) (word value : ℕ) → s.errand ≡ Free → is_some fault ≡ false → word < length s.cells → 0 < length (cell_of s.cells word).owed
+    → IsAmong value (cell_of s.cells word).owed → ErrandStands named live fault s → ErrandStands named live fault (issued_slave s word value)
+errand-issued named live fault s word value free fine within some among stands = record {
   word = λ at is. subst (λ (n : ℕ). n < length (set s.cells word (asked (cell_of s.cells word)))) is (omega (arith, length-set s.cells word (asked (cell_of s.cells word))));
   issues = λ none at. one none at (cases_eq at word);
   others = λ none at not. rw (cell-other s.cells word at (asked (cell_of s.cells word)) (λ is. not (sym is))) (few none at);
+  worn = worn-asked named s word value (is_some fault) free within some (subst (λ (failed : Bool). SlaveWorn named failed s) fine stands.worn);
+  owed = rw (cell-here s.cells word (asked (cell_of s.cells word)) within) ((next_issue (cell_of s.cells word).known, refl), among);
+  last = last-set live s.cells word (asked (cell_of s.cells word)) within (λ w any. stands.last word w any) stands.last;
 }
   where
     few : is_some fault ≡ false → (at : ℕ) → since (cell_of s.cells at).known ≤ 2
@@ -137,13 +174,21 @@ pub written-goes : (s : Slave) (word value : ℕ) → word < length s.cells → 
 written-goes s word value within =
     cell-goes s word (written (cell_of s.cells word) value) Free s.issues within (omega (arith, length-all_named (Holds value) [] (cell_of s.cells word).owed))
 
-pub errand-written : (fault : Option Fault) (s : Slave) (word value : ℕ) → IsAbout s.errand word → word < length s.cells → ErrandStands fault s → ErrandStands fault (written_slave s word value)
-errand-written fault s word value about within stands = record {
-  word = λ at is. absurd is;
-  issues = λ none at. omega (arith, one none at (cases_eq at word));
-  others = λ none at not. one none at (cases_eq at word);
-}
+pub errand-written : (named : ℕ) (live : List (ℕ × ℕ)) (fault : Option Fault) (s : Slave) (word value : ℕ) (taken : Bool) → s.errand ≡ Settling word value taken → word < length s.cells → ErrandStands named live fault s
+    → ErrandStands named live fault (written_slave s word value)
+errand-written named live fault s word value taken is_settling within stands =
+    let owed = subst (λ (e : Errand). IsOwed e s.cells) is_settling stands.owed in record {
+      word = λ at is. absurd is;
+      issues = λ none at. omega (arith, one none at (cases_eq at word));
+      others = λ none at not. one none at (cases_eq at word);
+      worn = worn-written named (is_some fault) s word value taken is_settling within owed.1 stands.worn;
+      owed = tt;
+      last = last-written live s.cells word value within stands.last;
+    }
   where
+    about : IsAbout s.errand word
+    about = subst (λ (e : Errand). IsAbout e word) (sym is_settling) refl
+
     one : is_some fault ≡ false → (at : ℕ) → (at ≡ word) ⊎ (at ≢ word) → since (cell_of (set s.cells word (written (cell_of s.cells word) value)) at).known ≤ 2
     one none at (inl same) =
         subst (λ (n : ℕ). since (cell_of (set s.cells word (written (cell_of s.cells word) value)) n).known ≤ 2) (sym same)

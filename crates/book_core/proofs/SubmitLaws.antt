@@ -1,5 +1,5 @@
 -- Whether there is room for a command, and what accepting one leaves.
-use Rattle.std.proofs.Common.{◌≡◌, ◌∙◌, ℕ, ◌+◌, ◌<◌, ◌≤◌, ◌/◌, ◌^◌, Bool, true, false, List, [], ◌∷◌, ◌++◌, length, take, drop, Option, Some, None, Result, Ok, Err, ◌-◌, refl, sym, ap, subst, arith}
+use Rattle.std.proofs.Common.{◌≡◌, ◌∙◌, ◌+◌, ◌<◌, ◌≤◌, ◌/◌, ◌^◌, Bool, true, false, List, [], ◌∷◌, ◌++◌, length, Option, Some, None, Result, Ok, Err, ◌-◌, refl, sym, ap, subst, arith}
 use Rattle.std.specs.Prelude.{nat_le, nat_lt, not, is_none, is_some, ◌||◌, if◌then◌else◌}
 use Rattle.std.proofs.lemmas.Bool.{or_parts, ltb-false, leb-false}
 use Rattle.std.proofs.lemmas.Bool.Decides.{nat_tests}
@@ -18,7 +18,7 @@ use Rattle.book_model.specs.Submit.{entry_for, with_appended, is_full, is_too_la
 use Rattle.book_parts.specs.Room.{half_room}
 use Rattle.book_parts.specs.Spot.{as_place}
 use Rattle.book_parts.specs.declared.spot.Spot.{Spot}
-use Rattle.book_parts.specs.Ledger.{Ledger, own, appended, queued}
+use Rattle.book_parts.specs.Ledger.{appended, queued}
 use Rattle.book_core.specs.declared.step.Step.{Step}
 use Rattle.book_core.specs.declared.step.Step.TheVariants.{Resting, Payload, PayloadSync, OpenGate, OpenSync, CloseGate, CloseSync, FarGate, Mark, MarkSync, Version, VersionSync}
 use Rattle.book_core.specs.Parts.{doing_of, book_of}

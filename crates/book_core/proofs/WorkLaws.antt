@@ -9,7 +9,7 @@ use Rattle.book_model.specs.Cells.{Cell}
 use Rattle.book_model.specs.declared.fault.Fault.{Fault}
 use Rattle.book_model.specs.Entries.{runs_of, namings}
 use Rattle.book_model.specs.Pending.{first}
-use Rattle.book_model.specs.Book.{Slave, Errand, Free, all_cells, IsAbout}
+use Rattle.book_model.specs.Book.{Slave, Errand, Free, all_cells, IsAbout, Settling}
 use Rattle.book_model.specs.Reading.{runs_settled, settled_prefix}
 use Rattle.book_laws.specs.Fits.{OwesNoMore}
 use Rattle.book_laws.proofs.BookLaws.{length-all_cells}
@@ -20,9 +20,10 @@ use Rattle.book_parts.specs.Ledger.{Ledger, own}
 use Rattle.book_parts.specs.Shown.{Shown}
 use Rattle.book_core.specs.declared.step.Step.{Step}
 use Rattle.book_core.specs.declared.step.Step.TheVariants.{Resting, Payload, PayloadSync, OpenGate, OpenSync, CloseGate, CloseSync, FarGate, Mark, MarkSync, Version, VersionSync}
-use Rattle.book_core.specs.Stands.{cell_counts, runs_each, ErrandStands, ErrandsStand, IsAppending, IsRetiring, StepStands, applied_of, PartsStand}
+use Rattle.book_core.specs.Stands.{cell_counts, runs_each, ErrandStands, ErrandsStand, IsAppending, IsRetiring, StepStands, applied_of, live_for, named_since, PartsStand}
 use Rattle.book_core.proofs.SlaveLaws.{GoesOn, counts-set, owes-set, errands-set, issued_slave, issued-goes, errand-issued, written_slave, written-goes, errand-written}
 use Rattle.book_core.proofs.RomLaws.{to_do-inside}
+use Rattle.book_core.proofs.WearLaws.{issue-owed}
 
 -- The live entries and their room stay, as do the numbers of words, and nothing more is owed.
 pub record Moves (old new : LineState) : Type 0 where
@@ -104,7 +105,7 @@ step-later VersionSync area ledger old new moves is = is
 -- ---- all of it
 
 pub moved-stands : (words : List (List ℕ)) (found : List Entry) (area : Room) (step : Step) (ledger : Ledger) (old new : LineState) (shown : Shown) (fault later : Option Fault)
-    → Moves old new → ErrandsStand later new → PartsStand words found area step ledger old shown fault → PartsStand words found area step ledger new shown later
+    → Moves old new → ErrandsStand found ledger later new → PartsStand words found area step ledger old shown fault → PartsStand words found area step ledger new shown later
 moved-stands words found area step ledger old new shown fault later moves errands stands = record {
   base = stands.base;
   old_journal = stands.old_journal;
@@ -119,33 +120,34 @@ moved-stands words found area step ledger old new shown fault later moves errand
 
 -- one slave goes on
 pub slave-stands : (words : List (List ℕ)) (found : List Entry) (area : Room) (step : Step) (ledger : Ledger) (work : LineState) (shown : Shown) (fault later : Option Fault) (i : ℕ) (s : Slave)
-    → (is_some later ≡ false → is_some fault ≡ false) → i < length work.slaves → GoesOn (slave_at work i) s → ErrandStands later s
+    → (is_some later ≡ false → is_some fault ≡ false) → i < length work.slaves → GoesOn (slave_at work i) s → ErrandStands (named_since found ledger i) (live_for work i) later s
     → PartsStand words found area step ledger work shown fault → PartsStand words found area step ledger (with_slave work i s) shown later
 slave-stands words found area step ledger work shown fault later i s same within goes errand stands =
-    moved-stands words found area step ledger work (with_slave work i s) shown fault later (moves-one work i s within goes) (errands-set fault later work i s same within stands.errands errand) stands
+    moved-stands words found area step ledger work (with_slave work i s) shown fault later (moves-one work i s within goes) (errands-set found ledger fault later work i s same within stands.errands errand) stands
 
 -- another errand of a slave
 pub errand-stands : (words : List (List ℕ)) (found : List Entry) (area : Room) (step : Step) (ledger : Ledger) (work : LineState) (shown : Shown) (fault later : Option Fault) (i : ℕ) (errand : Errand)
-    → (is_some later ≡ false → is_some fault ≡ false) → i < length work.slaves → ErrandStands later (record (slave_at work i) { errand = errand })
+    → (is_some later ≡ false → is_some fault ≡ false) → i < length work.slaves → ErrandStands (named_since found ledger i) (live_for work i) later (record (slave_at work i) { errand = errand })
     → PartsStand words found area step ledger work shown fault → PartsStand words found area step ledger (with_slave work i (record (slave_at work i) { errand = errand })) shown later
 errand-stands words found area step ledger work shown fault later i errand same within here stands =
     slave-stands words found area step ledger work shown fault later i (record (slave_at work i) { errand = errand }) same within (record { words = refl; owed = λ at. omega arith }) here stands
 
 -- a free slave's next word is handed out to be issued
 pub issue-stands : (words : List (List ℕ)) (found : List Entry) (area : Room) (step : Step) (ledger : Ledger) (work : LineState) (shown : Shown) (fault : Option Fault) (i : ℕ) (o : Option (ℕ × ℕ))
-    → o ≡ first (to_do work i) → i < length work.slaves → (slave_at work i).errand ≡ Free
+    → o ≡ first (to_do work i) → i < length work.slaves → (slave_at work i).errand ≡ Free → is_some fault ≡ false
     → PartsStand words found area step ledger work shown fault → PartsStand words found area step ledger (with_issue work i o) shown fault
-issue-stands words found area step ledger work shown fault i None is within free stands = stands
-issue-stands words found area step ledger work shown fault i (Some w) is within free stands =
+issue-stands words found area step ledger work shown fault i None is within free none stands = stands
+issue-stands words found area step ledger work shown fault i (Some w) is within free none stands =
     let inside : w.0 < length (slave_at work i).cells = to_do-inside (slave_at work i).cells (namings (runs_of (work.older ++ work.newer)) i) w (sym is) in
+    let owed = issue-owed (live_for work i) (slave_at work i).cells w (stands.errands i within).last (sym is) in
     slave-stands words found area step ledger work shown fault fault i (issued_slave (slave_at work i) w.0 w.1) (λ none. none) within (issued-goes (slave_at work i) w.0 w.1 inside)
-    (errand-issued fault (slave_at work i) w.0 w.1 free inside (stands.errands i within)) stands
+    (errand-issued (named_since found ledger i) (live_for work i) fault (slave_at work i) w.0 w.1 free none inside owed.0 owed.1 (stands.errands i within)) stands
 
 -- the errand's word is written
-pub write-stands : (words : List (List ℕ)) (found : List Entry) (area : Room) (step : Step) (ledger : Ledger) (work : LineState) (shown : Shown) (fault : Option Fault) (i word value : ℕ)
-    → i < length work.slaves → IsAbout (slave_at work i).errand word
+pub write-stands : (words : List (List ℕ)) (found : List Entry) (area : Room) (step : Step) (ledger : Ledger) (work : LineState) (shown : Shown) (fault : Option Fault) (i word value : ℕ) (taken : Bool)
+    → i < length work.slaves → (slave_at work i).errand ≡ Settling word value taken
     → PartsStand words found area step ledger work shown fault → PartsStand words found area step ledger (with_written work i word value) shown fault
-write-stands words found area step ledger work shown fault i word value within about stands =
-    let inside : word < length (slave_at work i).cells = (stands.errands i within).word word about in
+write-stands words found area step ledger work shown fault i word value taken within is stands =
+    let inside : word < length (slave_at work i).cells = (stands.errands i within).word word (subst (λ (e : Errand). IsAbout e word) (sym is) refl) in
     slave-stands words found area step ledger work shown fault fault i (written_slave (slave_at work i) word value) (λ none. none) within (written-goes (slave_at work i) word value inside)
-    (errand-written fault (slave_at work i) word value about inside (stands.errands i within)) stands
+    (errand-written (named_since found ledger i) (live_for work i) fault (slave_at work i) word value taken is inside (stands.errands i within)) stands

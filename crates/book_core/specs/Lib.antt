@@ -7,3 +7,4 @@ pub mod Plan
 pub mod Handing
 pub mod Found
 pub mod Settled
+pub mod Wear

@@ -6,11 +6,14 @@ use Rattle.jrn_format.specs.declared.journal.Entry.{Entry}
 use Rattle.jrn_format.specs.declared.journal.Form.TheVariants.{Two}
 use Rattle.jrn_format.specs.Batch.{PayloadFits}
 use Rattle.jrn_format.specs.Halves.{Halves, Place, InOlder, live, batches_in, fits}
-use Rattle.book_model.specs.Cells.{since, cell_of}
+use Rattle.book_model.specs.Cells.{Cell, since, cell_of}
 use Rattle.book_model.specs.declared.fault.Fault.{Fault}
-use Rattle.book_model.specs.Entries.{runs_of, entries_of, sizes_of}
-use Rattle.book_model.specs.Book.{Slave, IsAbout, all_cells, is_version_2}
+use Rattle.book_model.specs.Pending.{values_of}
+use Rattle.book_model.specs.Entries.{namings, runs_of, entries_of, sizes_of}
+use Rattle.book_model.specs.Book.{Slave, Errand, Free, Issuing, Unsettled, Settling, IsAbout, all_cells, is_version_2}
 use Rattle.book_model.specs.Reading.{settled_prefix}
+use Rattle.book_laws.specs.Owed.{IsAmong, IsUnsure, due}
+use Rattle.book_laws.specs.Worn.{named_for, SlaveWorn}
 use Rattle.book_parts.specs.Line.{LineState, HasRoom, is_settled, slave_at}
 use Rattle.book_parts.specs.Room.{Room, half_room}
 use Rattle.book_parts.specs.Spot.{as_place}
@@ -26,16 +29,40 @@ use Rattle.book_core.specs.declared.book.Core.TheInside.{Inside}
 abbrev pub cell_counts : List Slave → List ℕ
 cell_counts slaves = map (λ (s : Slave). length s.cells) slaves
 
--- The errand is about a word of the slave. Without a fault, no word has had more than three issues since it was known, and a word that
--- the errand isn't about at most two.
-pub record ErrandStands (fault : Option Fault) (slave : Slave) : Type 0 where
+-- The errand's word is owed its value, and what the word holds is unknown.
+abbrev pub IsOwed : Errand → List Cell → Type 0
+IsOwed Free cells = Unit {0}
+IsOwed (Issuing word value) cells = IsUnsure (cell_of cells word).known × IsAmong value (cell_of cells word).owed
+IsOwed (Unsettled word value taken) cells = IsUnsure (cell_of cells word).known × IsAmong value (cell_of cells word).owed
+IsOwed (Settling word value taken) cells = IsUnsure (cell_of cells word).known × IsAmong value (cell_of cells word).owed
+
+-- A word that is owed anything is last owed the value that these namings give it last.
+abbrev pub OwesLast : List (ℕ × ℕ) → List Cell → Type 0
+OwesLast live cells = (at word : ℕ) → 0 < length (cell_of cells at).owed → due word (cell_of cells at).owed ≡ due word (values_of at live)
+
+-- The errand is about a word of the slave, and its value is owed. Without a fault, no word has had more than three issues since it was
+-- known, and a word that the errand isn't about at most two. So the slave is spared wear. `named`: how many words were named for it
+-- since the open. `live`: the namings that are live.
+pub record ErrandStands (named : ℕ) (live : List (ℕ × ℕ)) (fault : Option Fault) (slave : Slave) : Type 0 where
   pub word : (at : ℕ) → IsAbout slave.errand at → at < length slave.cells
   pub issues : is_some fault ≡ false → (at : ℕ) → since (cell_of slave.cells at).known ≤ 3
   pub others : is_some fault ≡ false → (at : ℕ) → ¬ (IsAbout slave.errand at) → since (cell_of slave.cells at).known ≤ 2
+  pub worn : SlaveWorn named (is_some fault) slave
+  pub owed : IsOwed slave.errand slave.cells
+  pub last : OwesLast live slave.cells
+
+-- How many words the entries found at the open and the durable commands name for slave i.
+abbrev pub named_since : List Entry → Ledger → ℕ → ℕ
+named_since found ledger i = named_for (found ++ take ledger.durable (own ledger)) i
+
+-- The live namings of slave i.
+abbrev pub live_for : LineState → ℕ → List (ℕ × ℕ)
+live_for work i = namings (runs_of (work.older ++ work.newer)) i
 
 -- This holds of each slave of the line.
-abbrev pub ErrandsStand : Option Fault → LineState → Type 0
-ErrandsStand fault work = (i : ℕ) → i < length work.slaves → ErrandStands fault (slave_at work i)
+abbrev pub ErrandsStand : List Entry → Ledger → Option Fault → LineState → Type 0
+ErrandsStand found ledger fault work = (i : ℕ) → i < length work.slaves
+    → ErrandStands (named_since found ledger i) (live_for work i) fault (slave_at work i)
 
 -- ---- the live entries
 
@@ -112,7 +139,7 @@ pub record PartsStand (words : List (List ℕ)) (found : List Entry) (area : Roo
   pub old_journal : is_version_2 area.form ≡ false → ledger.accepted ≡ []
   pub durable : ledger.durable + ledger.begun ≤ length ledger.accepted
   pub cells : cell_counts work.slaves ≡ sizes_of words
-  pub errands : ErrandsStand fault work
+  pub errands : ErrandsStand found ledger fault work
   pub live : HasLive area.halves work
   pub latest : AreLatest found ledger work
   pub doing : StepStands step area ledger work

@@ -11,13 +11,27 @@ const MOST_ISSUES: u8 = 3;
 impl Core {
     ghost use Rattle.book_model.specs.Book as book;
     ghost use Rattle.book_model.specs.Book.{slave_at, with_fault, IsAbout};
+    ghost use Rattle.book_core.specs.Wear.{IssuesFew};
     ghost use Rattle.book_model.specs.RomSteps.{rom_next, rom_done, without_work, with_errand, with_written, with_again};
 
     /// Hands out the next action for the slave, numbered from 0. `rom_done` reports its outcome; until then the answer is `Idle`.
     ///
     /// The answer is `Stop` if there is no such slave, once the book has a fault, and for a slave with nothing to write in a finished
     /// book whose commands are all durable.
+    ///
+    /// Since the open a slave gets at most three issues for each word that the entries found then and the accepted commands name for it.
     pub fn rom_next(&mut self, slave: u16) -> RomNext
+        ensures answer { result ≡ (rom_next self.old slave).0 }
+        ensures book { self.new ≡ (rom_next self.old slave).1 }
+        ensures wear { IssuesFew self.new }
+    {
+        let next = self.next_for(slave);
+        self.issues_few();
+        next
+    }
+
+    /// What `rom_next` hands out.
+    fn next_for(&mut self, slave: u16) -> RomNext
         ensures answer { result ≡ (rom_next self.old slave).0 }
         ensures book { self.new ≡ (rom_next self.old slave).1 }
     {
@@ -30,6 +44,13 @@ impl Core {
             Errand::Unsettled { word, value, taken } => self.settle(slave, word, value, taken),
             Errand::Issuing { .. } | Errand::Settling { .. } => RomNext::Idle,
         }
+    }
+
+    /// No slave was issued too many words, as the type's invariant says.
+    fn issues_few(&self)
+        ensures { IssuesFew self.now }
+    {
+        let _fault = self.fault;
     }
 
     /// Hands out the next word of an idle slave.

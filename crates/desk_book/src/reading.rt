@@ -44,7 +44,8 @@ impl<T: Tickets, R: Refusals> Served<T, R> {
         ensures { result ≡ is_pending (replayed T.opened self.now.calls) number }
     {
         let status = self.core.status();
-        self.core.fault().is_none() && status.durable <= number && number < status.accepted
+        let fault = self.core.fault();
+        fault.is_none() && status.durable <= number && number < status.accepted
     }
 
     /// Notes that memory stays refused, so that the jobs stop. The book isn't told.

@@ -1,8 +1,7 @@
-use Rattle.std.proofs.Common.{◌≡◌, ◌∙◌, ℕ, List, map, sym, ap, subst}
+use Rattle.std.proofs.Common.{◌≡◌, ℕ, List, sym, subst}
 use Rattle.std.specs.List.{AllByRecursion}
 use Rattle.jrn_format.specs.Batch.{IsWithin}
 use Rattle.book_model.specs.Entries.{sizes_of}
-use Rattle.book_model.specs.Open.{opened_slave}
 use Rattle.book_core.specs.Stands.{cell_counts}
 use Rattle.book_core.proofs.OpenLaws.{opened-counts, is-taken}
 use Rattle.book_core.proofs.open.restore.Goals as goal

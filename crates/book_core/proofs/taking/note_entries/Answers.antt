@@ -1,7 +1,6 @@
-use Rattle.std.proofs.Common.{◌≡◌, ◌<◌, ◌∙◌, List, [], ◌∷◌, ◌++◌, length, get_or, take, sym, ap, subst, ℕ, append_assoc}
+use Rattle.std.proofs.Common.{◌∙◌, List, [], ◌∷◌, ◌++◌, take, sym, ap, subst, ℕ, append_assoc}
 use Rattle.std.specs.List.{All}
 use Rattle.std.proofs.lemmas.List.{append-nil, take_more}
-use Rattle.sii_words.specs.declared.run.Run.{Run}
 use Rattle.sii_words.specs.Redo.{redone, LiesInside}
 use Rattle.sii_words.proofs.RedoLaws.{redone-nil}
 use Rattle.jrn_format.specs.declared.journal.Entry.{Entry}

@@ -1,14 +1,10 @@
-use Rattle.std.proofs.Common.{◌≡◌, ◌∙◌, ◌<◌, ℕ, List, length, Ok, sym, ap, subst}
+use Rattle.std.proofs.Common.{◌∙◌, ◌<◌, ℕ, List, length, sym, ap, subst}
 use Rattle.book_model.specs.declared.refusal.TheConstants.{QUEUE}
 use Rattle.book_model.specs.Book.{Book}
 use Rattle.book_model.specs.Submit.{with_command}
 use Rattle.book_model.specs.Book as book
 use Rattle.jrn_format.specs.declared.journal.Entry.{Entry}
 use Rattle.book_parts.specs.Change.{IsChangeOf}
-use Rattle.book_parts.specs.Ledger as ledger
-use Rattle.book_core.specs.declared.book.Core.TheInside.{Inside}
-use Rattle.book_core.specs.Parts.{book_of}
-use Rattle.book_core.specs.Stands.{Stands}
 use Rattle.book_core.proofs.LedgerLaws.{contents-is, queued-is}
 use Rattle.book_core.proofs.SubmitLaws.{few-runs, few-queued}
 use Rattle.book_core.proofs.AcceptLaws.{accepted-stands, accepted-book}

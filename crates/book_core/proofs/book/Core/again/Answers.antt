@@ -2,6 +2,7 @@ use Rattle.std.proofs.Common.{◌≡◌, ◌<◌, ◌≤◌, ℕ, length, sym, �
 use Rattle.book_model.specs.Cells.{since, cell_of}
 use Rattle.book_model.specs.Book.{Book, Free, slave_at, IsAbout}
 use Rattle.book_core.specs.Parts.{book_of}
+use Rattle.book_core.specs.Stands.{live_for, named_since}
 use Rattle.book_core.proofs.SlaveLaws.{errand-again}
 use Rattle.book_core.proofs.WorkLaws.{errand-stands}
 use Rattle.book_core.proofs.book.Core.again.Goals as goal
@@ -17,4 +18,4 @@ invariant_of-self c =
     let few : since (cell_of s.cells c.args.word).known ≤ 2 = omega (arith, read) in
     rw (c.set_errand.ensures, c.from-else-issues-ge-MOST_ISSUES.ensures)
     (errand-stands core.words.value core.found core.area core.step core.ledger core.work core.shown core.fault core.fault i Free (λ none. none) within
-    (errand-again core.fault s c.args.word about few (c.self.invariant.errands i within)) c.self.invariant)
+    (errand-again (named_since core.found core.ledger i) (live_for core.work i) core.fault s c.args.word about few (c.self.invariant.errands i within)) c.self.invariant)

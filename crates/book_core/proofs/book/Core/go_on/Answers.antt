@@ -1,5 +1,4 @@
-use Rattle.std.proofs.Common.{◌≡◌, [], false, sym, ◌∙◌, ap, subst}
-use Rattle.jrn_format.specs.Halves.{InOlder}
+use Rattle.std.proofs.Common.{false, sym, ◌∙◌, ap, subst}
 use Rattle.book_model.specs.Entries.{runs_of, sizes_of}
 use Rattle.book_model.specs.Book.{Book}
 use Rattle.book_model.specs.DiskSteps.{went_on}
@@ -40,7 +39,7 @@ invariant_of-self-in-CloseSync c =
     let core = c.self.inside in
     let retiring : IsRetiring core.ledger core.work = subst (λ (s : Step). StepStands s core.area core.ledger core.work) c.in-CloseSync.is c.self.invariant.doing in
     rw (c.retire-in-CloseSync.ensures, c.retire.ensures)
-    (retired-stands core.words.value core.found core.area core.step core.ledger core.work core.shown core.fault retiring.no_append c.self.invariant)
+    (retired-stands core.words.value core.found core.area core.step core.ledger core.work core.shown core.fault retiring.no_append retiring.settled c.self.invariant)
 
 pub returns-in-OpenSync : goal.returns-in-OpenSync
 returns-in-OpenSync c =

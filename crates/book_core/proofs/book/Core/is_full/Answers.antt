@@ -1,4 +1,4 @@
-use Rattle.std.proofs.Common.{◌≡◌, ◌<◌, ◌+◌, ◌-◌, ◌^◌, ◌∙◌, length, sym, ap, arith}
+use Rattle.std.proofs.Common.{◌<◌, ◌-◌, ◌^◌, ◌∙◌, length, sym, ap, arith}
 use Rattle.std.specs.Option.{option_map}
 use Rattle.book_model.specs.declared.refusal.TheConstants.{QUEUE}
 use Rattle.book_model.specs.Book.{Book}

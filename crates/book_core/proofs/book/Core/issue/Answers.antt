@@ -15,8 +15,9 @@ invariant_of-self c =
     let core = c.self.inside in
     let within : c.args.slave < length core.work.slaves = subst (λ (b : Book). c.args.slave < length b.slaves) (sym c.self.view_is) c.requires.slave in
     let free : (slave_at (book_of core) c.args.slave).errand ≡ Free = ap (λ (b : Book). (slave_at b c.args.slave).errand) c.self.view_is ∙ c.requires.free in
+    let none : is_some core.fault ≡ false = cc in
     rw c.issue.ensures.issued
-    (issue-stands core.words.value core.found core.area core.step core.ledger core.work core.shown core.fault c.args.slave (first (to_do core.work c.args.slave)) refl within free c.self.invariant)
+    (issue-stands core.words.value core.found core.area core.step core.ledger core.work core.shown core.fault c.args.slave (first (to_do core.work c.args.slave)) refl within free none c.self.invariant)
 
 pub returns-in-Some-clause-answer : goal.returns-in-Some-clause-answer
 returns-in-Some-clause-answer c =

@@ -1,7 +1,7 @@
-use Rattle.std.proofs.Common.{◌≡◌, ◌≤◌, ◌<◌, ◌+◌, ◌/◌, ◌∙◌, ℕ, length, sym, ap, arith, false}
+use Rattle.std.proofs.Common.{◌≡◌, ◌/◌, ◌∙◌, ℕ, sym, ap, arith}
 use Rattle.jrn_format.specs.Batch.{entry_size}
 use Rattle.book_model.specs.Book.{Book}
-use Rattle.book_core.proofs.SubmitLaws.{too-large, is-small, room-full, room-left}
+use Rattle.book_core.proofs.SubmitLaws.{too-large, is-small, room-full}
 use Rattle.book_core.proofs.book.Core.judge_room.Goals as goal
 
 pub returns-then-bytes-from : goal.returns-then-bytes-from

@@ -18,6 +18,5 @@ invariant_of-self c =
     let i = c.args.slave in
     let within : i < length core.work.slaves = subst (λ (b : Book). i < length b.slaves) (sym c.self.view_is) c.requires.slave in
     let is : (slave_at (book_of core) i).errand ≡ Settling c.args.word c.args.value c.requires.settling.0 = ap (λ (b : Book). (slave_at b i).errand) c.self.view_is ∙ c.requires.settling.1 in
-    let about : IsAbout (slave_at (book_of core) i).errand c.args.word = subst (λ (e : Errand). IsAbout e c.args.word) (sym is) refl in
     rw (c.written.ensures, c.from.ensures)
-    (write-stands core.words.value core.found core.area core.step core.ledger core.work core.shown core.fault i c.args.word c.args.value within about c.self.invariant)
+    (write-stands core.words.value core.found core.area core.step core.ledger core.work core.shown core.fault i c.args.word c.args.value c.requires.settling.0 within is c.self.invariant)

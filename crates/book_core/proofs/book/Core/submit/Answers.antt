@@ -1,13 +1,10 @@
 use Rattle.std.proofs.lemmas.Grind.{common_steps}
-use Rattle.std.proofs.Common.{rules, arith, Err, ◌≡◌, ◌∙◌, ℕ, Bool, true, false, List, Ok, sym, ap, subst, refl}
-use Rattle.std.specs.Prelude.{not, is_some, ◌||◌}
+use Rattle.std.proofs.Common.{rules, arith, ◌≡◌, ◌∙◌, ℕ, List, Ok, sym, ap, subst}
 use Rattle.std.proofs.lemmas.Result.{err_from_is_err_and}
 use Rattle.sii_edit.specs.Command.{outcome}
 use Rattle.sii_edit.specs.Refusal.{IsRefusalOf}
 use Rattle.jrn_format.specs.declared.journal.Form.TheVariants.{Two}
-use Rattle.jrn_format.specs.contracts.journal.Form.{the_type}
-use denote.Enum.Bare.{same_true}
-use Rattle.book_model.specs.Book.{Book, contents_of}
+use Rattle.book_model.specs.Book.{contents_of}
 use Rattle.book_parts.specs.Change.{IsChangeOf}
 use Rattle.book_core.proofs.LedgerLaws.{contents-is}
 use Rattle.book_core.proofs.AnswerLaws.{Judges, judges-core, memory-answer, refused-answer, room-answer, number-answer}

@@ -1,0 +1,255 @@
+//! Reads the arguments of the program; also has the help texts.
+
+use crate::practice::PowerCut;
+use clap::error::ErrorKind;
+use clap::{Arg, ArgMatches, Command, Error, value_parser};
+use std::alloc::{AllocError, Global};
+
+/// A command line: what it asks for, and where its text goes.
+#[derive(Clone, Copy)]
+pub struct Arguments<'a> {
+    /// The name of the file that the text goes to; `None` for standard error.
+    pub text: Option<&'a str>,
+    /// What is asked for.
+    pub task: Task<'a>,
+}
+
+/// What a command line asks for: a subcommand with its arguments.
+#[derive(Clone, Copy)]
+pub enum Task<'a> {
+    /// Prints a line for each slave.
+    Scan,
+    /// Writes the slaves' image files.
+    Backup {
+        /// The name of the line file.
+        line: &'a str,
+    },
+    /// Serves the slaves of a line to practise on.
+    Slaves {
+        /// The name of the line file.
+        line: &'a str,
+        /// A planned power cut, if there is one.
+        cut: Option<PowerCut>,
+    },
+    /// Explains all codes.
+    Explain,
+}
+
+/// The version, which `--version` prints after the program's name.
+const VERSION: &str = "0.1.0";
+
+/// The help text on how the program is started, and on its exit status.
+const STARTING: &str =
+    "Standard input and output are the wire: a raw socket, which a launcher opens before it
+starts this program. Text goes to standard error, or to the file that --text names.
+Faults go to standard error as: fault CODE NAME. The subcommand explain says what
+a code means.
+
+Exit status: 0 done, 2 wrong usage, 3 a file or its form, 4 the line, 5 no memory.
+
+Example, with the text on standard output:
+  launch eth0 2000 sii_wire --text /dev/fd/3 scan";
+
+/// The help text on what `scan` prints.
+const SCAN_ANSWERS: &str = "Answers, a line for each slave:
+  slave P words N alias A check C vendor V product Q revision R serial S
+                   P is its position, from 0, and N the size of its EEPROM;
+                   C is ok, or bad with the check byte found and the one expected";
+
+/// The help text on the files of `backup`.
+const BACKUP_FILES: &str =
+    "A line file that is there says where the images go. Where LINE isn't there it is
+written too: of a name like line.toml it names line-s0.bin, line-s1.bin and so on,
+and line-journal.bin, which is not made. A file that is there already is never
+written over: fault 94 Exists.";
+
+/// The help text on the life of `slaves`.
+const SLAVES_LIFE: &str =
+    "The slaves hold the words of their image files, and a word that they write is in its
+file before the next frame is answered. They answer until the program is ended, or
+with --cut until the power fails, in the midst of the word with number K, counted
+from 1 as the slaves begin to write them: its file then holds W in place of the
+word. Start the program again to switch the slaves on.";
+
+/// Reads a command line. The first word is the program's name.
+///
+/// # Errors
+///
+/// The message for wrong arguments; or the text of the help or the version, where that is asked for; or, with kind `OutOfMemory`, memory was
+/// refused.
+pub fn read_arguments<'a>(alloc: Global, words: &'a [String]) -> Result<Arguments<'a>, Error> {
+    let mut command = program(alloc)?;
+    read_words(&mut command, words)
+}
+
+/// Reads a command line with this description of it.
+fn read_words<'a>(command: &mut Command<'a>, words: &'a [String]) -> Result<Arguments<'a>, Error> {
+    let matches = command.try_get_matches_from_mut(words)?;
+    arguments_of(command, &matches)
+}
+
+fn arguments_of<'a>(
+    command: &mut Command<'a>,
+    matches: &ArgMatches<'a>,
+) -> Result<Arguments<'a>, Error> {
+    let text = matches.get_str("text");
+    match task_of(command, matches) {
+        Ok(task) => Ok(Arguments { text, task }),
+        Err(error) => Err(error),
+    }
+}
+
+/// The task of the subcommand that was given.
+fn task_of<'a>(command: &mut Command<'a>, matches: &ArgMatches<'a>) -> Result<Task<'a>, Error> {
+    if let Some(slaves) = matches.subcommand_matches("slaves") {
+        return slaves_task(command, slaves);
+    }
+    match plain_task(matches) {
+        Some(task) => Ok(task),
+        None => refused(
+            command,
+            ErrorKind::MissingSubcommand,
+            "a subcommand is needed",
+        ),
+    }
+}
+
+/// The task of `scan`, `backup` or `explain`, whose arguments need no further check.
+fn plain_task<'a>(matches: &ArgMatches<'a>) -> Option<Task<'a>> {
+    if matches.subcommand_matches("scan").is_some() {
+        return Some(Task::Scan);
+    }
+    if matches.subcommand_matches("explain").is_some() {
+        return Some(Task::Explain);
+    }
+    let backup = matches.subcommand_matches("backup")?;
+    Some(Task::Backup {
+        line: backup.get_str("LINE").unwrap_or(""),
+    })
+}
+
+/// The name is required, so it is there. `--left` is checked even without `--cut`.
+fn slaves_task<'a>(command: &mut Command<'a>, matches: &ArgMatches<'a>) -> Result<Task<'a>, Error> {
+    let cut = matches.get_str("cut");
+    let left = matches.get_str("left");
+    if !cut.is_none_or(is_digits) || !left.is_none_or(is_digits) {
+        return refused(
+            command,
+            ErrorKind::ValueValidation,
+            "K is a number in digits, 0 to 4294967295, and W one of 0 to 65535",
+        );
+    }
+    let left = matches.get_one::<u16>("left").unwrap_or(0);
+    let cut = match matches.get_one::<u32>("cut") {
+        Some(word) => Some(PowerCut { word, left }),
+        None => None,
+    };
+    Ok(Task::Slaves {
+        line: matches.get_str("LINE").unwrap_or(""),
+        cut,
+    })
+}
+
+/// The description of the command line, with all subcommands.
+fn program<'a>(alloc: Global) -> Result<Command<'a>, AllocError> {
+    let program = Command::new(alloc, "sii_wire")
+        .about("Works on the SII EEPROMs of a line of EtherCAT slaves on a wire")
+        .version(VERSION)
+        .after_help(STARTING)
+        .subcommand_required(true)
+        .arg(text_argument(alloc))?;
+    let program = with_subcommand(program, scan_command(alloc))?;
+    let program = with_subcommand(program, backup_command(alloc))?;
+    let program = with_subcommand(program, slaves_command(alloc))?;
+    with_subcommand(program, explain_command(alloc))
+}
+
+/// The command with one more subcommand, if that one could be made.
+fn with_subcommand<'a>(
+    command: Command<'a>,
+    subcommand: Result<Command<'a>, AllocError>,
+) -> Result<Command<'a>, AllocError> {
+    command.subcommand(subcommand?)
+}
+
+fn text_argument<'a>(alloc: Global) -> Arg<'a> {
+    Arg::new(alloc, "text").long("text").value_name("FILE").help(
+        "The file that text is added to, in place of standard error",
+    )
+}
+
+fn scan_command<'a>(alloc: Global) -> Result<Command<'a>, AllocError> {
+    Ok(
+        Command::new(alloc, "scan")
+            .about("Prints what the slaves of the line are")
+            .long_about(
+                "Brings up the line and reads the EEPROM of each slave. No word and no file is written.",
+            )
+            .after_help("Example:\n  launch eth0 2000 sii_wire scan")
+            .after_long_help(SCAN_ANSWERS),
+    )
+}
+
+fn line_argument<'a>(alloc: Global) -> Arg<'a> {
+    Arg::new(alloc, "LINE")
+        .help("The line file: the slaves' image files and the journal's, in TOML")
+        .required(true)
+}
+
+fn backup_command<'a>(alloc: Global) -> Result<Command<'a>, AllocError> {
+    Command::new(alloc, "backup")
+        .about("Writes the words of each slave to its image file")
+        .long_about(
+            "Brings up the line, reads the EEPROM of each slave, and writes its words to its image file. No word of a slave is written.",
+        )
+        .after_help("Example:\n  launch eth0 2000 sii_wire backup line.toml")
+        .after_long_help(BACKUP_FILES)
+        .arg(line_argument(alloc))
+}
+
+fn cut_argument<'a>(alloc: Global) -> Arg<'a> {
+    Arg::new(alloc, "cut")
+        .long("cut")
+        .value_name("K")
+        .help("Cuts the slaves' power in the midst of word K, 0 to 4294967295")
+        .value_parser(value_parser!(u32))
+}
+
+fn left_argument<'a>(alloc: Global) -> Arg<'a> {
+    Arg::new(alloc, "left")
+        .long("left")
+        .value_name("W")
+        .help("What the torn word leaves, 0 to 65535; 0 where nothing is said")
+        .value_parser(value_parser!(u16))
+}
+
+fn slaves_command<'a>(alloc: Global) -> Result<Command<'a>, AllocError> {
+    Command::new(alloc, "slaves")
+        .about("Serves a line of slaves to practise on")
+        .long_about(
+            "Reads a line file and the EEPROM images that it names, and answers on the wire as slaves with these words do.",
+        )
+        .after_help("Example:\n  launch eth1 2000 sii_wire slaves line.toml")
+        .after_long_help(SLAVES_LIFE)
+        .arg(line_argument(alloc))?
+        .arg(cut_argument(alloc))?
+        .arg(left_argument(alloc))
+}
+
+fn explain_command<'a>(alloc: Global) -> Result<Command<'a>, AllocError> {
+    Ok(Command::new(alloc, "explain").about("Says what the codes of faults mean"))
+}
+
+/// Whether a text has digits only: a sign is not taken.
+fn is_digits(text: &str) -> bool {
+    text.bytes().all(|byte| byte.is_ascii_digit())
+}
+
+/// The error for wrong arguments: this message, and the usage.
+fn refused<'a>(
+    command: &mut Command<'a>,
+    kind: ErrorKind,
+    message: &str,
+) -> Result<Task<'a>, Error> {
+    Err(command.error(kind, message)?)
+}

@@ -1,0 +1,128 @@
+//! Why a subcommand on a wire failed, as it is printed, and the exit status.
+ghost use Rattle.std.specs.Prelude.{◌≡◌};
+ghost use Rattle.wire_session.specs.declared.faults.WireFault.TheVariants as wire;
+
+use crate::codes::WireCode;
+use site_wire::LineFault;
+use station_files::{ExitStatus, Fault};
+use std::alloc::{AllocError, AllocFailed};
+use std::{fmt, io};
+
+/// Why a subcommand on a wire failed.
+#[derive(Clone, Copy)]
+pub enum WireFault {
+    /// The line can't be brought up.
+    Line(LineFault),
+    /// The line file names another number of slaves than the line has; `slaves` is that of the line.
+    OtherCount { slaves: usize },
+    /// A file, a stream or memory failed, or a file has a wrong form.
+    Station(Fault),
+}
+
+/// The station's fault for a line that can't be brought up, if the station has one.
+fn fault_of_station(fault: LineFault) -> Option<Fault> {
+    match fault {
+        LineFault::Memory => Some(Fault::Memory),
+        LineFault::SlaveDead { slave } => Some(Fault::SlaveDead { slave }),
+        _ => None,
+    }
+}
+
+/// How the fault of a line is printed that the station doesn't have: its code, and the number behind it.
+fn code_of_line(fault: LineFault) -> (WireCode, Option<usize>) {
+    match fault {
+        LineFault::NoSlaves => (WireCode::NoSlaves, None),
+        LineFault::TooManySlaves { slaves } => (WireCode::TooManySlaves, Some(usize::from(slaves))),
+        LineFault::UnknownSize { slave, .. } => (WireCode::UnknownSize, Some(usize::from(slave))),
+        _ => (WireCode::Silent, None),
+    }
+}
+
+impl WireFault {
+    /// The fault of the station that this one is, if it is one.
+    fn of_station(self) -> Option<Fault> {
+        match self {
+            WireFault::Station(fault) => Some(fault),
+            WireFault::Line(fault) => fault_of_station(fault),
+            WireFault::OtherCount { .. } => None,
+        }
+    }
+
+    /// The code and the number of a fault that the station doesn't have.
+    fn of_wire(self) -> (WireCode, Option<usize>) {
+        match self {
+            WireFault::OtherCount { slaves } => (WireCode::OtherCount, Some(slaves)),
+            WireFault::Line(fault) => code_of_line(fault),
+            WireFault::Station(_) => (WireCode::Silent, None),
+        }
+    }
+
+    /// The exit status for this fault: that of the station's fault, 3 where the line file is another line's, and 4 for any other.
+    pub fn status(self) -> ExitStatus {
+        match self {
+            WireFault::OtherCount { .. } => ExitStatus::File,
+            _ => match self.of_station() {
+                Some(fault) => fault.status(),
+                None => ExitStatus::Device,
+            },
+        }
+    }
+}
+
+impl fmt::Display for WireFault {
+    fn fmt<W: fmt::Write>(&self, f: &mut fmt::Formatter<W>) -> fmt::Result {
+        if let Some(fault) = self.of_station() {
+            return write!(f, "{fault}");
+        }
+        match self.of_wire() {
+            (code, Some(number)) => write!(f, "fault {code} {number}"),
+            (code, None) => write!(f, "fault {code}"),
+        }
+    }
+}
+
+impl From<Fault> for WireFault {
+    ghost from_gives = { λ fault given. given ≡ wire.Station fault };
+
+    fn from(fault: Fault) -> Self {
+        WireFault::Station(fault)
+    }
+}
+
+impl From<LineFault> for WireFault {
+    ghost from_gives = { λ fault given. given ≡ wire.Line fault };
+
+    fn from(fault: LineFault) -> Self {
+        WireFault::Line(fault)
+    }
+}
+
+impl From<io::Error> for WireFault {
+    ghost use Rattle.wire_session.specs.Backup.{IsOfStream};
+
+    ghost from_gives = { λ _ fault. IsOfStream fault };
+
+    fn from(error: io::Error) -> Self {
+        WireFault::Station(Fault::from(error))
+    }
+}
+
+impl From<AllocError> for WireFault {
+    ghost use Rattle.wire_session.specs.Backup.{IsOfStream};
+
+    ghost from_gives = { λ _ fault. IsOfStream fault };
+
+    fn from(error: AllocError) -> Self {
+        WireFault::Station(Fault::from(error))
+    }
+}
+
+impl<T: Drop> From<AllocFailed<T>> for WireFault {
+    ghost use Rattle.wire_session.specs.Backup.{IsOfStream};
+
+    ghost from_gives = { λ _ fault. IsOfStream fault };
+
+    fn from(_: AllocFailed<T>) -> Self {
+        WireFault::Station(Fault::Memory)
+    }
+}

@@ -1,0 +1,83 @@
+//! The program as a function of its arguments and streams.
+
+use crate::arguments::Task;
+use crate::backup::backup_line;
+use crate::explain::explain;
+use crate::faults::WireFault;
+use crate::practice::serve_slaves;
+use crate::scan::scan_line;
+use clap::Error;
+use clap::error::ErrorKind;
+use site_wire::{EthernetWire, NumberedWire};
+use station_files::{ExitStatus, Fault, Store, report_fault};
+use std::alloc::Global;
+use std::io;
+use std::io::{Read, Write};
+
+/// Carries out a task on the wire that is read and written by these two, and returns the exit status: 0 done, 3 a file or its form, 4 the
+/// line, 5 out of memory. The frames are numbered from the one behind `number` on. Faults are printed to `faults`.
+pub fn serve<R: Read + Drop, W: Write + Drop, S: Store, O: Write, E: Write>(
+    alloc: Global,
+    task: Task<'_>,
+    wire: EthernetWire<R, W>,
+    number: u32,
+    store: &mut S,
+    output: &mut O,
+    faults: &mut E,
+) -> u8 {
+    let mut wire = NumberedWire::new(wire, number);
+    status_of(do_task(alloc, task, &mut wire, store, output), faults) as u8
+}
+
+fn do_task<R: Read, W: Write, S: Store, O: Write>(
+    alloc: Global,
+    task: Task<'_>,
+    wire: &mut NumberedWire<EthernetWire<R, W>>,
+    store: &mut S,
+    output: &mut O,
+) -> Result<(), WireFault> {
+    match task {
+        Task::Scan => scan_line(alloc, wire, output),
+        Task::Backup { line } => backup_line(alloc, wire, line, store),
+        Task::Slaves { line, cut } => { serve_slaves(alloc, line, cut, wire.wire(), store, output) }
+        Task::Explain => Ok(explain(alloc, output)?),
+    }
+}
+
+/// The exit status for a result: `Done`, or that of the fault, which is printed.
+fn status_of<E: Write>(ended: Result<(), WireFault>, faults: &mut E) -> ExitStatus {
+    match ended {
+        Ok(()) => ExitStatus::Done,
+        Err(fault) => {
+            let _ = writeln!(faults, "{fault}");
+            fault.status()
+        }
+    }
+}
+
+/// Prints the help or the version that was asked for, or what is wrong with the arguments, and returns the exit status.
+pub fn show_usage<E: Write>(error: &Error, faults: &mut E) -> u8 {
+    if error.kind() == ErrorKind::OutOfMemory {
+        return report_fault(Fault::Memory, faults) as u8;
+    }
+    let _ = write!(faults, "{error}");
+    if error.use_stderr() {
+        ExitStatus::Usage as u8
+    } else {
+        ExitStatus::Done as u8
+    }
+}
+
+/// Prints why the arguments can't be read, and returns the exit status: 5 where memory was refused, and 2 where an argument is not UTF-8.
+pub fn refuse_words<E: Write>(error: &io::Error, faults: &mut E) -> u8 {
+    if error.kind() == io::ErrorKind::OutOfMemory {
+        return report_fault(Fault::Memory, faults) as u8;
+    }
+    let _ = writeln!(faults, "error: an argument is not UTF-8");
+    ExitStatus::Usage as u8
+}
+
+/// Prints why the file for the text can't be opened, and returns the exit status.
+pub fn refuse_text<E: Write>(error: io::Error, faults: &mut E) -> u8 {
+    report_fault(Fault::from(error), faults) as u8
+}
