@@ -47,6 +47,15 @@ fn disk_on(alloc: Global, front: &[u8]) -> Option<Vec<u8>> {
     Some(bytes)
 }
 
+/// What a world begins on.
+#[derive(Clone, Copy)]
+pub(crate) enum Start {
+    /// A journal that was just formatted, with an area of 4,096 bytes.
+    Formatted,
+    /// A disk that begins with these bytes and goes on with zeros.
+    Bytes(&'static [u8]),
+}
+
 /// A world of 1 to 64 slaves.
 fn world_of(alloc: Global, slaves: Vec<Words>, bytes: Vec<u8>) -> Option<World> {
     if slaves.len() < 1 || slaves.len() > 64 {
@@ -60,6 +69,22 @@ pub(crate) fn world_on(alloc: Global, count: usize, front: &[u8]) -> Option<Worl
     let slaves = zero_slaves(alloc, count)?;
     let bytes = disk_on(alloc, front)?;
     world_of(alloc, slaves, bytes)
+}
+
+/// A world of 1 to 64 slaves, with a journal that was just formatted.
+fn formatted_of(alloc: Global, slaves: Vec<Words>) -> Option<World> {
+    if slaves.len() < 1 || slaves.len() > 64 {
+        return None;
+    }
+    World::of(alloc, slaves, 4096).ok()
+}
+
+/// A world of one zero slave that begins so.
+fn world_from(alloc: Global, start: Start) -> Option<World> {
+    match start {
+        Start::Formatted => formatted_of(alloc, zero_slaves(alloc, 1)?),
+        Start::Bytes(front) => world_on(alloc, 1, front),
+    }
 }
 
 /// Lets the event happen if it can. False if memory was refused.
@@ -166,12 +191,12 @@ fn parts_told(alloc: Global, world: &mut World, parts: &[&[Act]]) -> bool {
     true
 }
 
-/// The first bytes of a world's disk, and the acts in this world, part by part.
-pub(crate) type Case = (&'static [u8], &'static [&'static [Act]]);
+/// What a world begins on, and the acts in this world, part by part.
+pub(crate) type Case = (Start, &'static [&'static [Act]]);
 
 /// Whether all acts of a case succeed.
-fn is_told(alloc: Global, front: &[u8], parts: &[&[Act]]) -> bool {
-    match world_on(alloc, 1, front) {
+fn is_told(alloc: Global, start: Start, parts: &[&[Act]]) -> bool {
+    match world_from(alloc, start) {
         Some(mut world) => {
             let is_told = parts_told(alloc, &mut world, parts);
             drop(world);
@@ -184,8 +209,8 @@ fn is_told(alloc: Global, front: &[u8], parts: &[&[Act]]) -> bool {
 /// How many cases succeed, before the first that doesn't.
 pub(crate) fn count_told(alloc: Global, cases: &[Case]) -> usize {
     for count in 0..cases.len() {
-        let (front, parts) = cases[count];
-        if !is_told(alloc, front, parts) {
+        let (start, parts) = cases[count];
+        if !is_told(alloc, start, parts) {
             return count;
         }
     }

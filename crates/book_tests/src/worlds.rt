@@ -2,6 +2,7 @@
 
 use crate::acts::Act::{Alias, Back, Begin, Done, Migrate, Open, Rest, Rom, Sees, Stop};
 use crate::acts::Seen::{Book, Byte, Down, Slave};
+use crate::acts::Start::{Bytes, Formatted};
 use crate::acts::{Act, Case, count_told};
 use crate::random::count_well;
 use book_model::RomOutcome;
@@ -74,28 +75,28 @@ const NO_WORD: &[LeftWord] = &[
     LeftWord { slave: 1, word: 7 },
 ];
 
-/// Whether a batch is found whose gate was torn as it was opened.
+/// Whether a batch is found whose gate was torn as it was opened, on a journal that was just formatted.
 const TORN_GATES: &[Case] = &[
     (
-        HEADER,
+        Formatted,
         &[
             UP_TO_THE_GATE,
             &[Stop(GATE_TORN, &[]), Open, Sees(Book(0, 0))],
         ],
     ),
     (
-        HEADER,
+        Formatted,
         &[
             UP_TO_THE_GATE,
             &[Stop(GATE_OPEN, &[]), Open, Sees(Book(1, 34))],
         ],
     ),
     (
-        HEADER,
+        Formatted,
         &[UP_TO_THE_GATE, &[Stop(&[], &[]), Open, Sees(Book(0, 0))]],
     ),
     (
-        HEADER,
+        Formatted,
         &[
             UP_TO_THE_GATE,
             &[
@@ -117,7 +118,7 @@ fn gates_are_torn(rt: HostRuntime) {
 /// do but to close its gate.
 const TORN_RETIRES: &[Case] = &[
     (
-        HEADER,
+        Bytes(HEADER),
         &[
             IN_PLACE,
             &[
@@ -130,7 +131,7 @@ const TORN_RETIRES: &[Case] = &[
         ],
     ),
     (
-        HEADER,
+        Bytes(HEADER),
         &[
             IN_PLACE,
             &[
@@ -148,7 +149,7 @@ const TORN_RETIRES: &[Case] = &[
         ],
     ),
     (
-        HEADER,
+        Bytes(HEADER),
         &[
             IN_PLACE,
             ACTION,
@@ -207,7 +208,7 @@ const RECOVERED: &[Act] = &[Sees(Book(1, 0)), Sees(Byte(8, 0)), Sees(Slave(1, 0x
 
 const TORN_WORDS: &[Case] = &[
     (
-        HEADER,
+        Bytes(HEADER),
         &[
             UP_TO_THE_GATE,
             DURABLE,
@@ -220,7 +221,7 @@ const TORN_WORDS: &[Case] = &[
         ],
     ),
     (
-        HEADER,
+        Bytes(HEADER),
         &[
             UP_TO_THE_GATE,
             DURABLE,
@@ -307,7 +308,7 @@ const FILE: &[Act] = &[
 /// A migration is cut in each of its five steps, and a second one completes.
 const TORN_MIGRATIONS: &[Case] = &[
     (
-        OLD,
+        Bytes(OLD),
         &[
             ASKED,
             &[
@@ -320,7 +321,7 @@ const TORN_MIGRATIONS: &[Case] = &[
         ],
     ),
     (
-        OLD,
+        Bytes(OLD),
         &[
             ASKED,
             ACTION,
@@ -334,7 +335,7 @@ const TORN_MIGRATIONS: &[Case] = &[
         ],
     ),
     (
-        OLD,
+        Bytes(OLD),
         &[
             ASKED,
             ACTION,
@@ -349,7 +350,7 @@ const TORN_MIGRATIONS: &[Case] = &[
         ],
     ),
     (
-        OLD,
+        Bytes(OLD),
         &[
             ASKED,
             ACTION,
@@ -360,7 +361,7 @@ const TORN_MIGRATIONS: &[Case] = &[
         ],
     ),
     (
-        OLD,
+        Bytes(OLD),
         &[
             ASKED,
             ACTION,
@@ -371,7 +372,7 @@ const TORN_MIGRATIONS: &[Case] = &[
         ],
     ),
     (
-        OLD,
+        Bytes(OLD),
         &[
             ASKED,
             ACTION,
@@ -383,7 +384,7 @@ const TORN_MIGRATIONS: &[Case] = &[
         ],
     ),
     (
-        OLD_LIVE,
+        Bytes(OLD_LIVE),
         &[&[Open], RETIRED, WORD, WORD, ACTION, ACTION, MIGRATED, FILE],
     ),
 ];

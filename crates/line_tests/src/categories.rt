@@ -5,6 +5,7 @@ use sii_cats::{
     CatFault, Category, ChainFault, FmmuUnit, FmmuUse, chain, fmmus, pdos, splice, strings, syncms,
     write_fmmus, write_pdos, write_strings, write_syncms,
 };
+use sii_words::bytes_of_words;
 use std::alloc::{AllocError, Global};
 use std::test::Fail;
 
@@ -89,6 +90,39 @@ fn contents_are_written_as_they_were_read(rt: HostRuntime) -> Result<(), Fail> {
     for (kind, words, wanted) in AGAIN {
         assert!(rt; again(rt.alloc(), *kind, words)?.as_slice() == *wanted);
     }
+    Ok(())
+}
+
+/// The bytes of two strings, and these strings as they are read from them.
+fn named(alloc: Global) -> Result<(Vec<u8>, Vec<Vec<u8>>), CatFault> {
+    let first = b"EL".to_vec(alloc)?;
+    let second = b"In".to_vec(alloc)?;
+    let words = write_strings(alloc, &[first, second])?;
+    Ok((bytes_of_words(alloc, &words)?, strings(alloc, &words)?))
+}
+
+#[test]
+fn strings_byte_by_byte(rt: HostRuntime) -> Result<(), Fail> {
+    let (bytes, read) = named(rt.alloc())?;
+    assert!(rt; bytes.as_slice() == [0x02, 0x02, 0x45, 0x4C, 0x02, 0x49, 0x6E, 0x00].as_slice());
+    let mut texts = read.iter().map(|text| text.as_slice());
+    assert!(rt; texts.next() == Some(b"EL".as_slice()) && texts.next() == Some(b"In".as_slice()));
+    assert!(rt; texts.next().is_none());
+    Ok(())
+}
+
+/// The words of one unit, and the units that are read from them.
+fn one_unit(alloc: Global) -> Result<(Vec<u16>, Vec<FmmuUnit>), AllocError> {
+    let words = write_fmmus(alloc, &[FmmuUnit { byte: 1 }])?;
+    let units = fmmus(alloc, &words)?;
+    Ok((words, units))
+}
+
+#[test]
+fn one_unit_is_read_as_two(rt: HostRuntime) -> Result<(), Fail> {
+    let (words, units) = one_unit(rt.alloc())?;
+    assert!(rt; words.as_slice() == [0x0001].as_slice());
+    assert!(rt; units.as_slice() == [FmmuUnit { byte: 1 }, FmmuUnit { byte: 0 }].as_slice());
     Ok(())
 }
 

@@ -7,7 +7,7 @@ use sii_edit::{
 };
 use sii_image::Layout;
 use sii_words::{ImageFile, Plant, Run, Words, WordsFault};
-use std::alloc::Global;
+use std::alloc::{AllocError, Global};
 use std::test::Fail;
 
 /// Words 4 and 7 of three slaves whose other words are zeros, with and without the right check byte.
@@ -19,20 +19,26 @@ const NAMED: Names = [(1, 0x0019), (0, 0x0030), (0, 0x0030)];
 
 const UNCHECKED: Names = [(0, 0x0030), (0, 0x0031), (0, 0x0030)];
 
+/// The bytes of a device or of an image: pieces, each at its place, the byte that fills the rest, and how many there are.
+pub(crate) type Bytes = (&'static [(usize, &'static [u8])], u8, usize);
+
 /// An edit as a table holds it.
 #[derive(Clone, Copy)]
-enum Ask {
+pub(crate) enum Ask {
     /// Slave and alias.
     Alias(u16, u16),
     /// Slave, type and content.
     Category(u16, u16, &'static [u16]),
     /// Slave, and words 4, 7, 8 and 64 of an image of 66 words, of which the others are zeros.
     Image(u16, [u16; 4]),
+    /// Slave, and the bytes of an image.
+    File(u16, Bytes),
 }
 
 /// A command as a table holds it.
 #[derive(Clone, Copy)]
-enum Order {
+pub(crate) enum Order {
+    One(Ask),
     Swap(u16, u16),
     Group(&'static [Ask]),
     /// Edits, each with the vendor that is expected; product and revision are expected to be 0.
@@ -197,6 +203,18 @@ fn image(alloc: Global, words: [u16; 4]) -> Result<ImageFile, Fail> {
     Ok(image)
 }
 
+/// The bytes, spelt out.
+pub(crate) fn spelt(alloc: Global, bytes: &Bytes) -> Result<Vec<u8>, AllocError> {
+    let (pieces, fill, count) = *bytes;
+    let mut spelt = vec![in alloc; fill; count]?;
+    for (at, piece) in pieces {
+        for (byte, value) in spelt.iter_mut().skip(*at).zip(*piece) {
+            *byte = *value;
+        }
+    }
+    Ok(spelt)
+}
+
 fn edit(alloc: Global, ask: &Ask) -> Result<Edit, Fail> {
     Ok(match *ask {
         Ask::Alias(slave, value) => Edit::Alias { slave, value },
@@ -208,6 +226,10 @@ fn edit(alloc: Global, ask: &Ask) -> Result<Edit, Fail> {
         Ask::Image(slave, words) => Edit::Image {
             slave,
             image: image(alloc, words)?,
+        },
+        Ask::File(slave, bytes) => Edit::Image {
+            slave,
+            image: ImageFile::from_bytes(alloc, &spelt(alloc, &bytes)?)?,
         },
     })
 }
@@ -234,8 +256,9 @@ fn guarded(alloc: Global, asks: &[(u32, Ask)]) -> Result<Command, Fail> {
     Ok(Command::Guarded(GuardedEditList::from_vec(edits)))
 }
 
-fn command(alloc: Global, order: &Order) -> Result<Command, Fail> {
+pub(crate) fn command(alloc: Global, order: &Order) -> Result<Command, Fail> {
     match *order {
+        Order::One(ask) => Ok(Command::One(edit(alloc, &ask)?)),
         Order::Swap(a, b) => Ok(Command::Swap { a, b }),
         Order::Group(asks) => group(alloc, asks),
         Order::Guarded(asks) => guarded(alloc, asks),

@@ -12,6 +12,10 @@ mod journal;
 #[cfg(test)]
 mod process_image;
 #[cfg(test)]
+mod readings;
+#[cfg(test)]
+mod single;
+#[cfg(test)]
 mod tests;
 #[cfg(test)]
 mod words;

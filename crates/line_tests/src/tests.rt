@@ -1,8 +1,10 @@
 mod cycle;
 mod frames;
-mod process_data;
+pub(crate) mod process_data;
 mod process_half;
+mod recorder;
 mod rom_half;
+mod sent;
 mod site_faults;
 mod wire;
 

@@ -11,7 +11,7 @@ use site_mem::MemSite;
 use std::alloc::Global;
 
 // A slave with a byte of outputs and four bytes of inputs: its SyncM, RXPDO and TXPDO categories.
-const BOTH: &[u8] = &[
+pub(crate) const BOTH: &[u8] = &[
     41, 0, 16, 0, 0x00, 0x10, 0x80, 0x00, 0x26, 0x00, 0x01, 0x01, 0x80, 0x10, 0x80, 0x00, 0x22,
     0x00, 0x01, 0x02, 0x00, 0x11, 0x01, 0x00, 0x24, 0x00, 0x01, 0x03, 0x80, 0x11, 0x04, 0x00, 0x20,
     0x00, 0x01, 0x04, 51, 0, 8, 0, 0x00, 0x16, 0x01, 0x02, 0x00, 0x00, 0x00, 0x00, 0x00, 0x70,
@@ -21,7 +21,7 @@ const BOTH: &[u8] = &[
 ];
 
 // A slave with twelve bits of inputs.
-const INPUTS: &[u8] = &[
+pub(crate) const INPUTS: &[u8] = &[
     41, 0, 4, 0, 0x00, 0x10, 0x02, 0x00, 0x20, 0x00, 0x01, 0x04, 50, 0, 8, 0, 0x00, 0x1a, 0x01,
     0x00, 0x00, 0x00, 0x00, 0x00, 0x00, 0x60, 0x01, 0x00, 0x00, 0x0c, 0x00, 0x00, 0xff, 0xff,
 ];
@@ -86,7 +86,7 @@ fn plant_of(alloc: Global, categories: &[&[u8]]) -> Option<Plant> {
 }
 
 // The plan of a line of slaves with these categories.
-fn plan_of(alloc: Global, categories: &[&[u8]]) -> Option<Plan> {
+pub(super) fn plan_of(alloc: Global, categories: &[&[u8]]) -> Option<Plan> {
     let plant = plant_of(alloc, categories)?;
     let image = image_of(alloc, &plant).ok()?;
     Some(Plan { prefix: 0, image })
@@ -109,7 +109,7 @@ fn stand_all(halves: &mut [ProcessHalf]) {
 }
 
 // A line of slaves with these station addresses. The site owns only their process halves.
-fn line_of(alloc: Global, stations: &[u16]) -> Option<MemSite> {
+pub(super) fn line_of(alloc: Global, stations: &[u16]) -> Option<MemSite> {
     let words = words_of(alloc, NOTHING)?;
     let mut process = process_halves(alloc, &words, stations)?;
     stand_all(&mut process);

@@ -1,0 +1,259 @@
+//! Readers, writers and copies, on a line of two slaves with process data. The values were read off the bytes by hand.
+
+use crate::tests::process_data::{BOTH, INPUTS};
+use esc_model::RomHalf;
+use sii_cats::kind::{RXPDOS, SYNC_MANAGERS, TXPDOS};
+use sii_cats::{
+    CatFault, Category, ChainFault, Manager, Pdo, PdoEntry, chain, pdos, syncms, write_pdos,
+    write_syncms,
+};
+use sii_words::{ImageFile, Plant, Words, WordsFault, words_of_bytes};
+use std::alloc::Global;
+use std::test::Fail;
+
+/// The categories of the first slave, and of the second.
+const FIRST: &[Category] = &[
+    Category {
+        kind: SYNC_MANAGERS,
+        at: 64,
+        count: 16,
+    },
+    Category {
+        kind: RXPDOS,
+        at: 82,
+        count: 8,
+    },
+    Category {
+        kind: TXPDOS,
+        at: 92,
+        count: 12,
+    },
+];
+
+const SECOND: &[Category] = &[
+    Category {
+        kind: SYNC_MANAGERS,
+        at: 64,
+        count: 4,
+    },
+    Category {
+        kind: TXPDOS,
+        at: 70,
+        count: 8,
+    },
+];
+
+/// What the content of a category holds.
+#[derive(Clone, Copy)]
+enum Content {
+    Managers(&'static [Manager]),
+    /// Type of the category, and index, manager and entries of its only PDO, whose other fields are 0.
+    OnePdo(u16, u16, u8, &'static [PdoEntry]),
+}
+
+/// A sync manager for inputs, of two bytes from 0x1000 on.
+const SMALL: Manager = Manager {
+    start: 0x1000,
+    length: 2,
+    control: 0x20,
+    status: 0,
+    enable: 1,
+    kind: 4,
+};
+
+/// The sync managers of the first slave: mailbox out and in, outputs, inputs.
+const MANAGERS: &[Manager] = &[
+    Manager {
+        start: 0x1000,
+        length: 0x80,
+        control: 0x26,
+        kind: 1,
+        ..SMALL
+    },
+    Manager {
+        start: 0x1080,
+        length: 0x80,
+        control: 0x22,
+        kind: 2,
+        ..SMALL
+    },
+    Manager {
+        start: 0x1100,
+        length: 1,
+        control: 0x24,
+        kind: 3,
+        ..SMALL
+    },
+    Manager {
+        start: 0x1180,
+        length: 4,
+        ..SMALL
+    },
+];
+
+/// An entry of 16 bits.
+const ENTRY: PdoEntry = PdoEntry {
+    index: 0x6000,
+    subindex: 1,
+    name: 0,
+    data_type: 6,
+    bit_length: 16,
+    flags: 0,
+};
+
+const OUTPUT: PdoEntry = PdoEntry {
+    index: 0x7000,
+    data_type: 5,
+    bit_length: 8,
+    ..ENTRY
+};
+
+const LAST: PdoEntry = PdoEntry {
+    subindex: 2,
+    ..ENTRY
+};
+
+const TWELVE_BITS: PdoEntry = PdoEntry {
+    data_type: 0,
+    bit_length: 12,
+    ..ENTRY
+};
+
+/// The categories of a slave from word 64 on, where a content begins and ends in these bytes, and what it holds.
+const READ: &[(&[u8], (usize, usize), Content)] = &[
+    (BOTH, (4, 36), Content::Managers(MANAGERS)),
+    (
+        BOTH,
+        (40, 56),
+        Content::OnePdo(RXPDOS, 0x1600, 2, &[OUTPUT]),
+    ),
+    (
+        BOTH,
+        (60, 84),
+        Content::OnePdo(TXPDOS, 0x1A00, 3, &[ENTRY, LAST]),
+    ),
+    (INPUTS, (4, 12), Content::Managers(&[SMALL])),
+    (
+        INPUTS,
+        (16, 32),
+        Content::OnePdo(TXPDOS, 0x1A00, 0, &[TWELVE_BITS]),
+    ),
+];
+
+/// Whether these are the managers, and written again they are the words.
+fn are_managers(alloc: Global, words: &[u16], managers: &[Manager]) -> Result<bool, CatFault> {
+    let read = syncms(alloc, words)?;
+    Ok(read.as_slice() == managers && write_syncms(alloc, &read)?.as_slice() == words)
+}
+
+fn is_pdo(pdo: &Pdo, index: u16, manager: u8, entries: &[PdoEntry]) -> bool {
+    pdo.index == index
+        && pdo.manager == manager
+        && (pdo.synchronization, pdo.name, pdo.flags) == (0, 0, 0)
+        && pdo.entries.as_slice() == entries
+}
+
+/// Whether this is the only PDO, and written again it is the words.
+fn is_only_pdo(alloc: Global, words: &[u16], content: &Content) -> Result<bool, CatFault> {
+    let Content::OnePdo(kind, index, manager, entries) = *content else {
+        return Ok(false);
+    };
+    let read = pdos(alloc, kind, words)?;
+    let is_so = match read.as_slice() {
+        [pdo] => is_pdo(pdo, index, manager, entries),
+        _ => false,
+    };
+    Ok(is_so && write_pdos(alloc, kind, &read)?.as_slice() == words)
+}
+
+/// Whether these bytes hold this content.
+fn hold(alloc: Global, bytes: &[u8], content: &Content) -> Result<bool, CatFault> {
+    if bytes.len() % 2 != 0 {
+        return Ok(false);
+    }
+    let words = words_of_bytes(alloc, bytes)?;
+    match content {
+        Content::Managers(managers) => are_managers(alloc, &words, managers),
+        Content::OnePdo(..) => is_only_pdo(alloc, &words, content),
+    }
+}
+
+#[test]
+fn contents_are_read_and_written(rt: HostRuntime) -> Result<(), Fail> {
+    for (slave, (from, to), content) in READ {
+        let bytes = slave.get(*from..*to).unwrap_or(&[]);
+        assert!(rt; hold(rt.alloc(), bytes, content)?);
+    }
+    Ok(())
+}
+
+/// The 256 bytes of a slave: zeros with their check byte, and these categories from word 64 on.
+fn slave(categories: &[u8]) -> [u8; 256] {
+    let mut bytes = [0; 256];
+    bytes[14] = 0x30;
+    for (byte, value) in bytes.iter_mut().skip(128).zip(categories) {
+        *byte = *value;
+    }
+    bytes
+}
+
+fn have_chain(alloc: Global, words: &Words, wanted: &[Category]) -> Result<bool, ChainFault> {
+    Ok(chain(alloc, words.as_slice())?.as_slice() == wanted)
+}
+
+/// Whether words and a copy of them give these bytes.
+fn are_copied(words: &Words, bytes: &[u8]) -> Result<bool, WordsFault> {
+    let copy = words.try_copy()?;
+    Ok(words.to_bytes()?.as_slice() == bytes && copy.to_bytes()?.as_slice() == bytes)
+}
+
+/// Whether a copy of an image gives these bytes.
+fn is_copied(alloc: Global, bytes: &[u8; 256]) -> Result<bool, WordsFault> {
+    let copy = ImageFile::from_bytes(alloc, bytes)?.try_copy()?;
+    let mut written = [0u8; 256];
+    if copy.as_slice().len() == 128 {
+        copy.as_bytes_into(&mut written);
+    }
+    Ok(written == *bytes)
+}
+
+/// Whether a copy of a slave's half holds these words.
+fn half_is_copied(words: Words, bytes: &[u8]) -> Result<bool, WordsFault> {
+    let copy = RomHalf::power_up(words, 0x1001, 1).try_copy()?;
+    Ok(copy.words().to_bytes()?.as_slice() == bytes)
+}
+
+/// Whether the categories of a slave form this chain, and each of its copies gives its bytes.
+fn is_slave(alloc: Global, categories: &[u8], wanted: &[Category]) -> Result<bool, Fail> {
+    let bytes = slave(categories);
+    let words = Words::from_bytes(alloc, &bytes)?;
+    Ok(
+        have_chain(alloc, &words, wanted)?
+            && are_copied(&words, &bytes)?
+            && is_copied(alloc, &bytes)?
+            && half_is_copied(words, &bytes)?,
+    )
+}
+
+#[test]
+fn slaves_are_copied(rt: HostRuntime) -> Result<(), Fail> {
+    assert!(rt; is_slave(rt.alloc(), BOTH, FIRST)?);
+    assert!(rt; is_slave(rt.alloc(), INPUTS, SECOND)?);
+    Ok(())
+}
+
+fn line(alloc: Global) -> Result<Plant, WordsFault> {
+    let first = Words::from_bytes(alloc, &slave(BOTH))?;
+    let second = Words::from_bytes(alloc, &slave(INPUTS))?;
+    Ok(Plant::of(Vec::from_array(alloc, [first, second])?))
+}
+
+#[test]
+fn a_line_is_copied(rt: HostRuntime) -> Result<(), Fail> {
+    let plant = line(rt.alloc())?;
+    let copy = plant.try_copy()?;
+    assert!(rt; copy.len() == 2 && plant.len() == 2);
+    assert!(rt; copy.slave(0).to_bytes()?.as_slice() == slave(BOTH).as_slice());
+    assert!(rt; copy.slave(1).to_bytes()?.as_slice() == slave(INPUTS).as_slice());
+    Ok(())
+}

@@ -1,0 +1,245 @@
+//! The frames that access to an EEPROM and to process data sends, byte by byte. The frames of an issue, a read, a poll, a fetch and a turn
+//! are those of the format's description; the others were spelt by hand: two bytes of header with the length of the datagram, then command
+//! (4 reads, 5 writes), index, station, register, length, IRQ, content and working counter.
+
+use super::process_data::{BOTH, INPUTS, line_of, plan_of};
+use super::recorder::{Recorder, behind};
+use super::{ISSUE, line};
+use cyclic::{configure, turn};
+use esc_rom::{RomFault, issue, open_slave, read_all, settle};
+use sii_image::Plan;
+use site_core::{Issued, Settled, Site};
+use std::alloc::Global;
+
+// Forces access for the station, and ends that.
+const FORCE: &[u8] = &[
+    0x0d, 0x10, 5, 0, 0x01, 0x10, 0x00, 0x05, 1, 0, 0, 0, 0x02, 0, 0,
+];
+
+const ALLOW: &[u8] = &[
+    0x0d, 0x10, 5, 0, 0x01, 0x10, 0x00, 0x05, 1, 0, 0, 0, 0x00, 0, 0,
+];
+
+const POLL: &[u8] = &[
+    0x0e, 0x10, 4, 0, 0x01, 0x10, 0x02, 0x05, 2, 0, 0, 0, 0, 0, 0, 0,
+];
+
+// Clears the errors.
+const CLEAR: &[u8] = &[
+    0x0e, 0x10, 5, 0, 0x01, 0x10, 0x02, 0x05, 2, 0, 0, 0, 0, 0, 0, 0,
+];
+
+// Asks for words 8 and 9, and for words 0 and 1.
+const READ: [u8; 20] = [
+    0x12, 0x10, 5, 0, 0x01, 0x10, 0x02, 0x05, 6, 0, 0, 0, 0x00, 0x01, 8, 0, 0, 0, 0, 0,
+];
+
+const READ_0: &[u8] = &[
+    0x12, 0x10, 5, 0, 0x01, 0x10, 0x02, 0x05, 6, 0, 0, 0, 0x00, 0x01, 0, 0, 0, 0, 0, 0,
+];
+
+const FETCH: &[u8] = &[
+    0x10, 0x10, 4, 0, 0x01, 0x10, 0x08, 0x05, 4, 0, 0, 0, 0, 0, 0, 0, 0, 0,
+];
+
+// What is done with slave 0.
+#[derive(Clone, Copy)]
+enum Act {
+    Open,
+    // Word 4 is made 1.
+    Write,
+    // The word is issued again while the slave is busy with it, and settled.
+    WriteTwice,
+    // A settle follows an issue that was lost.
+    Settle,
+    // The slave is given up as it is opened, or read.
+    GiveUp,
+    GiveUpReading,
+}
+
+// What is done, for how many datagrams the slave stays busy with a command, how many frames pass, how many are lost then, and the frames
+// that are sent. A frame that must be taken is sent three times at most.
+const SENT: &[(Act, u32, u32, u32, &[&[u8]])] = &[
+    (Act::Open, 0, 0, 0, &[FORCE, ALLOW, POLL, CLEAR]),
+    (Act::Write, 0, 0, 0, &[ISSUE, POLL]),
+    (Act::Write, 2, 0, 0, &[ISSUE, POLL, POLL, POLL]),
+    (
+        Act::WriteTwice,
+        3,
+        0,
+        0,
+        &[ISSUE, ISSUE, POLL, POLL, POLL, CLEAR],
+    ),
+    (Act::Settle, 0, 0, 0, &[POLL, CLEAR]),
+    (
+        Act::Open,
+        0,
+        0,
+        2,
+        &[FORCE, FORCE, FORCE, ALLOW, POLL, CLEAR],
+    ),
+    (Act::GiveUp, 0, 0, 3, &[FORCE, FORCE, FORCE]),
+    (Act::GiveUp, 0, 1, 3, &[FORCE, ALLOW, ALLOW, ALLOW]),
+    (
+        Act::GiveUp,
+        0,
+        3,
+        3,
+        &[FORCE, ALLOW, POLL, CLEAR, CLEAR, CLEAR],
+    ),
+    (Act::GiveUpReading, 0, 1, 3, &[POLL, READ_0, READ_0, READ_0]),
+];
+
+// The fault of a slave that is given up.
+const DEAD: RomFault = RomFault::SlaveDead { slave: 0 };
+
+// Whether word 4 is written, or found busy by a second issue.
+fn is_written(site: &mut impl Site, second: Option<Issued>, settled: Settled) -> bool {
+    if !site.owns(0) || issue(site, 0, 4, 1) != Ok(Issued::Taken) {
+        return false;
+    }
+    match second {
+        Some(issued) => {
+            issue(site, 0, 4, 1) == Ok(issued) && settle(site, 0, false) == Ok(settled)
+        }
+        None => settle(site, 0, true) == Ok(settled),
+    }
+}
+
+// Whether it is done as it should be.
+fn is_done(alloc: Global, site: &mut impl Site, act: Act) -> bool {
+    if !site.owns(0) {
+        return false;
+    }
+    match act {
+        Act::Open => open_slave(site, 0).is_ok(),
+        Act::Write => is_written(site, None, Settled::Written),
+        Act::WriteTwice => is_written(site, Some(Issued::NotTaken), Settled::Again),
+        Act::Settle => settle(site, 0, false) == Ok(Settled::Again),
+        Act::GiveUp => open_slave(site, 0) == Err(DEAD),
+        Act::GiveUpReading => read_all(alloc, site, 0).err() == Some(DEAD),
+    }
+}
+
+// Whether these frames are sent.
+fn sends(alloc: Global, row: &(Act, u32, u32, u32, &[&[u8]])) -> bool {
+    let (act, delay, passing, losing, frames) = *row;
+    let Some(site) = line(alloc, delay) else {
+        return false;
+    };
+    let mut recorder = Recorder::of(alloc, site, passing, losing);
+    let sends = is_done(alloc, &mut recorder, act) && recorder.has_sent(frames);
+    drop(recorder);
+    sends
+}
+
+#[test]
+fn words_are_written_by_these_frames(rt: HostRuntime) {
+    for row in SENT {
+        assert!(rt; sends(rt.alloc(), row));
+    }
+}
+
+// What follows the frames by which all 64 words are read, if the bytes begin with them.
+fn behind_a_read(sent: &[u8]) -> Option<&[u8]> {
+    let mut left = behind(sent, &[POLL])?;
+    for pair in 0..32u8 {
+        let mut read = READ;
+        read[14] = 2 * pair;
+        left = behind(left, &[&read, POLL, FETCH])?;
+    }
+    Some(left)
+}
+
+// Whether all words are read.
+fn is_read(alloc: Global, site: &mut impl Site) -> bool {
+    site.owns(0) && read_all(alloc, site, 0).is_ok()
+}
+
+// Whether all words are read by the frames of a read.
+fn reads(alloc: Global) -> bool {
+    let Some(site) = line(alloc, 0) else {
+        return false;
+    };
+    let mut recorder = Recorder::of(alloc, site, 0, 0);
+    let is_read = is_read(alloc, &mut recorder);
+    let is_so = match behind_a_read(recorder.sent()) {
+        Some(left) => left.is_empty(),
+        None => false,
+    };
+    drop(recorder);
+    is_read && is_so
+}
+
+#[test]
+fn words_are_read_by_these_frames(rt: HostRuntime) {
+    assert!(rt; reads(rt.alloc()));
+}
+
+// The zeros with which all FMMUs of a slave are cleared, and a working counter.
+const ZEROS: &[u8] = &[0; 130];
+
+// The frames that configure two slaves, and the one of a turn with the output 0xaa.
+const CYCLED: &[&[u8]] = &[
+    &[0x8c, 0x10, 5, 0, 0x01, 0x10, 0x00, 0x06, 128, 0, 0, 0],
+    ZEROS,
+    &[
+        0x14, 0x10, 5, 0, 0x01, 0x10, 0x10, 0x08, 8, 0, 0, 0, 0x00, 0x11, 0x01, 0x00, 0x24, 0x00,
+        0x01, 0x00, 0, 0,
+    ],
+    &[
+        0x1c, 0x10, 5, 0, 0x01, 0x10, 0x00, 0x06, 16, 0, 0, 0, 0, 0, 0, 0, 1, 0, 0, 7, 0x00, 0x11,
+        0, 2, 1, 0, 0, 0, 0, 0,
+    ],
+    &[
+        0x14, 0x10, 5, 0, 0x01, 0x10, 0x18, 0x08, 8, 0, 0, 0, 0x80, 0x11, 0x04, 0x00, 0x20, 0x00,
+        0x01, 0x00, 0, 0,
+    ],
+    &[
+        0x1c, 0x10, 5, 0, 0x01, 0x10, 0x10, 0x06, 16, 0, 0, 0, 1, 0, 0, 0, 4, 0, 0, 7, 0x80, 0x11,
+        0, 1, 1, 0, 0, 0, 0, 0,
+    ],
+    &[0x8c, 0x10, 5, 0, 0x02, 0x10, 0x00, 0x06, 128, 0, 0, 0],
+    ZEROS,
+    &[
+        0x14, 0x10, 5, 0, 0x02, 0x10, 0x00, 0x08, 8, 0, 0, 0, 0x00, 0x10, 0x02, 0x00, 0x20, 0x00,
+        0x01, 0x00, 0, 0,
+    ],
+    &[
+        0x1c, 0x10, 5, 0, 0x02, 0x10, 0x00, 0x06, 16, 0, 0, 0, 5, 0, 0, 0, 2, 0, 0, 7, 0x00, 0x10,
+        0, 1, 1, 0, 0, 0, 0, 0,
+    ],
+    &[
+        0x13, 0x10, 12, 0, 0, 0, 0, 0, 7, 0, 0, 0, 0xaa, 0, 0, 0, 0, 0, 0, 0, 0,
+    ],
+];
+
+// Whether the line is configured, and exchanges the output 0xaa.
+fn is_cycled(site: &mut impl Site, plan: &Plan) -> bool {
+    let mut inputs = [0u8; 6];
+    site.has_process()
+        && plan.image.outputs() == 1
+        && plan.image.inputs() == 6
+        && configure(site, plan).is_ok()
+        && turn(site, plan, &[0xaa], &mut inputs) == Ok(4)
+        && inputs == [0x11, 0x22, 0x33, 0x44, 0x55, 0x06]
+}
+
+// Whether the line is configured, and exchanges its data, by these frames.
+fn cycles(alloc: Global, frames: &[&[u8]]) -> bool {
+    let Some(plan) = plan_of(alloc, &[BOTH, INPUTS]) else {
+        return false;
+    };
+    let Some(site) = line_of(alloc, &[0x1001, 0x1002]) else {
+        return false;
+    };
+    let mut recorder = Recorder::of(alloc, site, 0, 0);
+    let cycles = is_cycled(&mut recorder, &plan) && recorder.has_sent(frames);
+    drop(recorder);
+    cycles
+}
+
+#[test]
+fn data_are_exchanged_by_these_frames(rt: HostRuntime) {
+    assert!(rt; cycles(rt.alloc(), CYCLED));
+}
