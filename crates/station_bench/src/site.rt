@@ -11,7 +11,7 @@ use esc_model::{FIRST_STATION, RomHalf};
 use sii_words::Words;
 use site_core::Site;
 use site_shadow::{Device, Parts, ShadowSite};
-use station_files::{Fault, Store, write_files};
+use station_files::{Fault, Store, prepare_files, write_files};
 use station_text::LineFile;
 use std::alloc::{AllocError, Global};
 use std::io;
@@ -75,8 +75,8 @@ fn power_up(alloc: Global, slaves: &[Words]) -> Result<Vec<Option<RomHalf>>, All
 ///
 /// # Errors
 ///
-/// `Memory` before any file is written; then `File` or `Memory`, as the store answers, with the files before that one written. The site is
-/// dropped.
+/// `Memory`, or `File` where a name can't be resolved, before any file is written; then `File` or `Memory`, as the store answers, with the
+/// files before that one written. The site is dropped.
 pub fn save_site<S: Store, D: Device + Drop>(
     alloc: Global,
     line: &LineFile,
@@ -116,8 +116,17 @@ fn save_parts<S: Store>(
     ensures failed { IfErr result IsOfStream }
 {
     let slaves = spell_halves(alloc, halves)?;
+    prepare_line(line, store)?;
     write_line(line, journal, &slaves, store)?;
     Ok(())
+}
+
+/// Takes the memory that the store needs to write the journal's file and the slaves' image files. No file changes.
+fn prepare_line<S: Store>(line: &LineFile, store: &mut S) -> io::Result<()>
+    ensures same { S.files store.new ≡ S.files store.old }
+{
+    store.prepare(line.journal.as_str())?;
+    prepare_files(&line.images, store)
 }
 
 /// Writes these bytes to the journal's file and to the slaves' image files.

@@ -1,7 +1,7 @@
 //! The files of the operating system as a store.
 
 use crate::reading::read_to_end;
-use crate::replacing::{holds, replace, sync_folder};
+use crate::replacing::{Place, holds, place_of, replace, sync_folder};
 use crate::store::{LockFault, Store};
 use site_file::RandomAccessFile;
 use std::alloc::Global;
@@ -14,8 +14,27 @@ use std::{fs, io};
 pub struct FileStore<'r, R> {
     files: &'r R,
     alloc: Global,
+    /// The files whose next write takes no memory.
+    prepared: Vec<Prepared>,
     /// The files that replaced others, kept open: each is locked, so the lock of a journal survives its replacement.
     replaced: Vec<File>,
+}
+
+/// Where the file of a name is replaced.
+#[derive(Drop)]
+struct Prepared {
+    name: String,
+    place: Place,
+}
+
+/// The place that was prepared for the file of this name.
+fn prepared_for<'a>(prepared: &'a [Prepared], name: &str) -> Option<&'a Place> {
+    for found in prepared {
+        if found.name.as_str() == name {
+            return Some(&found.place);
+        }
+    }
+    None
 }
 
 /// A file of the operating system, open for reading and writing at byte offsets.
@@ -36,6 +55,7 @@ impl<'r, R> FileStore<'r, R> {
         FileStore {
             files,
             alloc,
+            prepared: Vec::new(alloc),
             replaced: Vec::new(alloc),
         }
     }
@@ -54,11 +74,23 @@ impl<R: Files<File = File>> Store for FileStore<'_, R> {
         }
     }
 
+    fn prepare(&mut self, name: &str) -> io::Result<()> {
+        let place = place_of(self.files, self.alloc, name)?;
+        let name = String::from_str(self.alloc, name)?;
+        self.prepared.push(Prepared { name, place })?;
+        self.replaced.reserve(self.prepared.len())?;
+        Ok(())
+    }
+
     fn write(&mut self, name: &str, bytes: &[u8]) -> io::Result<()> {
-        if let Some(file) = holds(self.files, self.alloc, name, bytes) {
+        if let Some(file) = holds(self.files, name, bytes) {
             return file.sync_all();
         }
-        let file = replace(self.files, self.alloc, name, bytes)?;
+        self.replaced.reserve(1)?;
+        let file = match prepared_for(&self.prepared, name) {
+            Some(place) => replace(self.files, place, bytes)?,
+            None => replace(self.files, &place_of(self.files, self.alloc, name)?, bytes)?,
+        };
         self.replaced.push(file)?;
         Ok(())
     }

@@ -24,7 +24,7 @@ pub use file_store::{FileStore, SystemFile, SystemLock};
 pub use layout::show_layout;
 pub use line::{load_line, load_slaves};
 pub use reporting::{report, report_fault, status_of};
-pub use saving::{save_slaves, write_files};
+pub use saving::{prepare_files, save_slaves, write_files};
 pub use script::load_script;
 pub use show::show_image;
 pub use store::{LockFault, Store, read_file};

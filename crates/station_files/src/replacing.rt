@@ -1,55 +1,75 @@
 //! Replaces a file of the operating system as a whole, so that a power cut leaves the old file or the new one.
 
-use crate::reading::read_to_end;
 use std::alloc::Global;
 use std::fs::{File, Files, Permissions};
+use std::io::Read;
 use std::{fs, io};
 
-/// Opens the file `name` for reading if it has exactly these bytes.
-pub(crate) fn holds<R: Files<File = File>>(
-    files: &R,
-    alloc: Global,
-    name: &str,
-    bytes: &[u8],
-) -> Option<File> {
+/// The number of bytes of a file that are compared at a time.
+const PIECE: usize = 512;
+
+/// Where a file is replaced. Once this is made, replacing the file takes no memory.
+#[derive(Drop)]
+pub(crate) struct Place {
+    /// The file's name, which is not a symbolic link.
+    path: String,
+    /// The name of the new file, until it is renamed.
+    beside: String,
+}
+
+/// Opens the file `name` for reading if it has exactly these bytes. Takes no memory.
+pub(crate) fn holds<R: Files<File = File>>(files: &R, name: &str, bytes: &[u8]) -> Option<File> {
     let Ok(mut file) = File::open(files, name) else {
         return None;
     };
-    match read_to_end(alloc, &mut file) {
-        Ok(found) if found.as_slice() == bytes => Some(file),
+    match is_rest(&mut file, bytes) {
+        Ok(true) => Some(file),
         _ => None,
     }
 }
 
-/// Replaces the file `name` by a new file with these bytes, or creates it. A symbolic link stays, and the file that it points to is
-/// replaced. The new file has the permissions of the old one, and is returned locked where the system can lock it.
-pub(crate) fn replace<R: Files<File = File>>(
-    files: &R,
-    alloc: Global,
-    name: &str,
-    bytes: &[u8],
-) -> io::Result<File> {
-    match files.canonicalize(alloc, name) {
-        Ok(path) => replace_at(files, alloc, path.into_string().as_str(), bytes),
-        Err(error) if error.kind() == io::ErrorKind::NotFound => {
-            replace_at(files, alloc, name, bytes)
+/// Whether what is left to read is exactly these bytes.
+fn is_rest<R: Read>(input: &mut R, bytes: &[u8]) -> io::Result<bool> {
+    let mut buffer = [0u8; PIECE];
+    for piece in bytes.chunks(PIECE) {
+        let count = piece.len().min(PIECE);
+        let found = &mut buffer[..count];
+        input.read_exact(found)?;
+        if &*found != piece {
+            return Ok(false);
         }
-        Err(error) => Err(error),
     }
+    Ok(input.read(&mut buffer)? == 0)
 }
 
-/// Like `replace`, for a name that is not a symbolic link.
-fn replace_at<R: Files<File = File>>(
+/// Where the file `name` is replaced, or created. Of a symbolic link that is the file that it points to.
+pub(crate) fn place_of<R: Files<File = File>>(
     files: &R,
     alloc: Global,
     name: &str,
+) -> io::Result<Place> {
+    let path = match files.canonicalize(alloc, name) {
+        Ok(path) => path.into_string(),
+        Err(error) if error.kind() == io::ErrorKind::NotFound => String::from_str(alloc, name)?,
+        Err(error) => return Err(error),
+    };
+    let beside = name_beside(alloc, path.as_str())?;
+    Ok(Place { path, beside })
+}
+
+/// Replaces the file at this place by a new file with these bytes, or creates it. The new file has the permissions of the old one, and is
+/// returned locked where the system can lock it. Takes no memory.
+pub(crate) fn replace<R: Files<File = File>>(
+    files: &R,
+    place: &Place,
     bytes: &[u8],
 ) -> io::Result<File> {
-    let beside = name_beside(alloc, name)?;
+    let name = place.path.as_str();
+    let beside = place.beside.as_str();
     let permissions = fs::metadata(files, name).map(|found| found.permissions());
-    let file = write_new(files, beside.as_str(), permissions.ok(), bytes)?;
-    if let Err(error) = fs::rename(files, beside.as_str(), name) {
-        let _ = fs::remove_file(files, beside.as_str());
+    let file = write_new(files, beside, permissions.ok(), bytes)?;
+    if let Err(error) = fs::rename(files, beside, name) {
+        let _ = fs::remove_file(files, beside);
         return Err(error);
     }
     sync_folder(files, name)?;

@@ -14,7 +14,8 @@ use std::io;
 ///
 /// # Errors
 ///
-/// `Memory` before any file is written; then `File` or `Memory`, as the store answers, with the files before that one written.
+/// `Memory`, or `File` where a name can't be resolved, before any file is written; then `File` or `Memory`, as the store answers, with the
+/// files before that one written.
 pub fn save_slaves<S: Store>(
     alloc: Global,
     images: &[String],
@@ -27,6 +28,7 @@ pub fn save_slaves<S: Store>(
     ensures failed { IfErr result IsOfStream }
 {
     let files = spell_slaves(alloc, contents)?;
+    prepare_files(images, store)?;
     write_files(images, &files, store)?;
     Ok(())
 }
@@ -40,6 +42,20 @@ fn spell_slaves(alloc: Global, contents: &Plant) -> Result<Vec<Vec<u8>>, AllocEr
         files.push(contents.slave(slave).to_bytes()?)?;
     }
     Ok(files)
+}
+
+/// Takes the memory that the store needs to write the files of these names. No file changes.
+///
+/// # Errors
+///
+/// The first error of the store.
+pub fn prepare_files<S: Store>(names: &[String], store: &mut S) -> io::Result<()>
+    ensures same { S.files store.new ≡ S.files store.old }
+{
+    for slave in 0..names.len() {
+        store.prepare(names[slave].as_str())?;
+    }
+    Ok(())
 }
 
 /// Writes `files` to the names `images`, each as a whole, one after the other. Requires one name for each file.

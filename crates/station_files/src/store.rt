@@ -29,6 +29,15 @@ pub trait Store {
             option_map (λ bytes. bytes.items) found ≡ held)) }
         ensures same { files self.new ≡ files self.old };
 
+    /// Takes the memory that the next `write` of the file `name` needs, so that it is refused before any of several files is written. No
+    /// file changes.
+    ///
+    /// # Errors
+    ///
+    /// Memory was refused, or the name can't be resolved.
+    fn prepare(&mut self, name: &str) -> io::Result<()>
+        ensures same { files self.new ≡ files self.old };
+
     /// Makes `bytes` the contents of the file `name`, which is created where it is absent. A file that has these bytes already stays.
     /// Any other is replaced as a whole: a power cut during the call leaves the old file or the new one. Once the call succeeds, the new
     /// contents survive a power cut.

@@ -191,6 +191,10 @@ impl Store for Shelf {
         Ok(self.bytes(alloc, name)?)
     }
 
+    fn prepare(&mut self, _name: &str) -> io::Result<()> {
+        Ok(())
+    }
+
     fn write(&mut self, name: &str, bytes: &[u8]) -> io::Result<()> {
         if self.broken {
             return Err(io::Error::other("the disk is full"));
