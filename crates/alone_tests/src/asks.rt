@@ -1,6 +1,6 @@
 //! Commands as rows of a table.
 
-use sii_edit::{Command, Edit, EditList};
+use sii_edit::{Command, Edit, EditList, WordList};
 use sii_words::ImageFile;
 use std::alloc::Global;
 
@@ -15,6 +15,8 @@ pub(crate) enum Ask {
     /// An image of slave 0 with this alias and check byte and an end mark in word 64. Behind it this number of words have this in both
     /// bytes.
     Image((u8, u8), u16, u8),
+    /// An RXPDO of slave 0 for its first sync manager: 46 entries of 255 bits, and one of this many.
+    Outputs(u8),
 }
 
 fn group(alloc: Global, aliases: &[(u16, u16)]) -> Option<Command> {
@@ -41,6 +43,20 @@ fn image(alloc: Global, name: (u8, u8), count: u16, fill: u8) -> Option<Command>
     Some(Command::One(Edit::Image { slave: 0, image }))
 }
 
+fn outputs(alloc: Global, last: u8) -> Option<Command> {
+    let mut words = Vec::from_slice(alloc, &[0x1600, 47, 0, 0]).ok()?;
+    for _entry in 0..46u8 {
+        words.extend_from_slice(&[0x7000, 1, 0xff05, 0]).ok()?;
+    }
+    let last = u16::from_le_bytes([5, last]);
+    words.extend_from_slice(&[0x7000, 1, last, 0]).ok()?;
+    Some(Command::One(Edit::Category {
+        slave: 0,
+        kind: 51,
+        words: WordList::from_vec(words),
+    }))
+}
+
 /// The command. None: memory was refused.
 pub(crate) fn command(alloc: Global, ask: &Ask) -> Option<Command> {
     match *ask {
@@ -48,5 +64,6 @@ pub(crate) fn command(alloc: Global, ask: &Ask) -> Option<Command> {
         Ask::Swap(a, b) => Some(Command::Swap { a, b }),
         Ask::Group(aliases) => group(alloc, aliases),
         Ask::Image(name, count, fill) => image(alloc, name, count, fill),
+        Ask::Outputs(last) => outputs(alloc, last),
     }
 }

@@ -28,13 +28,13 @@ pub(crate) fn fails(site: &mut MemSite) -> bool {
 }
 
 /// What the failure did to a run that has these parts and ended so.
-fn failure_of(alloc: Global, parts: Parts, end: &End, is_over: bool) -> Failure {
+fn failure_of(alloc: Global, way: Way, parts: Parts, end: &End, is_over: bool) -> Failure {
     if is_over {
         drop(parts);
         return Failure::Over;
     }
     if end.fault == Some(Fault::Disk) {
-        let is_kept = recovers(alloc, parts, kept_by(Way::OneByOne, end.status[1]));
+        let is_kept = recovers(alloc, parts, kept_by(way, end.status[1]));
         return if is_kept {
             Failure::Closed
         } else {
@@ -53,18 +53,18 @@ fn failure_of(alloc: Global, parts: Parts, end: &End, is_over: bool) -> Failure 
 }
 
 /// What the failure does that comes after this number of device calls of a run.
-fn failing(alloc: Global, calls: u64) -> Option<Failure> {
-    let (site, end) = ended(alloc, Way::OneByOne, &Trouble::Call(calls))?;
+fn failing(alloc: Global, way: Way, calls: u64) -> Option<Failure> {
+    let (site, end) = ended(alloc, way, &Trouble::Call(calls))?;
     let mut site = site;
     let is_over = fails(&mut site);
-    Some(failure_of(alloc, site.into_parts(), &end, is_over))
+    Some(failure_of(alloc, way, site.into_parts(), &end, is_over))
 }
 
 /// The number of device calls whose failure has each of the first three effects.
-fn failures(alloc: Global) -> Option<[u64; 3]> {
+fn failures(alloc: Global, way: Way) -> Option<[u64; 3]> {
     let mut counts = [0u64; 3];
     for calls in 0..1000 {
-        match failing(alloc, calls)? {
+        match failing(alloc, way, calls)? {
             Failure::Unopened => counts[0] = counts[0].saturating_add(1),
             Failure::Closed => counts[1] = counts[1].saturating_add(1),
             Failure::Served => counts[2] = counts[2].saturating_add(1),
@@ -75,8 +75,10 @@ fn failures(alloc: Global) -> Option<[u64; 3]> {
     None
 }
 
-// Opening has three calls for the disk, and 101 for each slave. The run has 18 for the disk, and ten words, each with its poll.
+// Opening has three calls for the disk, and 101 for each slave. One by one, the commands take 18 calls for the disk, six for each batch,
+// and ten words, each with its poll; queued, one batch and six words.
 #[test]
 fn a_failure_of_each_call(rt: HostRuntime) {
-    assert!(rt; failures(rt.alloc()) == Some([3, 18, 323]));
+    assert!(rt; failures(rt.alloc(), Way::OneByOne) == Some([3, 18, 323]));
+    assert!(rt; failures(rt.alloc(), Way::Queued) == Some([3, 6, 315]));
 }

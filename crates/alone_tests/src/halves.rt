@@ -3,7 +3,7 @@
 use crate::asks::Ask::{Alias, Image};
 use crate::line::{ALONE, Line, Slave};
 use crate::sites::Trouble::Nothing;
-use crate::stations::Event::{Disk, Rom, Serve, Submit};
+use crate::stations::Event::{Disk, Rom, Serve, Status, Submit};
 use crate::story::Chapter::{Aliases, Recovery, Session};
 use crate::story::{Chapter, Story, all_told};
 use book_model::SubmitRefusal;
@@ -44,6 +44,26 @@ const FULL: &[Chapter] = &[
     Aliases([2, 0, 0]),
 ];
 
+/// While a batch is appended behind a full half, an image that would fill its half finds no room, and an alias does.
+const BEHIND_A_BATCH: &[Chapter] = &[
+    Session(
+        Nothing,
+        &[
+            Submit(Image((0, 0x30), 1011, 0x11), Accepted(0)),
+            Disk(4, Did),
+            Submit(Alias(0, 1), Accepted(1)),
+            Disk(1, Did),
+            Submit(Image((1, 0x19), 1011, 0x22), Refused(SubmitRefusal::Full)),
+            Submit(Alias(0, 2), Accepted(2)),
+            Disk(3, Did),
+            // 2,046 and 34 bytes.
+            Status([3, 2, 0, 2080]),
+            Serve(Idle),
+        ],
+    ),
+    Aliases([2, 0, 0]),
+];
+
 /// An image with alias 1 in half 0, and alias 2 in half 1.
 const BOTH: &[Chapter] = &[
     Session(
@@ -76,7 +96,12 @@ const SECOND: &[Chapter] = &[
     Aliases([2, 0, 0]),
 ];
 
-const STORIES: &[Story] = &[(LONG, FULL), (LONG, BOTH), (LONG, SECOND)];
+const STORIES: &[Story] = &[
+    (LONG, FULL),
+    (LONG, BEHIND_A_BATCH),
+    (LONG, BOTH),
+    (LONG, SECOND),
+];
 
 #[test]
 fn halves_are_filled(rt: HostRuntime) {

@@ -1,21 +1,18 @@
 //! Journals as a station finds them: none, those of two generations, and old ones, which are migrated.
 
 use crate::asks::Ask::Alias;
-use crate::failures::fails;
+use crate::damage::{Reader, Verdict, verdict_of};
 use crate::line::{ALONE, Line, THREE, TWO, parts_of};
-use crate::sites::Trouble::{Call, Fuse, Nothing};
-use crate::sites::{recovered, site_of};
+use crate::sites::Trouble::{Fuse, Nothing};
+use crate::sites::site_of;
 use crate::stations::Event::Submit;
 use crate::stops::{PATTERNS, writes_mended};
 use crate::story::Chapter::{Aliases, Bytes, Recovery, Session};
 use crate::story::{Chapter, STOPPED, Story, all_told};
 use book_model::SubmitRefusal;
 use jrn_format::JournalFault::{self, BadJournal, BadVersion, NotAJournal, WrongLine};
-use site_journal::ReadFault;
-use site_mem::MemSite;
 use site_mem::Pattern::{self, Fill};
 use station_alone::Answer::Refused;
-use station_alone::OpenFault;
 use std::alloc::Global;
 
 /// Lines whose disk holds no journal of this line, and the fault of each.
@@ -45,6 +42,67 @@ const REFUSED: &[(Line, JournalFault)] = &[
         },
         WrongLine,
     ),
+    // Longer than a half, no command, a run of no words, and a byte left over.
+    (
+        Line {
+            first: &[0xa5, 0x00, 0xff, 0xff, 0xff, 0xff],
+            ..TWO
+        },
+        BadJournal { at: 8 },
+    ),
+    (
+        Line {
+            first: &[0xa5, 0x00, 0x02, 0x00, 0x00, 0x00, 0x00, 0x00, 0x00],
+            ..TWO
+        },
+        BadJournal { at: 8 },
+    ),
+    (
+        Line {
+            first: &[
+                0xa5, 0, 0x12, 0, 0, 0, 1, 0, 0, 0, 0, 0, 0, 0, 0, 0, 1, 0, 0, 0, 0, 0, 0, 0, 0,
+            ],
+            ..TWO
+        },
+        BadJournal { at: 8 },
+    ),
+    (
+        Line {
+            first: &[
+                0xa5, 0, 0x0d, 0, 0, 0, 1, 0, 0, 0, 0, 0, 0, 0, 0, 0, 0, 0, 0, 0,
+            ],
+            ..TWO
+        },
+        BadJournal { at: 8 },
+    ),
+    // A second half that can't be read, word 64 of 64, and slave 2 of two.
+    (
+        Line {
+            second: &[0xa5],
+            ..TWO
+        },
+        BadJournal { at: 2056 },
+    ),
+    (
+        Line {
+            first: &[
+                0xa5, 0, 0x14, 0, 0, 0, 1, 0, 0, 0, 0, 0, 0, 0, 0, 0, 1, 0, 1, 0, 64, 0, 1, 0, 0,
+                0, 0,
+            ],
+            ..TWO
+        },
+        WrongLine,
+    ),
+    (
+        Line {
+            first: &[
+                0xa5, 0, 0x14, 0, 0, 0, 1, 0, 0, 0, 0, 0, 0, 0, 0, 0, 1, 0, 2, 0, 0, 0, 1, 0, 0, 0,
+                0,
+            ],
+            ..TWO
+        },
+        WrongLine,
+    ),
     // Both halves are live, and neither generation follows the other.
     (
         Line {
@@ -57,12 +115,12 @@ const REFUSED: &[(Line, JournalFault)] = &[
 ];
 
 /// Batches by which slave 0 gets alias 1 or 2, of generations 255, 0 and 2.
-const OF_255: &[u8] = &[
+pub(crate) const OF_255: &[u8] = &[
     0xa5, 0xff, 0x14, 0x00, 0x00, 0x00, 0x01, 0x00, 0x00, 0x00, 0x00, 0x00, 0x00, 0x00, 0x00, 0x00,
     0x01, 0x00, 0x00, 0x00, 0x04, 0x00, 0x01, 0x00, 0x01, 0x00,
 ];
 
-const OF_0: &[u8] = &[
+pub(crate) const OF_0: &[u8] = &[
     0xa5, 0x00, 0x14, 0x00, 0x00, 0x00, 0x01, 0x00, 0x00, 0x00, 0x00, 0x00, 0x00, 0x00, 0x00, 0x00,
     0x01, 0x00, 0x00, 0x00, 0x04, 0x00, 0x01, 0x00, 0x02, 0x00,
 ];
@@ -72,22 +130,12 @@ const OF_2: &[u8] = &[
     0x01, 0x00, 0x00, 0x00, 0x04, 0x00, 0x01, 0x00, 0x02, 0x00,
 ];
 
-/// The fault of a recovery. Some: three calls of the disk were made, and no frame was sent.
-fn refusal_on(alloc: Global, site: MemSite) -> Option<OpenFault> {
-    let (mut site, came) = recovered(alloc, site);
-    if fails(&mut site) { came.err() } else { None }
-}
-
-/// Whether a recovery of the line fails with this fault.
-fn is_refused(alloc: Global, line: &Line, why: JournalFault) -> Option<bool> {
-    let site = site_of(alloc, parts_of(alloc, line)?, &Call(3))?;
-    Some(refusal_on(alloc, site) == Some(OpenFault::Journal(ReadFault::Journal(why))))
-}
-
 #[test]
 fn what_is_no_journal_is_refused(rt: HostRuntime) {
     for (line, why) in REFUSED {
-        assert!(rt; is_refused(rt.alloc(), line, *why) == Some(true));
+        for reader in [Reader::Open, Reader::Recover] {
+            assert!(rt; verdict_of(rt.alloc(), line, reader) == Some(Verdict::Refused(*why)));
+        }
     }
 }
 
@@ -117,7 +165,7 @@ fn the_newer_half_counts(rt: HostRuntime) {
 }
 
 /// A journal of version 1 with a batch by which the slave gets alias 1.
-const OLD: Line = Line {
+pub(crate) const OLD: Line = Line {
     header: [0xa5, 0x01, 0x01, 0x00, 0x00, 0x10, 0x00, 0x00],
     first: &[
         0xa5, 0x1c, 0x00, 0x00, 0x00, 0x01, 0x00, 0x00, 0x00, 0x00, 0x00, 0x00, 0x00, 0x00, 0x00,

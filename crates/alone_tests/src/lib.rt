@@ -4,6 +4,10 @@
 #[cfg(test)]
 mod asks;
 #[cfg(test)]
+mod damage;
+#[cfg(test)]
+mod dice;
+#[cfg(test)]
 mod failures;
 #[cfg(test)]
 mod growths;

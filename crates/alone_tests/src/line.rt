@@ -14,6 +14,8 @@ pub(crate) enum Slave {
     One,
     /// 4,096 words, whose categories end at word 64.
     Long,
+    /// 512 words, and one sync manager, for outputs.
+    Wide,
 }
 
 /// The slaves, and the disk: a header, the first bytes of each half of 2,048 bytes, and the number of bytes, 4,104 at most.
@@ -53,16 +55,24 @@ fn put(bytes: &mut [u8], from: usize, new: &[u8]) {
     }
 }
 
+/// The end mark of the categories, and a SyncM category in front of it.
+const NOTHING: &[u8] = &[0xff, 0xff];
+
+const OUTPUTS: &[u8] = &[
+    41, 0, 4, 0, 0x00, 0x10, 0xce, 0x05, 0x24, 0x00, 0x01, 0x03, 0xff, 0xff,
+];
+
 fn words(alloc: Global, slave: Slave) -> Option<Words> {
-    let (count, alias, check) = match slave {
-        Slave::Zero => (64, 0, 0x30),
-        Slave::One => (64, 1, 0x19),
-        Slave::Long => (4096, 0, 0x30),
+    let (count, alias, check, categories) = match slave {
+        Slave::Zero => (64, 0, 0x30, NOTHING),
+        Slave::One => (64, 1, 0x19, NOTHING),
+        Slave::Long => (4096, 0, 0x30, NOTHING),
+        Slave::Wide => (512, 0, 0x30, OUTPUTS),
     };
     let mut bytes = vec![in alloc; 0u8; 2 * count].ok()?;
     put(&mut bytes, 8, &[alias]);
     put(&mut bytes, 14, &[check]);
-    put(&mut bytes, 128, &[0xff, 0xff]);
+    put(&mut bytes, 128, categories);
     Words::from_bytes(alloc, &bytes).ok()
 }
 
@@ -79,10 +89,10 @@ fn halves(alloc: Global, slaves: &[Slave]) -> Option<Vec<Option<RomHalf>>> {
 fn sizes(alloc: Global, slaves: &[Slave]) -> Option<Vec<u16>> {
     let mut sizes = Vec::new(alloc);
     for slave in slaves {
-        let size = if matches!(slave, Slave::Long) {
-            4096
-        } else {
-            64
+        let size = match slave {
+            Slave::Zero | Slave::One => 64,
+            Slave::Long => 4096,
+            Slave::Wide => 512,
         };
         sizes.push(size).ok()?;
     }

@@ -102,7 +102,7 @@ fn is_one_of(aliases: [u16; 3], kept: &[[u16; 3]]) -> bool {
 }
 
 /// Whether this is a journal of version 2 in which nothing is live.
-fn is_empty_journal(parts: &Parts) -> bool {
+pub(crate) fn is_empty_journal(parts: &Parts) -> bool {
     holds(parts, 0, &[0xa5, 0x02]) && !holds(parts, 8, &[0xa5]) && !holds(parts, 2056, &[0xa5])
 }
 

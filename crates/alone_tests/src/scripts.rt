@@ -1,7 +1,7 @@
 //! What a station answers step by step, and what a recovery finds afterwards.
 
-use crate::asks::Ask::{Alias, Group, Swap};
-use crate::line::{ALONE, THREE, TWO};
+use crate::asks::Ask::{Alias, Group, Image, Outputs, Swap};
+use crate::line::{ALONE, Line, Slave, THREE, TWO};
 use crate::sites::Trouble::{Call, Fuse, Nothing, Words};
 use crate::stations::Event::{self, Disk, Rom, Run, Serve, Status, Submit};
 use crate::story::Chapter::{Aliases, Bytes, Recovery, Session};
@@ -178,6 +178,60 @@ const LOST: &[Chapter] = &[
     Aliases([1, 0, 0]),
 ];
 
+/// The disk fails in the first write of a batch, or in the last sync. That closes the book. 104 calls open the station.
+const UNWRITTEN: &[Chapter] = &[Session(
+    Call(104),
+    &[
+        Submit(Alias(0, 1), Accepted(0)),
+        Disk(1, Failed(Fault::Disk)),
+        Submit(Alias(0, 2), Refused(SubmitRefusal::Closed)),
+        Status([1, 0, 0, 0]),
+    ],
+)];
+
+const UNSYNCED: &[Chapter] = &[Session(
+    Call(107),
+    &[
+        Submit(Alias(0, 1), Accepted(0)),
+        Disk(3, Did),
+        Disk(1, Failed(Fault::Disk)),
+        Submit(Alias(0, 2), Refused(SubmitRefusal::Closed)),
+        Status([1, 0, 0, 0]),
+    ],
+)];
+
+/// A slave with one sync manager, for outputs. They have 1,486 bytes at most.
+const WIDE: Line = Line {
+    slaves: &[Slave::Wide],
+    ..ALONE
+};
+
+const LARGEST: &[Chapter] = &[Session(
+    Nothing,
+    &[
+        Submit(Outputs(159), Refused(OVER_LIMIT)),
+        Submit(Outputs(158), Accepted(0)),
+        Serve(Idle),
+        Status([1, 1, 1, 0]),
+    ],
+)];
+
+const OVER_LIMIT: SubmitRefusal = SubmitRefusal::Command(Refusal {
+    cause: Cause::ImageOverLimit,
+    position: None,
+});
+
+/// An image of 65 words for a slave of 64.
+const LONGER: &[Chapter] = &[Session(
+    Nothing,
+    &[Submit(Image((0, 0x30), 0, 0), Refused(TOO_LONG))],
+)];
+
+const TOO_LONG: SubmitRefusal = SubmitRefusal::Command(Refusal {
+    cause: Cause::ImageTooLong,
+    position: None,
+});
+
 const SAME_SLAVE: SubmitRefusal = SubmitRefusal::Command(Refusal {
     cause: Cause::SameSlave,
     position: None,
@@ -243,6 +297,10 @@ const SERVED: &[Story] = &[
     (ALONE, IN_A_ROW),
     (ALONE, AGAIN),
     (ALONE, LOST),
+    (ALONE, UNWRITTEN),
+    (ALONE, UNSYNCED),
+    (WIDE, LARGEST),
+    (ALONE, LONGER),
     (THREE, WITHOUT_RUNS),
     (THREE, ONCE),
 ];
