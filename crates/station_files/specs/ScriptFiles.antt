@@ -1,7 +1,7 @@
 -- The commands that a script file and the image files named in it spell.
-use Rattle.std.specs.Prelude.{◌≡◌, ℕ, List, All, None, string_bytes}
+use Rattle.std.specs.Prelude.{◌≡◌, ◌⊎◌, ◌/◌, ◌%◌, ℕ, List, length, All, Contains, IsUtf8, None, string_bytes, ⊤}
 use Rattle.std.specs.List.{AllZip}
-use Rattle.sii_words.specs.Words.{bytes_of}
+use Rattle.sii_words.specs.Words.{IsImageSize, bytes_of}
 use Rattle.sii_edit.specs.declared.command.Command.{Command}
 use Rattle.sii_edit.specs.declared.command.Command.TheVariants as commands
 use Rattle.sii_edit.specs.declared.command.Edit.{Edit}
@@ -14,6 +14,8 @@ use Rattle.station_text.specs.declared.script_command.ScriptEdit.{ScriptEdit}
 use Rattle.station_text.specs.declared.script_command.ScriptEdit.TheVariants.{Alias, Category, Image}
 use Rattle.station_text.specs.declared.script_command.ScriptGroupEdit.{ScriptGroupEdit}
 use Rattle.station_files.specs.Files.{Known, Holds, HasBytes}
+use Rattle.station_files.specs.declared.faults.Fault.{Fault}
+use Rattle.station_files.specs.declared.faults.Fault.TheVariants.{OddLength, BadSize, BadScript, Memory, File}
 
 -- this is the edit of a script; an image has the words of its file
 abbrev pub LoadsEdit : Known → ScriptEdit → Edit → Type 0
@@ -49,3 +51,59 @@ pub record SpellsCommands (files : Known) (name : List ℕ) (commands : List Com
   pub script : List ScriptCommand
   pub spelt : Holds files name (λ text. SpellsScriptFile text script)
   pub loaded : AllZip (LoadsCommand files) script commands
+
+-- ---- why a script isn't loaded
+
+-- the fault for an image file that a script names: it can't be read, memory was refused, or its bytes are not the words of an image
+abbrev pub RefusesImage : Known → List ℕ → Fault → Type 0
+RefusesImage files name File = ⊤
+RefusesImage files name Memory = ⊤
+RefusesImage files name OddLength = Holds files name (λ bytes. length bytes % 2 ≡ 1)
+RefusesImage files name BadSize = Holds files name (λ bytes. (length bytes % 2 ≡ 0) × ¬ IsImageSize (length bytes / 2))
+RefusesImage files name _ = ⊥
+
+-- the fault for an edit: that of the image file that it names, or memory was refused
+abbrev pub RefusesEdit : Known → ScriptEdit → Fault → Type 0
+RefusesEdit files (Image slave file) fault = RefusesImage files (string_bytes file) fault
+RefusesEdit files edit fault = fault ≡ Memory
+
+-- the fault for one of these, or memory was refused
+abbrev pub RefusesOne : {A : Type 0} → (A → Fault → Type 0) → List A → Fault → Type 0
+RefusesOne {A} Refuses items fault = (fault ≡ Memory) ⊎ ((item : A) × Contains items item × Refuses item fault)
+
+-- the fault for a group: that of one of its edits
+abbrev pub RefusesGroup : Known → List ScriptGroupEdit → Fault → Type 0
+RefusesGroup files edits fault = RefusesOne (λ (one : ScriptGroupEdit) (why : Fault). RefusesEdit files one.edit why) edits fault
+
+-- the fault for a command: that of its edit, or of one of its group's edits
+abbrev pub RefusesCommand : Known → ScriptCommand → Fault → Type 0
+RefusesCommand files (One edit) fault = RefusesEdit files edit fault
+RefusesCommand files (Swap a b) fault = ⊥
+RefusesCommand files (Group edits) fault = RefusesGroup files edits.items fault
+
+-- the fault for the images of a script: that of one of its commands
+abbrev pub RefusesCommands : Known → List ScriptCommand → Fault → Type 0
+RefusesCommands files script fault = RefusesOne (RefusesCommand files) script fault
+
+-- the text is no script
+abbrev pub IsNoScript : List ℕ → Type 0
+IsNoScript text = (¬ IsUtf8 text) ⊎ ((commands : List ScriptCommand) → ¬ SpellsScriptFile text commands)
+
+-- the fault for a text that should be a script: it is none, or memory was refused
+abbrev pub RefusesText : List ℕ → Fault → Type 0
+RefusesText text Memory = ⊤
+RefusesText text (BadScript command) = IsNoScript text
+RefusesText text _ = ⊥
+
+-- the file of this name is a script, and this is the fault for its images
+pub record RefusesImages (files : Known) (name : List ℕ) (fault : Fault) : Type 0 where
+  pub script : List ScriptCommand
+  pub spelt : Holds files name (λ text. SpellsScriptFile text script)
+  pub refused : RefusesCommands files script fault
+
+-- the fault for a script: it can't be read, memory was refused, its text is no script, or an image that it names is bad
+abbrev pub RefusesScript : Known → List ℕ → Fault → Type 0
+RefusesScript files name File = ⊤
+RefusesScript files name Memory = ⊤
+RefusesScript files name (BadScript command) = Holds files name IsNoScript
+RefusesScript files name fault = RefusesImages files name fault

@@ -1,6 +1,6 @@
 //! Reads a script file and the images that it names into commands.
-ghost use Rattle.std.specs.Prelude.{◌≡◌, IfOk};
-ghost use Rattle.station_files.specs.ScriptFiles.{SpellsCommands};
+ghost use Rattle.std.specs.Prelude.{◌≡◌, IfErr, IfOk};
+ghost use Rattle.station_files.specs.ScriptFiles.{RefusesScript, RefusesText, SpellsCommands};
 ghost use Rattle.station_text.specs.ScriptText.{SpellsScriptFile};
 
 use crate::faults::Fault;
@@ -22,6 +22,7 @@ pub fn load_script<S: Store>(
     store: &mut S,
 ) -> Result<Vec<Command>, Fault>
     ensures commands { IfOk result (λ commands. SpellsCommands (S.files store.old) name.now commands.items) }
+    ensures refused { IfErr result (RefusesScript (S.files store.old) name.now) }
     ensures same { S.files store.new ≡ S.files store.old }
 {
     let bytes = read_file(alloc, name, store)?;
@@ -31,7 +32,8 @@ pub fn load_script<S: Store>(
 
 /// The commands of a script with these bytes.
 fn spelt_script(alloc: Global, bytes: &[u8]) -> Result<Vec<ScriptCommand>, Fault>
-    ensures { IfOk result (λ script. SpellsScriptFile bytes.now script.items) }
+    ensures script { IfOk result (λ script. SpellsScriptFile bytes.now script.items) }
+    ensures refused { IfErr result (RefusesText bytes.now) }
 {
     let Ok(text) = str::from_utf8(bytes) else {
         return Err(Fault::BadScript { command: 0 });

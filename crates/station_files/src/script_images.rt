@@ -1,7 +1,7 @@
 //! Loads the images that the commands of a script name.
-ghost use Rattle.std.specs.Prelude.{◌≡◌, ◌↔◌, All, IfOk, IsTrue};
+ghost use Rattle.std.specs.Prelude.{◌≡◌, ◌↔◌, All, IfErr, IfOk, IsTrue};
 ghost use Rattle.std.specs.List.{AllZip};
-ghost use Rattle.station_files.specs.ScriptFiles.{IsPlain, LoadsCommand, LoadsEdit, LoadsGroup, LoadsGuarded};
+ghost use Rattle.station_files.specs.ScriptFiles.{IsPlain, LoadsCommand, LoadsEdit, LoadsGroup, LoadsGuarded, RefusesCommand, RefusesCommands, RefusesEdit, RefusesGroup};
 
 use crate::faults::Fault;
 use crate::store::{Store, read_file};
@@ -23,6 +23,7 @@ pub fn load_commands<S: Store>(
     store: &mut S,
 ) -> Result<Vec<Command>, Fault>
     ensures commands { IfOk result (λ commands. AllZip (LoadsCommand (S.files store.old)) script.now commands.items) }
+    ensures refused { IfErr result (RefusesCommands (S.files store.old) script.now) }
     ensures same { S.files store.new ≡ S.files store.old }
 {
     let mut commands = Vec::new(alloc);
@@ -38,6 +39,7 @@ fn load_command<S: Store>(
     store: &mut S,
 ) -> Result<Command, Fault>
     ensures command { IfOk result (LoadsCommand (S.files store.old) command.now) }
+    ensures refused { IfErr result (RefusesCommand (S.files store.old) command.now) }
     ensures same { S.files store.new ≡ S.files store.old }
 {
     match command {
@@ -54,6 +56,7 @@ fn load_group<S: Store>(
     store: &mut S,
 ) -> Result<Command, Fault>
     ensures command { IfOk result (LoadsGroup (S.files store.old) edits.now) }
+    ensures refused { IfErr result (RefusesGroup (S.files store.old) edits.now) }
     ensures same { S.files store.new ≡ S.files store.old }
 {
     if is_plain(edits) {
@@ -76,6 +79,7 @@ fn load_edits<S: Store>(
     store: &mut S,
 ) -> Result<Vec<Edit>, Fault>
     ensures edits { IfOk result (λ loaded. AllZip (λ one edit. LoadsEdit (S.files store.old) one.edit edit) edits.now loaded.items) }
+    ensures refused { IfErr result (RefusesGroup (S.files store.old) edits.now) }
     ensures same { S.files store.new ≡ S.files store.old }
 {
     let mut loaded = Vec::new(alloc);
@@ -91,6 +95,7 @@ fn load_guarded_edits<S: Store>(
     store: &mut S,
 ) -> Result<Vec<GuardedEdit>, Fault>
     ensures edits { IfOk result (λ loaded. AllZip (LoadsGuarded (S.files store.old)) edits.now loaded.items) }
+    ensures refused { IfErr result (RefusesGroup (S.files store.old) edits.now) }
     ensures same { S.files store.new ≡ S.files store.old }
 {
     let mut loaded = Vec::new(alloc);
@@ -106,6 +111,7 @@ fn load_guarded_edit<S: Store>(
     store: &mut S,
 ) -> Result<GuardedEdit, Fault>
     ensures edit { IfOk result (LoadsGuarded (S.files store.old) one.now) }
+    ensures refused { IfErr result (RefusesEdit (S.files store.old) one.now.edit) }
     ensures same { S.files store.new ≡ S.files store.old }
 {
     Ok(GuardedEdit {
@@ -116,6 +122,7 @@ fn load_guarded_edit<S: Store>(
 
 fn load_edit<S: Store>(alloc: Global, edit: &ScriptEdit, store: &mut S) -> Result<Edit, Fault>
     ensures edit { IfOk result (LoadsEdit (S.files store.old) edit.now) }
+    ensures refused { IfErr result (RefusesEdit (S.files store.old) edit.now) }
     ensures same { S.files store.new ≡ S.files store.old }
 {
     match edit {
