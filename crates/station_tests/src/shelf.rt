@@ -24,13 +24,12 @@ pub struct Held {
     pub content: Content,
 }
 
-/// Files in memory, the latest of each name first.
+/// Files in memory, the latest of each name first. On a broken shelf each write of a whole file fails.
 #[derive(Drop)]
 pub struct Shelf {
     pub alloc: Global,
     pub files: Vec<Held>,
-    /// The error with which each write of a whole file fails, if it does.
-    pub broken: Option<io::ErrorKind>,
+    pub broken: bool,
     /// Whether another station holds the lock of each journal.
     pub is_busy: bool,
     /// How many files the program wrote as a whole.
@@ -83,7 +82,7 @@ impl Shelf {
         Ok(Shelf {
             alloc,
             files: Vec::new(alloc),
-            broken: None,
+            broken: false,
             is_busy: false,
             writes: 0,
             replaced: 0,
@@ -197,8 +196,8 @@ impl Store for Shelf {
     }
 
     fn write(&mut self, name: &str, bytes: &[u8]) -> io::Result<()> {
-        if let Some(kind) = self.broken {
-            return Err(io::Error::from(kind));
+        if self.broken {
+            return Err(io::Error::other("the disk is full"));
         }
         let is_same = self.holds(name, bytes)?;
         match self.troubles.write() {
