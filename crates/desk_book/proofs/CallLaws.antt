@@ -8,6 +8,7 @@ use Rattle.book_model.specs.declared.refusal.SubmitRefusal.{SubmitRefusal}
 use Rattle.book_model.specs.Book.{Book}
 use Rattle.station_jobs.specs.declared.cycle.CycleNote.{CycleNote}
 use Rattle.sii_edit.specs.declared.command.Command.{Command}
+use Rattle.book_core.specs.Wear.{IssuesFew}
 use Rattle.desk_book.specs.declared.call.Call.{Call}
 use Rattle.desk_book.specs.declared.call.Call.TheVariants.{Submitted}
 use Rattle.station_jobs.specs.Noted.{Noted}
@@ -28,6 +29,16 @@ is-replayed-more opened book later calls call is one goes = record {
   same = goes ∙ ap (λ (b : Book). after b call) is.same ∙ sym (replayed-more opened calls call);
   answers = answered-more opened calls call is.answers (subst (λ (b : Book). IsAnswered b call) is.same one);
 }
+
+-- The history with one more call that was answered as the book answers it.
+pub answered-by : (opened book : Book) (calls later : List Call) (call : Call) → IsReplayed opened book calls → IsAnswered book call → later ≡ calls ++ call ∷ [] → AreAnswered opened later
+answered-by opened book calls later call is one more = subst (AreAnswered opened) (sym more) (answered-more opened calls call is.answers (subst (λ (b : Book). IsAnswered b call) is.same one))
+
+-- The book after one more call issues few words, and it is the one that the history leads to.
+pub worn-by : (opened book new : Book) (calls later : List Call) (call : Call) → IsReplayed opened book calls → IsAnswered book call → new ≡ after book call → later ≡ calls ++ call ∷ []
+    → IssuesFew new → IssuesFew (replayed opened later)
+worn-by opened book new calls later call is one goes more few =
+    subst (λ (l : List Call). IssuesFew (replayed opened l)) (sym more) (subst IssuesFew (is-replayed-more opened book new calls call is one goes).same few)
 
 -- each slave's notes have what the call hands out for it
 abbrev pub RomNoted : Call → (old new : List (Noted RomNext RomOutcome)) → Type 0

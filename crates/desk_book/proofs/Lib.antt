@@ -6,4 +6,5 @@ pub mod TurnLaws
 pub mod BaseLaws
 pub mod EntryLaws
 pub mod AskLaws
+pub mod HeardLaws
 pub mod CountLaws

@@ -1,19 +1,30 @@
 -- What a request for a job, and the report of its outcome, do to the book under its lock.
-use Rattle.std.specs.Prelude.{◌≡◌, ◌⊎◌, ◌+◌, ℕ, Bool, true, false, Some, None, Result, length, if◌then◌else◌}
+use Rattle.std.specs.Prelude.{◌≡◌, ◌⊎◌, ◌+◌, ◌-◌, ◌&&◌, ◌||◌, ◌==◌, ℕ, Bool, true, false, MatchBool, List, Option, Some, None, Result, Ok, length, slice_get, is_some, nat_le, if◌then◌else◌}
 use Rattle.sii_image.specs.declared.plan.Plan.{Plan}
+use Rattle.sii_image.specs.ProcessImage.{process_image}
 use Rattle.site_core.specs.declared.fault.DeviceFault.{DeviceFault}
 use Rattle.book_model.specs.declared.next.DiskNext.{DiskNext}
 use Rattle.book_model.specs.declared.next.DiskNext.TheVariants as disk
 use Rattle.book_model.specs.declared.next.RomNext.{RomNext}
 use Rattle.book_model.specs.declared.next.RomNext.TheVariants as rom
 use Rattle.book_model.specs.declared.next.RomOutcome.{RomOutcome}
+use Rattle.book_model.specs.Book.{Book}
+use Rattle.book_model.specs.Reading.{applied, planned}
+use Rattle.book_core.specs.Plan.{IsPlan}
+use Rattle.book_core.specs.Wear.{IssuesFew}
 use Rattle.station_jobs.specs.declared.cycle.CycleNote.{CycleNote}
 use Rattle.desk_book.specs.declared.call.Call.TheVariants.{DiskAsked, DiskTold, SlaveAsked, SlaveTold, PlanAsked}
 use Rattle.desk_book.specs.declared.heard.Heard.{Heard}
 use Rattle.desk_book.specs.declared.heard.Heard.TheVariants.{Work, Nothing, NoMemory, Stop}
 use Rattle.station_jobs.specs.Noted.{is_waiting}
-use Rattle.desk_book.specs.Logs.{disk_log, rom_log}
+use Rattle.desk_book.specs.Logs.{disk_log, rom_log, cycle_log}
 use Rattle.desk_book.specs.Serving.{Serving, with_call}
+
+-- ---- without the book
+
+-- The book isn't asked: this is the answer, and nothing changes.
+abbrev pub IsUnasked : {J : Type 0} → (answer heard : Heard J) → (old new : Serving) → Type 0
+IsUnasked answer heard old new = (heard ≡ answer) × (new ≡ old)
 
 -- ---- the disk
 
@@ -28,16 +39,18 @@ abbrev pub bytes_of : DiskNext → ℕ
 bytes_of (disk.Write at bytes) = length bytes
 bytes_of other = 0
 
--- The book was asked and handed nothing out, or it wasn't asked.
-abbrev pub DiskRests : (old new : Serving) → Type 0
-DiskRests old new = (new ≡ old) ⊎ ((answer : DiskNext) × (is_disk_job answer ≡ false) × (new ≡ with_call old (DiskAsked answer)))
+-- The book is asked for the next action on the disk. An action is answered twice. `Nothing` and `Stop` are the book's `Idle` and `Stop`.
+abbrev pub HearsDisk : Heard (DiskNext × DiskNext) → (old new : Serving) → Type 0
+HearsDisk (Work jobs) old new = (jobs.1 ≡ jobs.0) × (is_disk_job jobs.0 ≡ true) × (new ≡ with_call old (DiskAsked jobs.0))
+HearsDisk Nothing old new = new ≡ with_call old (DiskAsked disk.Idle)
+HearsDisk NoMemory old new = new ≡ old
+HearsDisk Stop old new = new ≡ with_call old (DiskAsked disk.Stop)
 
--- The book is asked for the next action on the disk. An action is answered twice.
+-- If the jobs have stopped for want of memory, the answer is `Stop`. Else, if an action is out, it is `Nothing`. Else the book is asked.
 abbrev pub AsksDisk : Heard (DiskNext × DiskNext) → (old new : Serving) → Type 0
-AsksDisk (Work jobs) old new = (jobs.1 ≡ jobs.0) × (is_disk_job jobs.0 ≡ true) × (new ≡ with_call old (DiskAsked jobs.0))
-AsksDisk Nothing old new = DiskRests old new
-AsksDisk NoMemory old new = new ≡ old
-AsksDisk Stop old new = DiskRests old new
+AsksDisk heard old new =
+    MatchBool old.has_stopped (IsUnasked Stop heard old new)
+    (MatchBool (is_waiting (disk_log old.calls)) (IsUnasked Nothing heard old new) (HearsDisk heard old new))
 
 -- The outcome of the action that is out is reported. If none is out, nothing changes.
 abbrev pub disk_told : Serving → Result (Unit {0}) DeviceFault → Serving
@@ -51,16 +64,24 @@ is_rom_job rom.Idle = false
 is_rom_job rom.Stop = false
 is_rom_job job = true
 
--- The book was asked about this slave and handed nothing out, or it wasn't asked.
-abbrev pub RomRests : ℕ → (old new : Serving) → Type 0
-RomRests slave old new = (new ≡ old) ⊎ ((answer : RomNext) × (is_rom_job answer ≡ false) × (new ≡ with_call old (SlaveAsked slave answer)))
+-- The book is asked for the next job of this slave. `Nothing` and `Stop` are the book's `Idle` and `Stop`.
+abbrev pub HearsSlave : ℕ → Heard RomNext → (old new : Serving) → Type 0
+HearsSlave slave (Work job) old new = (is_rom_job job ≡ true) × (new ≡ with_call old (SlaveAsked slave job))
+HearsSlave slave Nothing old new = new ≡ with_call old (SlaveAsked slave rom.Idle)
+HearsSlave slave NoMemory old new = new ≡ old
+HearsSlave slave Stop old new = new ≡ with_call old (SlaveAsked slave rom.Stop)
 
--- The book is asked for the next job of this slave.
-abbrev pub AsksSlave : ℕ → Heard RomNext → (old new : Serving) → Type 0
-AsksSlave slave (Work job) old new = (is_rom_job job ≡ true) × (new ≡ with_call old (SlaveAsked slave job))
-AsksSlave slave Nothing old new = RomRests slave old new
-AsksSlave slave NoMemory old new = new ≡ old
-AsksSlave slave Stop old new = RomRests slave old new
+-- If the jobs have stopped for want of memory, or the line hasn't got this slave, the answer is `Stop`. Else, if a job of the slave is out,
+-- it is `Nothing`. Else the book is asked.
+abbrev pub AsksSlave : (opened : Book) → ℕ → Heard RomNext → (old new : Serving) → Type 0
+AsksSlave opened slave heard old new =
+    MatchBool (old.has_stopped || nat_le (length opened.words) slave) (IsUnasked Stop heard old new)
+    (MatchBool (is_waiting (rom_log slave old.calls)) (IsUnasked Nothing heard old new) (HearsSlave slave heard old new))
+
+-- Where a job is handed out, each slave was issued at most three words for each word that is named for it.
+abbrev pub WearsFew : Heard RomNext → Book → Type 0
+WearsFew (Work job) book = IssuesFew book
+WearsFew heard book = Unit {0}
 
 -- The outcome of the slave's job that is out is reported. If none is out, or the line doesn't have the slave, nothing changes.
 abbrev pub SlaveIsTold : (slave : ℕ) → RomOutcome → (old new : Serving) → Type 0
@@ -73,13 +94,36 @@ SlaveIsTold slave outcome old new =
 abbrev pub note_of : Plan → CycleNote
 note_of plan = record { prefix = plan.prefix; size = plan.image.outputs + plan.image.inputs }
 
--- The book was asked for a plan and its contents had no process image, or it wasn't asked.
-abbrev pub PlanRests : (old new : Serving) → Type 0
-PlanRests old new = (new ≡ old) ⊎ (new ≡ with_call old (PlanAsked None))
+-- The book was finished, and all its commands are settled: its plan stays as it is.
+abbrev pub is_done : Book → Bool
+is_done book = book.is_finished && (applied book == length book.accepted)
 
--- The book is asked for the plan of the next process data cycle.
-abbrev pub AsksPlan : Heard Plan → (old new : Serving) → Type 0
-AsksPlan (Work plan) old new = new ≡ with_call old (PlanAsked (Some (note_of plan)))
-AsksPlan Nothing old new = PlanRests old new
-AsksPlan NoMemory old new = new ≡ old
-AsksPlan Stop old new = PlanRests old new
+-- the last cycle of the log
+abbrev pub last_turn : List CycleNote → Option CycleNote
+last_turn log = slice_get log (length log - 1)
+
+-- the cycle was of the contents after this many commands
+abbrev pub is_of_prefix : ℕ → Option CycleNote → Bool
+is_of_prefix prefix None = false
+is_of_prefix prefix (Some turn) = turn.prefix == prefix
+
+-- There are no more cycles to do: the book has a fault, or its plan stays as it is and the last cycle of the log was of it.
+abbrev pub has_no_more_turns : Book → List CycleNote → Bool
+has_no_more_turns book log = is_some book.fault || (is_done book && is_of_prefix (applied book) (last_turn log))
+
+-- The book is asked for a plan, and its contents have no process image.
+abbrev pub HasNoImage : Book → (old new : Serving) → Type 0
+HasNoImage book old new = (process_image (planned book) ≡ None) × (new ≡ with_call old (PlanAsked None))
+
+-- The book is asked for the plan of the next process data cycle. A plan is exactly the book's own. Without a process image the answer is
+-- `Stop` if the plan stays as it is, and else `Nothing`.
+abbrev pub HearsPlan : Book → Heard Plan → (old new : Serving) → Type 0
+HearsPlan book (Work plan) old new = IsPlan book (Ok plan) × (new ≡ with_call old (PlanAsked (Some (note_of plan))))
+HearsPlan book Nothing old new = (is_done book ≡ false) × HasNoImage book old new
+HearsPlan book NoMemory old new = new ≡ old
+HearsPlan book Stop old new = (is_done book ≡ true) × HasNoImage book old new
+
+-- If the jobs have stopped for want of memory, or there are no more cycles to do, the answer is `Stop`. Else the book is asked.
+abbrev pub AsksPlan : Book → Heard Plan → (old new : Serving) → Type 0
+AsksPlan book heard old new =
+    MatchBool (old.has_stopped || has_no_more_turns book (cycle_log old.calls)) (IsUnasked Stop heard old new) (HearsPlan book heard old new)

@@ -1,5 +1,5 @@
 -- What contracts see of a book under a desk's lock, and what ties it to its history.
-use Rattle.std.specs.Prelude.{◌≡◌, ◌≢◌, ◌<◌, ◌^◌, ℕ, List, [], ◌++◌, ◌∷◌, length, count_by, slice_index_or}
+use Rattle.std.specs.Prelude.{◌≡◌, ◌≢◌, ◌<◌, ◌^◌, ℕ, Bool, List, [], ◌++◌, ◌∷◌, length, count_by, slice_index_or}
 use Rattle.book_model.specs.declared.next.RomNext.{RomNext}
 use Rattle.book_model.specs.declared.next.RomOutcome.{RomOutcome}
 use Rattle.book_model.specs.Book.{Book}
@@ -20,12 +20,14 @@ pub record ShareCounts : Type 0 where
   pub tickets : ℕ
   pub refusals : ℕ
 
--- the calls of the book since the desk was made, the totals of the two ledgers, and their parts
+-- The calls of the book since the desk was made, the totals of the two ledgers, and their parts; and whether the jobs have stopped for
+-- want of memory.
 pub record Serving : Type 0 where
   pub calls : List Call
   pub tickets : ℕ
   pub refusals : ℕ
   pub pool : Pooled
+  pub has_stopped : Bool
 
 -- The calls, each answered as the book answers it, led from the book that the desk was made of to this one.
 pub record IsReplayed (opened book : Book) (calls : List Call) : Type 0 where

@@ -1,7 +1,8 @@
 //! Hands out the disk's actions, and takes their outcomes.
 
 ghost use Rattle.std.specs.Prelude.{◌≡◌, ◌≤◌, ◌++◌, ◌∷◌, [], vec_capacity, IfOk};
-ghost use Rattle.desk_book.specs.Asking.{AsksDisk, disk_told, is_disk_job, bytes_of};
+ghost use Rattle.desk_book.specs.Asking.{AsksDisk, HearsDisk, disk_told, is_disk_job, bytes_of};
+ghost use Rattle.desk_book.specs.Calls.{AreAnswered};
 
 use crate::call::{Call, Recalled};
 use crate::heard::Heard;
@@ -69,14 +70,26 @@ fn copied(next: &DiskNext, room: Vec<u8>) -> DiskNext
 impl<T: Tickets, R: Refusals> Served<T, R> {
     /// Asks the book for the next action on the disk. Answers it twice: one is for the dispatch's log.
     ///
-    /// All memory is taken before the book is asked. After `NoMemory` nothing has changed. While an action is out, the answer is
-    /// `Nothing` and the book isn't asked.
+    /// All memory is taken before the book is asked. After `NoMemory` nothing has changed. Once the jobs have stopped for want of memory,
+    /// the answer is `Stop` and the book isn't asked; while an action is out, it is `Nothing` and the book isn't asked.
     pub fn disk_next(&mut self) -> Heard<(DiskNext, DiskNext)>
-        ensures { AsksDisk result self.old self.new }
+        ensures asks { AsksDisk result self.old self.new }
+        ensures answered { AreAnswered T.opened self.new.calls }
     {
+        if self.is_out_of_memory {
+            return Heard::Stop;
+        }
         if self.disk.is_waiting() {
             return Heard::Nothing;
         }
+        self.hear_disk()
+    }
+
+    /// Asks the book for the next action on the disk, and notes its answer.
+    fn hear_disk(&mut self) -> Heard<(DiskNext, DiskNext)>
+        ensures hears { HearsDisk result self.old self.new }
+        ensures answered { AreAnswered T.opened self.new.calls }
+    {
         let Ok((first, second)) = two_rooms(self.alloc, self.core.disk_room()) else {
             return Heard::NoMemory;
         };

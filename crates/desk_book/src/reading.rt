@@ -1,6 +1,6 @@
 //! Reads the book's progress, and turns tickets into receipts.
 
-ghost use Rattle.std.specs.Prelude.{◌≡◌, IsTrue, IfOk, IfErr, length};
+ghost use Rattle.std.specs.Prelude.{◌≡◌, true, IsTrue, IfOk, IfErr, length};
 ghost use Rattle.book_model.specs.Book.{is_closed};
 ghost use Rattle.desk_book.specs.Calls.{replayed, AreAnswered};
 ghost use Rattle.desk_book.specs.Closing.{StandsAt};
@@ -50,13 +50,15 @@ impl<T: Tickets, R: Refusals> Served<T, R> {
 
     /// Notes that memory stays refused, so that the jobs stop. The book isn't told.
     pub fn stop_for_memory(&mut self)
-        ensures { self.new ≡ self.old }
+        ensures { self.new ≡ record self.old { has_stopped = true } }
     {
         self.is_out_of_memory = true;
     }
 
     /// Whether the jobs have stopped for want of memory.
-    pub fn is_out_of_memory(&self) -> bool {
+    pub fn is_out_of_memory(&self) -> bool
+        ensures { result ≡ self.now.has_stopped }
+    {
         self.is_out_of_memory
     }
 

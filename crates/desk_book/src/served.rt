@@ -1,6 +1,6 @@
 //! What a desk's lock protects.
 
-ghost use Rattle.std.specs.Prelude.{◌≡◌, ◌⊎◌, ◌≤◌, ◌-◌, ◌+◌, [], length, IfOk, IfSome, IfNone, OnSome};
+ghost use Rattle.std.specs.Prelude.{◌≡◌, ◌⊎◌, ◌≤◌, ◌-◌, ◌+◌, [], false, length, IfOk, IfSome, IfNone, OnSome};
 ghost use Rattle.book_model.specs.Book.{contents_of};
 ghost use Rattle.desk_book.specs.Serving.{AreRomLogs, with_call};
 
@@ -40,7 +40,13 @@ impl<T: Tickets, R: Refusals> Model for Served<T, R> {
 
     ghost Value = { Serving };
 
-    ghost view = { λ s. record { calls = s.history; tickets = s.tickets.total; refusals = s.refusals.total; pool = s.pool } };
+    ghost view = { λ s. record {
+      calls = s.history;
+      tickets = s.tickets.total;
+      refusals = s.refusals.total;
+      pool = s.pool;
+      has_stopped = s.is_out_of_memory;
+    } };
 
     ghost invariant = { λ s. IsReplayed T.opened s.core s.history × AreCounted s.core s.history s.tickets.total s.refusals.total
         × (s.refused ≡ s.refusals.total) × AreLogs s.history s.disk.entries s.slaves.items s.cycle.items
@@ -78,8 +84,13 @@ impl<T: Tickets, R: Refusals> Served<T, R> {
         requires none { core.accepted ≡ [] }
         requires tickets { (tickets.name ≡ T.name) × (tickets.count ≡ T.parts) }
         requires refusals { (refusals.name ≡ R.name) × (refusals.count ≡ R.parts) }
-        ensures { IfOk result (λ served. served
-            ≡ record { calls = []; tickets = 0; refusals = 0; pool = record { tickets = tickets.count; refusals = refusals.count; given = 0 } }) }
+        ensures { IfOk result (λ served. served ≡ record {
+          calls = [];
+          tickets = 0;
+          refusals = 0;
+          pool = record { tickets = tickets.count; refusals = refusals.count; given = 0 };
+          has_stopped = false;
+        }) }
     {
         let Ok(slaves) = no_notes(alloc, core.contents().len()) else {
             drop(core);
@@ -102,8 +113,13 @@ impl<T: Tickets, R: Refusals> Served<T, R> {
         requires count { length slaves.items ≡ length (contents_of core) }
         requires tickets { (tickets.name ≡ T.name) × (tickets.count ≡ T.parts) }
         requires refusals { (refusals.name ≡ R.name) × (refusals.count ≡ R.parts) }
-        ensures { result
-            ≡ record { calls = []; tickets = 0; refusals = 0; pool = record { tickets = tickets.count; refusals = refusals.count; given = 0 } } }
+        ensures { result ≡ record {
+          calls = [];
+          tickets = 0;
+          refusals = 0;
+          pool = record { tickets = tickets.count; refusals = refusals.count; given = 0 };
+          has_stopped = false;
+        } }
     {
         let (ticket_book, refusal_book, pool) = Pool::open(tickets, refusals);
         Served {

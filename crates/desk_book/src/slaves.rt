@@ -5,7 +5,8 @@ ghost use Rattle.station_jobs.specs.Dispatch.{with_outcome};
 ghost use Rattle.station_jobs.specs.Noted.{is_waiting};
 ghost use Rattle.desk_book.specs.Logs.{with_job};
 ghost use Rattle.desk_book.specs.Serving.{IsNoted, entries_at, no_entries};
-ghost use Rattle.desk_book.specs.Asking.{AsksSlave, SlaveIsTold, is_rom_job};
+ghost use Rattle.desk_book.specs.Asking.{AsksSlave, HearsSlave, SlaveIsTold, WearsFew, is_rom_job};
+ghost use Rattle.desk_book.specs.Calls.{AreAnswered, replayed};
 
 use crate::call::Call;
 use crate::handing::note;
@@ -79,18 +80,34 @@ fn tell_at(slaves: &mut Vec<SlaveNotes>, at: usize, outcome: RomOutcome)
 impl<T: Tickets, R: Refusals> Served<T, R> {
     /// Asks the book for the next job of a slave.
     ///
-    /// The memory for its note is taken before the book is asked. After `NoMemory` nothing has changed. The book isn't asked while a job
-    /// of the slave is out: the answer is `Nothing` then. For a slave that the line doesn't have, it is `Stop`.
+    /// The memory for its note is taken before the book is asked. After `NoMemory` nothing has changed. Once the jobs have stopped for want
+    /// of memory, and for a slave that the line doesn't have, the answer is `Stop` and the book isn't asked. While a job of the slave is
+    /// out, it is `Nothing` and the book isn't asked.
+    ///
+    /// A slave gets at most three issues for each word that the entries found at the open and the accepted commands name for it.
     pub fn slave_next(&mut self, slave: u16) -> Heard<RomNext>
-        ensures { AsksSlave slave result self.old self.new }
+        ensures asks { AsksSlave T.opened slave result self.old self.new }
+        ensures answered { AreAnswered T.opened self.new.calls }
+        ensures wear { WearsFew result (replayed T.opened self.new.calls) }
     {
         let at = usize::from(slave);
-        if at >= self.slaves.len() {
+        if self.is_out_of_memory || at >= self.slaves.len() {
             return Heard::Stop;
         }
         if is_waiting_at(&self.slaves, at) {
             return Heard::Nothing;
         }
+        self.hear_slave(slave)
+    }
+
+    /// Asks the book for the next job of a slave that the line has, and notes its answer.
+    fn hear_slave(&mut self, slave: u16) -> Heard<RomNext>
+        requires { slave < length T.opened.words }
+        ensures hears { HearsSlave slave result self.old self.new }
+        ensures answered { AreAnswered T.opened self.new.calls }
+        ensures wear { WearsFew result (replayed T.opened self.new.calls) }
+    {
+        let at = usize::from(slave);
         let Ok(()) = reserve_at(&mut self.slaves, at) else {
             return Heard::NoMemory;
         };

@@ -1,7 +1,10 @@
 //! Hands out the plans of process data cycles.
 
 ghost use Rattle.std.specs.Prelude.{◌≡◌, Some};
-ghost use Rattle.desk_book.specs.Asking.{AsksPlan, note_of};
+ghost use Rattle.book_model.specs.Reading.{applied};
+ghost use Rattle.desk_book.specs.Asking.{AsksPlan, HearsPlan, has_no_more_turns, is_done, is_of_prefix, last_turn, note_of};
+ghost use Rattle.desk_book.specs.Calls.{replayed, AreAnswered};
+ghost use Rattle.desk_book.specs.Logs.{cycle_log};
 
 use crate::call::Call;
 use crate::handing::note;
@@ -23,30 +26,52 @@ pub fn note_of(plan: &Plan) -> CycleNote
 
 impl<T: Tickets, R: Refusals> Served<T, R> {
     /// Whether the book was finished, and all its commands are settled.
-    fn is_done(&self) -> bool {
+    fn is_done(&self) -> bool
+        ensures { result ≡ is_done (replayed T.opened self.now.calls) }
+    {
         let status = self.core.status();
         self.core.is_finished() && status.settled == status.accepted
     }
 
-    /// Whether there are no more cycles to do: no more commands will be settled, and the last cycle had the image after all of them.
-    fn is_last_turn_done(&self) -> bool {
+    /// Whether the last cycle had the image after the commands that are settled in a row.
+    fn is_last_turn_of_plan(&self) -> bool
+        ensures { result ≡ is_of_prefix (applied (replayed T.opened self.now.calls)) (last_turn (cycle_log self.now.calls)) }
+    {
         match self.cycle.as_slice().last() {
-            Some(last) => self.is_done() && last.prefix == self.core.applied(),
+            Some(last) => last.prefix == self.core.applied(),
             None => false,
         }
     }
 
+    /// Whether there are no more cycles to do: the book has a fault, or no more commands will be settled and the last cycle had the image
+    /// after all of them.
+    fn has_no_more_turns(&self) -> bool
+        ensures { result ≡ has_no_more_turns (replayed T.opened self.now.calls) (cycle_log self.now.calls) }
+    {
+        self.core.fault().is_some() || self.is_done() && self.is_last_turn_of_plan()
+    }
+
     /// Answers the plan of the next process data cycle: the process image after the commands that are settled in a row.
     ///
-    /// The memory for its note is taken before the book is asked. After `NoMemory` nothing has changed. The answer is `Stop` once the book
-    /// has a fault; and once it is finished and all its commands are settled, if the last cycle had the image after all of them, or if
-    /// there is no such image. It is `Nothing` while there is no image but there may be one later.
+    /// The memory for its note is taken before the book is asked. After `NoMemory` nothing has changed. The answer is `Stop` once the jobs
+    /// have stopped for want of memory, or the book has a fault; and once it is finished and all its commands are settled, if the last
+    /// cycle had the image after all of them, or if there is no such image. It is `Nothing` while there is no image but there may be one
+    /// later.
     pub fn cycle_next(&mut self) -> Heard<Plan>
-        ensures { AsksPlan result self.old self.new }
+        ensures asks { AsksPlan (replayed T.opened self.old.calls) result self.old self.new }
+        ensures answered { AreAnswered T.opened self.new.calls }
     {
-        if self.core.fault().is_some() || self.is_last_turn_done() {
+        if self.is_out_of_memory || self.has_no_more_turns() {
             return Heard::Stop;
         }
+        self.hear_plan()
+    }
+
+    /// Asks the book for the plan of the next process data cycle, and notes its answer.
+    fn hear_plan(&mut self) -> Heard<Plan>
+        ensures hears { HearsPlan (replayed T.opened self.old.calls) result self.old self.new }
+        ensures answered { AreAnswered T.opened self.new.calls }
+    {
         let Ok(()) = self.cycle.reserve(1) else {
             return Heard::NoMemory;
         };

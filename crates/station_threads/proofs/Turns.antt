@@ -1,5 +1,5 @@
 -- The process data cycles of a desk.
-use Rattle.std.proofs.Common.{◌≡◌, List, [], Option, Some, None, refl, sym, subst}
+use Rattle.std.proofs.Common.{List, [], Option, Some, None, refl, sym, subst}
 use Rattle.std.specs.Prelude.{IfSome}
 use Rattle.book_model.specs.Book.{Book, base_of}
 use Rattle.station_jobs.specs.declared.cycle.CycleNote.{CycleNote}

@@ -148,9 +148,6 @@ impl<'a, T: Tickets, R: Refusals> Dispatch<DiskLog> for DiskSide<'a, T, R> {
             return Turn::Again;
         };
         let mut served = desk.served.lock(rt);
-        if served.is_out_of_memory() {
-            return Turn::Stop;
-        }
         match served.disk_next() {
             Heard::Work((job, copy)) => {
                 if !begins_below(&job, self.limit) {
@@ -210,9 +207,6 @@ impl<'a, T: Tickets, R: Refusals> Dispatch<RomLog> for RomSide<'a, T, R> {
             return Turn::Again;
         };
         let mut served = desk.served.lock(rt);
-        if served.is_out_of_memory() {
-            return Turn::Stop;
-        }
         match served.slave_next(self.slave) {
             Heard::Work(job) => {
                 self.notes.hand_out(job);
@@ -274,9 +268,6 @@ impl<'a, T: Tickets, R: Refusals> Dispatch<CycleLog> for CycleSide<'a, T, R> {
             return Turn::Again;
         };
         let mut served = desk.served.lock(rt);
-        if served.is_out_of_memory() {
-            return Turn::Stop;
-        }
         match served.cycle_next() {
             Heard::Work(plan) => {
                 self.turns.push_reserved(note_of(&plan));

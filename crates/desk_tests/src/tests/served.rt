@@ -153,6 +153,20 @@ fn the_cycle_goes_on(rt: HostRuntime) {
     assert!(rt; last == (None, Some(CycleNote { prefix: 1, size: 7 }), Some(0)));
 }
 
+/// The scenario `TURNING`, in which slave 0 is given up.
+const DYING: Scenario = Scenario {
+    trouble: Trouble::WordsFail(0, 3),
+    ..TURNING
+};
+
+/// The only command is never settled, so that each cycle is of none; the slave's fault ends the cycle.
+#[test]
+fn the_cycle_ends_with_a_fault(rt: HostRuntime) {
+    let (fault, last, _byte) = last_turn(&rt, rt.alloc(), &DYING);
+    assert!(rt; fault == Some(CloseFault::Unserved));
+    assert!(rt; last.is_none() || last == Some(CycleNote { prefix: 0, size: 7 }));
+}
+
 /// What goes wrong on the line, what isn't handed in, and why the desk can't be closed.
 const FAULTS: [(Trouble, LeftOut, CloseFault); 3] = [
     (Trouble::Nothing, LeftOut::End, CloseFault::Mismatch),

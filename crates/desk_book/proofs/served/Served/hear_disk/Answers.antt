@@ -1,13 +1,15 @@
 use Rattle.std.proofs.Common.{◌≡◌, ◌∙◌, List, true, false, refl, sym, ap}
 use Rattle.book_model.specs.declared.next.DiskNext.{DiskNext}
+use Rattle.book_model.specs.declared.next.DiskNext.TheVariants as disk
 use Rattle.book_model.specs.Book.{Book}
 use Rattle.desk_book.specs.declared.call.Call.TheVariants.{DiskAsked}
 use Rattle.desk_book.specs.Logs.{DiskEntry, with_job, with_disk_answer}
 use Rattle.desk_book.specs.Asking.{is_disk_job}
 use Rattle.desk_book.proofs.KeptLaws.{keeps-disk_next}
-use Rattle.desk_book.proofs.CallLaws.{is-replayed-more, are-counted-same, are-logs-more}
+use Rattle.desk_book.proofs.CallLaws.{is-replayed-more, answered-by, are-counted-same, are-logs-more}
+use Rattle.desk_book.proofs.HeardLaws.{disk-idle, noted-call}
 use Rattle.desk_book.proofs.LogLaws.{with-disk-job, with-disk-rest}
-use Rattle.desk_book.proofs.served.Served.disk_next.Goals as goal
+use Rattle.desk_book.proofs.served.Served.hear_disk.Goals as goal
 
 pub invariant_of-self-then-is_job : goal.invariant_of-self-then-is_job
 invariant_of-self-then-is_job g c =
@@ -46,3 +48,23 @@ invariant_of-self-else-is_job g c =
       are-logs-more s.history call s.disk.entries c.reserve.new.self.entries s.slaves.items s.slaves.items s.cycle.items s.cycle.items i.3 noted (λ n inside. (inside, refl)) refl,
       i.4,
     )
+
+pub returns-then-is_job-clause-answered : goal.returns-then-is_job-clause-answered
+returns-then-is_job-clause-answered g c =
+    let s = c.self.inside in
+    answered-by g.T.Tickets.opened s.core s.history c.note.new.history (DiskAsked c.of-answer.result) c.self.invariant.0 (c.of-answer.ensures ∙ c.in-Ok-disk_next.ensures.answer) c.note.ensures
+
+pub returns-in-Stop-clause-answered : goal.returns-in-Stop-clause-answered
+returns-in-Stop-clause-answered g c =
+    let s = c.self.inside in
+    answered-by g.T.Tickets.opened s.core s.history c.note.new.history (DiskAsked c.of-answer.result) c.self.invariant.0 (c.of-answer.ensures ∙ c.in-Ok-disk_next.ensures.answer) c.note.ensures
+
+pub returns : goal.returns
+returns g c =
+    let s = c.self.inside in
+    let answer = c.of-answer.result in
+    let idle : c.in-Ok-disk_next.next ≡ disk.Idle = disk-idle c.in-Ok-disk_next.next (sym c.is_job.ensures ∙ c.if-is_job.false) c.in_default-next.not-Stop in
+    record {
+      hears = noted-call s.history c.note.new.history s.tickets.total s.refusals.total s.pool s.is_out_of_memory c.args.self.now (DiskAsked answer) (DiskAsked disk.Idle) c.self.view_is c.note.ensures (ap (λ (a : DiskNext). DiskAsked a) (c.of-answer.ensures ∙ idle));
+      answered = answered-by g.T.Tickets.opened s.core s.history c.note.new.history (DiskAsked answer) c.self.invariant.0 (c.of-answer.ensures ∙ c.in-Ok-disk_next.ensures.answer) c.note.ensures;
+    }
