@@ -24,6 +24,16 @@ pub enum Task<'a> {
         /// The name of the line file.
         line: &'a str,
     },
+    /// Makes an empty journal for the line.
+    Init {
+        /// The name of the line file.
+        line: &'a str,
+    },
+    /// Recovers the line.
+    Recover {
+        /// The name of the line file.
+        line: &'a str,
+    },
     /// Serves the slaves of a line to practise on.
     Slaves {
         /// The name of the line file.
@@ -62,6 +72,23 @@ const BACKUP_FILES: &str =
 written too: of a name like line.toml it names line-s0.bin, line-s1.bin and so on,
 and line-journal.bin, which is not made. A file that is there already is never
 written over: fault 94 Exists.";
+
+/// The help text on what `init` prints.
+const INIT_ANSWERS: &str = "Answers:
+  formatted AREA   the journal is there, and empty; its area has AREA bytes
+The line file has to name an image file for each slave, and these have to be there,
+as backup leaves them. A journal that is there already is never written over:
+fault 94 Exists.";
+
+/// The help text on what `recover` prints and writes.
+const RECOVER_ANSWERS: &str = "Answers:
+  recovered batches B commands C words W
+                   the journal held B batches that weren't done, with C commands,
+                   and W words of them were written to the slaves
+Each command of the journal is then done as a whole, or undone as a whole, and
+each image file has the words of its slave, also where it had others. A line can
+be recovered again at any time; of a line that is in order it says 0, 0, 0.
+After a fault the image files are as they were. Recover the line again then.";
 
 /// The help text on the life of `slaves`.
 const SLAVES_LIFE: &str =
@@ -114,7 +141,7 @@ fn task_of<'a>(command: &mut Command<'a>, matches: &ArgMatches<'a>) -> Result<Ta
     }
 }
 
-/// The task of `scan`, `backup` or `explain`, whose arguments need no further check.
+/// The task of `scan`, `backup`, `init`, `recover` or `explain`, whose arguments need no further check.
 fn plain_task<'a>(matches: &ArgMatches<'a>) -> Option<Task<'a>> {
     if matches.subcommand_matches("scan").is_some() {
         return Some(Task::Scan);
@@ -122,13 +149,28 @@ fn plain_task<'a>(matches: &ArgMatches<'a>) -> Option<Task<'a>> {
     if matches.subcommand_matches("explain").is_some() {
         return Some(Task::Explain);
     }
-    let backup = matches.subcommand_matches("backup")?;
-    Some(Task::Backup {
-        line: backup.get_str("LINE").unwrap_or(""),
+    if let Some(backup) = matches.subcommand_matches("backup") {
+        return Some(Task::Backup {
+            line: line_of(backup),
+        });
+    }
+    if let Some(init) = matches.subcommand_matches("init") {
+        return Some(Task::Init {
+            line: line_of(init),
+        });
+    }
+    let recover = matches.subcommand_matches("recover")?;
+    Some(Task::Recover {
+        line: line_of(recover),
     })
 }
 
-/// The name is required, so it is there. `--left` is checked even without `--cut`.
+/// The name of the line file. It is required, so it is there.
+fn line_of<'a>(matches: &ArgMatches<'a>) -> &'a str {
+    matches.get_str("LINE").unwrap_or("")
+}
+
+/// The task of `slaves`. `--left` is checked even without `--cut`.
 fn slaves_task<'a>(command: &mut Command<'a>, matches: &ArgMatches<'a>) -> Result<Task<'a>, Error> {
     let cut = matches.get_str("cut");
     let left = matches.get_str("left");
@@ -145,7 +187,7 @@ fn slaves_task<'a>(command: &mut Command<'a>, matches: &ArgMatches<'a>) -> Resul
         None => None,
     };
     Ok(Task::Slaves {
-        line: matches.get_str("LINE").unwrap_or(""),
+        line: line_of(matches),
         cut,
     })
 }
@@ -160,6 +202,8 @@ fn program<'a>(alloc: Global) -> Result<Command<'a>, AllocError> {
         .arg(text_argument(alloc))?;
     let program = with_subcommand(program, scan_command(alloc))?;
     let program = with_subcommand(program, backup_command(alloc))?;
+    let program = with_subcommand(program, init_command(alloc))?;
+    let program = with_subcommand(program, recover_command(alloc))?;
     let program = with_subcommand(program, slaves_command(alloc))?;
     with_subcommand(program, explain_command(alloc))
 }
@@ -204,6 +248,28 @@ fn backup_command<'a>(alloc: Global) -> Result<Command<'a>, AllocError> {
         )
         .after_help("Example:\n  launch eth0 2000 sii_wire backup line.toml")
         .after_long_help(BACKUP_FILES)
+        .arg(line_argument(alloc))
+}
+
+fn init_command<'a>(alloc: Global) -> Result<Command<'a>, AllocError> {
+    Command::new(alloc, "init")
+        .about("Makes an empty journal for the line")
+        .long_about(
+            "Brings up the line, and makes an empty journal for as many slaves. No word of a slave is written.",
+        )
+        .after_help("Example:\n  launch eth0 2000 sii_wire init line.toml")
+        .after_long_help(INIT_ANSWERS)
+        .arg(line_argument(alloc))
+}
+
+fn recover_command<'a>(alloc: Global) -> Result<Command<'a>, AllocError> {
+    Command::new(alloc, "recover")
+        .about("Recovers the line after a power cut")
+        .long_about(
+            "Brings up the line, does what is live in its journal, and writes the words of each slave to its image file.",
+        )
+        .after_help("Example:\n  launch eth0 2000 sii_wire recover line.toml")
+        .after_long_help(RECOVER_ANSWERS)
         .arg(line_argument(alloc))
 }
 

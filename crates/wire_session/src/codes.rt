@@ -16,15 +16,27 @@ pub enum WireCode {
     UnknownSize = 103,
     /// The line file names another number of slaves.
     OtherCount = 104,
+    /// A slave answered what it could not have answered.
+    Differs = 105,
+    /// A slave failed to write a word.
+    WordFailed = 106,
+    /// A slave may not have taken a command.
+    Unconfirmed = 107,
+    /// A frame was to be sent that this program doesn't send over a wire.
+    NotForWire = 108,
 }
 
 /// All codes of a wire, in the order of their numbers.
-pub const WIRE_CODES: [WireCode; 5] = [
+pub const WIRE_CODES: [WireCode; 9] = [
     WireCode::Silent,
     WireCode::NoSlaves,
     WireCode::TooManySlaves,
     WireCode::UnknownSize,
     WireCode::OtherCount,
+    WireCode::Differs,
+    WireCode::WordFailed,
+    WireCode::Unconfirmed,
+    WireCode::NotForWire,
 ];
 
 impl WireCode {
@@ -41,6 +53,10 @@ impl WireCode {
             WireCode::TooManySlaves => &TOO_MANY_SLAVES,
             WireCode::UnknownSize => &UNKNOWN_SIZE,
             WireCode::OtherCount => &OTHER_COUNT,
+            WireCode::Differs => &DIFFERS,
+            WireCode::WordFailed => &WORD_FAILED,
+            WireCode::Unconfirmed => &UNCONFIRMED,
+            WireCode::NotForWire => &NOT_FOR_WIRE,
         }
     }
 }
@@ -84,4 +100,32 @@ const OTHER_COUNT: CodeEntry = CodeEntry {
     meaning: "The line file names another number of slaves than the line has.",
     reason: "Each slave of the line needs an image file. The number is that of the slaves of the line.",
     remedy: "Correct the line file, or give the name of one that isn't there, which is then written.",
+};
+
+const DIFFERS: CodeEntry = CodeEntry {
+    name: "Differs",
+    meaning: "A slave answered what it could not have answered.",
+    reason: "The slave with this number lost its power, fell out of the line, or is worked on by somebody else. In brackets is what differs.",
+    remedy: "See that nobody else works on the line, and look at the slave's power and cables. Then recover the line.",
+};
+
+const WORD_FAILED: CodeEntry = CodeEntry {
+    name: "WordFailed",
+    meaning: "A slave failed to write a word.",
+    reason: "The slave with this number ended the write of a word in error, so that the word may hold anything.",
+    remedy: "Recover the line, which writes the word again. If that ends so too, look at the slave's EEPROM.",
+};
+
+const UNCONFIRMED: CodeEntry = CodeEntry {
+    name: "Unconfirmed",
+    meaning: "A slave may not have taken a command.",
+    reason: "A command was sent again to the slave with this number and wasn't counted then, and the slave wasn't seen busy with it.",
+    remedy: "Recover the line. If it comes often, look at the cables: frames are lost.",
+};
+
+const NOT_FOR_WIRE: CodeEntry = CodeEntry {
+    name: "NotForWire",
+    meaning: "A frame was to be sent that this program doesn't send over a wire.",
+    reason: "It has process data, or several datagrams for one slave. The station asks for none of them, so this is an error of the program.",
+    remedy: "Report it, with the script and the line file. Recovering the line is safe.",
 };

@@ -3,7 +3,7 @@ ghost use Rattle.std.specs.Prelude.{◌≡◌};
 ghost use Rattle.wire_session.specs.declared.faults.WireFault.TheVariants as wire;
 
 use crate::codes::WireCode;
-use site_wire::LineFault;
+use site_wire::{LineFault, StopReason};
 use station_files::{ExitStatus, Fault};
 use std::alloc::{AllocError, AllocFailed};
 use std::{fmt, io};
@@ -15,6 +15,8 @@ pub enum WireFault {
     Line(LineFault),
     /// The line file names another number of slaves than the line has; `slaves` is that of the line.
     OtherCount { slaves: usize },
+    /// The site on the wire has stopped.
+    Stopped(StopReason),
     /// A file, a stream or memory failed, or a file has a wrong form.
     Station(Fault),
 }
@@ -38,13 +40,34 @@ fn code_of_line(fault: LineFault) -> (WireCode, Option<usize>) {
     }
 }
 
+/// How it is printed that a site has stopped: its code, and the number of the slave.
+fn code_of_stop(reason: StopReason) -> (WireCode, Option<usize>) {
+    match reason {
+        StopReason::Silent | StopReason::Journal => (WireCode::Silent, None),
+        StopReason::Differs { slave, .. } => (WireCode::Differs, Some(slave)),
+        StopReason::WordFailed { slave } => (WireCode::WordFailed, Some(slave)),
+        StopReason::Unconfirmed { slave } => (WireCode::Unconfirmed, Some(slave)),
+        StopReason::NotOneDatagram { slave } => (WireCode::NotForWire, Some(slave)),
+        StopReason::ProcessData => (WireCode::NotForWire, None),
+    }
+}
+
+/// Why a station on a wire ended early: the reason for which its site has stopped, or else the station's fault.
+pub(crate) fn why_ended(reason: Option<StopReason>, fault: Fault) -> WireFault {
+    match reason {
+        Some(reason) => WireFault::Stopped(reason),
+        None => WireFault::Station(fault),
+    }
+}
+
 impl WireFault {
     /// The fault of the station that this one is, if it is one.
     fn of_station(self) -> Option<Fault> {
         match self {
             WireFault::Station(fault) => Some(fault),
             WireFault::Line(fault) => fault_of_station(fault),
-            WireFault::OtherCount { .. } => None,
+            WireFault::Stopped(StopReason::Journal) => Some(Fault::Disk),
+            WireFault::Stopped(_) | WireFault::OtherCount { .. } => None,
         }
     }
 
@@ -53,6 +76,7 @@ impl WireFault {
         match self {
             WireFault::OtherCount { slaves } => (WireCode::OtherCount, Some(slaves)),
             WireFault::Line(fault) => code_of_line(fault),
+            WireFault::Stopped(reason) => code_of_stop(reason),
             WireFault::Station(_) => (WireCode::Silent, None),
         }
     }
@@ -74,9 +98,12 @@ impl fmt::Display for WireFault {
         if let Some(fault) = self.of_station() {
             return write!(f, "{fault}");
         }
-        match self.of_wire() {
-            (code, Some(number)) => write!(f, "fault {code} {number}"),
-            (code, None) => write!(f, "fault {code}"),
+        match (self.of_wire(), self) {
+            ((code, Some(slave)), WireFault::Stopped(StopReason::Differs { what, .. })) => {
+                write!(f, "fault {code} {slave} ({what})")
+            }
+            ((code, Some(number)), _) => write!(f, "fault {code} {number}"),
+            ((code, None), _) => write!(f, "fault {code}"),
         }
     }
 }

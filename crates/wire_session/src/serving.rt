@@ -4,7 +4,9 @@ use crate::arguments::Task;
 use crate::backup::backup_line;
 use crate::explain::explain;
 use crate::faults::WireFault;
+use crate::init::init_on_wire;
 use crate::practice::serve_slaves;
+use crate::recovery::recover_line;
 use crate::scan::scan_line;
 use clap::Error;
 use clap::error::ErrorKind;
@@ -25,20 +27,22 @@ pub fn serve<R: Read + Drop, W: Write + Drop, S: Store, O: Write, E: Write>(
     output: &mut O,
     faults: &mut E,
 ) -> u8 {
-    let mut wire = NumberedWire::new(wire, number);
-    status_of(do_task(alloc, task, &mut wire, store, output), faults) as u8
+    let wire = NumberedWire::new(wire, number);
+    status_of(do_task(alloc, task, wire, store, output), faults) as u8
 }
 
-fn do_task<R: Read, W: Write, S: Store, O: Write>(
+fn do_task<R: Read + Drop, W: Write + Drop, S: Store, O: Write>(
     alloc: Global,
     task: Task<'_>,
-    wire: &mut NumberedWire<EthernetWire<R, W>>,
+    mut wire: NumberedWire<EthernetWire<R, W>>,
     store: &mut S,
     output: &mut O,
 ) -> Result<(), WireFault> {
     match task {
-        Task::Scan => scan_line(alloc, wire, output),
-        Task::Backup { line } => backup_line(alloc, wire, line, store),
+        Task::Scan => scan_line(alloc, &mut wire, output),
+        Task::Backup { line } => backup_line(alloc, &mut wire, line, store),
+        Task::Init { line } => init_on_wire(alloc, &mut wire, line, store, output),
+        Task::Recover { line } => recover_line(alloc, wire, line, store, output),
         Task::Slaves { line, cut } => { serve_slaves(alloc, line, cut, wire.wire(), store, output) }
         Task::Explain => Ok(explain(alloc, output)?),
     }

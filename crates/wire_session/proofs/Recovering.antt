@@ -1,0 +1,85 @@
+-- What the files hold after a recovery on a wire.
+use Rattle.std.proofs.Common.{◌≡◌, ◌≢◌, ℕ, List, [], ◌∷◌, length, Result, Ok, Err, IsErr, inl, inr, sym, refl, subst, ◌∙◌, ap, arith}
+use Rattle.std.specs.Prelude.{⊤, IfErr, OnOk, string_bytes, Contains}
+use Rattle.std.proofs.lemmas.List.{length-map}
+use Rattle.std.proofs.lemmas.List.Elements.{Contains-append_left}
+use Rattle.site_core.specs.Line.{Line}
+use Rattle.site_core.specs.State.{State, Seen}
+use Rattle.site_shadow.specs.Site.{SiteValue}
+use Rattle.station_alone.specs.Station.{Station}
+use Rattle.station_alone.specs.Recovery.{HasRecovered, BeginsRecovered}
+use Rattle.station_text.specs.declared.line_file.LineFile.{LineFile}
+use Rattle.station_files.specs.Files.{Known, HasBytes, ChangesAmong, ChangesOnly}
+use Rattle.station_files.specs.Faults as station
+use Rattle.station_files.specs.LineFiles.{SpellsLine, names_of}
+use Rattle.station_bench.specs.Site.{IsSiteOf, files_of, switched_on, HoldsSite}
+use Rattle.wire_session.specs.declared.faults.WireFault.{WireFault}
+use Rattle.wire_session.specs.declared.faults.WireFault.TheVariants as wire
+use Rattle.wire_session.specs.Backup.{IsOfStream}
+use Rattle.station_bench.specs.Init.{Formats}
+use Rattle.wire_session.specs.Opening.{RefusesInit, IsFound, LeavesImages, EndsRecovery, Recovers, SavesRecovered}
+
+-- ---- the journal is opened
+
+among_only : (old new : Known) (line : LineFile) → ChangesOnly old new (string_bytes line.journal) → ChangesAmong old new (files_of line)
+among_only old new line only = λ other absent.
+    only other (λ same. absent (Contains-append_left (string_bytes line.journal ∷ []) (names_of line) other (0, omega arith, sym same)))
+
+among_both : (old mid new : Known) (line : LineFile) → ChangesOnly old mid (string_bytes line.journal) → ChangesAmong mid new (files_of line) → ChangesAmong old new (files_of line)
+among_both old mid new line only among = λ other absent. among other absent ∙ among_only old mid line only other absent
+
+only_both : {T : Type 0} (result : Result T WireFault) (old mid new : Known) (line : LineFile) → ChangesOnly old mid (string_bytes line.journal) → LeavesImages result mid new line → LeavesImages result old new line
+only_both (Ok value) old mid new line only leaves = tt
+only_both (Err fault) old mid new line only leaves = λ apart. λ other not. leaves apart other not ∙ only other not
+
+pub ends_opened : (result : Result (Unit {0}) WireFault) (old mid new : Known) (line : LineFile) (plant : List (List ℕ)) (bytes : List ℕ) (site : SiteValue) → ChangesOnly old mid (string_bytes line.journal) → IsSiteOf plant bytes site
+    → EndsRecovery result mid new line site.seen → EndsRecovery result old new line (switched_on plant bytes)
+ends_opened result old mid new line plant bytes site only made ends = record {
+  others = among_both old mid new line only ends.others;
+  unsaved = only_both result old mid new line only ends.unsaved;
+  saved = subst (λ (seen : Seen). OnOk result (SavesRecovered new line seen)) made.seen ends.saved;
+}
+
+-- ---- the line is recovered
+
+unsaved_by : (result : Result (Unit {0}) WireFault) (old new : Known) (line : LineFile) → IfErr result IsOfStream → LeavesImages result old new line
+unsaved_by (Ok done) old new line failed = tt
+unsaved_by (Err fault) old new line failed = λ apart. absurd (apart failed)
+
+saved_by : (result : Result (Unit {0}) WireFault) (new : Known) (line : LineFile) (before : Seen) (s : Station) (state : State) → HasRecovered s → BeginsRecovered before s → state ≡ s.seen.state → OnOk result (HoldsSite new line state)
+    → OnOk result (SavesRecovered new line before)
+saved_by (Ok done) new line before s state is_recovered begins is held =
+    record { s = s; recovered = is_recovered; begins = begins; held = subst (λ (x : State). HoldsSite new line x) is held }
+saved_by (Err fault) new line before s state is_recovered begins is held = tt
+
+pub ends_recovered : (result : Result (Unit {0}) WireFault) (old new : Known) (line : LineFile) (before : Seen) (s : Station) (state : State) → HasRecovered s → BeginsRecovered before s → state ≡ s.seen.state
+    → OnOk result (HoldsSite new line state) → ChangesAmong old new (files_of line) → IfErr result IsOfStream → EndsRecovery result old new line before
+ends_recovered result old new line before s state is_recovered begins is held others failed = record {
+  others = others;
+  unsaved = unsaved_by result old new line failed;
+  saved = saved_by result new line before s state is_recovered begins is held;
+}
+
+-- ---- the whole
+
+pub recovers : (result : Result (Unit {0}) WireFault) (old found new : Known) (name : List ℕ) (line : LineFile) (plant : List (List ℕ)) (bytes : List ℕ) → IsFound old name line plant bytes → found ≡ old
+    → EndsRecovery result found new line (switched_on plant bytes) → Recovers result old new name
+recovers result old found new name line plant bytes given same ends =
+    let P : Known → Type 0 = λ files. EndsRecovery result files new line (switched_on plant bytes) in
+    inr (record { line = line; plant = plant; bytes = bytes; found = given; ends = subst P same ends })
+
+-- ---- init
+
+-- nothing was written before
+pub formats_behind : (result : Result (Unit {0}) WireFault) (old mid new : Known) (name : List ℕ) → mid ≡ old → OnOk result (Formats ⊤ mid new name) → OnOk result (Formats ⊤ old new name)
+formats_behind result old mid new name same formats = let P : Known → Type 0 = λ files. OnOk result (Formats ⊤ files new name) in subst P same formats
+
+pub refuses_behind : (result : Result (Unit {0}) WireFault) (old mid new : Known) (name : List ℕ) → mid ≡ old → IfErr result (RefusesInit mid new name) → IfErr result (RefusesInit old new name)
+refuses_behind result old mid new name same refuses = let P : Known → Type 0 = λ files. IfErr result (RefusesInit files new name) in subst P same refuses
+
+-- nothing was written
+pub refuses_early : (fault : WireFault) (old new : Known) (name : List ℕ) → new ≡ old → RefusesInit old new name fault
+refuses_early (wire.Station fault) old new name same = inl same
+refuses_early (wire.Line fault) old new name same = same
+refuses_early (wire.OtherCount slaves) old new name same = same
+refuses_early (wire.Stopped reason) old new name same = same

@@ -1,0 +1,7 @@
+use Rattle.wire_session.proofs.Recovering.{ends_opened}
+use Rattle.wire_session.proofs.recovery.recover_found.Goals as goal
+
+pub returns : goal.returns
+returns g c =
+    ends_opened c.recover_site.result (g.S.Store.files c.args.store.now) (g.S.Store.files c.open_journal.new.store) (g.S.Store.files c.recover_site.new.store) c.args.found.line c.args.found.slaves.items c.args.found.journal.items c.in_ok-site.site
+    c.open_journal.ensures.others (rw c.deref.ensures.value at c.in_ok-site.ensures) c.recover_site.ensures

@@ -1,0 +1,55 @@
+-- `init` and `recover` on a wire: what is found, and what the files hold in the end.
+use Rattle.std.specs.Prelude.{◌≡◌, ◌⊎◌, ℕ, List, Result, length, string_bytes, IfErr, IsErr, OnOk}
+use Rattle.site_core.specs.State.{Seen}
+use Rattle.station_text.specs.declared.line_file.LineFile.{LineFile}
+use Rattle.station_files.specs.Files.{Known, HasBytes, ChangesAmong, ChangesOnly}
+use Rattle.station_files.specs.LineFiles.{SpellsLine}
+use Rattle.station_alone.specs.Station.{Station}
+use Rattle.station_alone.specs.Recovery.{HasRecovered, BeginsRecovered}
+use Rattle.station_bench.specs.Init as bench
+use Rattle.station_bench.specs.Site.{files_of, switched_on, HoldsSite}
+use Rattle.wire_session.specs.declared.faults.WireFault.{WireFault}
+use Rattle.wire_session.specs.declared.faults.WireFault.TheVariants as wire
+use Rattle.wire_session.specs.Backup.{IsOfStream}
+
+-- The files spell this line and the bytes of its journal, and as many slaves with these words were found on the wire as the line file
+-- names images.
+pub record IsFound (files : Known) (name : List ℕ) (line : LineFile) (plant : List (List ℕ)) (bytes : List ℕ) : Type 0 where
+  pub described : SpellsLine files name line
+  pub journal : HasBytes files (string_bytes line.journal) bytes
+  pub count : length plant ≡ length line.images.items
+
+-- where a fault comes that is neither that of a file nor want of memory, no file was written but perhaps the journal's
+abbrev pub LeavesImages : {T : Type 0} → Result T WireFault → Known → Known → LineFile → Type 0
+LeavesImages result old new line = IfErr result (λ fault. ¬ IsOfStream fault → ChangesOnly old new (string_bytes line.journal))
+
+-- The files hold the state of a complete recovery of this site.
+pub record SavesRecovered (files : Known) (line : LineFile) (before : Seen) : Type 0 where
+  pub s : Station
+  pub recovered : HasRecovered s
+  pub begins : BeginsRecovered before s
+  pub held : HoldsSite files line s.seen.state
+
+-- No other files than the line's changed. After a fault of the line or the journal no image file has changed, and if all is done the files
+-- hold the state of a complete recovery of this site.
+pub record EndsRecovery (result : Result (Unit {0}) WireFault) (old new : Known) (line : LineFile) (before : Seen) : Type 0 where
+  pub others : ChangesAmong old new (files_of line)
+  pub unsaved : LeavesImages result old new line
+  pub saved : OnOk result (SavesRecovered new line before)
+
+-- The line was found, and the site of the words on the wire and the journal's bytes was recovered as far as the result says.
+pub record RecoversFound (result : Result (Unit {0}) WireFault) (old new : Known) (name : List ℕ) : Type 0 where
+  pub line : LineFile
+  pub plant : List (List ℕ)
+  pub bytes : List ℕ
+  pub found : IsFound old name line plant bytes
+  pub ends : EndsRecovery result old new line (switched_on plant bytes)
+
+-- what `recover` does: it stops before it writes, or it recovers the line
+abbrev pub Recovers : Result (Unit {0}) WireFault → Known → Known → List ℕ → Type 0
+Recovers result old new name = (IsErr result × (new ≡ old)) ⊎ RecoversFound result old new name
+
+-- `init` is refused as by the station, or before: then nothing was written.
+abbrev pub RefusesInit : Known → Known → List ℕ → WireFault → Type 0
+RefusesInit old new name (wire.Station fault) = (new ≡ old) ⊎ bench.RefusesInit old new name fault
+RefusesInit old new name fault = new ≡ old
