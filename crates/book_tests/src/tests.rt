@@ -249,6 +249,36 @@ const FILLED: &[Event] = &[
     Rom(0, Serves(2, 2)),
 ];
 
+/// One half is live and full, and a batch is being appended that fills the other: a command has room once the first half is retired.
+const FILLING: &[Event] = &[
+    Submit(Image((0, 0x30), 1011, 0x1111), Ok(0)),
+    Disk(Append(8, 2046, 0)),
+    Submit(Image((0, 0x30), 1011, 0x2222), Ok(1)),
+    Disk(Did(Write(2057, 2046, 1))),
+    Submit(Alias(0, 2), Err(SubmitRefusal::Full)),
+    Disk(Did(Sync)),
+    Disk(Did(Open(2056))),
+    Submit(Alias(0, 2), Err(SubmitRefusal::Full)),
+    Disk(Did(Sync)),
+    Rom(0, Serves(1011, 0)),
+    Disk(Retire(8)),
+    Submit(Alias(0, 2), Ok(2)),
+    Disk(Append(8, 34, 2)),
+    Rom(0, Serves(2, 2)),
+];
+
+/// While a batch is being appended, a command goes into a batch of its own, which has room behind it.
+const BEHIND: &[Event] = &[
+    Submit(Image((0, 0x30), 900, 0x1111), Ok(0)),
+    Disk(Did(Write(9, 1824, 0))),
+    Submit(Image((0, 0x30), 1011, 0x2222), Ok(1)),
+    Submit(Alias(0, 2), Err(SubmitRefusal::Full)),
+    Disk(Did(Sync)),
+    Disk(Did(Open(8))),
+    Disk(Did(Sync)),
+    Disk(Append(2056, 2046, 1)),
+];
+
 /// A half of 2,049 bytes is filled to its last one.
 const FILLED_WHOLLY: &[Event] = &[
     Submit(Image((0, 0x30), 1013, 0x1111), Err(SubmitRefusal::TooLarge)),
@@ -299,6 +329,8 @@ const COME_TO: &[Event] = &[
 /// Journals with something live in them, or with a large area to fill, and the calls of their books.
 pub(crate) const HALVES: &[Case] = &[
     (LONG_ALONE, FILLED),
+    (LONG_ALONE, FILLING),
+    (LONG_ALONE, BEHIND),
     (
         Line {
             slaves: &[LONG],
