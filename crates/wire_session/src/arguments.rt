@@ -85,10 +85,11 @@ const RECOVER_ANSWERS: &str = "Answers:
   recovered batches B commands C words W
                    the journal held B batches that weren't done, with C commands,
                    and W words of them were written to the slaves
-Each command of the journal is then done as a whole, or undone as a whole, and
-each image file has the words of its slave, also where it had others. A line can
-be recovered again at any time; of a line that is in order it says 0, 0, 0.
-After a fault the image files are as they were. Recover the line again then.";
+Each of these commands is then done as a whole, nothing of a command that didn't
+come to be durable is, and each image file has the words of its slave, also where
+it had others. A line can be recovered again at any time; of a line that is in
+order it says 0, 0, 0. After a fault of the line or the journal the image files
+are as they were. Recover the line again then.";
 
 /// The help text on the life of `slaves`.
 const SLAVES_LIFE: &str =
