@@ -12,7 +12,7 @@ use Rattle.site_core.proofs.StopImages.{StopImage-synced, equal_by_elements}
 use Rattle.site_journal.specs.Runs.{MakesCalls, with_synced}
 use Rattle.site_journal.specs.Formatting.{formatted, behind_gate, pieces, PutsDown, IsPairOnTheWay, Formats}
 use Rattle.site_journal.proofs.Laying.{made}
-use Rattle.site_journal.proofs.Running.{runs_weaker, runs_then}
+use Rattle.site_journal.proofs.CallRuns.{runs_weaker, runs_then}
 
 behind_long : (slaves capacity : ℕ) → length (behind_gate slaves capacity) ≡ 7 + capacity
 behind_long slaves capacity = omega (arith, length-append (drop 1 (header_bytes 2 slaves capacity)) (replicate capacity 0), length-replicate {A = ℕ} capacity 0, seven)

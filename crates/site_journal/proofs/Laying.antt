@@ -11,7 +11,7 @@ use Rattle.site_core.proofs.DeviceCalls.{WritesDisk-left, Leaves-begun}
 use Rattle.site_core.proofs.Overlays.{overlaid-outside, length-overlaid}
 use Rattle.site_journal.specs.Runs.{MakesCalls, with_synced}
 use Rattle.site_journal.specs.Formatting.{LiesOver, LaysDown, PutsDown}
-use Rattle.site_journal.proofs.Running.{runs_none, runs_one, runs_weaker, runs_then}
+use Rattle.site_journal.proofs.CallRuns.{runs_none, runs_one, runs_weaker, runs_then}
 use Rattle.site_journal.proofs.ReadLaws.{sync_runs}
 
 -- ---- the bytes

@@ -11,7 +11,7 @@ use Rattle.site_journal.specs.declared.fault.ReadFault.{ReadFault}
 use Rattle.site_journal.specs.declared.fault.ReadFault.TheVariants as read
 use Rattle.site_journal.specs.Runs.{MakesCalls, with_synced}
 use Rattle.site_journal.specs.Reading.{SyncsFirst, ReadsAll}
-use Rattle.site_journal.proofs.Running.{runs_one, runs_weaker, runs_then, runs_ok, runs_err}
+use Rattle.site_journal.proofs.CallRuns.{runs_one, runs_weaker, runs_then, runs_ok, runs_err}
 
 -- the fault that is handed on
 pub handed_on : {T : Type 0} (result : Result T ReadFault) (fault : ReadFault) → IsErrAnd result (λ other. other ≡ fault) → result ≡ Err fault

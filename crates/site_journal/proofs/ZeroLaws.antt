@@ -7,7 +7,7 @@ use Rattle.site_core.specs.State.{State, Pair, Seen, Leaves}
 use Rattle.site_core.specs.Calls.{WritesDisk, begin_write}
 use Rattle.site_journal.specs.Runs.{MakesCalls}
 use Rattle.site_journal.specs.Formatting.{LiesOver, LaysDown, PutsDown}
-use Rattle.site_journal.proofs.Running.{runs_weaker, runs_then}
+use Rattle.site_journal.proofs.CallRuns.{runs_weaker, runs_then}
 use Rattle.site_journal.proofs.Laying.{Laid, lies_written, lies_then, leaves_within, laid_none, one_write, write_runs, laid_more, laid_all}
 
 -- ---- zeros

@@ -8,7 +8,7 @@ use Rattle.book_model.specs.declared.next.DiskNext.{DiskNext}
 use Rattle.book_model.specs.declared.next.DiskNext.TheVariants as disk
 use Rattle.book_model.specs.Book.{Book}
 use Rattle.book_model.specs.DiskSteps.{disk_next, disk_done}
-use Rattle.runner_laws.proofs.DiskRuns.{IsAction}
+use Rattle.site_journal.proofs.DiskRuns.{IsAction}
 use Rattle.station_alone.specs.declared.choice.Answer.{Answer}
 use Rattle.station_alone.specs.declared.choice.Answer.TheVariants.{Idle, Ended}
 use Rattle.station_alone.specs.Station.{Station, station, Stands}

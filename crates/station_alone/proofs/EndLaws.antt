@@ -26,12 +26,12 @@ use Rattle.book_model.specs.Machine as machines
 use Rattle.book_model.specs.Machine.{Machine, MayKeep, reopened}
 use Rattle.book_laws.proofs.CommandLaws.{length-entries}
 use Rattle.book_laws.specs.Opening.{capacity_in, words_in}
-use Rattle.runner_laws.specs.Running.{KeepsAll, KeepsWith, KeptWith}
-use Rattle.runner_laws.proofs.GoLaws.{stays-then}
-use Rattle.runner_laws.specs.Left.{calls_left, migration_calls, words_named, words_issued}
-use Rattle.runner_laws.specs.Recovering.{IsRecovering}
-use Rattle.runner_laws.proofs.OpenLaws.{recovering-opened, few-calls, none-issued, little-found}
-use Rattle.runner_laws.proofs.EndLaws.{end-plan, end-words}
+use Rattle.site_journal.specs.Running.{KeepsAll, KeepsWith, KeptWith}
+use Rattle.site_journal.proofs.GoLaws.{stays-then}
+use Rattle.site_journal.specs.Left.{calls_left, migration_calls, words_named, words_issued}
+use Rattle.site_journal.specs.Recovering.{IsRecovering}
+use Rattle.site_journal.proofs.OpenLaws.{recovering-opened, few-calls, none-issued, little-found}
+use Rattle.site_journal.proofs.EndLaws.{end-plan, end-words}
 use Rattle.station_alone.specs.declared.fault.OpenFault.{OpenFault}
 use Rattle.station_alone.specs.declared.opening.Found.{Found}
 use Rattle.station_alone.specs.Station.{Station, Stands}

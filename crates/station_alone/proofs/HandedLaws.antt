@@ -10,7 +10,7 @@ use Rattle.book_model.specs.Book.{Book, Doing, Resting, Payload, PayloadSync, Op
 use Rattle.book_model.specs.DiskSteps.{action_of, doing_next, disk_next}
 use Rattle.book_model.specs.RomSteps.{to_do, with_errand, with_issue, without_work, rom_next}
 use Rattle.book_laws.proofs.SlaveEventLaws.{IsNothing}
-use Rattle.runner_laws.proofs.DiskRuns.{IsAction, idle-or-stop}
+use Rattle.site_journal.proofs.DiskRuns.{IsAction, idle-or-stop}
 
 -- ---- for the disk
 

@@ -9,8 +9,8 @@ use Rattle.site_core.proofs.Runs.{Passes-none, Passes-weaker, Passes-stays}
 use Rattle.book_model.specs.Book.{base_of}
 use Rattle.book_model.specs.Machine.{Machine}
 use Rattle.book_laws.specs.Keeping.{IsOfBook}
-use Rattle.runner_laws.specs.Running.{KeepsAll, KeepsWith, KeptWith, with_commands}
-use Rattle.runner_laws.proofs.GoLaws.{stays-then, keeps-all_with, keeps-more}
+use Rattle.site_journal.specs.Running.{KeepsAll, KeepsWith, KeptWith, with_commands}
+use Rattle.site_journal.proofs.GoLaws.{stays-then, keeps-all_with, keeps-more}
 use Rattle.station_alone.specs.Station.{Station}
 use Rattle.station_alone.specs.Keeping.{GoesOn, KeptFor, KeepsFor, Keeps}
 

@@ -36,10 +36,10 @@ use Rattle.book_laws.specs.Keeping.{IsOfBook}
 use Rattle.book_laws.specs.Opening.{words_in, capacity_in, IsAllSynced, IsFound, book_on}
 use Rattle.book_laws.proofs.LineLaws.{up-kept}
 use Rattle.book_laws.proofs.OpeningLaws.{up-opens}
-use Rattle.runner_laws.specs.Ready.{IsReady}
-use Rattle.runner_laws.proofs.GoLaws.{keeps-still}
-use Rattle.runner_laws.proofs.ReadyLaws.{opened-ready}
-use Rattle.runner_laws.proofs.OpenLaws.{little-found}
+use Rattle.site_journal.specs.Ready.{IsReady}
+use Rattle.site_journal.proofs.GoLaws.{keeps-still}
+use Rattle.site_journal.proofs.ReadyLaws.{opened-ready}
+use Rattle.site_journal.proofs.OpenLaws.{little-found}
 use Rattle.station_alone.specs.declared.fault.OpenFault.TheVariants as faults
 use Rattle.station_alone.specs.declared.opening.Reading.{Reading}
 use Rattle.station_alone.specs.Station.{Station, station, Stands}

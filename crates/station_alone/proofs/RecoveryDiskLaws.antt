@@ -10,11 +10,11 @@ use Rattle.book_model.specs.declared.next.DiskNext.{DiskNext}
 use Rattle.book_model.specs.declared.next.DiskNext.TheVariants as disk
 use Rattle.book_model.specs.Book.{Book, first_fault}
 use Rattle.book_model.specs.DiskSteps.{disk_next, disk_done}
-use Rattle.runner_laws.specs.Running.{CallsDisk}
-use Rattle.runner_laws.proofs.DiskRuns.{IsAction}
-use Rattle.runner_laws.specs.Left.{calls_left}
-use Rattle.runner_laws.specs.Recovering.{GetsNearer, HasAction}
-use Rattle.runner_laws.proofs.DiskLaws.{action-done, action-fault, disk-goes}
+use Rattle.site_journal.specs.Running.{CallsDisk}
+use Rattle.site_journal.proofs.DiskRuns.{IsAction}
+use Rattle.site_journal.specs.Left.{calls_left}
+use Rattle.site_journal.specs.Recovering.{GetsNearer, HasAction}
+use Rattle.site_journal.proofs.DiskLaws.{action-done, action-fault, disk-goes}
 use Rattle.station_alone.specs.declared.choice.Choice.TheVariants as choices
 use Rattle.station_alone.specs.declared.choice.Answer.{Answer}
 use Rattle.station_alone.specs.declared.choice.Answer.TheVariants.{Did, Idle, Failed, NoMemory}

@@ -11,11 +11,11 @@ use Rattle.book_model.specs.Entries.{runs_of}
 use Rattle.book_model.specs.Book.{Book, is_closed, is_version_2}
 use Rattle.book_model.specs.Open.{migrate}
 use Rattle.book_model.specs.Reading.{live_bytes}
-use Rattle.runner_laws.specs.Left.{calls_left}
-use Rattle.runner_laws.specs.Recovering.{GetsNearer}
-use Rattle.runner_laws.proofs.DiskLaws.{asked-for}
-use Rattle.runner_laws.proofs.EndLaws.{nothing-left, without-byte}
-use Rattle.runner_laws.proofs.WordLaws.{few-issued}
+use Rattle.site_journal.specs.Left.{calls_left}
+use Rattle.site_journal.specs.Recovering.{GetsNearer}
+use Rattle.site_journal.proofs.DiskLaws.{asked-for}
+use Rattle.site_journal.proofs.EndLaws.{nothing-left, without-byte}
+use Rattle.site_journal.proofs.WordLaws.{few-issued}
 use Rattle.station_alone.specs.declared.choice.Choice.TheVariants as choices
 use Rattle.station_alone.specs.declared.choice.Answer.{Answer}
 use Rattle.station_alone.specs.declared.choice.Answer.TheVariants.{Did, Idle}

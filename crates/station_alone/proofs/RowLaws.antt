@@ -14,7 +14,7 @@ use Rattle.book_model.specs.Machine.{Machine}
 use Rattle.book_laws.proofs.BookLaws.{length-all_cells}
 use Rattle.book_laws.specs.Frame.{JournalFrame}
 use Rattle.book_laws.specs.Up.{Up}
-use Rattle.runner_laws.specs.Left.{calls_left}
+use Rattle.site_journal.specs.Left.{calls_left}
 use Rattle.station_alone.specs.declared.fault.OpenFault.{OpenFault}
 use Rattle.station_alone.specs.declared.fault.OpenFault.TheVariants as why
 use Rattle.station_alone.specs.declared.choice.Choice.{Choice}

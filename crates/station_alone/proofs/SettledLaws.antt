@@ -14,7 +14,7 @@ use Rattle.book_laws.proofs.CommandLaws.{entries-contents}
 use Rattle.book_laws.proofs.PlantLaws.{plant-leads-retired}
 use Rattle.book_laws.proofs.SettledLaws.{retire-settled}
 use Rattle.book_laws.proofs.LineLaws.{holds-all}
-use Rattle.runner_laws.specs.Ready.{IsUp}
+use Rattle.site_journal.specs.Ready.{IsUp}
 use Rattle.station_alone.specs.Station.{Station}
 use Rattle.station_alone.specs.Settled.{HasSettled, HoldsContents}
 

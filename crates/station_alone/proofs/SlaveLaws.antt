@@ -11,10 +11,10 @@ use Rattle.book_model.specs.declared.next.RomNext.{RomNext}
 use Rattle.book_model.specs.declared.next.RomNext.TheVariants as word
 use Rattle.book_model.specs.Book.{Book}
 use Rattle.book_model.specs.RomSteps.{rom_next}
-use Rattle.runner_laws.specs.Ready.{issue_outcome, settle_outcome}
-use Rattle.runner_laws.specs.Recovering.{GetsNearer, IsOfIssue, IsOfSettle, MayFail}
-use Rattle.runner_laws.proofs.WordLaws.{issue-done, settle-done}
-use Rattle.runner_laws.proofs.EndLaws.{slave-goes}
+use Rattle.site_journal.specs.Ready.{issue_outcome, settle_outcome}
+use Rattle.site_journal.specs.Recovering.{GetsNearer, IsOfIssue, IsOfSettle, MayFail}
+use Rattle.site_journal.proofs.WordLaws.{issue-done, settle-done}
+use Rattle.site_journal.proofs.EndLaws.{slave-goes}
 use Rattle.station_alone.specs.declared.choice.Choice.TheVariants as choices
 use Rattle.station_alone.specs.declared.choice.Answer.{Answer}
 use Rattle.station_alone.specs.declared.choice.Answer.TheVariants.{Did, Idle, Failed}

@@ -16,10 +16,10 @@ use Rattle.book_laws.proofs.BookLaws.{length-all_cells}
 use Rattle.book_laws.specs.Frame.{JournalFrame}
 use Rattle.book_laws.specs.Keeping.{IsOfBook}
 use Rattle.book_laws.specs.Up.{Up}
-use Rattle.runner_laws.specs.Running.{CallsDisk}
-use Rattle.runner_laws.specs.Ready.{IsReady}
-use Rattle.runner_laws.proofs.DiskRuns.{IsAction}
-use Rattle.runner_laws.proofs.InsideLaws.{bytes-inside, gate-byte-inside}
+use Rattle.site_journal.specs.Running.{CallsDisk}
+use Rattle.site_journal.specs.Ready.{IsReady}
+use Rattle.site_journal.proofs.DiskRuns.{IsAction}
+use Rattle.site_journal.proofs.InsideLaws.{bytes-inside, gate-byte-inside}
 use Rattle.station_alone.specs.Station.{Station, Stands}
 use Rattle.station_alone.proofs.HandedLaws.{open-still}
 use Rattle.station_alone.proofs.SessionLaws.{SameOrMore, same-contents}

@@ -34,12 +34,12 @@ use Rattle.book_laws.proofs.LineLaws.{up-kept}
 use Rattle.book_laws.proofs.CallLaws.{up-migrates, or-second}
 use Rattle.book_laws.proofs.SubmitLaws.{up-submits}
 use Rattle.book_laws.proofs.SlaveEventLaws.{IsNothing}
-use Rattle.runner_laws.specs.Running.{CallsDisk, KeepsAll, UpAfterDisk}
-use Rattle.runner_laws.specs.Ready.{IsReady, IsUp, issue_outcome, settle_outcome}
-use Rattle.runner_laws.proofs.DiskRuns.{IsAction, disk-runs}
-use Rattle.runner_laws.proofs.GoLaws.{keeps-more}
-use Rattle.runner_laws.proofs.WordRuns.{issue-runs, settle-runs}
-use Rattle.runner_laws.proofs.ReadyLaws.{disk-ready, issue-ready, settle-ready}
+use Rattle.site_journal.specs.Running.{CallsDisk, KeepsAll, UpAfterDisk}
+use Rattle.site_journal.specs.Ready.{IsReady, IsUp, issue_outcome, settle_outcome}
+use Rattle.site_journal.proofs.DiskRuns.{IsAction, disk-runs}
+use Rattle.site_journal.proofs.GoLaws.{keeps-more}
+use Rattle.site_journal.proofs.WordRuns.{issue-runs, settle-runs}
+use Rattle.site_journal.proofs.ReadyLaws.{disk-ready, issue-ready, settle-ready}
 use Rattle.station_alone.specs.declared.choice.Choice.{Choice}
 use Rattle.station_alone.specs.declared.choice.Choice.TheVariants as choices
 use Rattle.station_alone.specs.declared.choice.Answer.{Answer}

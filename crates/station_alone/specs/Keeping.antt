@@ -6,7 +6,7 @@ use Rattle.site_core.specs.Passes.{LeavesOnly}
 use Rattle.book_model.specs.Machine.{Machine}
 use Rattle.book_model.specs.Kept.{Kept}
 use Rattle.book_laws.specs.Keeping.{IsOfBook}
-use Rattle.runner_laws.specs.Running.{KeepsWith, with_commands}
+use Rattle.site_journal.specs.Running.{KeepsWith, with_commands}
 use Rattle.station_alone.specs.declared.choice.Choice.{Choice}
 use Rattle.station_alone.specs.declared.choice.Choice.TheVariants.{Submit}
 use Rattle.station_alone.specs.declared.choice.Answer.{Answer}

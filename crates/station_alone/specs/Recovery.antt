@@ -20,8 +20,8 @@ use Rattle.book_model.specs.RomSteps.{rom_next}
 use Rattle.book_model.specs.Reading.{planned}
 use Rattle.book_model.specs.Machine.{Machine}
 use Rattle.book_laws.specs.Opening.{words_in}
-use Rattle.runner_laws.specs.Running.{CallsDisk, KeepsAll}
-use Rattle.runner_laws.specs.Left.{migration_calls, words_named, words_issued}
+use Rattle.site_journal.specs.Running.{CallsDisk, KeepsAll}
+use Rattle.site_journal.specs.Left.{migration_calls, words_named, words_issued}
 use Rattle.station_alone.specs.declared.fault.OpenFault.{OpenFault}
 use Rattle.station_alone.specs.declared.fault.OpenFault.TheVariants as why
 use Rattle.station_alone.specs.declared.choice.Choice.{Choice}

@@ -16,8 +16,8 @@ use Rattle.book_model.specs.Entries.{runs_of}
 use Rattle.book_model.specs.Book.{Book, is_version_2}
 use Rattle.book_model.specs.DiskSteps.{disk_next}
 use Rattle.book_model.specs.RomSteps.{rom_next}
-use Rattle.runner_laws.specs.Left.{calls_left, words_issued}
-use Rattle.runner_laws.specs.Recovering.{IsRecovering}
+use Rattle.site_journal.specs.Left.{calls_left, words_issued}
+use Rattle.site_journal.specs.Recovering.{IsRecovering}
 use Rattle.station_alone.specs.declared.fault.OpenFault.{OpenFault}
 use Rattle.station_alone.specs.declared.fault.OpenFault.TheVariants as why
 use Rattle.station_alone.specs.declared.choice.Answer.{Answer}

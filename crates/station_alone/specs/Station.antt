@@ -5,7 +5,7 @@ use Rattle.site_core.specs.Line.{Line}
 use Rattle.site_core.specs.State.{Seen}
 use Rattle.esc_rom.specs.Owned.{OwnsAll}
 use Rattle.book_model.specs.Book.{Book, contents_of}
-use Rattle.runner_laws.specs.Ready.{IsReady}
+use Rattle.site_journal.specs.Ready.{IsReady}
 
 -- The book, what the site is made of, and the site's state and past.
 pub record Station : Type 0 where

@@ -19,8 +19,8 @@ use Rattle.book_model.specs.Submit.{IsSubmitted, with_command}
 use Rattle.book_model.specs.DiskSteps.{disk_next, disk_done}
 use Rattle.book_model.specs.RomSteps.{rom_next, rom_done}
 use Rattle.book_model.specs.Open.{migrate}
-use Rattle.runner_laws.specs.Running.{CallsDisk}
-use Rattle.runner_laws.specs.Ready.{issue_outcome, settle_outcome}
+use Rattle.site_journal.specs.Running.{CallsDisk}
+use Rattle.site_journal.specs.Ready.{issue_outcome, settle_outcome}
 use Rattle.station_alone.specs.declared.choice.Choice.{Choice}
 use Rattle.station_alone.specs.declared.choice.Choice.TheVariants.{Submit, Disk, Rom, Migrate}
 use Rattle.station_alone.specs.declared.choice.Answer.{Answer}

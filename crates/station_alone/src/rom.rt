@@ -1,6 +1,6 @@
 ghost use Rattle.std.specs.Prelude.{◌≡◌};
 ghost use Rattle.book_model.specs.RomSteps.{rom_next};
-ghost use Rattle.runner_laws.specs.Ready.{issue_outcome, settle_outcome};
+ghost use Rattle.site_journal.specs.Ready.{issue_outcome, settle_outcome};
 ghost use Rattle.station_alone.specs.Station.{station, Stands};
 ghost use Rattle.station_alone.specs.Steps.{Serves};
 

@@ -17,7 +17,7 @@ use Rattle.book_model.specs.declared.next.RomNext.TheVariants as next
 use Rattle.book_model.specs.declared.next.RomOutcome.{RomOutcome}
 use Rattle.book_model.specs.declared.next.RomOutcome.TheVariants as outcomes
 use Rattle.book_model.specs.Book.{Issuing, Settling}
-use Rattle.runner_laws.specs.Ready.{issue_outcome, settle_outcome}
+use Rattle.site_journal.specs.Ready.{issue_outcome, settle_outcome}
 use Rattle.station_jobs.specs.declared.log.Assignment.{Assignment}
 use Rattle.station_jobs.specs.Jobs.{DoneInTurn, Led}
 use Rattle.station_jobs.specs.Left.{CameBackInTurn}

@@ -4,11 +4,10 @@ use crate::explain::explain;
 use crate::{Task, read_arguments};
 use clap::Error;
 use clap::error::ErrorKind;
-use station_bench::init_line;
 use station_files::{
     ExitStatus, Fault, Store, report, report_fault, set_alias, show_image, show_layout, status_of,
 };
-use station_session::{Fuse, recover_line, run_script};
+use station_session::{Fuse, init_line, recover_line, run_script};
 use std::alloc::Global;
 use std::io;
 use std::io::{Read, Write};

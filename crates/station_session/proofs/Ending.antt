@@ -18,7 +18,7 @@ use Rattle.station_files.specs.ScriptFiles.{SpellsCommands}
 use Rattle.station_files.specs.declared.faults.Fault.{Fault}
 use Rattle.station_files.specs.declared.faults.ExitStatus.{ExitStatus}
 use Rattle.station_files.specs.declared.faults.ExitStatus.TheVariants.{Done}
-use Rattle.station_bench.specs.Site.{IsSiteOf, files_of, HoldsSite}
+use Rattle.station_session.specs.Site.{IsSiteOf, files_of, HoldsSite}
 use Rattle.script_session.specs.Rounds.{ServesSo}
 use Rattle.station_session.specs.Session.{is_old, EndsRecovery, EndsRun, EndsStation, IsOpened, Loads, Recovers, RunsScript, SavesRecovered, SavesRun, SavesServed, StartsFrom}
 

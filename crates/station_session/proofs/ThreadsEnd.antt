@@ -13,7 +13,7 @@ use Rattle.station_files.specs.Files.{Known, ChangesAmong}
 use Rattle.station_files.specs.declared.faults.Fault.{Fault}
 use Rattle.station_files.specs.declared.faults.ExitStatus.{ExitStatus}
 use Rattle.station_files.specs.declared.faults.ExitStatus.TheVariants.{Done}
-use Rattle.station_bench.specs.Site.{files_of, HoldsSite}
+use Rattle.station_session.specs.Site.{files_of, HoldsSite}
 use Rattle.script_session.specs.declared.threads.Left.{Left}
 use Rattle.script_session.specs.AtDesk.{LeavesSo}
 use Rattle.script_session.proofs.DeskLaws.{served-told}

@@ -6,7 +6,7 @@ use Rattle.jrn_format.specs.declared.fault.JournalFault.TheVariants as journals
 use Rattle.site_journal.specs.declared.fault.ReadFault.TheVariants as read
 use Rattle.station_alone.specs.declared.fault.OpenFault.{OpenFault}
 use Rattle.station_alone.specs.declared.fault.OpenFault.TheVariants as why
-use Rattle.station_bench.specs.Faults.{of_device}
+use Rattle.station_session.specs.DeviceFaults.{of_device}
 use Rattle.station_files.specs.declared.faults.Fault.{Fault}
 use Rattle.station_files.specs.declared.faults.Fault.TheVariants.{Memory, Stopped, SlaveDead, NotAJournal, BadVersion, BadJournal, WrongLine}
 

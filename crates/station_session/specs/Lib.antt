@@ -1,2 +1,5 @@
+pub mod DeviceFaults
+pub mod Init
+pub mod Site
 pub mod Faults
 pub mod Session

@@ -17,7 +17,7 @@ use Rattle.station_files.specs.LineFiles.{SpellsLine, SpellsSlaves}
 use Rattle.station_files.specs.ScriptFiles.{SpellsCommands}
 use Rattle.station_files.specs.declared.faults.ExitStatus.{ExitStatus}
 use Rattle.station_files.specs.declared.faults.ExitStatus.TheVariants.{Done}
-use Rattle.station_bench.specs.Site.{IsSiteOf, files_of, HoldsSite}
+use Rattle.station_session.specs.Site.{IsSiteOf, files_of, HoldsSite}
 use Rattle.script_session.specs.Rounds.{AreAmong, Goes, IsServed}
 use Rattle.script_session.specs.declared.threads.Left.{Left}
 use Rattle.script_session.specs.AtDesk.{IsServedAtDesk}

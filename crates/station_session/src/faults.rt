@@ -2,15 +2,15 @@
 ghost use Rattle.std.specs.Prelude.{◌≡◌};
 ghost use Rattle.station_session.specs.Faults.{of_journal, of_open, of_slave};
 
+use crate::device_faults::of_device;
 use esc_rom::RomFault;
 use jrn_format::JournalFault;
 use site_journal::ReadFault;
 use station_alone::OpenFault;
-use station_bench::of_device;
 use station_files::Fault;
 
 /// The program's fault for a station that can't be opened or recovered.
-pub(crate) fn of_open(fault: OpenFault) -> Fault
+pub fn of_open(fault: OpenFault) -> Fault
     ensures { result ≡ of_open fault }
 {
     match fault {

@@ -1,11 +1,22 @@
-//! The subcommands `run` and `recover`, which work on a line and its journal.
+//! The subcommands `init`, `run` and `recover`: a line made of what its files hold, in memory or on open files, and the work on it and its
+//! journal.
 #![tactic(auto)]
 
+mod device_faults;
 mod faults;
+mod init;
+mod opening;
 mod recovery;
 mod run;
 mod session;
+mod site;
 mod threads;
 
-pub use recovery::recover_line;
-pub use run::{Fuse, run_script};
+pub use device_faults::of_device;
+pub use faults::of_open;
+pub use init::init_line;
+pub use opening::open_files;
+pub use recovery::{recover_line, write_recovered};
+pub use run::{Fuse, open_station, run_script};
+pub use session::is_old;
+pub use site::{save_site, site_of};

@@ -5,18 +5,20 @@ ghost use Rattle.site_core.specs.State.{Seen};
 ghost use Rattle.station_alone.specs.Station.{Station};
 ghost use Rattle.station_files.specs.Files.{ChangesAmong};
 ghost use Rattle.station_alone.specs.Recovery.{BeginsRecovered, HasRecovered};
-ghost use Rattle.station_bench.specs.Site.{files_of, HoldsSite};
+ghost use Rattle.station_session.specs.Site.{files_of, HoldsSite};
 ghost use Rattle.station_session.specs.Session.{Recovers, EndsRecovery};
 
 use crate::faults::of_open;
+use crate::opening::open_files;
 use crate::session::{Session, load_session};
+use crate::site::save_site;
 use site_file::FileDevice;
 use site_shadow::{Device, ShadowSite};
 use station_alone::{Recovered, recover};
-use station_bench::{open_files, save_site};
 use station_files::{ExitStatus, Fault, Store, report_fault, status_of, worse};
 use station_text::LineFile;
 use std::alloc::Global;
+use std::io;
 use std::io::Write;
 
 /// Recovers the line whose line file is `name`, on its files, and prints what was recovered. Returns the exit status.
@@ -98,24 +100,32 @@ fn recover_site<D: Device + Drop, S: Store, W: Write, E: Write>(
     }
 }
 
-/// Prints the counts of a recovery: batches and commands that were live, and words that were written.
+/// Prints the counts of a recovery, and returns the exit status.
 fn print_recovered<W: Write, E: Write>(
     recovered: Recovered,
     output: &mut W,
     faults: &mut E,
 ) -> ExitStatus {
+    match write_recovered(recovered, output) {
+        Ok(()) => ExitStatus::Done,
+        Err(error) => report_fault(Fault::from(error), faults),
+    }
+}
+
+/// Writes the counts of a recovery as one line: batches and commands that were live, and words that were written.
+///
+/// # Errors
+///
+/// As the output answers.
+pub fn write_recovered<W: Write>(recovered: Recovered, output: &mut W) -> io::Result<()> {
     let Recovered {
         batches,
         commands,
         words,
     } = recovered;
-    let printed = writeln!(
+    writeln!(
         output,
         "recovered batches {batches} commands {commands} words {words}"
-    )
-    .and_then(|()| output.flush());
-    match printed {
-        Ok(()) => ExitStatus::Done,
-        Err(error) => report_fault(Fault::from(error), faults),
-    }
+    )?;
+    output.flush()
 }

@@ -5,7 +5,9 @@ ghost use Rattle.station_files.specs.ScriptFiles.{SpellsCommands};
 ghost use Rattle.station_session.specs.Session.{is_old, EndsRun, EndsStation, IsOpened, Loads, RunsScript, StartsFrom};
 
 use crate::faults::of_open;
+use crate::opening::open_files;
 use crate::session::{Session, give_up, load_session};
+use crate::site::save_site;
 use crate::threads::run_threads;
 use script_session::serve_commands;
 use sii_edit::Command;
@@ -13,7 +15,6 @@ use site_file::FileDevice;
 use site_mem::{FaultPlan, Pattern};
 use site_shadow::{Device, ShadowSite};
 use station_alone::{Alone, OpenFault, recover};
-use station_bench::{open_files, save_site};
 use station_files::{ExitStatus, Fault, Store, load_script, report_fault, status_of, worse};
 use station_text::LineFile;
 use std::alloc::Global;
@@ -204,9 +205,13 @@ fn load<S: Store>(
     }
 }
 
-/// Opens the station. A journal that isn't of version 2 is recovered and migrated first. Then `device`, if there is one, replaces the
-/// device behind the site.
-fn open_station<D: Device + Drop>(
+/// Opens the station. A journal that isn't of version 2, as `is_old` says, is recovered and migrated first. Then `device`, if there is
+/// one, replaces the device behind the site.
+///
+/// # Errors
+///
+/// As for `recover` and `Alone::open`, with the site as they hand it back.
+pub fn open_station<D: Device + Drop>(
     alloc: Global,
     site: ShadowSite<D>,
     is_old: bool,

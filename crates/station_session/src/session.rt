@@ -2,16 +2,16 @@
 ghost use Rattle.std.specs.Prelude.{◌≡◌, ◌↔◌, length, IfOk, IsTrue};
 ghost use Rattle.station_files.specs.Faults.{IsFaultless};
 ghost use Rattle.station_files.specs.Files.{ChangesAmong};
-ghost use Rattle.station_bench.specs.Site.{files_of};
+ghost use Rattle.station_session.specs.Site.{files_of};
 ghost use Rattle.station_session.specs.Session.{is_old, IsRefusal, Loads};
 
 use crate::faults::of_open;
+use crate::site::{save_site, site_of};
 use jrn_format::version;
 use site_journal::ReadFault;
 use site_mem::FaultPlan;
 use site_shadow::ShadowSite;
 use station_alone::OpenFault;
-use station_bench::{save_site, site_of};
 use station_files::{
     ExitStatus, Fault, Store, load_line, load_slaves, read_file, report_fault, status_of, worse,
 };
@@ -66,7 +66,7 @@ pub(crate) fn load_session<S: Store>(
 }
 
 /// Whether a journal's file has a version byte other than 2.
-fn is_old(journal: &[u8]) -> bool
+pub fn is_old(journal: &[u8]) -> bool
     ensures { result ≡ is_old journal.now }
 {
     journal.len() >= 2 && version(journal) != 2

@@ -2,16 +2,16 @@
 ghost use Rattle.std.specs.Prelude.{◌≡◌, [], false, true, length, IfErr, IsTrue, Ok, OnOk};
 ghost use Rattle.station_files.specs.Faults.{IsFaultless};
 ghost use Rattle.station_files.specs.Files.{ChangesAmong};
-ghost use Rattle.station_bench.specs.Site.{files_of};
+ghost use Rattle.station_session.specs.Site.{files_of};
 ghost use Rattle.script_session.specs.Parts.{IsLineOf};
 ghost use Rattle.station_session.specs.Session.{EndsStation, HoldsBehind, SavesBehind, SavesLeft};
 
 use crate::faults::of_open;
+use crate::site::save_site;
 use script_session::{CloseFault, Ending, Left, serve_by_threads, serve_commands};
 use sii_edit::Command;
 use site_shadow::{Device, ShadowSite};
 use station_alone::{Alone, recover};
-use station_bench::save_site;
 use station_files::{ExitStatus, Store, report_fault, status_of, worse};
 use station_text::LineFile;
 use std::alloc::Global;

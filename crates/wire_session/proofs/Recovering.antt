@@ -12,11 +12,11 @@ use Rattle.station_text.specs.declared.line_file.LineFile.{LineFile}
 use Rattle.station_files.specs.Files.{Known, HasBytes, ChangesAmong, ChangesOnly}
 use Rattle.station_files.specs.Faults as station
 use Rattle.station_files.specs.LineFiles.{SpellsLine, names_of}
-use Rattle.station_bench.specs.Site.{IsSiteOf, files_of, switched_on, HoldsSite}
+use Rattle.station_session.specs.Site.{IsSiteOf, files_of, switched_on, HoldsSite}
 use Rattle.wire_session.specs.declared.faults.WireFault.{WireFault}
 use Rattle.wire_session.specs.declared.faults.WireFault.TheVariants as wire
 use Rattle.wire_session.specs.Backup.{IsOfStream}
-use Rattle.station_bench.specs.Init.{Formats}
+use Rattle.station_session.specs.Init.{Formats}
 use Rattle.wire_session.specs.Opening.{RefusesInit, IsFound, LeavesImages, EndsRecovery, Recovers, SavesRecovered}
 
 -- ---- the journal is opened

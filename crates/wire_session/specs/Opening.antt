@@ -6,8 +6,8 @@ use Rattle.station_files.specs.Files.{Known, HasBytes, ChangesAmong, ChangesOnly
 use Rattle.station_files.specs.LineFiles.{SpellsLine}
 use Rattle.station_alone.specs.Station.{Station}
 use Rattle.station_alone.specs.Recovery.{HasRecovered, BeginsRecovered}
-use Rattle.station_bench.specs.Init as bench
-use Rattle.station_bench.specs.Site.{files_of, switched_on, HoldsSite}
+use Rattle.station_session.specs.Init as bench
+use Rattle.station_session.specs.Site.{files_of, switched_on, HoldsSite}
 use Rattle.wire_session.specs.declared.faults.WireFault.{WireFault}
 use Rattle.wire_session.specs.declared.faults.WireFault.TheVariants as wire
 use Rattle.wire_session.specs.Backup.{IsOfStream}

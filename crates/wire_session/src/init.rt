@@ -1,13 +1,13 @@
 //! The subcommand `init`.
 ghost use Rattle.std.specs.Prelude.{◌≡◌, IfErr, OnOk, ⊤};
-ghost use Rattle.station_bench.specs.Init.{Formats};
+ghost use Rattle.station_session.specs.Init.{Formats};
 ghost use Rattle.wire_session.specs.Opening.{RefusesInit};
 
 use crate::faults::WireFault;
 use crate::opening::bring_up_line;
 use site_wire::{NumberedWire, Wire};
-use station_bench::init_line;
 use station_files::{Store, load_line};
+use station_session::init_line;
 use std::alloc::Global;
 use std::io::Write;
 
@@ -18,7 +18,7 @@ use std::io::Write;
 /// # Errors
 ///
 /// As for `load_line`; as for `bring_up`; `OtherCount` where the line file names another number of slaves. Nothing is written up to there.
-/// Then as for `station_bench::init_line`.
+/// Then as for `station_session::init_line`.
 #[tactic(auto, using(crate::proofs::Recovering::formats_behind, crate::proofs::Recovering::refuses_behind, crate::proofs::Recovering::refuses_early))]
 pub fn init_on_wire<W: Wire, S: Store, O: Write>(
     alloc: Global,

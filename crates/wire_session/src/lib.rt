@@ -6,7 +6,6 @@ mod backup;
 mod codes;
 mod explain;
 mod faults;
-mod faults_of_open;
 mod init;
 mod opening;
 mod plan;

@@ -2,20 +2,19 @@
 ghost use Rattle.std.specs.Prelude.{◌≡◌, ◌≤◌, length, IfErr, IsTrue, OnOk};
 ghost use Rattle.esc_rom.specs.Owned.{OwnsAll};
 ghost use Rattle.station_files.specs.Files.{ChangesAmong};
-ghost use Rattle.station_bench.specs.Site.{files_of, switched_on, HoldsSite};
+ghost use Rattle.station_session.specs.Site.{files_of, switched_on, HoldsSite};
 ghost use Rattle.wire_session.specs.Backup.{IsOfStream};
 ghost use Rattle.wire_session.specs.Opening.{EndsRecovery, Recovers};
 
 use crate::faults::{WireFault, why_ended};
-use crate::faults_of_open::of_open;
 use crate::opening::{Found, find_line, open_journal};
 use crate::reasons::KeepsReason;
 use site_file::FileDevice;
 use site_shadow::ShadowSite;
 use site_wire::{NumberedWire, Wire, WireDevice};
 use station_alone::{Recovered, recover};
-use station_bench::{save_site, site_of};
 use station_files::Store;
+use station_session::{of_open, save_site, site_of};
 use station_text::LineFile;
 use std::alloc::Global;
 use std::io;

@@ -1,7 +1,7 @@
 use Rattle.std.proofs.Common.{ℕ, ◌+◌, length, Result, Ok, Err, subst, arith}
 use Rattle.site_core.specs.declared.fault.DeviceFault.{DeviceFault}
 use Rattle.site_journal.specs.Formatting.{behind_gate, pieces, PutsDown}
-use Rattle.site_journal.proofs.Running.{same_fault}
+use Rattle.site_journal.proofs.CallRuns.{same_fault}
 use Rattle.site_journal.proofs.FormatLaws.{first_runs, second_runs, formats_cut, formats}
 use Rattle.site_journal.proofs.formatting.format.Goals as goal
 

@@ -1,6 +1,6 @@
 use Rattle.std.proofs.Common.{◌≡◌, ℕ, ◌+◌, ◌*◌, ◌-◌, ◌<◌, ◌≤◌, min, refl, sym, ◌∙◌, arith}
 use Rattle.std.proofs.lemmas.List.{take-replicate, length-replicate}
-use Rattle.site_journal.proofs.Running.{same_fault}
+use Rattle.site_journal.proofs.CallRuns.{same_fault}
 use Rattle.site_journal.proofs.Laying.{laid_cut}
 use Rattle.site_journal.proofs.ZeroLaws.{zeros_none, zeros_runs, zeros_more, zeros_all}
 use Rattle.site_journal.proofs.formatting.lay_zeros.Goals as goal

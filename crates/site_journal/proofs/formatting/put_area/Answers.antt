@@ -1,6 +1,6 @@
 use Rattle.std.proofs.Common.{ℕ, List, drop, replicate, arith}
 use Rattle.jrn_format.specs.Header.{header_bytes}
-use Rattle.site_journal.proofs.Running.{same_fault}
+use Rattle.site_journal.proofs.CallRuns.{same_fault}
 use Rattle.site_journal.proofs.Laying.{put_down, put_cut}
 use Rattle.site_journal.proofs.ZeroLaws.{area_first, area_runs, area_laid, put_weaker}
 use Rattle.site_journal.proofs.formatting.put_area.Goals as goal

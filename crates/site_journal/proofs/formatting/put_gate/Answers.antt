@@ -1,5 +1,5 @@
 use Rattle.std.proofs.Common.{[], ◌∷◌, arith}
-use Rattle.site_journal.proofs.Running.{same_fault}
+use Rattle.site_journal.proofs.CallRuns.{same_fault}
 use Rattle.site_journal.proofs.Laying.{one_write, laid_one, put_down, put_cut}
 use Rattle.site_journal.proofs.formatting.put_gate.Goals as goal
 

@@ -1,4 +1,4 @@
-use Rattle.runner_laws.specs.Left.{calls_left}
+use Rattle.site_journal.specs.Left.{calls_left}
 use Rattle.station_alone.specs.Rounds.{Works}
 use Rattle.station_alone.proofs.rounds.redo.Given as goal
 

@@ -1,5 +1,0 @@
-use Rattle.runner_laws.proofs.GoLaws.{keeps-all_with}
-use Rattle.runner_laws.proofs.going.a_run_with_commands_keeps.Goals as goal
-
-pub returns : goal.returns
-returns c = keeps-all_with

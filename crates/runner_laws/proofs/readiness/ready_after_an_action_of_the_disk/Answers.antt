@@ -1,5 +1,0 @@
-use Rattle.runner_laws.proofs.ReadyLaws.{disk-ready}
-use Rattle.runner_laws.proofs.readiness.ready_after_an_action_of_the_disk.Goals as goal
-
-pub returns : goal.returns
-returns c = λ book old new result ready call. disk-ready book old new ready result call

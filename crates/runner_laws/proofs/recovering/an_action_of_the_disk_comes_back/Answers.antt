@@ -1,5 +1,0 @@
-use Rattle.runner_laws.proofs.DiskLaws.{action-done, action-fault}
-use Rattle.runner_laws.proofs.recovering.an_action_of_the_disk_comes_back.Goals as goal
-
-pub returns : goal.returns
-returns c = record { well = action-done; fault = action-fault }

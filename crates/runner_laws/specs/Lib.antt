@@ -1,4 +1,0 @@
-pub mod Running
-pub mod Ready
-pub mod Left
-pub mod Recovering

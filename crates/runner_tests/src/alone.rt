@@ -1,0 +1,14 @@
+mod asks;
+mod damage;
+mod dice;
+mod failures;
+mod growths;
+mod halves;
+mod journals;
+mod line;
+mod runs;
+mod scripts;
+mod sites;
+mod stations;
+mod stops;
+mod story;

@@ -1,4 +1,0 @@
-pub mod Formatted
-pub mod Refused
-pub mod Saved
-pub mod SwitchedOn
