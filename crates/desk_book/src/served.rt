@@ -140,8 +140,9 @@ impl<T: Tickets, R: Refusals> Served<T, R> {
     /// Gives out a share with one part of each ledger. `None`, with nothing changed, if one of them has at most one part left.
     pub fn share(&mut self) -> Option<Share<T, R>>
         ensures share { IfSome result (λ share. share ≡ record { tickets = 0; refusals = 0 }) }
-        ensures given { OnSome result (self.new ≡
-            record self.old { pool = record { tickets = self.old.pool.tickets - 1; refusals = self.old.pool.refusals - 1; given = self.old.pool.given + 1 } }) }
+        ensures given { OnSome result (self.new ≡ record self.old {
+          pool = record { tickets = self.old.pool.tickets - 1; refusals = self.old.pool.refusals - 1; given = self.old.pool.given + 1 };
+        }) }
         ensures none { IfNone result ((self.old.pool.tickets ≤ 1) ⊎ (self.old.pool.refusals ≤ 1)) }
         ensures same { IfNone result (self.new ≡ self.old) }
     {

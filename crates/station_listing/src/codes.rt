@@ -246,7 +246,8 @@ const RUNS_OUT: CodeEntry = CodeEntry {
 const BAD_CATEGORY: CodeEntry = CodeEntry {
     name: "BadCategory",
     meaning: "The content of a category can't be read.",
-    reason: "Strings, TXPDOs and RXPDOs have a form of their own, and this content stops in the midst of one. Type 65535 marks the end and is no type of a category.",
+    reason: "Strings, TXPDOs and RXPDOs have a form of their own, and this content stops in the midst of one. Type 65535 marks the end and \
+        is no type of a category.",
     remedy: "Compare the content with the device's documentation, and give it anew.",
 };
 
@@ -295,7 +296,8 @@ const IMAGE_TOO_LONG: CodeEntry = CodeEntry {
 const BAD_CHECK: CodeEntry = CodeEntry {
     name: "BadCheck",
     meaning: "The check byte is wrong.",
-    reason: "The low byte of word 7 doesn't go with words 0 to 6. Blank EEPROMs and damaged images are like that, and an alias or a swap would make them look right.",
+    reason: "The low byte of word 7 doesn't go with words 0 to 6. Blank EEPROMs and damaged images are like that, and an alias or a swap \
+        would make them look right.",
     remedy: "Look at the image with show. Write a whole image, whose check byte is right, before the alias.",
 };
 

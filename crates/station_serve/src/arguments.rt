@@ -247,7 +247,8 @@ fn show_command<'a>(alloc: Global) -> Result<Command<'a>, AllocError> {
     Command::new(alloc, "show")
         .about("Prints what an EEPROM image says")
         .long_about(
-            "Reads the image of a slave's EEPROM from standard input and prints its alias, whether its check byte is right, its identity and its categories. An image has 64 to 4096 words, low byte first.",
+            "Reads the image of a slave's EEPROM from standard input and prints its alias, whether its check byte is right, its identity \
+            and its categories. An image has 64 to 4096 words, low byte first.",
         )
         .after_help("Example:\n  sii_station show < slave.bin")
         .arg(hex_argument(alloc, "Reads hexadecimal text in place of bytes"))
@@ -266,7 +267,8 @@ fn alias_command<'a>(alloc: Global) -> Result<Command<'a>, AllocError> {
             "Sets the configured station alias of an EEPROM image, and the check byte that goes with it",
         )
         .long_about(
-            "Reads the image of a slave's EEPROM from standard input, sets the configured station alias and the check byte that goes with it, and writes the image to standard output. An image has 64 to 4096 words, low byte first.",
+            "Reads the image of a slave's EEPROM from standard input, sets the configured station alias and the check byte that goes with \
+            it, and writes the image to standard output. An image has 64 to 4096 words, low byte first.",
         )
         .after_help("Example:\n  sii_station alias 1001 < slave.bin > renamed.bin")
         .arg(value_argument(alloc))?
@@ -277,7 +279,8 @@ fn init_command<'a>(alloc: Global) -> Result<Command<'a>, AllocError> {
     Command::new(alloc, "init")
         .about("Formats the journal of a line of slaves")
         .long_about(
-            "Reads a line file and the EEPROM images that it names, and makes an empty journal in the file that it names for it. That file must not be there yet.",
+            "Reads a line file and the EEPROM images that it names, and makes an empty journal in the file that it names for it. That file \
+            must not be there yet.",
         )
         .after_help("Example:\n  sii_station init line.toml")
         .after_long_help(INIT_ANSWERS)
@@ -295,7 +298,8 @@ fn run_command<'a>(alloc: Global) -> Result<Command<'a>, AllocError> {
     Command::new(alloc, "run")
         .about("Runs a script of commands on a line of slaves")
         .long_about(
-            "Reads a line file, the EEPROM images and the journal that it names and a script file, submits the script's commands in order and prints the answer to each, brings them to the slaves by way of the journal, and saves images and journal.",
+            "Reads a line file, the EEPROM images and the journal that it names and a script file, submits the script's commands in order \
+            and prints the answer to each, brings them to the slaves by way of the journal, and saves images and journal.",
         )
         .after_help("Example:\n  sii_station run line.toml script.toml")
         .after_long_help(RUN_ANSWERS)
@@ -325,7 +329,8 @@ fn recover_command<'a>(alloc: Global) -> Result<Command<'a>, AllocError> {
     Command::new(alloc, "recover")
         .about("Ends what a run has left in the journal")
         .long_about(
-            "Reads a line file, the EEPROM images and the journal that it names, brings to the slaves what the journal holds, and saves images and journal. A journal of version 1 becomes one of version 2.",
+            "Reads a line file, the EEPROM images and the journal that it names, brings to the slaves what the journal holds, and saves \
+            images and journal. A journal of version 1 becomes one of version 2.",
         )
         .after_help("Example:\n  sii_station recover line.toml")
         .after_long_help(RECOVER_ANSWERS)
@@ -336,7 +341,8 @@ fn layout_command<'a>(alloc: Global) -> Result<Command<'a>, AllocError> {
     Command::new(alloc, "layout")
         .about("Prints the process image of a line of slaves")
         .long_about(
-            "Reads a line file and the EEPROM images that it names, and prints where the process data of each sync manager lies in the process image, then the sizes of outputs and inputs in bytes and the working counter that is expected. No file is written.",
+            "Reads a line file and the EEPROM images that it names, and prints where the process data of each sync manager lies in the \
+            process image, then the sizes of outputs and inputs in bytes and the working counter that is expected. No file is written.",
         )
         .after_help("Example:\n  sii_station layout line.toml")
         .after_long_help(LAYOUT_ANSWERS)
