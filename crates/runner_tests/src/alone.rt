@@ -1,4 +1,3 @@
-mod asks;
 mod damage;
 mod dice;
 mod failures;

@@ -1,5 +1,4 @@
 mod alone;
-mod asks;
 mod line;
 mod meeting;
 mod memory;

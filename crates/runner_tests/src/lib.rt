@@ -5,4 +5,8 @@
 #[cfg(test)]
 mod alone;
 #[cfg(test)]
+mod asks;
+#[cfg(test)]
+mod bytes;
+#[cfg(test)]
 mod desk;

@@ -1,6 +1,6 @@
 //! Starts a thread for each part of a line.
 
-ghost use Rattle.std.specs.Prelude.{◌≡◌};
+ghost use Rattle.std.specs.Prelude.{◌≡◌, MatchResult};
 ghost use Rattle.station_threads.specs.Parts.{IsEndOfSlave};
 ghost use Rattle.station_threads.specs.Starting.{IsStarted, IsWorkerOf};
 ghost use denote.Param.Send.{IsSync};
@@ -40,6 +40,35 @@ impl<S: Site> Promise<End<S, SlaveLog>> for SinceOf<S> {
     ghost kept_by = { λ since end. IsEndOfSlave since.slave since.site.value end };
 }
 
+/// Starts a thread for this work, whose end keeps the promise. If it can't be created, finishes the desk's work and does this work here.
+fn start<
+    's,
+    E,
+    T: Send + Drop + 's,
+    P: Promise<T> + Drop,
+    F: FnOnce() -> T + Send + 's,
+    M: Meanwhile,
+    R: Wait + Threads + Sync,
+>(
+    scope: &'s Scope<'s, E>,
+    rt: &R,
+    promise: P,
+    work: F,
+    meanwhile: &mut M,
+) -> Result<PromisedHandle<T, P>, T>
+    requires runs { F.pre work }
+    requires keeps { (end : T) → F.post work end → P.kept_by promise end }
+    ensures { MatchResult result (λ handle. handle.promise ≡ promise) (λ end. P.kept_by promise end) }
+{
+    match scope.spawn_with(promise, work) {
+        Ok(handle) => Ok(handle),
+        Err(refused) => {
+            meanwhile.finish(rt);
+            Err((refused.value)())
+        }
+    }
+}
+
 /// Starts the disk's thread. If it can't be created, finishes the work and serves the disk on this thread.
 pub(crate) fn start_flusher<
     's,
@@ -63,13 +92,7 @@ pub(crate) fn start_flusher<
         requires { IsSync R.row }
         ensures { result.start ≡ part.site }
     { part.serve(rt) };
-    match scope.spawn_with(since, serves) {
-        Ok(handle) => Ok(handle),
-        Err(refused) => {
-            meanwhile.finish(rt);
-            Err((refused.value)())
-        }
-    }
+    start(scope, rt, since, serves, meanwhile)
 }
 
 /// Starts a slave's thread. If it can't be created, finishes the work and serves the slave on this thread.
@@ -98,13 +121,7 @@ pub(crate) fn start_worker<
         requires { IsSync R.row × IsSync G.row }
         ensures { IsEndOfSlave part.slave part.site result }
     { part.serve(rt, hook) };
-    match scope.spawn_with(since, serves) {
-        Ok(handle) => Ok(handle),
-        Err(refused) => {
-            meanwhile.finish(rt);
-            Err((refused.value)())
-        }
-    }
+    start(scope, rt, since, serves, meanwhile)
 }
 
 /// Starts the process data thread. If it can't be created, finishes the work and serves the process data on this thread.
@@ -130,11 +147,5 @@ pub(crate) fn start_cycle<
         requires { IsSync R.row }
         ensures { result.start ≡ part.site }
     { part.serve(rt) };
-    match scope.spawn_with(since, serves) {
-        Ok(handle) => Ok(handle),
-        Err(refused) => {
-            meanwhile.finish(rt);
-            Err((refused.value)())
-        }
-    }
+    start(scope, rt, since, serves, meanwhile)
 }

@@ -2,11 +2,11 @@
 //! --fail-alloc N` refuses the Nth allocation. Then one call answers that memory was refused, or with the disk's fault if the disk
 //! needed it, and does the same as ever when it is made again.
 
-use crate::alone::asks::Ask;
 use crate::alone::line::{THREE, parts_of};
 use crate::alone::runs::{ASKS, End, SERVED, Way, end_of, is_found, kept_by, recovers};
 use crate::alone::sites::{Trouble, aliases_of, off, open, recovered, site_of};
 use crate::alone::stations::{fault_of, serve, status_of, submit};
+use crate::asks::Ask;
 use book_model::Fault;
 use esc_rom::RomFault;
 use jrn_format::JournalFault;

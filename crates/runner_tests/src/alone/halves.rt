@@ -1,11 +1,11 @@
 //! Images that fill a half of the journal, on a slave of 4,096 words.
 
-use crate::alone::asks::Ask::{Alias, Image};
 use crate::alone::line::{ALONE, Line, Slave};
 use crate::alone::sites::Trouble::Nothing;
 use crate::alone::stations::Event::{Disk, Rom, Serve, Status, Submit};
 use crate::alone::story::Chapter::{Aliases, Recovery, Session};
 use crate::alone::story::{Chapter, Story, all_told};
+use crate::asks::Ask::{Alias, Image};
 use book_model::SubmitRefusal;
 use station_alone::Answer::{Accepted, Did, Idle, Refused};
 

@@ -1,6 +1,5 @@
 //! Journals as a station finds them: none, those of two generations, and old ones, which are migrated.
 
-use crate::alone::asks::Ask::Alias;
 use crate::alone::damage::{Reader, Verdict, verdict_of};
 use crate::alone::line::{ALONE, Line, THREE, TWO, parts_of};
 use crate::alone::sites::Trouble::{Fuse, Nothing};
@@ -9,6 +8,7 @@ use crate::alone::stations::Event::Submit;
 use crate::alone::stops::{PATTERNS, writes_mended};
 use crate::alone::story::Chapter::{Aliases, Bytes, Recovery, Session};
 use crate::alone::story::{Chapter, STOPPED, Story, all_told};
+use crate::asks::Ask::Alias;
 use book_model::SubmitRefusal;
 use jrn_format::JournalFault::{self, BadJournal, BadVersion, NotAJournal, WrongLine};
 use site_mem::Pattern::{self, Fill};

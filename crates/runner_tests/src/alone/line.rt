@@ -1,5 +1,6 @@
 //! Lines in memory as rows of a table.
 
+use crate::bytes::patch;
 use esc_model::RomHalf;
 use sii_words::Words;
 use site_mem::Parts;
@@ -49,12 +50,6 @@ pub(crate) const THREE: Line = Line {
     ..ALONE
 };
 
-fn put(bytes: &mut [u8], from: usize, new: &[u8]) {
-    for (byte, value) in bytes.iter_mut().skip(from).zip(new) {
-        *byte = *value;
-    }
-}
-
 /// The end mark of the categories, and a SyncM category in front of it.
 const NOTHING: &[u8] = &[0xff, 0xff];
 
@@ -70,9 +65,9 @@ fn words(alloc: Global, slave: Slave) -> Option<Words> {
         Slave::Wide => (512, 0, 0x30, OUTPUTS),
     };
     let mut bytes = vec![in alloc; 0u8; 2 * count].ok()?;
-    put(&mut bytes, 8, &[alias]);
-    put(&mut bytes, 14, &[check]);
-    put(&mut bytes, 128, categories);
+    patch(&mut bytes, 8, &[alias]);
+    patch(&mut bytes, 14, &[check]);
+    patch(&mut bytes, 128, categories);
     Words::from_bytes(alloc, &bytes).ok()
 }
 
@@ -101,9 +96,9 @@ fn sizes(alloc: Global, slaves: &[Slave]) -> Option<Vec<u16>> {
 
 fn disk(alloc: Global, line: &Line) -> Option<Vec<u8>> {
     let mut bytes = vec![in alloc; 0u8; 4104].ok()?;
-    put(&mut bytes, 0, &line.header);
-    put(&mut bytes, 8, line.first);
-    put(&mut bytes, 2056, line.second);
+    patch(&mut bytes, 0, &line.header);
+    patch(&mut bytes, 8, line.first);
+    patch(&mut bytes, 2056, line.second);
     bytes.truncate(line.count);
     Some(bytes)
 }

@@ -1,9 +1,9 @@
 //! A run of three commands on a line of three slaves.
 
-use crate::alone::asks::Ask;
 use crate::alone::line::{THREE, parts_of};
 use crate::alone::sites::{Trouble, aliases_of, holds, off, open, recovered, site_of};
 use crate::alone::stations::{fault_of, serve, status_of, submit};
+use crate::asks::Ask;
 use book_model::Fault;
 use site_mem::{MemSite, Parts};
 use station_alone::Alone;

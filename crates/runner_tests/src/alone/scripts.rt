@@ -1,11 +1,11 @@
 //! What a station answers step by step, and what a recovery finds afterwards.
 
-use crate::alone::asks::Ask::{Alias, Group, Image, Outputs, Swap};
 use crate::alone::line::{ALONE, Line, Slave, THREE, TWO};
 use crate::alone::sites::Trouble::{Call, Fuse, Nothing, Words};
 use crate::alone::stations::Event::{self, Disk, Rom, Run, Serve, Status, Submit};
 use crate::alone::story::Chapter::{Aliases, Bytes, Recovery, Session};
 use crate::alone::story::{Chapter, STOPPED, Story, all_told};
+use crate::asks::Ask::{Alias, Group, Image, Outputs, Swap};
 use book_model::{Fault, SubmitRefusal};
 use sii_edit::{Cause, Refusal};
 use site_mem::Pattern::{Fill, Old};

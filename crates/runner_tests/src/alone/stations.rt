@@ -1,6 +1,6 @@
 //! Calls of a station and what they must give, as rows of a table.
 
-use crate::alone::asks::{Ask, command};
+use crate::asks::{Ask, command};
 use book_model::Fault;
 use site_mem::MemSite;
 use station_alone::{Alone, Answer, Choice};

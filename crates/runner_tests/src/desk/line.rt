@@ -2,6 +2,7 @@
 
 ghost use Rattle.std.specs.Prelude.{◌≡◌, ◌≤◌, [], IfSome};
 
+use crate::bytes::patch;
 use crate::desk::memory::{put, zeros};
 use book_core::Core;
 use jrn_format::{Form, Journal};
@@ -18,13 +19,6 @@ pub(crate) struct Plan {
     pub(crate) area: u32,
     /// Whether process data is exchanged.
     pub(crate) has_cycle: bool,
-}
-
-/// Overwrites the bytes from `from` on.
-pub(crate) fn patch(bytes: &mut [u8], from: usize, new: &[u8]) {
-    for (byte, value) in bytes.iter_mut().skip(from).zip(new) {
-        *byte = *value;
-    }
 }
 
 /// The words of a slave: all zero except the check byte and its categories.

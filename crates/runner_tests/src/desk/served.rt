@@ -1,6 +1,6 @@
 //! Threads serve a line, and its desk is closed.
 
-use crate::desk::asks::Ask;
+use crate::asks::Ask;
 use crate::desk::line::Plan;
 use crate::desk::meeting::Meeting;
 use crate::desk::session::{LeftOut, Scenario, Way, session};

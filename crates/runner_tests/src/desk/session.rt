@@ -4,8 +4,8 @@ ghost use Rattle.std.specs.Prelude.{◌≡◌, ◌≤◌, ◌+◌, [], length, I
 ghost use Rattle.station_threads.specs.Sites.{OwnParts};
 ghost use Rattle.site_shadow.specs.Site.{SiteValue};
 
+use crate::asks::Ask;
 use crate::desk::alone::serve_alone;
-use crate::desk::asks::Ask;
 use crate::desk::line::{Plan, book_of};
 use crate::desk::memory::{put, room};
 use crate::desk::report::{Held, Report, report_of};

@@ -5,9 +5,10 @@ ghost use Rattle.station_threads.specs.Sites.{OwnParts};
 ghost use Rattle.site_shadow.specs.Parts.{site_of as made_of};
 ghost use Rattle.site_shadow.specs.Site.{SiteValue};
 
-use crate::desk::line::{Plan, patch, words_of};
+use crate::bytes::patch;
+use crate::desk::line::{Plan, words_of};
 use crate::desk::memory::{put, zeros};
-use esc_model::{ProcessHalf, RomHalf};
+use esc_model::{FIRST_STATION, ProcessHalf, RomHalf};
 use jrn_format::header;
 use site_mem::{MemSite, Parts, Pattern};
 use station_threads::{PerDevice, Sites, own_parts};
@@ -25,9 +26,6 @@ pub(crate) enum Trouble {
     /// The next writes of this slave, this many, end in error.
     WordsFail(u16, u32),
 }
-
-/// The station address of slave 0.
-const FIRST_STATION: u16 = 0x1001;
 
 /// A slave is busy with a word for this many datagrams.
 const DELAY: u32 = 3;

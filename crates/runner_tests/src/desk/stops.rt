@@ -1,6 +1,6 @@
 //! One part of a line stops at each of its writes, and then the line is recovered.
 
-use crate::desk::asks::Ask;
+use crate::asks::Ask;
 use crate::desk::line::Plan;
 use crate::desk::report::Report;
 use crate::desk::session::{LeftOut, Scenario, Way, session};

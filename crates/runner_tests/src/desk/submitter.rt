@@ -2,7 +2,7 @@
 
 ghost use denote.Param.Send.{IsSync};
 
-use crate::desk::asks::{Ask, command};
+use crate::asks::{Ask, command};
 use crate::desk::memory::room;
 use book_model::SubmitRefusal;
 use sii_edit::{Cause, Command};
