@@ -24,12 +24,13 @@ pub struct Held {
     pub content: Content,
 }
 
-/// Files in memory, the latest of each name first. On a broken shelf each write of a whole file fails.
+/// Files in memory, the latest of each name first.
 #[derive(Drop)]
 pub struct Shelf {
     pub alloc: Global,
     pub files: Vec<Held>,
-    pub broken: bool,
+    /// The error with which each write of a whole file fails, if it does.
+    pub broken: Option<io::ErrorKind>,
     /// Whether another station holds the lock of each journal.
     pub is_busy: bool,
     /// How many files the program wrote as a whole.
@@ -82,7 +83,7 @@ impl Shelf {
         Ok(Shelf {
             alloc,
             files: Vec::new(alloc),
-            broken: false,
+            broken: None,
             is_busy: false,
             writes: 0,
             replaced: 0,
@@ -196,8 +197,8 @@ impl Store for Shelf {
     }
 
     fn write(&mut self, name: &str, bytes: &[u8]) -> io::Result<()> {
-        if self.broken {
-            return Err(io::Error::other("the disk is full"));
+        if let Some(kind) = self.broken {
+            return Err(io::Error::from(kind));
         }
         let is_same = self.holds(name, bytes)?;
         match self.troubles.write() {

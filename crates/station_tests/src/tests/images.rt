@@ -1,5 +1,9 @@
-use super::case::{ALONE, Bytes, Case, all_come};
+use super::case::{ALONE, Bytes, Case, Printed, all_come, run_words, spell};
+use crate::shelf::Shelf;
+use std::alloc::{AllocError, Global};
+use std::sync::Wait;
 use std::test::Fail;
+use std::thread::Threads;
 
 /// A slave with eight digital inputs and eight outputs, from its first word to the end mark.
 const DIGITAL_IO: &str = "04010000000000000000000000003900
@@ -41,8 +45,39 @@ const DIGITAL_IO: &str = "04010000000000000000000000003900
 0101000a00006060010c01010000071a
 0101000b00007060010c01010000ffff\n";
 
+/// An image of zeros but for its check byte and the byte behind it, before and after it gets alias 1.
+const UNNAMED: &str = "000000000000000000000000000030ab
+00000000000000000000000000000000
+00000000000000000000000000000000
+00000000000000000000000000000000
+00000000000000000000000000000000
+00000000000000000000000000000000
+00000000000000000000000000000000
+00000000000000000000000000000000\n";
+
+const NAMED: &str = "000000000000000001000000000019ab
+00000000000000000000000000000000
+00000000000000000000000000000000
+00000000000000000000000000000000
+00000000000000000000000000000000
+00000000000000000000000000000000
+00000000000000000000000000000000
+00000000000000000000000000000000\n";
+
+const SHOWS_NAMED: &str = "words 64
+alias 1
+check ok
+vendor 0x00000000 product 0x00000000 revision 0x00000000 serial 0x00000000
+end\n";
+
 /// Images, and what `show` prints for them.
 const SHOWN: &[Case] = &[
+    Case {
+        words: "station show --hex",
+        input: Bytes::Text(NAMED),
+        output: SHOWS_NAMED,
+        ..ALONE
+    },
     Case {
         words: "station show --hex",
         input: Bytes::Text(DIGITAL_IO),
@@ -118,6 +153,12 @@ fn images_are_shown(rt: HostRuntime) -> Result<(), Fail> {
 /// Images that get an alias, and inputs that are refused.
 const RENAMED: &[Case] = &[
     Case {
+        words: "station alias 1 --hex",
+        input: Bytes::Text(UNNAMED),
+        output: NAMED,
+        ..ALONE
+    },
+    Case {
         words: "station alias 00001 --hex",
         input: Bytes::Text(
             "00 00\t00\n00\x0c00\r\n000000000000000000 30 AB
@@ -187,4 +228,76 @@ cdff\n",
 #[test]
 fn images_are_renamed(rt: HostRuntime) -> Result<(), Fail> {
     all_come(&rt, rt.alloc(), RENAMED)
+}
+
+/// A run on an image.
+fn run_on(
+    rt: &(impl Wait + Threads + Sync),
+    alloc: Global,
+    words: &str,
+    image: &[u8],
+) -> Result<Printed, AllocError> {
+    let mut input = image;
+    run_words(rt, alloc, words, &mut input, &mut Shelf::new(alloc)?)
+}
+
+/// What `show` prints of the image that `alias 1` makes of this one.
+fn shown_behind_alias(
+    rt: &(impl Wait + Threads + Sync),
+    alloc: Global,
+    image: &[u8],
+) -> Result<Printed, AllocError> {
+    let named = run_on(rt, alloc, "station alias 1", image)?;
+    run_on(rt, alloc, "station show", &named.output)
+}
+
+#[test]
+fn a_new_alias_is_shown(rt: HostRuntime) -> Result<(), Fail> {
+    let image = spell(rt.alloc(), Bytes::Image(128, &[(15, &[0xAB])]))?;
+    let run = shown_behind_alias(&rt, rt.alloc(), &image)?;
+    assert!(rt; run.status == 0 && run.output.as_slice() == SHOWS_NAMED.as_bytes());
+    Ok(())
+}
+
+/// Images as bytes, and what `alias` makes of them: the alias is word 4, low byte first, and the check byte is byte 14.
+const RENAMED_BYTES: &[(&str, Bytes, Bytes)] = &[
+    (
+        "station alias 1",
+        Bytes::Image(128, &[(15, &[0xAB])]),
+        Bytes::Image(128, &[(8, &[1]), (14, &[0x19, 0xAB])]),
+    ),
+    (
+        "station alias 65535",
+        Bytes::Image(128, &[(127, &[0xFF])]),
+        Bytes::Image(128, &[(8, &[0xFF, 0xFF]), (14, &[0xA6]), (127, &[0xFF])]),
+    ),
+    (
+        "station alias 0",
+        Bytes::Image(
+            8192,
+            &[(8, &[0xFF, 0xFF]), (14, &[0xA6]), (16, &[0x80; 8176])],
+        ),
+        Bytes::Image(8192, &[(16, &[0x80; 8176])]),
+    ),
+];
+
+/// Whether a run on this image prints this one, and nothing else.
+fn gives(
+    rt: &(impl Wait + Threads + Sync),
+    alloc: Global,
+    words: &str,
+    image: Bytes,
+    named: Bytes,
+) -> Result<bool, AllocError> {
+    let run = run_on(rt, alloc, words, &spell(alloc, image)?)?;
+    let is_same = run.output.as_slice() == spell(alloc, named)?.as_slice();
+    Ok(run.status == 0 && run.faults.is_empty() && is_same)
+}
+
+#[test]
+fn bytes_are_renamed(rt: HostRuntime) -> Result<(), Fail> {
+    for (words, image, named) in RENAMED_BYTES {
+        assert!(rt; gives(&rt, rt.alloc(), words, *image, *named)?, "{words}");
+    }
+    Ok(())
 }

@@ -26,7 +26,7 @@ pub const JOURNAL_OF_THREE: Bytes = Bytes::Zeros(4104, &[(0, &[0xA5, 2, 3, 0, 0,
 pub const JOURNAL_OF_ONE: Bytes = Bytes::Zeros(4104, &[(0, &[0xA5, 2, 1, 0, 0, 0x10, 0, 0])]);
 
 /// Commands on a line with aliases 0 and 1 and a slave with a wrong check byte.
-const ANSWERED: Case = Case {
+pub const ANSWERED: Case = Case {
     words: RUN,
     files: &[
         ("line.toml", THREE),

@@ -41,20 +41,15 @@ impl Read for Trickle {
     }
 }
 
-/// Whether `alias` on this reader ends in `fault 90 File`.
+/// Whether a run on this reader ends in `fault 90 File`.
 fn is_file_fault(
     rt: &(impl Wait + Threads + Sync),
     alloc: Global,
+    words: &str,
     then: Then,
 ) -> Result<bool, AllocError> {
     let mut input = Trickle { calls: 0, then };
-    let run = run_words(
-        rt,
-        alloc,
-        "station alias 1",
-        &mut input,
-        &mut Shelf::new(alloc)?,
-    )?;
+    let run = run_words(rt, alloc, words, &mut input, &mut Shelf::new(alloc)?)?;
     Ok(
         run.status == 3
             && run.output.is_empty()
@@ -79,11 +74,22 @@ impl Read for Halting<'_> {
     }
 }
 
+/// Runs that read standard input.
+const READING: &[&str] = &[
+    "station show",
+    "station show --hex",
+    "station alias 1",
+    "station alias 1 --hex",
+];
+
 #[test]
 fn readers(rt: HostRuntime) -> Result<(), Fail> {
     let alloc = rt.alloc();
-    assert!(rt; is_file_fault(&rt, alloc, Then::Fails)?);
-    assert!(rt; is_file_fault(&rt, alloc, Then::GoesOn)?);
+    for words in READING {
+        assert!(rt; is_file_fault(&rt, alloc, words, Then::Fails)?, "{words}");
+    }
+    assert!(rt; is_file_fault(&rt, alloc, "station alias 1", Then::GoesOn)?);
+    assert!(rt; is_file_fault(&rt, alloc, "station show --hex", Then::GoesOn)?);
     let mut input = Halting {
         rest: &[0xFF; 128],
         interrupted: false,
@@ -171,7 +177,7 @@ fn writers_that_fail(rt: HostRuntime) -> Result<(), Fail> {
 fn a_store_that_takes_no_writes(rt: HostRuntime) -> Result<(), Fail> {
     let alloc = rt.alloc();
     let mut shelf = shelf_with(alloc, FILES)?;
-    shelf.broken = true;
+    shelf.broken = Some(io::ErrorKind::StorageFull);
     let words = "station run line.toml script.toml";
     let run = run_words(&rt, alloc, words, &mut io::empty(), &mut shelf)?;
     assert!(rt; run.status == 3 && run.faults.as_slice() == "fault 90 File\n".as_bytes());

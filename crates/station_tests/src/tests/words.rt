@@ -111,3 +111,109 @@ fn versions_and_codes(rt: HostRuntime) -> Result<(), Fail> {
     assert!(rt; answers(&rt, rt.alloc(), "station explain", 0, "\n\n94 Exists: ")?);
     Ok(())
 }
+
+/// The numbers and names of all codes.
+const CODES: &[(u8, &str)] = &[
+    (1, "OddLength"),
+    (2, "BadSize"),
+    (3, "RunsOut"),
+    (4, "BadCategory"),
+    (5, "NoRoom"),
+    (10, "NoSlave"),
+    (11, "SameSlave"),
+    (12, "EmptyGroup"),
+    (13, "GroupTooLong"),
+    (14, "ImageTooLong"),
+    (15, "BadCheck"),
+    (16, "NoSuchCategory"),
+    (17, "SeveralCategories"),
+    (18, "BadChain"),
+    (19, "ImageOverLimit"),
+    (20, "Memory"),
+    (21, "WrongIdentity"),
+    (30, "FrameFull"),
+    (31, "BadFrame"),
+    (40, "Disk"),
+    (41, "Lost"),
+    (42, "Stopped"),
+    (43, "SlaveDead"),
+    (50, "NotAJournal"),
+    (51, "BadVersion"),
+    (52, "BadJournal"),
+    (53, "WrongLine"),
+    (60, "TooLarge"),
+    (61, "Full"),
+    (62, "Closed"),
+    (63, "OldJournal"),
+    (70, "WrongCounter"),
+    (80, "Mismatch"),
+    (81, "Unserved"),
+    (82, "NoShare"),
+    (90, "File"),
+    (91, "BadHex"),
+    (92, "BadLine"),
+    (93, "BadScript"),
+    (94, "Exists"),
+    (95, "Busy"),
+];
+
+/// What `explain` prints of a code that is given by its number or its name; empty where it is refused.
+fn explained(
+    rt: &(impl Wait + Threads + Sync),
+    alloc: Global,
+    code: &str,
+) -> Result<Vec<u8>, AllocError> {
+    let words = format!(in alloc; "station explain {code}")?;
+    let run = run_words(
+        rt,
+        alloc,
+        words.as_str(),
+        &mut io::empty(),
+        &mut Shelf::new(alloc)?,
+    )?;
+    Ok(run.output)
+}
+
+/// Whether a code is explained by its number and by its name with the same words, which begin with both.
+fn is_explained(
+    rt: &(impl Wait + Threads + Sync),
+    alloc: Global,
+    number: u8,
+    name: &str,
+) -> Result<bool, AllocError> {
+    let head = format!(in alloc; "{number} {name}: ")?;
+    let digits = format!(in alloc; "{number}")?;
+    let by_number = explained(rt, alloc, digits.as_str())?;
+    let by_name = explained(rt, alloc, name)?;
+    let text = str::from_utf8(&by_number).unwrap_or("");
+    Ok(text.starts_with(head.as_str()) && by_number.as_slice() == by_name.as_slice())
+}
+
+/// Whether one of these codes has this number.
+fn has_number(codes: &[(u8, &str)], number: u8) -> bool {
+    codes.iter().any(|(one, _)| *one == number)
+}
+
+/// Whether no number below 100 but those of the codes is explained.
+fn others_are_refused(
+    rt: &(impl Wait + Threads + Sync),
+    alloc: Global,
+) -> Result<bool, AllocError> {
+    for number in 0..100u8 {
+        let digits = format!(in alloc; "{number}")?;
+        let is_refused = explained(rt, alloc, digits.as_str())?.is_empty();
+        if is_refused == has_number(CODES, number) {
+            return Ok(false);
+        }
+    }
+    Ok(true)
+}
+
+#[test]
+fn each_code_is_explained(rt: HostRuntime) -> Result<(), Fail> {
+    for (number, name) in CODES {
+        assert!(rt; is_explained(&rt, rt.alloc(), *number, name)?, "{name}");
+    }
+    assert!(rt; others_are_refused(&rt, rt.alloc())?);
+    Ok(())
+}
