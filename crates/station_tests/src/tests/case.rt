@@ -256,7 +256,7 @@ fn goes_on(
     Ok(wrong.is_empty() && shelf.writes == step.writes)
 }
 
-fn judge(run: &Printed, status: u8, output: &str, faults: &str) -> &'static str {
+pub fn judge(run: &Printed, status: u8, output: &str, faults: &str) -> &'static str {
     if run.status != status {
         return "the status";
     }

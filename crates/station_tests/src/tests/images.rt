@@ -1,4 +1,4 @@
-use super::case::{ALONE, Bytes, Case, Printed, all_come, run_words, spell};
+use super::case::{ALONE, Bytes, Case, all_come, run_words, spell};
 use crate::shelf::Shelf;
 use std::alloc::{AllocError, Global};
 use std::sync::Wait;
@@ -75,6 +75,12 @@ const SHOWN: &[Case] = &[
     Case {
         words: "station show --hex",
         input: Bytes::Text(NAMED),
+        output: SHOWS_NAMED,
+        ..ALONE
+    },
+    Case {
+        words: "station show",
+        input: Bytes::Image(128, &[(8, &[1]), (14, &[0x19, 0xAB])]),
         output: SHOWS_NAMED,
         ..ALONE
     },
@@ -230,35 +236,6 @@ fn images_are_renamed(rt: HostRuntime) -> Result<(), Fail> {
     all_come(&rt, rt.alloc(), RENAMED)
 }
 
-/// A run on an image.
-fn run_on(
-    rt: &(impl Wait + Threads + Sync),
-    alloc: Global,
-    words: &str,
-    image: &[u8],
-) -> Result<Printed, AllocError> {
-    let mut input = image;
-    run_words(rt, alloc, words, &mut input, &mut Shelf::new(alloc)?)
-}
-
-/// What `show` prints of the image that `alias 1` makes of this one.
-fn shown_behind_alias(
-    rt: &(impl Wait + Threads + Sync),
-    alloc: Global,
-    image: &[u8],
-) -> Result<Printed, AllocError> {
-    let named = run_on(rt, alloc, "station alias 1", image)?;
-    run_on(rt, alloc, "station show", &named.output)
-}
-
-#[test]
-fn a_new_alias_is_shown(rt: HostRuntime) -> Result<(), Fail> {
-    let image = spell(rt.alloc(), Bytes::Image(128, &[(15, &[0xAB])]))?;
-    let run = shown_behind_alias(&rt, rt.alloc(), &image)?;
-    assert!(rt; run.status == 0 && run.output.as_slice() == SHOWS_NAMED.as_bytes());
-    Ok(())
-}
-
 /// Images as bytes, and what `alias` makes of them: the alias is word 4, low byte first, and the check byte is byte 14.
 const RENAMED_BYTES: &[(&str, Bytes, Bytes)] = &[
     (
@@ -281,7 +258,19 @@ const RENAMED_BYTES: &[(&str, Bytes, Bytes)] = &[
     ),
 ];
 
-/// Whether a run on this image prints this one, and nothing else.
+/// Whether a run on an image prints these bytes and nothing else.
+fn prints(
+    rt: &(impl Wait + Threads + Sync),
+    alloc: Global,
+    words: &str,
+    mut image: &[u8],
+    named: &[u8],
+) -> Result<bool, AllocError> {
+    let run = run_words(rt, alloc, words, &mut image, &mut Shelf::new(alloc)?)?;
+    Ok(run.status == 0 && run.faults.is_empty() && run.output.as_slice() == named)
+}
+
+/// Whether `alias` makes the second image of the first.
 fn gives(
     rt: &(impl Wait + Threads + Sync),
     alloc: Global,
@@ -289,9 +278,8 @@ fn gives(
     image: Bytes,
     named: Bytes,
 ) -> Result<bool, AllocError> {
-    let run = run_on(rt, alloc, words, &spell(alloc, image)?)?;
-    let is_same = run.output.as_slice() == spell(alloc, named)?.as_slice();
-    Ok(run.status == 0 && run.faults.is_empty() && is_same)
+    let image = spell(alloc, image)?;
+    prints(rt, alloc, words, &image, &spell(alloc, named)?)
 }
 
 #[test]

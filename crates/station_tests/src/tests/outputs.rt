@@ -1,7 +1,10 @@
 // Outputs that are closed or full after some bytes, and inputs that fail after some.
 
-use super::case::{ALONE, Bytes, Case, Printed, run_words, served, shelf_with, spell};
-use super::scripts::{ANSWERED, JOURNAL_OF_ONE, ONE, QUEUED};
+use super::case::{Bytes, Files, run_words, served, shelf_with, spell};
+use super::scripts::{
+    ANSWERED_FILES, ANSWERED_OUTPUT, JOURNAL_OF_ONE, LINE, ONE, QUEUED_FILES, QUEUED_OUTPUT, RUN,
+};
+use super::words::CHECK;
 use crate::shelf::Shelf;
 use std::alloc::{AllocError, Global};
 use std::io;
@@ -45,49 +48,94 @@ impl Write for Narrow {
     }
 }
 
-const LAID_OUT: Case = Case {
-    words: "station layout line.toml",
-    files: &[
-        (
-            "line.toml",
-            Bytes::Text("journal = 'j.bin'\n[[slave]]\nimage = 's0.bin'"),
-        ),
-        ("s0.bin", ONE),
-        ("j.bin", JOURNAL_OF_ONE),
-    ],
-    ..ALONE
-};
+/// A run, and what it prints where its output takes all of it.
+struct Printing {
+    words: &'static str,
+    files: Files,
+    input: Bytes,
+    whole: Bytes,
+}
+
+const NOTHING: &str = "recovered batches 0 commands 0 words 0\n";
+
+const UNFORMATTED: Files = &[("line.toml", LINE), ("s0.bin", ONE)];
+
+const FORMATTED: Files = &[
+    ("line.toml", LINE),
+    ("s0.bin", ONE),
+    ("j.bin", JOURNAL_OF_ONE),
+];
 
 /// Runs that print.
-const PRINTING: &[Case] = &[
-    Case {
+const PRINTING: &[Printing] = &[
+    Printing {
         words: "station show",
+        files: &[],
         input: ONE,
-        ..ALONE
+        whole: Bytes::Text(
+            "words 64
+alias 1
+check ok
+vendor 0x00000000 product 0x00000000 revision 0x00000000 serial 0x00000000
+end\n",
+        ),
     },
-    Case {
+    Printing {
         words: "station alias 2",
+        files: &[],
         input: ONE,
-        ..ALONE
+        whole: Bytes::Image(128, &[(8, &[2]), (14, &[0x62])]),
     },
-    Case {
+    Printing {
         words: "station alias 2 --hex",
-        input: Bytes::Text(BLANK_BUT_CHECKED),
-        ..ALONE
+        files: &[],
+        input: Bytes::Text(ZERO_TEXT),
+        whole: Bytes::Text(TWO_TEXT),
     },
-    LAID_OUT,
-    Case {
-        words: "station recover line.toml",
-        ..LAID_OUT
-    },
-    Case {
+    Printing {
         words: "station explain 15",
-        ..ALONE
+        files: &[],
+        input: Bytes::Text(""),
+        whole: Bytes::Text(CHECK),
+    },
+    Printing {
+        words: "station layout line.toml",
+        files: FORMATTED,
+        input: Bytes::Text(""),
+        whole: Bytes::Text("outputs 0 inputs 0 counter 0\n"),
+    },
+    Printing {
+        words: "station init line.toml",
+        files: UNFORMATTED,
+        input: Bytes::Text(""),
+        whole: Bytes::Text("formatted 65536\n"),
+    },
+    Printing {
+        words: "station recover line.toml",
+        files: FORMATTED,
+        input: Bytes::Text(""),
+        whole: Bytes::Text(NOTHING),
     },
 ];
 
-/// An image of zeros with its check byte, as hexadecimal text.
-const BLANK_BUT_CHECKED: &str = "00000000000000000000000000003000
+/// Runs by threads.
+const ANSWERING: &[Printing] = &[
+    Printing {
+        words: RUN,
+        files: QUEUED_FILES,
+        input: Bytes::Text(""),
+        whole: Bytes::Text(QUEUED_OUTPUT),
+    },
+    Printing {
+        words: RUN,
+        files: ANSWERED_FILES,
+        input: Bytes::Text(""),
+        whole: Bytes::Text(ANSWERED_OUTPUT),
+    },
+];
+
+/// An image of zeros with its check byte, and the same with alias 2, as hexadecimal text.
+const ZERO_TEXT: &str = "00000000000000000000000000003000
 00000000000000000000000000000000
 00000000000000000000000000000000
 00000000000000000000000000000000
@@ -96,114 +144,76 @@ const BLANK_BUT_CHECKED: &str = "00000000000000000000000000003000
 00000000000000000000000000000000
 00000000000000000000000000000000\n";
 
-/// What a run prints if it can.
-fn printed_by(
+const TWO_TEXT: &str = "00000000000000000200000000006200
+00000000000000000000000000000000
+00000000000000000000000000000000
+00000000000000000000000000000000
+00000000000000000000000000000000
+00000000000000000000000000000000
+00000000000000000000000000000000
+00000000000000000000000000000000\n";
+
+/// Whether a run with this output ends in `fault 90 File`.
+fn is_file_fault(
     rt: &(impl Wait + Threads + Sync),
     alloc: Global,
-    case: &Case,
-) -> Result<Printed, AllocError> {
-    let mut shelf = shelf_with(alloc, case.files)?;
-    let input = spell(alloc, case.input)?;
-    run_words(rt, alloc, case.words, &mut input.as_slice(), &mut shelf)
+    run: &Printing,
+    shelf: &mut Shelf,
+    output: &mut Narrow,
+) -> Result<bool, AllocError> {
+    let mut faults = Vec::new(alloc);
+    let input = spell(alloc, run.input)?;
+    let mut rest = input.as_slice();
+    let status = served(rt, alloc, run.words, &mut rest, shelf, output, &mut faults)?;
+    Ok(status == 3 && faults.as_slice() == "fault 90 File\n".as_bytes())
 }
 
-/// Whether a run over these files, whose output takes this many bytes of what it prints, prints just these and ends in `fault 90 File`.
+/// Whether nothing is left to recover behind a run over these files. Where there are none, nothing is.
+fn is_recovered(
+    rt: &(impl Wait + Threads + Sync),
+    alloc: Global,
+    files: Files,
+    shelf: &mut Shelf,
+) -> Result<bool, AllocError> {
+    if files.is_empty() {
+        return Ok(true);
+    }
+    let words = "station recover line.toml";
+    let run = run_words(rt, alloc, words, &mut io::empty(), shelf)?;
+    Ok(run.status == 0 && run.output.as_slice() == NOTHING.as_bytes())
+}
+
+/// Whether a run whose output takes `room` bytes prints just these of what it would print, ends in `fault 90 File`, and leaves nothing to
+/// recover: each command that was accepted is in the slaves, and the journal holds nothing live.
 fn is_cut_off(
     rt: &(impl Wait + Threads + Sync),
     alloc: Global,
-    case: &Case,
-    shelf: &mut Shelf,
+    run: &Printing,
     whole: &[u8],
     room: usize,
     then: Then,
 ) -> Result<bool, AllocError> {
+    let mut shelf = shelf_with(alloc, run.files)?;
     let mut output = Narrow {
         taken: Vec::new(alloc),
         room,
         then,
     };
-    let mut faults = Vec::new(alloc);
-    let input = spell(alloc, case.input)?;
-    let status = served(
-        rt,
-        alloc,
-        case.words,
-        &mut input.as_slice(),
-        shelf,
-        &mut output,
-        &mut faults,
-    )?;
-    let is_told = status == 3 && faults.as_slice() == "fault 90 File\n".as_bytes();
-    Ok(is_told && Some(output.taken.as_slice()) == whole.get(..room))
+    let is_told = is_file_fault(rt, alloc, run, &mut shelf, &mut output)?;
+    let is_recovered = is_recovered(rt, alloc, run.files, &mut shelf)?;
+    Ok(is_told && is_recovered && Some(output.taken.as_slice()) == whole.get(..room))
 }
 
-/// Whether a run ends so after each seventh number of bytes, and after its first line.
+/// Whether a run ends so after each number of bytes.
 fn is_cut_off_anywhere(
     rt: &(impl Wait + Threads + Sync),
     alloc: Global,
-    case: &Case,
+    run: &Printing,
     then: Then,
 ) -> Result<bool, AllocError> {
-    let whole = printed_by(rt, alloc, case)?.output;
-    let line = whole.iter().position(|byte| *byte == 10).unwrap_or(0);
+    let whole = spell(alloc, run.whole)?;
     for room in 0..whole.len() {
-        if room % 7 == 0 || room == line.saturating_add(1) {
-            let mut shelf = shelf_with(alloc, case.files)?;
-            if !is_cut_off(rt, alloc, case, &mut shelf, &whole, room, then)? {
-                return Ok(false);
-            }
-        }
-    }
-    Ok(true)
-}
-
-#[test]
-fn outputs_that_are_cut_off(rt: HostRuntime) -> Result<(), Fail> {
-    for case in PRINTING {
-        assert!(rt;
-            is_cut_off_anywhere(&rt, rt.alloc(), case, Then::Fails)?,
-            "{}",
-            case.words
-        );
-        assert!(rt;
-            is_cut_off_anywhere(&rt, rt.alloc(), case, Then::TakesNone)?,
-            "{}",
-            case.words
-        );
-    }
-    Ok(())
-}
-
-/// Whether nothing is left to recover.
-fn is_recovered(
-    rt: &(impl Wait + Threads + Sync),
-    alloc: Global,
-    shelf: &mut Shelf,
-) -> Result<bool, AllocError> {
-    let run = run_words(
-        rt,
-        alloc,
-        "station recover line.toml",
-        &mut io::empty(),
-        shelf,
-    )?;
-    let nothing = "recovered batches 0 commands 0 words 0\n";
-    Ok(run.status == 0 && run.output.as_slice() == nothing.as_bytes())
-}
-
-/// Whether a run by threads whose answers are cut off after each seventh number of bytes ends in `fault 90 File` and leaves nothing to recover:
-/// each command that was accepted is in the slaves, and the journal holds nothing live.
-fn is_served_without_answers(
-    rt: &(impl Wait + Threads + Sync),
-    alloc: Global,
-    case: &Case,
-) -> Result<bool, AllocError> {
-    let whole = case.output.as_bytes();
-    for place in 0..whole.len() / 7 {
-        let room = place * 7;
-        let mut shelf = shelf_with(alloc, case.files)?;
-        let is_told = is_cut_off(rt, alloc, case, &mut shelf, whole, room, Then::Fails)?;
-        if !is_told || !is_recovered(rt, alloc, &mut shelf)? {
+        if !is_cut_off(rt, alloc, run, &whole, room, then)? {
             return Ok(false);
         }
     }
@@ -211,9 +221,27 @@ fn is_served_without_answers(
 }
 
 #[test]
+fn outputs_that_are_cut_off(rt: HostRuntime) -> Result<(), Fail> {
+    for run in PRINTING {
+        assert!(rt;
+            is_cut_off_anywhere(&rt, rt.alloc(), run, Then::Fails)?,
+            "{}",
+            run.words
+        );
+        assert!(rt;
+            is_cut_off_anywhere(&rt, rt.alloc(), run, Then::TakesNone)?,
+            "{}",
+            run.words
+        );
+    }
+    Ok(())
+}
+
+#[test]
 fn answers_that_are_cut_off(rt: HostRuntime) -> Result<(), Fail> {
-    assert!(rt; is_served_without_answers(&rt, rt.alloc(), &QUEUED)?);
-    assert!(rt; is_served_without_answers(&rt, rt.alloc(), &ANSWERED)?);
+    for run in ANSWERING {
+        assert!(rt; is_cut_off_anywhere(&rt, rt.alloc(), run, Then::Fails)?);
+    }
     Ok(())
 }
 
@@ -233,58 +261,54 @@ impl Read for Failing<'_> {
     }
 }
 
-/// Whether a run on an input that fails after `count` bytes prints nothing but this fault, and ends with this status.
-fn is_refused_at(
+/// Runs on an image, and the image.
+const ON_AN_IMAGE: &[(&str, Bytes)] = &[
+    ("station show", ONE),
+    ("station show --hex", Bytes::Text(ZERO_TEXT)),
+    ("station alias 2", ONE),
+    ("station alias 2 --hex", Bytes::Text(ZERO_TEXT)),
+];
+
+/// How an input fails, and how a run on it ends.
+const FAILURES: &[(io::ErrorKind, u8, &str)] = &[
+    (io::ErrorKind::Other, 3, "fault 90 File\n"),
+    (io::ErrorKind::OutOfMemory, 5, "fault 20 Memory\n"),
+];
+
+/// Whether a run on an input that fails after these bytes prints nothing but this fault, and ends with this status.
+fn is_refused_after(
     rt: &(impl Wait + Threads + Sync),
     alloc: Global,
-    case: &Case,
-    count: usize,
-    kind: io::ErrorKind,
+    words: &str,
+    input: &mut Failing,
     status: u8,
     faults: &str,
 ) -> Result<bool, AllocError> {
-    let bytes = spell(alloc, case.input)?;
-    let mut input = Failing {
-        rest: bytes.get(..count).unwrap_or(&bytes),
-        kind,
-    };
-    let run = run_words(rt, alloc, case.words, &mut input, &mut Shelf::new(alloc)?)?;
+    let run = run_words(rt, alloc, words, input, &mut Shelf::new(alloc)?)?;
     let is_told = run.status == status && run.faults.as_slice() == faults.as_bytes();
     Ok(is_told && run.output.is_empty())
 }
 
-/// Runs on an image.
-const ON_AN_IMAGE: &[Case] = &[
-    Case {
-        words: "station show",
-        input: ONE,
-        ..ALONE
-    },
-    Case {
-        words: "station alias 2",
-        input: ONE,
-        ..ALONE
-    },
-    Case {
-        words: "station alias 2 --hex",
-        input: Bytes::Text(BLANK_BUT_CHECKED),
-        ..ALONE
-    },
-];
-
-/// Whether an input that fails before its end, after any of its bytes, is a fault of a stream.
+/// Whether a run is refused so after each number of bytes of its input, the last one among them.
 fn is_refused_anywhere(
     rt: &(impl Wait + Threads + Sync),
     alloc: Global,
-    case: &Case,
+    words: &str,
+    input: Bytes,
+    failure: (io::ErrorKind, u8, &str),
 ) -> Result<bool, AllocError> {
-    for count in 0..129usize {
-        let kind = io::ErrorKind::Other;
-        if !is_refused_at(rt, alloc, case, count, kind, 3, "fault 90 File\n")? {
-            return Ok(false);
-        }
-        let kind = io::ErrorKind::OutOfMemory;
-        if !is_refused_at(rt, alloc, case, count, kind, 5, "fault 20 Memory\n")? {
+    let (kind, status, faults) = failure;
+    let bytes = spell(alloc, input)?;
+    for count in 0..bytes.len().saturating_add(1) {
+        let rest = bytes.get(..count).unwrap_or(&bytes);
+        if !is_refused_after(
+            rt,
+            alloc,
+            words,
+            &mut Failing { rest, kind },
+            status,
+            faults,
+        )? {
             return Ok(false);
         }
     }
@@ -293,12 +317,13 @@ fn is_refused_anywhere(
 
 #[test]
 fn inputs_that_fail(rt: HostRuntime) -> Result<(), Fail> {
-    for case in ON_AN_IMAGE {
-        assert!(rt;
-            is_refused_anywhere(&rt, rt.alloc(), case)?,
-            "{}",
-            case.words
-        );
+    for (words, input) in ON_AN_IMAGE {
+        for failure in FAILURES {
+            assert!(rt;
+                is_refused_anywhere(&rt, rt.alloc(), words, *input, *failure)?,
+                "{words}"
+            );
+        }
     }
     Ok(())
 }

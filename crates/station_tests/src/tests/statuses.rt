@@ -1,8 +1,7 @@
 // Faults as they are printed, and the exit status where several apply.
 
-use super::case::{Bytes, Files, Printed, run_words, shelf_with};
+use super::case::{Bytes, Files, Printed, judge, run_words, shelf_with};
 use super::scripts::{JOURNAL_OF_ONE, LINE, RUN, ZERO};
-use crate::shelf::Shelf;
 use crate::{Pattern, Trouble};
 use station_files::{Fault, report_fault};
 use station_serve::refuse_words;
@@ -81,37 +80,63 @@ const ALIAS: Files = &[
     ),
 ];
 
-/// Runs whose files can't be saved: the arguments, why each write fails, the exit status and the faults. The highest status wins.
-const UNSAVED: &[(&str, io::ErrorKind, u8, &str)] = &[
-    (RUN, io::ErrorKind::Other, 3, "fault 90 File\n"),
-    (RUN, io::ErrorKind::OutOfMemory, 5, "fault 20 Memory\n"),
+/// Runs whose files can't be saved: the arguments, why each write fails, the exit status, and what is printed. The highest status wins.
+const UNSAVED: &[(&str, io::ErrorKind, u8, &str, &str)] = &[
     (
-        "station run line.toml script.toml --fuse 2",
-        io::ErrorKind::Other,
-        4,
-        "fault 42 Stopped\nfault 90 File\n",
-    ),
-    (
-        "station run line.toml script.toml --fuse 2",
-        io::ErrorKind::OutOfMemory,
-        5,
-        "fault 42 Stopped\nfault 20 Memory\n",
-    ),
-    (
-        "station recover line.toml",
-        io::ErrorKind::Other,
+        RUN,
+        io::ErrorKind::StorageFull,
         3,
+        SERVED,
         "fault 90 File\n",
     ),
     (
-        "station recover line.toml",
+        RUN,
         io::ErrorKind::OutOfMemory,
         5,
+        SERVED,
+        "fault 20 Memory\n",
+    ),
+    (
+        RUN_CUT,
+        io::ErrorKind::StorageFull,
+        4,
+        STOPPED,
+        "fault 42 Stopped\nfault 90 File\n",
+    ),
+    (
+        RUN_CUT,
+        io::ErrorKind::OutOfMemory,
+        5,
+        STOPPED,
+        "fault 42 Stopped\nfault 20 Memory\n",
+    ),
+    (
+        RECOVER,
+        io::ErrorKind::StorageFull,
+        3,
+        RECOVERED,
+        "fault 90 File\n",
+    ),
+    (
+        RECOVER,
+        io::ErrorKind::OutOfMemory,
+        5,
+        RECOVERED,
         "fault 20 Memory\n",
     ),
 ];
 
-/// A run over these files, in which each write of a whole file fails with this error.
+const RUN_CUT: &str = "station run line.toml script.toml --fuse 2";
+
+const RECOVER: &str = "station recover line.toml";
+
+const SERVED: &str = "command 0 accepted 0\naccepted 1 durable 1 settled 1\n";
+
+const STOPPED: &str = "command 0 accepted 0\naccepted 1 durable 0 settled 0\n";
+
+const RECOVERED: &str = "recovered batches 0 commands 0 words 0\n";
+
+/// What a run over these files prints, in which each write of a whole file fails with this error.
 fn unsaved(
     rt: &(impl Wait + Threads + Sync),
     alloc: Global,
@@ -123,12 +148,25 @@ fn unsaved(
     run_words(rt, alloc, words, &mut io::empty(), &mut shelf)
 }
 
+/// Which expectation of such a run fails; empty where none does.
+fn is_unsaved(
+    rt: &(impl Wait + Threads + Sync),
+    alloc: Global,
+    words: &str,
+    kind: io::ErrorKind,
+    status: u8,
+    output: &str,
+    faults: &str,
+) -> Result<&'static str, AllocError> {
+    let run = unsaved(rt, alloc, words, kind)?;
+    Ok(judge(&run, status, output, faults))
+}
+
 #[test]
 fn the_highest_status_wins(rt: HostRuntime) -> Result<(), Fail> {
-    for (words, kind, status, faults) in UNSAVED {
-        let run = unsaved(&rt, rt.alloc(), words, *kind)?;
-        let is_told = run.faults.as_slice() == faults.as_bytes();
-        assert!(rt; run.status == *status && is_told, "{words}: {faults}");
+    for (words, kind, status, output, faults) in UNSAVED {
+        let wrong = is_unsaved(&rt, rt.alloc(), words, *kind, *status, output, faults)?;
+        assert!(rt; wrong.is_empty(), "{wrong}: {words}");
     }
     Ok(())
 }
@@ -140,7 +178,7 @@ const OF_THE_DISK: (u8, &str) = (4, "fault 40 Disk\n");
 const OF_AN_IMAGE: (u8, &str) = (4, "fault 42 Stopped\n");
 
 /// The status and the fault of a run of one command on one slave, where the first of its calls that write or sync fails, or the second, and so
-/// on.
+/// on, until it makes no such call.
 const AT_EACH_CALL: &[(u8, &str)] = &[
     // The journal and the image are opened.
     OF_A_FILE,
@@ -165,25 +203,10 @@ const AT_EACH_CALL: &[(u8, &str)] = &[
     // Journal and image are saved.
     OF_A_FILE,
     OF_A_FILE,
+    (0, ""),
 ];
 
-/// A run in which this call fails. `None` where it makes fewer calls.
-fn failed_at(
-    rt: &(impl Wait + Threads + Sync),
-    alloc: Global,
-    call: usize,
-) -> Result<Option<Printed>, AllocError> {
-    let mut shelf = shelf_with(alloc, ALIAS)?;
-    shelf.trouble(Trouble::Error(call as u64), Pattern::Old)?;
-    let run = run_words(rt, alloc, RUN, &mut io::empty(), &mut shelf)?;
-    if shelf.troubles.has_come() {
-        Ok(Some(run))
-    } else {
-        Ok(None)
-    }
-}
-
-/// Whether a run in which this call fails prints this fault and ends with this status.
+/// Whether a run in which this call fails prints this fault and ends with this status. Status 0: it makes fewer calls.
 fn is_failed_at(
     rt: &(impl Wait + Threads + Sync),
     alloc: Global,
@@ -191,10 +214,11 @@ fn is_failed_at(
     status: u8,
     faults: &str,
 ) -> Result<bool, AllocError> {
-    match failed_at(rt, alloc, call)? {
-        Some(run) => Ok(run.status == status && run.faults.as_slice() == faults.as_bytes()),
-        None => Ok(false),
-    }
+    let mut shelf = shelf_with(alloc, ALIAS)?;
+    shelf.trouble(Trouble::Error(call as u64), Pattern::Old)?;
+    let run = run_words(rt, alloc, RUN, &mut io::empty(), &mut shelf)?;
+    let is_told = run.status == status && run.faults.as_slice() == faults.as_bytes();
+    Ok(is_told && shelf.troubles.has_come() == (status != 0))
 }
 
 #[test]
@@ -203,6 +227,5 @@ fn a_fault_at_each_call(rt: HostRuntime) -> Result<(), Fail> {
         let is_told = is_failed_at(&rt, rt.alloc(), call, *status, faults)?;
         assert!(rt; is_told, "{call}: {faults}");
     }
-    assert!(rt; failed_at(&rt, rt.alloc(), AT_EACH_CALL.len())?.is_none());
     Ok(())
 }

@@ -50,11 +50,8 @@ fn is_file_fault(
 ) -> Result<bool, AllocError> {
     let mut input = Trickle { calls: 0, then };
     let run = run_words(rt, alloc, words, &mut input, &mut Shelf::new(alloc)?)?;
-    Ok(
-        run.status == 3
-            && run.output.is_empty()
-            && run.faults.as_slice() == "fault 90 File\n".as_bytes(),
-    )
+    let is_told = run.status == 3 && run.faults.as_slice() == "fault 90 File\n".as_bytes();
+    Ok(is_told && run.output.is_empty())
 }
 
 /// The bytes of an image whose first read is interrupted.
@@ -83,25 +80,34 @@ const READING: &[&str] = &[
 ];
 
 #[test]
-fn readers(rt: HostRuntime) -> Result<(), Fail> {
-    let alloc = rt.alloc();
+fn readers_that_fail(rt: HostRuntime) -> Result<(), Fail> {
     for words in READING {
-        assert!(rt; is_file_fault(&rt, alloc, words, Then::Fails)?, "{words}");
+        assert!(rt;
+            is_file_fault(&rt, rt.alloc(), words, Then::Fails)?,
+            "{words}"
+        );
+        assert!(rt;
+            is_file_fault(&rt, rt.alloc(), words, Then::GoesOn)?,
+            "{words}"
+        );
     }
-    assert!(rt; is_file_fault(&rt, alloc, "station alias 1", Then::GoesOn)?);
-    assert!(rt; is_file_fault(&rt, alloc, "station show --hex", Then::GoesOn)?);
+    Ok(())
+}
+
+/// Whether a run on an image whose first read is interrupted reads it.
+fn is_read(rt: &(impl Wait + Threads + Sync), alloc: Global) -> Result<bool, AllocError> {
     let mut input = Halting {
         rest: &[0xFF; 128],
         interrupted: false,
     };
-    let run = run_words(
-        &rt,
-        alloc,
-        "station show",
-        &mut input,
-        &mut Shelf::new(alloc)?,
-    )?;
-    assert!(rt; run.status == 3 && run.faults.is_empty());
+    let words = "station show";
+    let run = run_words(rt, alloc, words, &mut input, &mut Shelf::new(alloc)?)?;
+    Ok(run.status == 3 && run.faults.is_empty() && run.output.starts_with(b"words 64\n"))
+}
+
+#[test]
+fn an_interrupted_reader(rt: HostRuntime) -> Result<(), Fail> {
+    assert!(rt; is_read(&rt, rt.alloc())?);
     Ok(())
 }
 
@@ -170,17 +176,5 @@ fn writers_that_fail(rt: HostRuntime) -> Result<(), Fail> {
     for words in PRINTING {
         assert!(rt; is_unwritten(&rt, rt.alloc(), words)?, "{words}");
     }
-    Ok(())
-}
-
-#[test]
-fn a_store_that_takes_no_writes(rt: HostRuntime) -> Result<(), Fail> {
-    let alloc = rt.alloc();
-    let mut shelf = shelf_with(alloc, FILES)?;
-    shelf.broken = Some(io::ErrorKind::StorageFull);
-    let words = "station run line.toml script.toml";
-    let run = run_words(&rt, alloc, words, &mut io::empty(), &mut shelf)?;
-    assert!(rt; run.status == 3 && run.faults.as_slice() == "fault 90 File\n".as_bytes());
-    assert!(rt; run.output.as_slice() == "accepted 0 durable 0 settled 0\n".as_bytes());
     Ok(())
 }
