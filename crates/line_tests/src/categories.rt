@@ -55,7 +55,6 @@ fn strings_byte_by_byte(rt: HostRuntime) {
     for (texts, bytes) in TEXTS {
         assert!(rt; are_strings(rt.alloc(), texts, bytes) == Ok(true));
     }
-    assert!(rt; are_read(rt.alloc(), &[], &[]) == Ok(true));
 }
 
 /// Units, the words that they are written as, and the units that are read from these.
@@ -107,7 +106,7 @@ const CUT_OUTPUTS: &[u16] = &[0x1600, 0x0001, 0x0000, 0x0000, 0x7000];
 
 const NO_OUTPUTS: &[u16] = &[0x1600, 0x0001, 0x0000];
 
-/// Types, contents that are cut, and how many strings or PDOs are read from them.
+/// Types, contents that are cut or empty, and how many strings or PDOs are read from them.
 const CUT: &[(u16, &[u16], Result<usize, CatFault>)] = &[
     (
         STRINGS,
@@ -120,6 +119,7 @@ const CUT: &[(u16, &[u16], Result<usize, CatFault>)] = &[
         Err(CatFault::BadCategory { kind: RXPDOS }),
     ),
     (RXPDOS, NO_OUTPUTS, Ok(0)),
+    (STRINGS, &[], Ok(0)),
 ];
 
 /// The number of strings or PDOs in a content.

@@ -8,7 +8,7 @@ use sii_edit::{
     apply, changes,
 };
 use sii_image::Layout;
-use sii_words::{ImageFile, Run, WordsFault};
+use sii_words::{ImageFile, Plant, Run, WordsFault};
 use std::alloc::{AllocError, Global};
 
 /// 128 words that are zeros, but for the end mark in word 64 and word 7; then with alias 1.
@@ -196,25 +196,34 @@ const MOST: &[u16] = &[
     0, 0x7000, 1, 0x0805, 0, 0x7000, 1, 0x0805, 0, 0, 0,
 ];
 
-/// Why a copy of a command is refused, if it is.
-fn judged(
+/// Why a command is refused, if it is.
+fn refusal(
     alloc: Global,
-    slaves: &[Bytes],
-    order: &Order,
-) -> Result<Option<(Cause, Option<u8>)>, WordsFault> {
-    let plant = line_of(alloc, slaves)?;
-    let command = command(alloc, order)?;
-    let layout = Layout::of(alloc, &plant)?;
-    match changes(alloc, &plant, &layout, &command) {
+    plant: &Plant,
+    command: &Command,
+) -> Result<Option<(Cause, Option<u8>)>, AllocError> {
+    let layout = Layout::of(alloc, plant)?;
+    match changes(alloc, plant, &layout, command) {
         Ok(_) => Ok(None),
         Err(refusal) => Ok(Some((refusal.cause, refusal.position))),
     }
 }
 
+fn is_judged(
+    alloc: Global,
+    slaves: &[Bytes],
+    order: &Order,
+    wanted: Option<(Cause, Option<u8>)>,
+) -> Result<bool, WordsFault> {
+    let plant = line_of(alloc, slaves)?;
+    let command = command(alloc, order)?;
+    Ok(refusal(alloc, &plant, &command) == Ok(wanted))
+}
+
 #[test]
 fn commands_are_judged_in_order(rt: HostRuntime) {
     for (slaves, order, wanted) in JUDGED {
-        assert!(rt; judged(rt.alloc(), slaves, order) == Ok(*wanted));
+        assert!(rt; is_judged(rt.alloc(), slaves, order, *wanted) == Ok(true));
     }
 }
 
@@ -385,15 +394,28 @@ fn are_runs(runs: &[Run], wanted: &[(u16, u16, &[u16])]) -> Result<bool, AllocEr
     Ok(runs.len() == wanted.len())
 }
 
-/// Whether a copy of a command leads to these runs, and to this line.
+/// Whether a command leads to these runs and to this line.
+fn is_applied(
+    alloc: Global,
+    plant: &Plant,
+    command: &Command,
+    wanted: &[(u16, u16, &[u16])],
+    after: &[Bytes],
+) -> bool {
+    match apply(alloc, plant, command) {
+        Ok((new, runs)) => {
+            are_runs(&runs, wanted) == Ok(true) && is_line(alloc, &new, after) == Ok(true)
+        }
+        Err(_refusal) => false,
+    }
+}
+
+/// Whether it does so on these slaves.
 fn leads_to(alloc: Global, row: &Applied) -> Result<bool, WordsFault> {
     let (slaves, order, runs, after) = *row;
     let plant = line_of(alloc, slaves)?;
     let command = command(alloc, &order)?;
-    match apply(alloc, &plant, &command) {
-        Ok((new, found)) => Ok(are_runs(&found, runs)? && is_line(alloc, &new, after)?),
-        Err(_refusal) => Ok(false),
-    }
+    Ok(is_applied(alloc, &plant, &command, runs, after))
 }
 
 #[test]

@@ -181,18 +181,39 @@ const AT_4: JournalFault = JournalFault::BadJournal { at: 4 };
 
 const CUT: JournalFault = JournalFault::BadJournal { at: 4104 };
 
-/// The bytes in front of the halves of a refused journal, the number of words of each slave, and the fault.
-const REFUSED: &[(&[u8], &[u8], &[u16], JournalFault)] = &[
+/// The header of a refused journal, the bytes in front of its halves, the number of words of each slave, and the fault.
+type Refused = (
+    &'static [u8],
+    &'static [u8],
+    &'static [u8],
+    &'static [u16],
+    JournalFault,
+);
+
+const REFUSED: &[Refused] = &[
     // Generations that don't follow one another.
-    (EMPTY, OF_2, &[64, 64], AT_8),
-    (OF_2, EMPTY, &[64, 64], AT_8),
-    (OF_3, OF_3, &[64, 64], AT_8),
-    (MIXED, &[], &[64, 64], AT_8),
+    (&TWO, EMPTY, OF_2, &[64, 64], AT_8),
+    (&TWO, OF_2, EMPTY, &[64, 64], AT_8),
+    (&TWO, OF_3, OF_3, &[64, 64], AT_8),
+    (&TWO, MIXED, &[], &[64, 64], AT_8),
     // Longer than the half, and just so long that no gate stands behind it.
-    (&[0xa5, 0x00, 0xff, 0xff, 0xff, 0xff], &[], &[64, 64], AT_8),
-    (&[0xa5, 0x00, 0xfa, 0x07, 0x00, 0x00], &[], &[64, 64], AT_8),
+    (
+        &TWO,
+        &[0xa5, 0x00, 0xff, 0xff, 0xff, 0xff],
+        &[],
+        &[64, 64],
+        AT_8,
+    ),
+    (
+        &TWO,
+        &[0xa5, 0x00, 0xfa, 0x07, 0x00, 0x00],
+        &[],
+        &[64, 64],
+        AT_8,
+    ),
     // No command.
     (
+        &TWO,
         &[0xa5, 0x00, 0x02, 0x00, 0x00, 0x00, 0x00, 0x00, 0x00],
         &[],
         &[64, 64],
@@ -200,6 +221,7 @@ const REFUSED: &[(&[u8], &[u8], &[u16], JournalFault)] = &[
     ),
     // A run of no words.
     (
+        &TWO,
         &[
             0xa5, 0, 0x12, 0, 0, 0, 1, 0, 0, 0, 0, 0, 0, 0, 0, 0, 1, 0, 0, 0, 0, 0, 0, 0, 0,
         ],
@@ -209,6 +231,7 @@ const REFUSED: &[(&[u8], &[u8], &[u16], JournalFault)] = &[
     ),
     // A byte left over.
     (
+        &TWO,
         &[
             0xa5, 0, 0x0d, 0, 0, 0, 1, 0, 0, 0, 0, 0, 0, 0, 0, 0, 0, 0, 0, 0,
         ],
@@ -218,15 +241,17 @@ const REFUSED: &[(&[u8], &[u8], &[u16], JournalFault)] = &[
     ),
     // A second half that can't be read begins at byte 2,056.
     (
+        &TWO,
         &[],
         &[0xa5],
         &[64, 64],
         JournalFault::BadJournal { at: 2056 },
     ),
     // Another line: a slave more, a word that isn't there, a slave that isn't there.
-    (SWAP, &[], &[64, 64, 64], JournalFault::WrongLine),
-    (SWAP, &[], &[64, 7], JournalFault::WrongLine),
+    (&TWO, SWAP, &[], &[64, 64, 64], JournalFault::WrongLine),
+    (&TWO, SWAP, &[], &[64, 7], JournalFault::WrongLine),
     (
+        &TWO,
         &[
             0xa5, 0, 0x14, 0, 0, 0, 1, 0, 0, 0, 0, 0, 0, 0, 0, 0, 1, 0, 2, 0, 0, 0, 1, 0, 0, 0, 0,
         ],
@@ -234,39 +259,46 @@ const REFUSED: &[(&[u8], &[u8], &[u16], JournalFault)] = &[
         &[64, 64],
         JournalFault::WrongLine,
     ),
-];
-
-/// Headers that a line of one slave of 64 words refuses, with the bytes behind them.
-const HEADERS: &[([u8; 8], &[u8], JournalFault)] = &[
+    // Headers that a line of one slave of 64 words refuses.
     (
-        [0x00, 2, 1, 0, 0x00, 0x10, 0, 0],
+        &[0x00, 2, 1, 0, 0x00, 0x10, 0, 0],
         &[],
+        &[],
+        &[64],
         JournalFault::NotAJournal,
     ),
     (
-        [0xa5, 9, 1, 0, 0x00, 0x10, 0, 0],
+        &[0xa5, 9, 1, 0, 0x00, 0x10, 0, 0],
         &[],
+        &[],
+        &[64],
         JournalFault::BadVersion { found: 9 },
     ),
     (
-        [0xa5, 2, 2, 0, 0x00, 0x10, 0, 0],
+        &[0xa5, 2, 2, 0, 0x00, 0x10, 0, 0],
         &[],
+        &[],
+        &[64],
         JournalFault::WrongLine,
     ),
     (
-        [0xa5, 0x77, 2, 0, 0x00, 0x10, 0, 0],
+        &[0xa5, 0x77, 2, 0, 0x00, 0x10, 0, 0],
         MARK,
+        &[],
+        &[64],
         JournalFault::WrongLine,
     ),
     // The mark behind an open gate is none.
     (
-        [0xa5, 0x77, 1, 0, 0x00, 0x10, 0, 0],
+        &[0xa5, 0x77, 1, 0, 0x00, 0x10, 0, 0],
         &[0xa5, 0x4d, 0x49, 0x47, 0x32],
+        &[],
+        &[64],
         JournalFault::BadVersion { found: 0x77 },
     ),
-    ([0xa5, 2, 1, 0, 0xff, 0x0f, 0, 0], &[], AT_4),
-    ([0xa5, 2, 1, 0, 0x01, 0x00, 0x40, 0], &[], AT_4),
-    ([0xa5, 2, 1, 0, 0x01, 0x10, 0, 0], &[], CUT),
+    (&[0xa5, 2, 1, 0, 0xff, 0x0f, 0, 0], &[], &[], &[64], AT_4),
+    (&[0xa5, 2, 1, 0, 0x01, 0x00, 0x40, 0], &[], &[], &[64], AT_4),
+    (&[0xa5, 2, 1, 0, 0x01, 0x10, 0, 0], &[], &[], &[64], CUT),
 ];
 
 /// Why this much of a journal can't be read, if it can't.
@@ -284,11 +316,8 @@ fn fault_of(
 #[test]
 fn journals_are_refused(rt: HostRuntime) {
     let alloc = rt.alloc();
-    for (first, second, sizes, fault) in REFUSED {
-        assert!(rt; fault_of(alloc, &TWO, first, second, sizes, 4104) == Some(*fault));
-    }
-    for (head, first, fault) in HEADERS {
-        assert!(rt; fault_of(alloc, head, first, &[], &[64], 4104) == Some(*fault));
+    for (head, first, second, sizes, fault) in REFUSED {
+        assert!(rt; fault_of(alloc, head, first, second, sizes, 4104) == Some(*fault));
     }
 }
 
@@ -341,32 +370,29 @@ fn have_one_word(runs: &[Run]) -> bool
     runs.iter().all(|run| run.words.as_slice().len() == 1)
 }
 
-/// The size of one command with these runs, and the bytes of a batch of it.
-fn encoded(alloc: Global, runs: Vec<Run>) -> Result<(u32, Vec<u8>), AllocError>
+/// Whether a batch of one command with these runs has these bytes behind its gate.
+fn encoded(alloc: Global, runs: Vec<Run>, bytes: &[u8]) -> Result<bool, AllocError>
     requires few { length runs.items ≤ 8 }
     requires one_word { All (λ run. length run.words ≡ 1) runs.items }
+    requires field { 6 ≤ length bytes.now }
 {
     let size = size_of(&runs);
     let entries = [Entry {
         number: 0,
         runs: ItemList::from_vec(runs),
     }];
-    Ok((size, encode_batch(alloc, 0, &entries)?))
+    let spelt = encode_batch(alloc, 0, &entries)?;
+    Ok(spelt.as_slice() == &bytes[1..] && payload_length(bytes).checked_sub(2) == Some(size))
 }
 
-/// Whether a batch of one command with these runs has these bytes behind its gate.
+/// Whether these bytes are an open gate, generation 0 and a batch of one command with these runs.
 fn is_spelt(alloc: Global, named: &[(u16, u16, u16)], bytes: &[u8]) -> Result<bool, AllocError> {
     let runs = runs_of(alloc, named)?;
     if runs.len() > 8 || !have_one_word(&runs) || bytes.len() < 6 {
         return Ok(false);
     }
-    let (size, spelt) = encoded(alloc, runs)?;
-    Ok(
-        spelt.as_slice() == &bytes[1..]
-            && payload_length(bytes).checked_sub(2) == Some(size)
-            && gate(bytes) == OPEN
-            && generation(bytes) == 0,
-    )
+    let is_open = gate(bytes) == OPEN && generation(bytes) == 0;
+    Ok(encoded(alloc, runs, bytes)? && is_open)
 }
 
 const SPELT: &[(&[(u16, u16, u16)], &[u8])] = &[

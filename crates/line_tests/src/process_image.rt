@@ -111,8 +111,8 @@ fn images_of_lines(rt: HostRuntime) {
 }
 
 /// Categories with this number of managers of type 4, nine at most, each with a TXPDO of eight bits.
-fn many_inputs(count: u8) -> [u8; 226] {
-    let mut bytes = [0xFF; 226];
+fn many_inputs(count: u8) -> [u8; 402] {
+    let mut bytes = [0xFF; 402];
     let behind = 4 + 8 * usize::from(count);
     put(&mut bytes, 0, &[41, 0, count.wrapping_mul(4), 0]);
     put(&mut bytes, behind, &[50, 0, count.wrapping_mul(8), 0]);
@@ -142,11 +142,13 @@ const OVER_LIMIT: Result<(usize, usize), ImageFault> = Err(ImageFault::ImageOver
 /// 1,486 bytes, and eight segments of a slave.
 #[test]
 fn largest_images(rt: HostRuntime) {
-    for (last, sizes) in [(158, Ok((1486, 1))), (159, OVER_LIMIT)] {
-        assert!(rt; sizes_of(rt.alloc(), &longest(3, 51, last)) == Some(sizes));
-    }
-    for (count, sizes) in [(8, Ok((0, 8))), (9, OVER_LIMIT)] {
-        assert!(rt; sizes_of(rt.alloc(), &many_inputs(count)) == Some(sizes));
+    for (categories, sizes) in [
+        (longest(3, 51, 158), Ok((1486, 1))),
+        (longest(3, 51, 159), OVER_LIMIT),
+        (many_inputs(8), Ok((0, 8))),
+        (many_inputs(9), OVER_LIMIT),
+    ] {
+        assert!(rt; sizes_of(rt.alloc(), &categories) == Some(sizes));
     }
 }
 
@@ -208,25 +210,31 @@ fn with_words(alloc: Global, plant: &Plant, new: &Words) -> Result<Layout, Alloc
     Ok(layout)
 }
 
-/// `LAST`, in 128 words.
+fn segments_of(layout: &Layout) -> Option<usize> {
+    match layout.image() {
+        Ok(image) => Some(image.segments().len()),
+        Err(_fault) => None,
+    }
+}
+
+/// `LAST` in 128 words, with alias 7, and with another type in place of its sync managers.
 const SMALL: Bytes = (&[(14, &[0x30]), (128, INPUTS)], 0, 256);
 
-/// The number of segments of a slave once word `at` has this value.
-fn segments_after(alloc: Global, at: usize, value: u16) -> Result<usize, WordsFault> {
+const NAMED: Bytes = (&[(8, &[7]), (14, &[0x30]), (128, INPUTS)], 0, 256);
+
+const WITHOUT_MANAGERS: Bytes = (&[(14, &[0x30]), (128, INPUTS), (128, &[42])], 0, 256);
+
+/// The number of segments of `SMALL` once it has these words.
+fn segments_after(alloc: Global, new: &Bytes) -> Result<Option<usize>, WordsFault> {
     let plant = line_of(alloc, &[SMALL])?;
-    let mut new = words_of(alloc, &SMALL)?;
-    if at < new.len() {
-        new.set(at, value);
-    }
-    match with_words(alloc, &plant, &new)?.image() {
-        Ok(image) => Ok(image.segments().len()),
-        Err(_fault) => Ok(99),
-    }
+    let words = words_of(alloc, new)?;
+    let layout = with_words(alloc, &plant, &words)?;
+    Ok(segments_of(&layout))
 }
 
 #[test]
 fn a_slave_that_changes(rt: HostRuntime) {
-    for (at, value, count) in [(4, 7, 1), (64, 42, 0)] {
-        assert!(rt; segments_after(rt.alloc(), at, value) == Ok(count));
+    for (new, count) in [(NAMED, 1), (WITHOUT_MANAGERS, 0)] {
+        assert!(rt; segments_after(rt.alloc(), &new) == Ok(Some(count)));
     }
 }

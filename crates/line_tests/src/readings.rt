@@ -146,24 +146,37 @@ fn are_managers(alloc: Global, words: &[u16], managers: &[Manager]) -> Result<bo
     Ok(read.as_slice() == managers && write_syncms(alloc, &read)?.as_slice() == words)
 }
 
-fn is_pdo(pdo: &Pdo, index: u16, manager: u8, entries: &[PdoEntry]) -> bool {
+fn is_pdo_alone(read: &[Pdo], index: u16, manager: u8, entries: &[PdoEntry]) -> bool {
+    let [pdo] = read else {
+        return false;
+    };
     pdo.index == index
         && pdo.manager == manager
         && (pdo.synchronization, pdo.name, pdo.flags) == (0, 0, 0)
         && pdo.entries.as_slice() == entries
 }
 
+/// Whether these PDOs, written again, are the words.
+fn are_written(alloc: Global, kind: u16, read: &[Pdo], words: &[u16]) -> Result<bool, CatFault> {
+    Ok(write_pdos(alloc, kind, read)?.as_slice() == words)
+}
+
 /// Whether this is the only PDO, and written again it is the words.
-fn is_only_pdo(alloc: Global, words: &[u16], content: &Content) -> Result<bool, CatFault> {
-    let Content::OnePdo(kind, index, manager, entries) = *content else {
-        return Ok(false);
-    };
-    let read = pdos(alloc, kind, words)?;
-    let is_so = match read.as_slice() {
-        [pdo] => is_pdo(pdo, index, manager, entries),
-        _ => false,
-    };
-    Ok(is_so && write_pdos(alloc, kind, &read)?.as_slice() == words)
+fn is_only_pdo(
+    alloc: Global,
+    words: &[u16],
+    kind: u16,
+    index: u16,
+    manager: u8,
+    entries: &[PdoEntry],
+) -> bool {
+    match pdos(alloc, kind, words) {
+        Ok(read) => {
+            are_written(alloc, kind, &read, words) == Ok(true)
+                && is_pdo_alone(&read, index, manager, entries)
+        }
+        Err(_fault) => false,
+    }
 }
 
 /// Whether some bytes of the categories of a slave hold this content.
@@ -179,9 +192,11 @@ fn hold(
         return Ok(false);
     }
     let words = words_of_bytes(alloc, bytes)?;
-    match content {
+    match *content {
         Content::Managers(managers) => are_managers(alloc, &words, managers),
-        Content::OnePdo(..) => is_only_pdo(alloc, &words, content),
+        Content::OnePdo(kind, index, manager, entries) => {
+            Ok(is_only_pdo(alloc, &words, kind, index, manager, entries))
+        }
     }
 }
 
@@ -239,25 +254,25 @@ fn process_is_copied(alloc: Global, words: &Words) -> Result<bool, AllocError> {
     Ok(copy.peek(0x1100) == 0xAA && half.peek(0x1100) == 0xBB)
 }
 
-/// Whether copies of the words give these bytes.
-fn words_are_copied(alloc: Global, words: Words, bytes: &[u8]) -> Result<bool, WordsFault> {
+/// Whether a copy of the words gives these bytes.
+fn words_are_copied(words: &Words, bytes: &[u8]) -> Result<bool, AllocError> {
     let copy = words.try_copy()?;
-    Ok(
-        copy.to_bytes()?.as_slice() == bytes
-            && process_is_copied(alloc, &copy)?
-            && rom_is_copied(words, bytes)?,
-    )
+    Ok(copy.to_bytes()?.as_slice() == bytes)
 }
 
-/// Whether the categories of a slave form this chain, and each of its copies gives its bytes.
+/// Whether the words form this chain, and each copy gives their bytes.
+fn are_copied(alloc: Global, words: Words, bytes: &[u8], wanted: &[Category]) -> bool {
+    let are_copied = have_chain(alloc, &words, wanted) == Ok(true)
+        && image_is_copied(alloc, bytes) == Ok(true)
+        && words_are_copied(&words, bytes) == Ok(true)
+        && process_is_copied(alloc, &words) == Ok(true);
+    rom_is_copied(words, bytes) == Ok(true) && are_copied
+}
+
 fn is_slave(alloc: Global, slave: &Bytes, wanted: &[Category]) -> Result<bool, WordsFault> {
     let bytes = spelt(alloc, slave)?;
     let words = Words::from_bytes(alloc, &bytes)?;
-    Ok(
-        have_chain(alloc, &words, wanted) == Ok(true)
-            && image_is_copied(alloc, &bytes)?
-            && words_are_copied(alloc, words, &bytes)?,
-    )
+    Ok(are_copied(alloc, words, &bytes, wanted))
 }
 
 #[test]

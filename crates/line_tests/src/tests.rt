@@ -1,3 +1,4 @@
+mod access;
 mod cycle;
 mod frames;
 pub(crate) mod process_data;

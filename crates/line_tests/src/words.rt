@@ -167,14 +167,18 @@ fn a_plant_of_two(rt: HostRuntime) {
     assert!(rt; changed_plant(rt.alloc()) == Ok((2, 0x0908, 0x0003)));
 }
 
+/// A copy of the words of these bytes.
+fn copied_list(alloc: Global, bytes: &[u8; 4]) -> Result<ItemList<u16>, AllocError> {
+    let list = ItemList::from_vec(words_of_bytes(alloc, bytes)?);
+    Ok(list.try_copy()?)
+}
+
 /// Whether these bytes are those of the words, read and written.
 fn are_words(alloc: Global, bytes: &[u8; 4], words: &[u16]) -> Result<bool, AllocError> {
-    let list = ItemList::from_vec(words_of_bytes(alloc, bytes)?);
-    let copy = list.try_copy()?;
-    Ok(
-        copy.as_slice() == words
-            && bytes_of_words(alloc, &copy.into_vec())?.as_slice() == bytes.as_slice(),
-    )
+    let copy = copied_list(alloc, bytes)?;
+    let is_read = copy.as_slice() == words;
+    let written = bytes_of_words(alloc, &copy.into_vec())?;
+    Ok(is_read && written.as_slice() == bytes.as_slice())
 }
 
 #[test]

@@ -1,8 +1,9 @@
 //! What is done with a line in memory and its disk, and what faults and power cuts leave of them.
 
+use super::access::{self, Access, TAKEN, WITH_ALIAS, WRITTEN};
 use super::{ISSUE, line_with};
 use ecat_frame::{Command, Frame, fp};
-use esc_rom::{RomFault, issue, open_slave, read_all, settle};
+use esc_rom::RomFault;
 use site_core::{DeviceFault, Issued, Settled, Site};
 use site_mem::{MemSite, Parts, Pattern};
 use std::alloc::Global;
@@ -14,15 +15,7 @@ enum Deed {
     FailOnce(u64),
     // This number of words that slave 0 is given end with an error.
     FailWords(u32),
-    // Word 4 of a slave is issued as 1.
-    Issue(u16, Result<Issued, DeviceFault>),
-    // The word that was taken is settled.
-    Settle(u16, Result<Settled, DeviceFault>),
-    // What was not taken is settled.
-    Clear(u16, Result<Settled, DeviceFault>),
-    Open(u16, Result<(), RomFault>),
-    // The alias of slave 0 is read.
-    Alias(u16),
+    Access(Access),
     Disk(DiskDeed),
     // A frame issues a 1 for word 4 of slave 0, or polls it: its fault, if it has one.
     Send(Option<DeviceFault>),
@@ -78,9 +71,10 @@ const WORDS: &[Case] = &[
     Case {
         delay: 1,
         deeds: &[
-            Deed::Issue(0, Ok(Issued::Taken)),
-            Deed::Settle(0, Ok(Settled::Written)),
-            Deed::Alias(1),
+            Deed::Access(TAKEN),
+            Deed::Access(WRITTEN),
+            Deed::Access(Access::Open(0, Ok(()))),
+            Deed::Access(Access::Read(Ok(WITH_ALIAS))),
         ],
         words: &[(1, false)],
         ..ONE
@@ -90,11 +84,12 @@ const WORDS: &[Case] = &[
         delay: 1,
         deeds: &[
             Deed::FailWords(1),
-            Deed::Issue(0, Ok(Issued::Taken)),
-            Deed::Settle(0, Ok(Settled::Again)),
-            Deed::Issue(0, Ok(Issued::Taken)),
-            Deed::Settle(0, Ok(Settled::Written)),
-            Deed::Alias(1),
+            Deed::Access(TAKEN),
+            Deed::Access(Access::Settle(0, true, Ok(Settled::Again))),
+            Deed::Access(TAKEN),
+            Deed::Access(WRITTEN),
+            Deed::Access(Access::Open(0, Ok(()))),
+            Deed::Access(Access::Read(Ok(WITH_ALIAS))),
         ],
         words: &[(1, false)],
         ..ONE
@@ -104,11 +99,12 @@ const WORDS: &[Case] = &[
         delay: 1,
         deeds: &[
             Deed::FailOnce(0),
-            Deed::Issue(0, Ok(Issued::Lost)),
-            Deed::Clear(0, Ok(Settled::Again)),
-            Deed::Issue(0, Ok(Issued::Taken)),
-            Deed::Settle(0, Ok(Settled::Written)),
-            Deed::Alias(1),
+            Deed::Access(Access::Issue(0, 4, 1, Ok(Issued::Lost))),
+            Deed::Access(Access::Settle(0, false, Ok(Settled::Again))),
+            Deed::Access(TAKEN),
+            Deed::Access(WRITTEN),
+            Deed::Access(Access::Open(0, Ok(()))),
+            Deed::Access(Access::Read(Ok(WITH_ALIAS))),
         ],
         words: &[(1, false)],
         ..ONE
@@ -118,9 +114,10 @@ const WORDS: &[Case] = &[
         delay: 1,
         deeds: &[
             Deed::FailOnce(1),
-            Deed::Issue(0, Ok(Issued::Taken)),
-            Deed::Settle(0, Ok(Settled::Written)),
-            Deed::Alias(1),
+            Deed::Access(TAKEN),
+            Deed::Access(WRITTEN),
+            Deed::Access(Access::Open(0, Ok(()))),
+            Deed::Access(Access::Read(Ok(WITH_ALIAS))),
         ],
         words: &[(1, false)],
         ..ONE
@@ -128,18 +125,15 @@ const WORDS: &[Case] = &[
     // Polls have an end.
     Case {
         delay: 9_999,
-        deeds: &[
-            Deed::Issue(0, Ok(Issued::Taken)),
-            Deed::Settle(0, Ok(Settled::Written)),
-        ],
+        deeds: &[Deed::Access(TAKEN), Deed::Access(WRITTEN)],
         words: &[(1, false)],
         ..ONE
     },
     Case {
         delay: 10_000,
         deeds: &[
-            Deed::Issue(0, Ok(Issued::Taken)),
-            Deed::Settle(0, Ok(Settled::Dead)),
+            Deed::Access(TAKEN),
+            Deed::Access(Access::Settle(0, true, Ok(Settled::Dead))),
         ],
         words: &[(0, true)],
         ..ONE
@@ -149,8 +143,8 @@ const WORDS: &[Case] = &[
         stations: &[0x1002],
         delay: 1,
         deeds: &[
-            Deed::Open(0, Err(RomFault::SlaveDead { slave: 0 })),
-            Deed::Issue(0, Ok(Issued::NotTaken)),
+            Deed::Access(Access::Open(0, Err(RomFault::SlaveDead { slave: 0 }))),
+            Deed::Access(Access::Issue(0, 4, 1, Ok(Issued::NotTaken))),
         ],
         ..ONE
     },
@@ -229,10 +223,10 @@ const CUT_IN_THE_SECOND: Case = Case {
     stations: &[0x1001, 0x1002],
     delay: 9,
     deeds: &[
-        Deed::Issue(0, Ok(Issued::Taken)),
-        Deed::Issue(1, Err(DeviceFault::Stopped)),
-        Deed::Settle(0, Err(DeviceFault::Stopped)),
-        Deed::Open(1, Err(RomFault::Stopped)),
+        Deed::Access(TAKEN),
+        Deed::Access(Access::Issue(1, 4, 1, Err(DeviceFault::Stopped))),
+        Deed::Access(Access::Settle(0, true, Err(DeviceFault::Stopped))),
+        Deed::Access(Access::Open(1, Err(RomFault::Stopped))),
     ],
     ..ONE
 };
@@ -350,32 +344,6 @@ const SNAPSHOTS: &[Case] = &[
     },
 ];
 
-fn is_issued(site: &mut impl Site, slave: u16, answer: Result<Issued, DeviceFault>) -> bool {
-    site.owns(slave) && issue(site, slave, 4, 1) == answer
-}
-
-fn is_settled(
-    site: &mut impl Site,
-    slave: u16,
-    taken: bool,
-    answer: Result<Settled, DeviceFault>,
-) -> bool {
-    site.owns(slave) && settle(site, slave, taken) == answer
-}
-
-fn is_opened(site: &mut impl Site, slave: u16, answer: Result<(), RomFault>) -> bool {
-    site.owns(slave) && open_slave(site, slave) == answer
-}
-
-// The alias of slave 0, as `read_all` reads it.
-fn alias_of(alloc: Global, site: &mut impl Site) -> Option<u16> {
-    if !is_opened(site, 0, Ok(())) || !site.owns(0) {
-        return None;
-    }
-    let words = read_all(alloc, site, 0).ok()?;
-    Some(words.alias())
-}
-
 // The fault of a datagram for the control register of slave 0, if it fails.
 fn fault_of(site: &mut impl Site, command: Command, content: &[u8]) -> Option<DeviceFault> {
     let mut frame = Frame::new();
@@ -435,11 +403,7 @@ fn comes(alloc: Global, site: &mut MemSite, deed: &Deed) -> bool {
             site.fail_writes(0, words);
             true
         }
-        Deed::Issue(slave, answer) => is_issued(site, slave, answer),
-        Deed::Settle(slave, answer) => is_settled(site, slave, true, answer),
-        Deed::Clear(slave, answer) => is_settled(site, slave, false, answer),
-        Deed::Open(slave, answer) => is_opened(site, slave, answer),
-        Deed::Alias(alias) => alias_of(alloc, site) == Some(alias),
+        Deed::Access(access) => access::comes(alloc, site, &access),
         Deed::Disk(disk) => disk_comes(site, &disk),
         Deed::Send(fault) => fault_of(site, Command::Fpwr, &ISSUE[12..20]) == fault,
         Deed::Poll(fault) => fault_of(site, Command::Fprd, &[0, 0]) == fault,

@@ -1,11 +1,11 @@
 //! A line on a wire that loses, doubles, delays and falsifies frames, and slaves that lose their power.
 
+use super::access::{Access, TAKEN, WRITTEN, ZERO_WORDS, all_come};
 use super::zero_words;
 use ecat_frame::{Command, Frame, fp};
 use esc_model::RomHalf;
-use esc_rom::{issue, read_all, settle};
 use sii_words::Words;
-use site_core::{Issued, Settled, Site};
+use site_core::{Issued, Site};
 use site_file::{FileDevice, OpenFiles, RandomAccessFile};
 use site_mem::{Parts, Pattern};
 use site_shadow::ShadowSite;
@@ -15,13 +15,6 @@ use site_wire::{
 };
 use std::alloc::Global;
 use std::io;
-
-// Zeros, but for the check byte.
-const ZERO_WORDS: [u16; 64] = [
-    0, 0, 0, 0, 0, 0, 0, 0x30, 0, 0, 0, 0, 0, 0, 0, 0, 0, 0, 0, 0, 0, 0, 0, 0, 0, 0, 0, 0, 0, 0, 0,
-    0, 0, 0, 0, 0, 0, 0, 0, 0, 0, 0, 0, 0, 0, 0, 0, 0, 0, 0, 0, 0, 0, 0, 0, 0, 0, 0, 0, 0, 0, 0, 0,
-    0,
-];
 
 // A journal that nobody uses.
 #[derive(Drop)]
@@ -490,24 +483,6 @@ fn site_on<'f>(
     Some(ShadowSite::of_parts(alloc, parts, device))
 }
 
-// Whether the word becomes the value, as on a line in memory.
-fn is_written(site: &mut impl Site, word: u16, value: u16) -> bool {
-    site.owns(0)
-        && issue(site, 0, word, value) == Ok(Issued::Taken)
-        && settle(site, 0, true) == Ok(Settled::Written)
-}
-
-// Whether the words are read as zeros, but for the check byte.
-fn is_read(alloc: Global, site: &mut impl Site) -> bool {
-    if !site.owns(0) {
-        return false;
-    }
-    match read_all(alloc, site, 0) {
-        Ok(found) => found.as_slice() == ZERO_WORDS.as_slice(),
-        Err(_fault) => false,
-    }
-}
-
 // Whether the station is seen to have access.
 fn has_access(site: &mut impl Site) -> bool {
     let mut frame = Frame::new();
@@ -519,15 +494,23 @@ fn has_access(site: &mut impl Site) -> bool {
         && frame.as_bytes().get(12) == Some(&0)
 }
 
+// Words 4, 5 and 6 become 1, 2 and 3.
+const THREE_WORDS: &[Access] = &[
+    TAKEN,
+    WRITTEN,
+    Access::Issue(0, 5, 2, Ok(Issued::Taken)),
+    WRITTEN,
+    Access::Issue(0, 6, 3, Ok(Issued::Taken)),
+    WRITTEN,
+];
+
 // Whether it is done as on a line in memory.
 fn is_done(alloc: Global, site: &mut impl Site, act: Act) -> bool {
     match act {
-        Act::Write => is_written(site, 4, 1),
-        Act::Read => is_read(alloc, site),
+        Act::Write => all_come(alloc, site, &[TAKEN, WRITTEN]),
+        Act::Read => all_come(alloc, site, &[Access::Read(Ok(ZERO_WORDS))]),
         Act::Look => has_access(site),
-        Act::Cut(..) => {
-            is_written(site, 4, 1) && is_written(site, 5, 2) && is_written(site, 6, 3)
-        }
+        Act::Cut(..) => all_come(alloc, site, THREE_WORDS),
     }
 }
 
