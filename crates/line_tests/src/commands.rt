@@ -1,43 +1,58 @@
-//! Commands on a line of three slaves: refusals in their order, runs, and the new contents. The check bytes are those of
+//! Commands on lines of one to three slaves: refusals in their order, runs, and the new contents. The check bytes are those of
 //! EEPROMs in use.
 
+use crate::devices::{BLANK, Bytes, FULL, is_line, line_of, put, spelt};
+use sii_cats::kind::RXPDOS;
 use sii_edit::{
-    Cause, Command, Edit, EditList, Expect, GuardedEdit, GuardedEditList, Refusal, WordList,
-    alias_image, apply, changes,
+    Cause, Command, Edit, EditList, Expect, GuardedEdit, GuardedEditList, WordList, alias_image,
+    apply, changes,
 };
 use sii_image::Layout;
-use sii_words::{ImageFile, Plant, Run, Words, WordsFault};
+use sii_words::{ImageFile, Plant, Run, WordsFault};
 use std::alloc::{AllocError, Global};
-use std::test::Fail;
 
-/// Words 4 and 7 of three slaves whose other words are zeros, with and without the right check byte.
-type Names = [(u16, u16); 3];
+/// 128 words that are zeros, but for the end mark in word 64 and word 7; then with alias 1.
+const ZERO: Bytes = (&[(14, &[0x30]), (128, &[0xFF, 0xFF])], 0, 256);
 
-const ZEROS: Names = [(0, 0x0030), (0, 0x0030), (0, 0x0030)];
+const NAMED: Bytes = (&[(8, &[1]), (14, &[0x19]), (128, &[0xFF, 0xFF])], 0, 256);
 
-const NAMED: Names = [(1, 0x0019), (0, 0x0030), (0, 0x0030)];
+/// The check byte is wrong.
+const UNCHECKED: Bytes = (&[(14, &[0x31]), (128, &[0xFF, 0xFF])], 0, 256);
 
-const UNCHECKED: Names = [(0, 0x0030), (0, 0x0031), (0, 0x0030)];
+/// 64 words that are zeros, but for the check byte.
+const SMALL: Bytes = (&[(14, &[0x30])], 0, 128);
 
-/// The bytes of a device or of an image: pieces, each at its place, the byte that fills the rest, and how many there are.
-pub(crate) type Bytes = (&'static [(usize, &'static [u8])], u8, usize);
+/// Lines of three slaves.
+const ZEROS: &[Bytes] = &[ZERO, ZERO, ZERO];
+
+const ONE_NAMED: &[Bytes] = &[NAMED, ZERO, ZERO];
+
+const ONE_UNCHECKED: &[Bytes] = &[ZERO, UNCHECKED, ZERO];
+
+/// Images of 64 words with alias 1 and another high byte of word 7; of 65 words; and of 66 words, of vendor 2, and with words 10
+/// and 0 behind word 63.
+const IMAGE: Bytes = (&[(8, &[0x01]), (14, &[0x19, 0xAB])], 0, 128);
+
+const LONGER: Bytes = (&[(14, &[0x30])], 0, 130);
+
+const VENDOR_2: Bytes = (&[(14, &[0x30]), (16, &[2]), (128, &[0xFF, 0xFF])], 0, 132);
+
+const WITH_STRINGS: Bytes = (&[(14, &[0x30]), (128, &[10])], 0, 132);
 
 /// An edit as a table holds it.
 #[derive(Clone, Copy)]
-pub(crate) enum Ask {
+enum Ask {
     /// Slave and alias.
     Alias(u16, u16),
     /// Slave, type and content.
     Category(u16, u16, &'static [u16]),
-    /// Slave, and words 4, 7, 8 and 64 of an image of 66 words, of which the others are zeros.
-    Image(u16, [u16; 4]),
     /// Slave, and the bytes of an image.
-    File(u16, Bytes),
+    Image(u16, Bytes),
 }
 
 /// A command as a table holds it.
 #[derive(Clone, Copy)]
-pub(crate) enum Order {
+enum Order {
     One(Ask),
     Swap(u16, u16),
     Group(&'static [Ask]),
@@ -54,21 +69,30 @@ const LONGEST: &[Ask] = &[Ask::Alias(2, 1); 64];
 
 const ONE_MORE: &[Ask] = &[Ask::Alias(2, 1); 65];
 
-/// An image of vendor 2.
-const VENDOR_2: Ask = Ask::Image(0, [0, 0x0030, 2, 0xFFFF]);
-
-/// Commands, and why they are refused, if they are: the cause, and which edit of a group has it.
-const JUDGED: &[(&Names, Order, Option<(Cause, Option<u8>)>)] = &[
+/// Lines and commands, and why these are refused, if they are: the cause, and which edit of a group has it.
+const JUDGED: &[(&[Bytes], Order, Option<(Cause, Option<u8>)>)] = &[
     (
-        &UNCHECKED,
+        ONE_UNCHECKED,
         Order::Swap(2, 2),
         Some((Cause::SameSlave, None)),
     ),
-    (&UNCHECKED, Order::Swap(3, 3), Some((Cause::NoSlave, None))),
-    (&UNCHECKED, Order::Swap(0, 1), Some((Cause::BadCheck, None))),
-    (&UNCHECKED, Order::Swap(1, 3), Some((Cause::NoSlave, None))),
     (
-        &ZEROS,
+        ONE_UNCHECKED,
+        Order::Swap(3, 3),
+        Some((Cause::NoSlave, None)),
+    ),
+    (
+        ONE_UNCHECKED,
+        Order::Swap(0, 1),
+        Some((Cause::BadCheck, None)),
+    ),
+    (
+        ONE_UNCHECKED,
+        Order::Swap(1, 3),
+        Some((Cause::NoSlave, None)),
+    ),
+    (
+        ZEROS,
         Order::Group(&[
             Ask::Alias(0, 5),
             Ask::Alias(1, 6),
@@ -77,95 +101,386 @@ const JUDGED: &[(&Names, Order, Option<(Cause, Option<u8>)>)] = &[
         Some((Cause::NoSuchCategory, Some(2))),
     ),
     (
-        &ZEROS,
+        ZEROS,
         Order::Group(&[Ask::Alias(0, 5), Ask::Category(0, 10, &[0x0202, 0x4C45])]),
         Some((Cause::BadCategory { kind: 10 }, Some(1))),
     ),
     (
-        &ZEROS,
+        ZEROS,
         Order::Group(&[Ask::Category(2, 0xFFFF, &[1])]),
         Some((Cause::BadCategory { kind: 0xFFFF }, Some(0))),
     ),
+    (ZEROS, Order::Group(&[Ask::Image(1, WITH_STRINGS)]), None),
+    (ZEROS, Order::Group(&[Ask::Category(0, 60, FILLING)]), None),
     (
-        &ZEROS,
-        Order::Group(&[Ask::Image(1, [0, 0x0030, 0, 10])]),
-        None,
-    ),
-    (&ZEROS, Order::Group(&[Ask::Category(0, 60, FILLING)]), None),
-    (
-        &ZEROS,
+        ZEROS,
         Order::Group(&[Ask::Category(0, 60, TOO_LONG)]),
         Some((Cause::NoRoom, Some(0))),
     ),
-    (&ZEROS, Order::Group(&[]), Some((Cause::EmptyGroup, None))),
+    (ZEROS, Order::Group(&[]), Some((Cause::EmptyGroup, None))),
     (
-        &ZEROS,
+        ZEROS,
         Order::Group(ONE_MORE),
         Some((Cause::GroupTooLong, None)),
     ),
-    (&ZEROS, Order::Group(LONGEST), None),
+    (ZEROS, Order::Group(LONGEST), None),
     // The identity is that just before the edit.
     (
-        &UNCHECKED,
+        ONE_UNCHECKED,
         Order::Guarded(&[(0, Ask::Alias(0, 5)), (2, Ask::Alias(2, 6))]),
         Some((Cause::WrongIdentity, Some(1))),
     ),
     (
-        &UNCHECKED,
+        ONE_UNCHECKED,
         Order::Guarded(&[(0, Ask::Alias(0, 5)), (2, Ask::Alias(1, 6))]),
         Some((Cause::BadCheck, Some(1))),
     ),
     (
-        &UNCHECKED,
-        Order::Guarded(&[(0, VENDOR_2), (2, Ask::Alias(0, 3))]),
+        ONE_UNCHECKED,
+        Order::Guarded(&[(0, Ask::Image(0, VENDOR_2)), (2, Ask::Alias(0, 3))]),
         None,
     ),
     (
-        &UNCHECKED,
-        Order::Guarded(&[(0, VENDOR_2), (0, Ask::Alias(0, 3))]),
+        ONE_UNCHECKED,
+        Order::Guarded(&[(0, Ask::Image(0, VENDOR_2)), (0, Ask::Alias(0, 3))]),
         Some((Cause::WrongIdentity, Some(1))),
     ),
+    // On a blank slave the check byte is judged before the identity.
+    (
+        &[BLANK],
+        Order::One(Ask::Alias(0, 1)),
+        Some((Cause::BadCheck, None)),
+    ),
+    (
+        &[BLANK],
+        Order::Guarded(&[(2, Ask::Alias(0, 1))]),
+        Some((Cause::BadCheck, Some(0))),
+    ),
+    (
+        &[SMALL],
+        Order::One(Ask::Image(0, LONGER)),
+        Some((Cause::ImageTooLong, None)),
+    ),
+    (
+        &[WITH_RXPDO],
+        Order::One(Ask::Category(0, RXPDOS, TOO_MANY)),
+        Some((Cause::NoRoom, None)),
+    ),
 ];
 
-/// Commands, and the runs that they lead to, of one word each: slave, word and value.
-const LED_TO: &[(&Names, Order, &[(u16, u16, u16)])] = &[
+/// 128 words with an RXPDO category of 8 words and the end mark.
+const WITH_RXPDO: Bytes = (
+    &[
+        (14, &[0x30]),
+        (128, &[51, 0, 8, 0]),
+        (132, &[0x00, 0x16, 0x01, 0x02, 0, 0, 0, 0]),
+        (140, &[0x00, 0x70, 0x01, 0x00, 0x05, 0x08, 0, 0]),
+        (148, &[0xFF, 0xFF]),
+    ],
+    0,
+    256,
+);
+
+/// An RXPDO of 14 entries that no manager has, and three zero words behind it; then with two of them.
+const TOO_MANY: &[u16] = &[
+    0x1600, 0xFF0E, 0, 0, 0x7000, 1, 0x0805, 0, 0x7000, 1, 0x0805, 0, 0x7000, 1, 0x0805, 0, 0x7000,
+    1, 0x0805, 0, 0x7000, 1, 0x0805, 0, 0x7000, 1, 0x0805, 0, 0x7000, 1, 0x0805, 0, 0x7000, 1,
+    0x0805, 0, 0x7000, 1, 0x0805, 0, 0x7000, 1, 0x0805, 0, 0x7000, 1, 0x0805, 0, 0x7000, 1, 0x0805,
+    0, 0x7000, 1, 0x0805, 0, 0x7000, 1, 0x0805, 0, 0, 0, 0,
+];
+
+const MOST: &[u16] = &[
+    0x1600, 0xFF0E, 0, 0, 0x7000, 1, 0x0805, 0, 0x7000, 1, 0x0805, 0, 0x7000, 1, 0x0805, 0, 0x7000,
+    1, 0x0805, 0, 0x7000, 1, 0x0805, 0, 0x7000, 1, 0x0805, 0, 0x7000, 1, 0x0805, 0, 0x7000, 1,
+    0x0805, 0, 0x7000, 1, 0x0805, 0, 0x7000, 1, 0x0805, 0, 0x7000, 1, 0x0805, 0, 0x7000, 1, 0x0805,
+    0, 0x7000, 1, 0x0805, 0, 0x7000, 1, 0x0805, 0, 0, 0,
+];
+
+/// Why a command is refused, if it is.
+fn refusal(
+    alloc: Global,
+    plant: &Plant,
+    command: &Command,
+) -> Result<Option<(Cause, Option<u8>)>, AllocError> {
+    let layout = Layout::of(alloc, plant)?;
+    match changes(alloc, plant, &layout, command) {
+        Ok(_) => Ok(None),
+        Err(refusal) => Ok(Some((refusal.cause, refusal.position))),
+    }
+}
+
+fn is_judged(
+    alloc: Global,
+    slaves: &[Bytes],
+    order: &Order,
+    wanted: Option<(Cause, Option<u8>)>,
+) -> Result<bool, WordsFault> {
+    let plant = line_of(alloc, slaves)?;
+    let command = command(alloc, order)?;
+    Ok(refusal(alloc, &plant, &command) == Ok(wanted))
+}
+
+#[test]
+fn commands_are_judged_in_order(rt: HostRuntime) {
+    for (slaves, order, wanted) in JUDGED {
+        assert!(rt; is_judged(rt.alloc(), slaves, order, *wanted) == Ok(true));
+    }
+}
+
+/// `ZERO` with a category of type 60 and alias 1; and with a longer one, of which an image leaves the end.
+const WITH_60: Bytes = (
+    &[
+        (8, &[1]),
+        (14, &[0x19]),
+        (128, &[60, 0, 1, 0, 9, 0, 0xFF, 0xFF]),
+    ],
+    0,
+    256,
+);
+
+const UNDER_AN_IMAGE: Bytes = (
+    &[
+        (14, &[0x30]),
+        (16, &[2]),
+        (128, &[0xFF, 0xFF, 0, 0, 9, 0, 8, 0, 0xFF, 0xFF]),
+    ],
+    0,
+    256,
+);
+
+/// `ZERO` with vendor 2 and alias 3.
+const OF_VENDOR_2: Bytes = (
+    &[(8, &[3]), (14, &[0x4B]), (16, &[2]), (128, &[0xFF, 0xFF])],
+    0,
+    256,
+);
+
+/// The blank slave with the image of 64 words.
+const HALF_BLANK: Bytes = (
+    &[(0, &[0; 128]), (8, &[0x01]), (14, &[0x19, 0xAB])],
+    0xFF,
+    256,
+);
+
+/// The words of this image.
+const IMAGED: [u16; 64] = [
+    0, 0, 0, 0, 1, 0, 0, 0xAB19, 0, 0, 0, 0, 0, 0, 0, 0, 0, 0, 0, 0, 0, 0, 0, 0, 0, 0, 0, 0, 0, 0,
+    0, 0, 0, 0, 0, 0, 0, 0, 0, 0, 0, 0, 0, 0, 0, 0, 0, 0, 0, 0, 0, 0, 0, 0, 0, 0, 0, 0, 0, 0, 0, 0,
+    0, 0,
+];
+
+/// Index, type and sizes of an entry, without the word of flags.
+const ENTRY: &[u16] = &[0x7000, 1, 0x0805];
+
+/// A line, a command, the runs that it leads to (slave, first word and values), and the line then.
+type Applied = (
+    &'static [Bytes],
+    Order,
+    &'static [(u16, u16, &'static [u16])],
+    &'static [Bytes],
+);
+
+const APPLIED: &[Applied] = &[
     (
-        &NAMED,
+        ONE_NAMED,
         Order::Swap(0, 1),
-        &[(0, 4, 0), (0, 7, 0x0030), (1, 4, 1), (1, 7, 0x0019)],
+        &[
+            (0, 4, &[0]),
+            (0, 7, &[0x0030]),
+            (1, 4, &[1]),
+            (1, 7, &[0x0019]),
+        ],
+        &[ZERO, NAMED, ZERO],
     ),
     (
-        &NAMED,
+        ONE_NAMED,
         Order::Group(&[Ask::Alias(2, 7), Ask::Alias(2, 1)]),
-        &[(2, 4, 1), (2, 7, 0x0019)],
+        &[(2, 4, &[1]), (2, 7, &[0x0019])],
+        &[NAMED, ZERO, NAMED],
     ),
     (
-        &NAMED,
+        ONE_NAMED,
         Order::Group(&[Ask::Alias(2, 1), Ask::Alias(2, 0)]),
         &[],
+        ONE_NAMED,
     ),
     (
-        &NAMED,
+        ONE_NAMED,
         Order::Group(&[Ask::Alias(2, 1), Ask::Alias(0, 0)]),
-        &[(0, 4, 0), (0, 7, 0x0030), (2, 4, 1), (2, 7, 0x0019)],
+        &[
+            (0, 4, &[0]),
+            (0, 7, &[0x0030]),
+            (2, 4, &[1]),
+            (2, 7, &[0x0019]),
+        ],
+        &[ZERO, ZERO, NAMED],
+    ),
+    (
+        ZEROS,
+        Order::Group(&[Ask::Category(0, 60, &[9]), Ask::Alias(0, 1)]),
+        &[
+            (0, 4, &[1]),
+            (0, 7, &[0x0019]),
+            (0, 64, &[60, 1, 9, 0xFFFF]),
+        ],
+        &[WITH_60, ZERO, ZERO],
+    ),
+    (
+        ZEROS,
+        Order::Group(&[Ask::Alias(0, 1), Ask::Category(0, 60, &[9])]),
+        &[
+            (0, 4, &[1]),
+            (0, 7, &[0x0019]),
+            (0, 64, &[60, 1, 9, 0xFFFF]),
+        ],
+        &[WITH_60, ZERO, ZERO],
+    ),
+    (
+        ZEROS,
+        Order::Group(&[Ask::Category(0, 60, &[9, 8]), Ask::Image(0, VENDOR_2)]),
+        &[(0, 8, &[2]), (0, 66, &[9, 8, 0xFFFF])],
+        &[UNDER_AN_IMAGE, ZERO, ZERO],
+    ),
+    (
+        ZEROS,
+        Order::Guarded(&[(0, Ask::Image(0, VENDOR_2)), (2, Ask::Alias(0, 3))]),
+        &[(0, 4, &[3]), (0, 7, &[0x004B, 2])],
+        &[OF_VENDOR_2, ZERO, ZERO],
+    ),
+    // The words behind the image stay.
+    (
+        &[BLANK],
+        Order::One(Ask::Image(0, IMAGE)),
+        &[(0, 0, &IMAGED)],
+        &[HALF_BLANK],
+    ),
+    // The content fills the slave, and leaves no end mark.
+    (
+        &[WITH_RXPDO],
+        Order::One(Ask::Category(0, RXPDOS, MOST)),
+        &[
+            (0, 65, &[62]),
+            (0, 67, &[0xFF0E]),
+            (0, 74, ENTRY),
+            (0, 78, ENTRY),
+            (0, 82, ENTRY),
+            (0, 86, ENTRY),
+            (0, 90, ENTRY),
+            (0, 94, ENTRY),
+            (0, 98, ENTRY),
+            (0, 102, ENTRY),
+            (0, 106, ENTRY),
+            (0, 110, ENTRY),
+            (0, 114, ENTRY),
+            (0, 118, ENTRY),
+            (0, 122, ENTRY),
+        ],
+        &[FULL],
     ),
 ];
 
-/// Groups, and the alias, the vendor and words 64 to 67 of the first slave after them.
-const STACKED: &[(Order, (u16, u32, [u16; 4]))] = &[
-    (
-        Order::Group(&[Ask::Category(0, 60, &[9]), Ask::Alias(0, 1)]),
-        (1, 0, [60, 1, 9, 0xFFFF]),
-    ),
-    (
-        Order::Group(&[Ask::Alias(0, 1), Ask::Category(0, 60, &[9])]),
-        (1, 0, [60, 1, 9, 0xFFFF]),
-    ),
-    (
-        Order::Group(&[Ask::Category(0, 60, &[9, 8]), VENDOR_2]),
-        (0, 2, [0xFFFF, 0, 9, 8]),
-    ),
-];
+fn is_run(run: &Run, wanted: (u16, u16, &[u16])) -> bool {
+    let (slave, first, words) = wanted;
+    run.slave == slave && run.first == first && run.words.as_slice() == words
+}
+
+/// Whether copies of the runs have these slaves, first words and values.
+fn are_runs(runs: &[Run], wanted: &[(u16, u16, &[u16])]) -> Result<bool, AllocError> {
+    for (run, row) in runs.iter().zip(wanted) {
+        if !is_run(&run.try_copy()?, *row) {
+            return Ok(false);
+        }
+    }
+    Ok(runs.len() == wanted.len())
+}
+
+/// Whether a command leads to these runs and to this line.
+fn is_applied(
+    alloc: Global,
+    plant: &Plant,
+    command: &Command,
+    wanted: &[(u16, u16, &[u16])],
+    after: &[Bytes],
+) -> bool {
+    match apply(alloc, plant, command) {
+        Ok((new, runs)) => {
+            are_runs(&runs, wanted) == Ok(true) && is_line(alloc, &new, after) == Ok(true)
+        }
+        Err(_refusal) => false,
+    }
+}
+
+/// Whether it does so on these slaves.
+fn leads_to(alloc: Global, row: &Applied) -> Result<bool, WordsFault> {
+    let (slaves, order, runs, after) = *row;
+    let plant = line_of(alloc, slaves)?;
+    let command = command(alloc, &order)?;
+    Ok(is_applied(alloc, &plant, &command, runs, after))
+}
+
+#[test]
+fn commands_lead_to_runs_and_contents(rt: HostRuntime) {
+    for row in APPLIED {
+        assert!(rt; leads_to(rt.alloc(), row) == Ok(true));
+    }
+}
+
+fn edit(alloc: Global, ask: &Ask) -> Result<Edit, WordsFault> {
+    match *ask {
+        Ask::Alias(slave, value) => Ok(Edit::Alias { slave, value }),
+        Ask::Category(slave, kind, content) => Ok(Edit::Category {
+            slave,
+            kind,
+            words: WordList::from_vec(content.to_vec(alloc)?),
+        }),
+        Ask::Image(slave, bytes) => Ok(Edit::Image {
+            slave,
+            image: ImageFile::from_bytes(alloc, &spelt(alloc, &bytes)?)?,
+        }),
+    }
+}
+
+/// A group of copies of edits.
+fn group(alloc: Global, asks: &[Ask]) -> Result<EditList, WordsFault> {
+    let mut edits = Vec::new(alloc);
+    for ask in asks {
+        edits.push(edit(alloc, ask)?.try_copy()?)?;
+    }
+    Ok(EditList::from_vec(edits))
+}
+
+/// A copy of a guarded edit.
+fn guarded_edit(alloc: Global, vendor: u32, ask: &Ask) -> Result<GuardedEdit, WordsFault> {
+    let expect = Some(Expect {
+        vendor,
+        product: 0,
+        revision: 0,
+    });
+    let edit = edit(alloc, ask)?;
+    Ok(GuardedEdit { expect, edit }.try_copy()?)
+}
+
+fn guarded(alloc: Global, asks: &[(u32, Ask)]) -> Result<GuardedEditList, WordsFault> {
+    let mut edits = Vec::new(alloc);
+    for (vendor, ask) in asks {
+        edits.push(guarded_edit(alloc, *vendor, ask)?)?;
+    }
+    Ok(GuardedEditList::from_vec(edits))
+}
+
+fn original(alloc: Global, order: &Order) -> Result<Command, WordsFault> {
+    match *order {
+        Order::One(ask) => Ok(Command::One(edit(alloc, &ask)?)),
+        Order::Swap(a, b) => Ok(Command::Swap { a, b }),
+        Order::Group(asks) => Ok(Command::Group(group(alloc, asks)?)),
+        Order::Guarded(asks) => Ok(Command::Guarded(guarded(alloc, asks)?)),
+    }
+}
+
+/// A copy of the command.
+fn command(alloc: Global, order: &Order) -> Result<Command, WordsFault> {
+    Ok(original(alloc, order)?.try_copy()?)
+}
 
 /// Word 7 of an image and a new alias for it; whether it is accepted, and words 4 and 7 after that.
 const RENAMED: &[(u16, u16, (bool, u16, u16))] = &[
@@ -174,187 +489,19 @@ const RENAMED: &[(u16, u16, (bool, u16, u16))] = &[
     (0x0031, 0x0001, (false, 0x0000, 0x0031)),
 ];
 
-fn slave(alloc: Global, name: (u16, u16)) -> Result<Words, WordsFault> {
-    let mut words = Words::from_bytes(alloc, &[0; 256])?;
-    words.set(4, name.0);
-    words.set(7, name.1);
-    words.set(64, 0xFFFF);
-    Ok(words)
-}
-
-fn line(alloc: Global, names: &Names) -> Result<Plant, WordsFault> {
-    let mut slaves = Vec::new(alloc);
-    for name in names {
-        slaves.push(slave(alloc, *name)?)?;
-    }
-    if slaves.is_empty() || slaves.len() > 64 {
-        return Err(WordsFault::BadSize);
-    }
-    Ok(Plant::of(slaves))
-}
-
-fn image(alloc: Global, words: [u16; 4]) -> Result<ImageFile, Fail> {
-    let mut image = ImageFile::from_bytes(alloc, &[0; 132])?;
-    let [four, seven, eight, kind] = words;
-    image.set(4, four);
-    image.set(7, seven);
-    image.set(8, eight);
-    image.set(64, kind);
-    Ok(image)
-}
-
-/// The bytes, spelt out.
-pub(crate) fn spelt(alloc: Global, bytes: &Bytes) -> Result<Vec<u8>, AllocError> {
-    let (pieces, fill, count) = *bytes;
-    let mut spelt = vec![in alloc; fill; count]?;
-    for (at, piece) in pieces {
-        for (byte, value) in spelt.iter_mut().skip(*at).zip(*piece) {
-            *byte = *value;
-        }
-    }
-    Ok(spelt)
-}
-
-fn edit(alloc: Global, ask: &Ask) -> Result<Edit, Fail> {
-    Ok(match *ask {
-        Ask::Alias(slave, value) => Edit::Alias { slave, value },
-        Ask::Category(slave, kind, content) => Edit::Category {
-            slave,
-            kind,
-            words: WordList::from_vec(content.to_vec(alloc)?),
-        },
-        Ask::Image(slave, words) => Edit::Image {
-            slave,
-            image: image(alloc, words)?,
-        },
-        Ask::File(slave, bytes) => Edit::Image {
-            slave,
-            image: ImageFile::from_bytes(alloc, &spelt(alloc, &bytes)?)?,
-        },
-    })
-}
-
-fn group(alloc: Global, asks: &[Ask]) -> Result<Command, Fail> {
-    let mut edits = Vec::new(alloc);
-    for ask in asks {
-        edits.push(edit(alloc, ask)?)?;
-    }
-    Ok(Command::Group(EditList::from_vec(edits)))
-}
-
-fn guarded(alloc: Global, asks: &[(u32, Ask)]) -> Result<Command, Fail> {
-    let mut edits = Vec::new(alloc);
-    for (vendor, ask) in asks {
-        let expect = Some(Expect {
-            vendor: *vendor,
-            product: 0,
-            revision: 0,
-        });
-        let edit = edit(alloc, ask)?;
-        edits.push(GuardedEdit { expect, edit })?;
-    }
-    Ok(Command::Guarded(GuardedEditList::from_vec(edits)))
-}
-
-pub(crate) fn command(alloc: Global, order: &Order) -> Result<Command, Fail> {
-    match *order {
-        Order::One(ask) => Ok(Command::One(edit(alloc, &ask)?)),
-        Order::Swap(a, b) => Ok(Command::Swap { a, b }),
-        Order::Group(asks) => group(alloc, asks),
-        Order::Guarded(asks) => guarded(alloc, asks),
-    }
-}
-
-/// Why a command is refused on a line, if it is.
-fn refusal(alloc: Global, plant: &Plant, command: &Command) -> Result<Option<Refusal>, Fail> {
-    let layout = Layout::of(alloc, plant)?;
-    Ok(changes(alloc, plant, &layout, command).err())
-}
-
-/// Why a copy of a command is refused, if it is.
-fn judged(
-    alloc: Global,
-    names: &Names,
-    order: &Order,
-) -> Result<Option<(Cause, Option<u8>)>, Fail> {
-    let plant = line(alloc, names)?;
-    let command = command(alloc, order)?;
-    let refused = refusal(alloc, &plant, &command.try_copy()?)?;
-    Ok(refused.map(|refusal| (refusal.cause, refusal.position)))
-}
-
-#[test]
-fn commands_are_judged_in_order(rt: HostRuntime) -> Result<(), Fail> {
-    for (names, order, wanted) in JUDGED {
-        assert_eq!(rt; judged(rt.alloc(), names, order)?, *wanted);
-    }
-    Ok(())
-}
-
-/// Whether the runs have one word each: slave, place and value.
-fn are_words(runs: &[Run], wanted: &[(u16, u16, u16)]) -> bool {
-    runs.len() == wanted.len()
-        && runs.iter().zip(wanted).all(|(run, (slave, first, word))| {
-            run.slave == *slave && run.first == *first && run.words.as_slice() == [*word].as_slice()
-        })
-}
-
-/// Whether a command leads to these runs.
-fn leads_to(
-    alloc: Global,
-    names: &Names,
-    order: &Order,
-    wanted: &[(u16, u16, u16)],
-) -> Result<bool, Fail> {
-    let plant = line(alloc, names)?;
-    let (_, runs) = apply(alloc, &plant, &command(alloc, order)?)?;
-    Ok(are_words(&runs, wanted))
-}
-
-#[test]
-fn aliases_are_runs_of_two_words(rt: HostRuntime) -> Result<(), Fail> {
-    for (names, order, wanted) in LED_TO {
-        assert!(rt; leads_to(rt.alloc(), names, order, wanted)?);
-    }
-    Ok(())
-}
-
-/// The alias, the vendor and words 64 to 67 of a slave.
-fn shown(words: &Words) -> (u16, u32, [u16; 4]) {
-    match &words.as_slice()[64..] {
-        [a, b, c, d, ..] => (words.alias(), words.identity().vendor, [*a, *b, *c, *d]),
-        _ => (0, 0, [0; 4]),
-    }
-}
-
-/// The alias, the vendor and words 64 to 67 of the first slave after a command.
-fn first_slave(alloc: Global, order: &Order) -> Result<(u16, u32, [u16; 4]), Fail> {
-    let plant = line(alloc, &ZEROS)?;
-    let (new, _) = apply(alloc, &plant, &command(alloc, order)?)?;
-    let _count = new.len();
-    Ok(shown(new.slave(0)))
-}
-
-#[test]
-fn edits_stand_on_each_other(rt: HostRuntime) -> Result<(), Fail> {
-    for (order, wanted) in STACKED {
-        assert!(rt; first_slave(rt.alloc(), order)? == *wanted);
-    }
-    Ok(())
-}
-
 /// Sets an alias in an image of zeros with this word 7: whether it is accepted, and words 4 and 7 after that.
-fn aliased(alloc: Global, seven: u16, alias: u16) -> Result<(bool, u16, u16), Fail> {
-    let mut image = image(alloc, [0, seven, 0, 0xFFFF])?;
+fn aliased(alloc: Global, seven: u16, alias: u16) -> Result<(bool, u16, u16), WordsFault> {
+    let mut bytes = [0u8; 132];
+    put(&mut bytes, 14, &seven.to_le_bytes());
+    let mut image = ImageFile::from_bytes(alloc, &bytes)?;
     let renamed = alias_image(&mut image, alias).is_ok();
     let words = image.as_slice();
     Ok((renamed, words[4], words[7]))
 }
 
 #[test]
-fn images_get_aliases(rt: HostRuntime) -> Result<(), Fail> {
+fn images_get_aliases(rt: HostRuntime) {
     for (seven, alias, wanted) in RENAMED {
-        assert!(rt; aliased(rt.alloc(), *seven, *alias)? == *wanted);
+        assert!(rt; aliased(rt.alloc(), *seven, *alias) == Ok(*wanted));
     }
-    Ok(())
 }

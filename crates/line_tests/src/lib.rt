@@ -6,6 +6,8 @@ mod categories;
 #[cfg(test)]
 mod commands;
 #[cfg(test)]
+mod devices;
+#[cfg(test)]
 mod history;
 #[cfg(test)]
 mod journal;
@@ -13,8 +15,6 @@ mod journal;
 mod process_image;
 #[cfg(test)]
 mod readings;
-#[cfg(test)]
-mod single;
 #[cfg(test)]
 mod tests;
 #[cfg(test)]

@@ -1,41 +1,36 @@
 //! Process images, of a line worked out by hand and at their limits.
 
+use crate::devices::{BLANK, Bytes, line_of, put, words_of};
+use crate::tests::process_data::{BOTH, INPUTS, longest, plant_of};
 use sii_image::{
-    ImageFault, Layout, NewLayout, NewLayouts, Plan, ProcessImage, Segment, SlaveLayout, image_of,
+    ImageFault, Layout, NewLayout, NewLayouts, ProcessImage, Segment, SlaveLayout, image_of,
 };
 use sii_words::{Plant, Words, WordsFault};
-use std::alloc::Global;
-use std::test::Fail;
+use std::alloc::{AllocError, Global};
 
-const MANAGERS: &[u8] = &[
-    0x00, 0x10, 0x80, 0x00, 0x26, 0x00, 0x01, 0x01, 0x80, 0x10, 0x80, 0x00, 0x22, 0x00, 0x01, 0x02,
-    0x00, 0x11, 0x01, 0x00, 0x24, 0x00, 0x01, 0x03, 0x80, 0x11, 0x04, 0x00, 0x20, 0x00, 0x01, 0x04,
-];
+/// Slaves of 512 words: with a byte of outputs and four bytes of inputs, with twelve bits of inputs, and without categories.
+const FIRST: Bytes = (&[(14, &[0x30]), (128, BOTH)], 0, 1024);
 
-const RXPDO: &[u8] = &[
-    0x00, 0x16, 0x01, 0x02, 0x00, 0x00, 0x00, 0x00, 0x00, 0x70, 0x01, 0x00, 0x05, 0x08, 0x00, 0x00,
-];
+const LAST: Bytes = (&[(14, &[0x30]), (128, INPUTS)], 0, 1024);
 
-const TXPDO: &[u8] = &[
-    0x00, 0x1A, 0x02, 0x03, 0x00, 0x00, 0x00, 0x00, 0x00, 0x60, 0x01, 0x00, 0x06, 0x10, 0x00, 0x00,
-    0x00, 0x60, 0x02, 0x00, 0x06, 0x10, 0x00, 0x00,
-];
+const EMPTY: Bytes = (&[(14, &[0x30]), (128, &[0xFF, 0xFF])], 0, 1024);
 
-const LAST_MANAGERS: &[u8] = &[0x00, 0x10, 0x02, 0x00, 0x20, 0x00, 0x01, 0x04];
+/// `FIRST` with a chain that is cut off in place of its TXPDO, and with a PDO that is cut off.
+const WITHOUT_END: Bytes = (
+    &[(14, &[0x30]), (128, BOTH), (184, &[0xFF, 0x0F, 0xA4, 0x01])],
+    0,
+    1024,
+);
 
-const LAST_TXPDO: &[u8] = &[
-    0x00, 0x1A, 0x01, 0x00, 0x00, 0x00, 0x00, 0x00, 0x00, 0x60, 0x01, 0x00, 0x00, 0x0C, 0x00, 0x00,
-];
-
-const FIRST_SLAVE: &[(u16, &[u8])] = &[(41, MANAGERS), (51, RXPDO), (50, TXPDO)];
-
-const LAST_SLAVE: &[(u16, &[u8])] = &[(41, LAST_MANAGERS), (50, LAST_TXPDO)];
-
-/// Slaves without readable process data: a chain that is cut off, and a PDO that is cut off.
-const NOTHING: &[&[(u16, &[u8])]] = &[
-    &[(41, MANAGERS), (51, RXPDO), (4095, &[0x77; 840])],
-    &[(41, MANAGERS), (51, RXPDO), (50, &[0, 0, 1, 3, 0, 0, 0, 0])],
-];
+const WITHOUT_ENTRIES: Bytes = (
+    &[
+        (14, &[0x30]),
+        (128, BOTH),
+        (184, &[50, 0, 4, 0, 0, 0, 1, 3, 0, 0, 0, 0, 0xFF, 0xFF]),
+    ],
+    0,
+    1024,
+);
 
 const SEGMENTS: &[Segment] = &[
     Segment {
@@ -81,148 +76,165 @@ const LAST_ALONE: &[Segment] = &[Segment {
     control: 0x20,
 }];
 
-/// A device: zeros with their check byte, these categories from word 0x40 on, then the end mark, and zeros.
-fn device(alloc: Global, bytes: usize, categories: &[(u16, &[u8])]) -> Result<Words, WordsFault> {
-    let mut image = Vec::with_capacity(alloc, bytes)?;
-    image.extend_from_slice(&[0; 14])?;
-    image.extend_from_slice(&[0x30, 0])?;
-    image.extend_from_slice(&[0; 112])?;
-    for (kind, content) in categories {
-        image.extend_from_slice(&kind.to_le_bytes())?;
-        image.extend_from_slice(&((content.len() / 2 % 65536) as u16).to_le_bytes())?;
-        image.extend_from_slice(*content)?;
-    }
-    image.extend_from_slice(&[0xFF, 0xFF])?;
-    image.resize(bytes, 0)?;
-    Words::from_bytes(alloc, &image)
-}
-
-fn line(alloc: Global, first: &[(u16, &[u8])], last: &[(u16, &[u8])]) -> Result<Plant, WordsFault> {
-    let first = device(alloc, 1024, first)?;
-    let last = device(alloc, 1024, last)?;
-    Ok(Plant::of(Vec::from_array(alloc, [first, last])?))
-}
+/// Slaves, their segments, and the sizes of outputs and inputs with the expected counter. A slave that can't be read adds nothing.
+const IMAGES: &[(&[Bytes], &[Segment], (usize, usize, u16))] = &[
+    (&[FIRST, LAST], SEGMENTS, (1, 6, 4)),
+    (&[WITHOUT_END, LAST], LAST_ALONE, (0, 2, 1)),
+    (&[WITHOUT_ENTRIES, LAST], LAST_ALONE, (0, 2, 1)),
+    (&[BLANK], &[], (0, 0, 0)),
+];
 
 fn is_image(image: &ProcessImage, segments: &[Segment], totals: (usize, usize, u16)) -> bool {
     image.segments() == segments
         && (image.outputs(), image.inputs(), image.expected_counter()) == totals
 }
 
-#[test]
-fn image_of_a_line(rt: HostRuntime) -> Result<(), Fail> {
-    let plant = line(rt.alloc(), FIRST_SLAVE, LAST_SLAVE)?;
-    let plan = Plan {
-        prefix: 0,
-        image: image_of(rt.alloc(), &plant)?,
-    };
-    assert!(rt; plan.prefix == 0 && is_image(&plan.image, SEGMENTS, (1, 6, 4)));
-    Ok(())
-}
-
-#[test]
-fn slaves_that_describe_nothing(rt: HostRuntime) -> Result<(), Fail> {
-    for categories in NOTHING {
-        let plant = line(rt.alloc(), *categories, LAST_SLAVE)?;
-        assert!(rt; is_image(&image_of(rt.alloc(), &plant)?, LAST_ALONE, (0, 2, 1)));
+/// Whether the line has this process image.
+fn has_image(
+    alloc: Global,
+    slaves: &[Bytes],
+    segments: &[Segment],
+    totals: (usize, usize, u16),
+) -> Result<bool, WordsFault> {
+    let plant = line_of(alloc, slaves)?;
+    match image_of(alloc, &plant) {
+        Ok(image) => Ok(is_image(&image, segments, totals)),
+        Err(_fault) => Ok(false),
     }
-    Ok(())
-}
-
-/// A category with an RXPDO for manager 0: 46 entries of 255 bits and one of this many.
-fn large_rxpdo(alloc: Global, last: u8) -> Result<Vec<u8>, WordsFault> {
-    let mut content = Vec::new(alloc);
-    content.extend_from_slice(&[0x00, 0x16, 47, 0, 0, 0, 0, 0])?;
-    for _ in 0..46u8 {
-        content.extend_from_slice(&[0x00, 0x70, 1, 0, 5, 255, 0, 0])?;
-    }
-    content.extend_from_slice(&[0x00, 0x70, 1, 0, 5, last, 0, 0])?;
-    Ok(content)
-}
-
-/// The size of the outputs of a line whose first slave has this many bits in its last entry.
-fn large_outputs(alloc: Global, last: u8) -> Result<Result<usize, ImageFault>, WordsFault> {
-    let manager = [0x00, 0x10, 0x00, 0x02, 0x24, 0x00, 0x01, 0x03];
-    let rxpdo = large_rxpdo(alloc, last)?;
-    let plant = line(alloc, &[(41, &manager), (51, rxpdo.as_slice())], &[])?;
-    Ok(image_of(alloc, &plant).map(|image| image.outputs()))
 }
 
 #[test]
-fn largest_image(rt: HostRuntime) -> Result<(), Fail> {
-    assert!(rt; large_outputs(rt.alloc(), 158)? == Ok(1486));
-    assert!(rt; large_outputs(rt.alloc(), 159)? == Err(ImageFault::ImageOverLimit));
-    Ok(())
+fn images_of_lines(rt: HostRuntime) {
+    for (slaves, segments, totals) in IMAGES {
+        assert!(rt; has_image(rt.alloc(), slaves, segments, *totals) == Ok(true));
+    }
 }
 
-/// The number of segments of a line whose first slave has this many managers of type 4, each with a TXPDO of eight bits.
-fn many_inputs(alloc: Global, count: u8) -> Result<Result<usize, ImageFault>, WordsFault> {
-    let mut managers = Vec::new(alloc);
-    let mut txpdos = Vec::new(alloc);
+/// Categories with this number of managers of type 4, nine at most, each with a TXPDO of eight bits.
+fn many_inputs(count: u8) -> [u8; 402] {
+    let mut bytes = [0xFF; 402];
+    let behind = 4 + 8 * usize::from(count);
+    put(&mut bytes, 0, &[41, 0, count.wrapping_mul(4), 0]);
+    put(&mut bytes, behind, &[50, 0, count.wrapping_mul(8), 0]);
     for number in 0..count {
-        managers.extend_from_slice(&[0x00, 0x10, 1, 0, 0x20, 0, 1, 4])?;
-        txpdos.extend_from_slice(&[0x00, 0x1A, 1, number, 0, 0, 0, 0])?;
-        txpdos.extend_from_slice(&[0x00, 0x60, 1, 0, 5, 8, 0, 0])?;
+        let place = 8 * usize::from(number);
+        put(&mut bytes, 4 + place, &[0x00, 0x10, 1, 0, 0x20, 0, 1, 4]);
+        put(
+            &mut bytes,
+            behind + 4 + 2 * place,
+            &[0, 0x1A, 1, number, 0, 0, 0, 0, 0, 0x60, 1, 0, 5, 8, 0, 0],
+        );
     }
-    let categories = [(41u16, managers.as_slice()), (50, txpdos.as_slice())];
-    let plant = line(alloc, &categories, &[])?;
-    Ok(image_of(alloc, &plant).map(|image| image.segments().len()))
+    bytes
 }
 
+/// The size of the outputs, and the number of segments, of a slave with these categories.
+fn sizes_of(alloc: Global, categories: &[u8]) -> Option<Result<(usize, usize), ImageFault>> {
+    let plant = plant_of(alloc, &[categories])?;
+    match image_of(alloc, &plant) {
+        Ok(image) => Some(Ok((image.outputs(), image.segments().len()))),
+        Err(fault) => Some(Err(fault)),
+    }
+}
+
+const OVER_LIMIT: Result<(usize, usize), ImageFault> = Err(ImageFault::ImageOverLimit);
+
+/// 1,486 bytes, and eight segments of a slave.
 #[test]
-fn most_segments_of_a_slave(rt: HostRuntime) -> Result<(), Fail> {
-    assert!(rt; many_inputs(rt.alloc(), 8)? == Ok(8));
-    assert!(rt; many_inputs(rt.alloc(), 9)? == Err(ImageFault::ImageOverLimit));
-    Ok(())
+fn largest_images(rt: HostRuntime) {
+    for (categories, sizes) in [
+        (longest(3, 51, 158), Ok((1486, 1))),
+        (longest(3, 51, 159), OVER_LIMIT),
+        (many_inputs(8), Ok((0, 8))),
+        (many_inputs(9), OVER_LIMIT),
+    ] {
+        assert!(rt; sizes_of(rt.alloc(), &categories) == Some(sizes));
+    }
 }
 
-/// A layout that is changed, slave by slave, to that of the line worked out by hand, and whether the new layouts were within the limits.
-fn changed_layout(alloc: Global) -> Result<(Layout, bool), WordsFault> {
-    let plant = line(alloc, FIRST_SLAVE, &[])?;
-    let last = device(alloc, 1024, LAST_SLAVE)?;
-    let mut layout = Layout::of(alloc, &plant)?;
+/// A layout that is changed to that of `LAST`, behind which no slave is changed.
+fn changed_layout(alloc: Global, plant: &Plant) -> Result<Layout, WordsFault> {
+    let last = words_of(alloc, &LAST)?;
+    let mut layout = Layout::of(alloc, plant)?;
     layout.change(0, &last)?;
     layout.change(2, &last)?;
+    Ok(layout)
+}
+
+fn slave_layout(alloc: Global, bytes: &Bytes) -> Result<SlaveLayout, WordsFault> {
+    let words = words_of(alloc, bytes)?;
+    Ok(SlaveLayout::of(alloc, &words)?)
+}
+
+/// The layouts of the line worked out by hand.
+fn new_layouts(alloc: Global) -> Result<NewLayouts, WordsFault> {
     let first = NewLayout {
         slave: 0,
-        layout: SlaveLayout::of(alloc, plant.slave(0))?,
+        layout: slave_layout(alloc, &FIRST)?,
     };
     let second = NewLayout {
         slave: 1,
-        layout: SlaveLayout::of(alloc, &last)?,
+        layout: slave_layout(alloc, &LAST)?,
     };
-    let new = NewLayouts::of(Vec::from_array(alloc, [first, second])?);
+    Ok(NewLayouts::of(Vec::from_array(alloc, [first, second])?))
+}
+
+/// Whether a layout that is changed, slave by slave, to that of the line worked out by hand has its process image.
+fn is_changed(alloc: Global) -> Result<bool, WordsFault> {
+    let plant = line_of(alloc, &[FIRST, EMPTY])?;
+    let mut layout = changed_layout(alloc, &plant)?;
+    let new = new_layouts(alloc)?;
     let is_within = layout.has_process_image_with(&new);
     layout.put_all(new);
-    Ok((layout, is_within))
-}
-
-#[test]
-fn layout_under_changes(rt: HostRuntime) -> Result<(), Fail> {
-    let (layout, is_within) = changed_layout(rt.alloc())?;
-    assert!(rt; is_within && is_image(&layout.image()?, SEGMENTS, (1, 6, 4)));
-    Ok(())
-}
-
-/// The number of segments of a slave once word `at` has this value.
-fn segments_after(alloc: Global, at: usize, value: u16) -> Result<usize, WordsFault> {
-    let old = device(alloc, 256, LAST_SLAVE)?;
-    let mut new = old.try_copy()?;
-    if at < new.len() {
-        new.set(at, value);
+    match layout.image() {
+        Ok(image) => Ok(is_within && is_image(&image, SEGMENTS, (1, 6, 4))),
+        Err(_fault) => Ok(false),
     }
-    let plant = Plant::of(Vec::from_array(alloc, [old])?);
-    let mut layout = Layout::of(alloc, &plant)?;
-    let changed = NewLayout {
-        slave: 0,
-        layout: layout.slave(0).changed(alloc, plant.slave(0), &new)?,
-    };
-    layout.put_all(NewLayouts::of(Vec::from_array(alloc, [changed])?));
-    Ok(layout.image().map_or(99, |image| image.segments().len()))
 }
 
 #[test]
-fn a_slave_that_changes(rt: HostRuntime) -> Result<(), Fail> {
-    assert!(rt; segments_after(rt.alloc(), 4, 7)? == 1);
-    assert!(rt; segments_after(rt.alloc(), 64, 42)? == 0);
-    Ok(())
+fn layout_under_changes(rt: HostRuntime) {
+    assert!(rt; is_changed(rt.alloc()) == Ok(true));
+}
+
+/// The layout of a line whose first slave gets these words.
+fn with_words(alloc: Global, plant: &Plant, new: &Words) -> Result<Layout, AllocError> {
+    let mut layout = Layout::of(alloc, plant)?;
+    if plant.len() > 0 {
+        let changed = NewLayout {
+            slave: 0,
+            layout: layout.slave(0).changed(alloc, plant.slave(0), new)?,
+        };
+        layout.put_all(NewLayouts::of(Vec::from_array(alloc, [changed])?));
+    }
+    Ok(layout)
+}
+
+fn segments_of(layout: &Layout) -> Option<usize> {
+    match layout.image() {
+        Ok(image) => Some(image.segments().len()),
+        Err(_fault) => None,
+    }
+}
+
+/// `LAST` in 128 words, with alias 7, and with another type in place of its sync managers.
+const SMALL: Bytes = (&[(14, &[0x30]), (128, INPUTS)], 0, 256);
+
+const NAMED: Bytes = (&[(8, &[7]), (14, &[0x30]), (128, INPUTS)], 0, 256);
+
+const WITHOUT_MANAGERS: Bytes = (&[(14, &[0x30]), (128, INPUTS), (128, &[42])], 0, 256);
+
+/// The number of segments of `SMALL` once it has these words.
+fn segments_after(alloc: Global, new: &Bytes) -> Result<Option<usize>, WordsFault> {
+    let plant = line_of(alloc, &[SMALL])?;
+    let words = words_of(alloc, new)?;
+    let layout = with_words(alloc, &plant, &words)?;
+    Ok(segments_of(&layout))
+}
+
+#[test]
+fn a_slave_that_changes(rt: HostRuntime) {
+    for (new, count) in [(NAMED, 1), (WITHOUT_MANAGERS, 0)] {
+        assert!(rt; segments_after(rt.alloc(), &new) == Ok(Some(count)));
+    }
 }

@@ -1,15 +1,15 @@
 //! Readers, writers and copies, on a line of two slaves with process data. The values were read off the bytes by hand.
 
+use crate::devices::{Bytes, FULL, is_line, line_of, spelt};
 use crate::tests::process_data::{BOTH, INPUTS};
-use esc_model::RomHalf;
+use esc_model::{ProcessHalf, RomHalf};
 use sii_cats::kind::{RXPDOS, SYNC_MANAGERS, TXPDOS};
 use sii_cats::{
     CatFault, Category, ChainFault, Manager, Pdo, PdoEntry, chain, pdos, syncms, write_pdos,
     write_syncms,
 };
-use sii_words::{ImageFile, Plant, Words, WordsFault, words_of_bytes};
-use std::alloc::Global;
-use std::test::Fail;
+use sii_words::{ImageFile, Words, WordsFault, words_of_bytes};
+use std::alloc::{AllocError, Global};
 
 /// The categories of the first slave, and of the second.
 const FIRST: &[Category] = &[
@@ -146,114 +146,149 @@ fn are_managers(alloc: Global, words: &[u16], managers: &[Manager]) -> Result<bo
     Ok(read.as_slice() == managers && write_syncms(alloc, &read)?.as_slice() == words)
 }
 
-fn is_pdo(pdo: &Pdo, index: u16, manager: u8, entries: &[PdoEntry]) -> bool {
+fn is_pdo_alone(read: &[Pdo], index: u16, manager: u8, entries: &[PdoEntry]) -> bool {
+    let [pdo] = read else {
+        return false;
+    };
     pdo.index == index
         && pdo.manager == manager
         && (pdo.synchronization, pdo.name, pdo.flags) == (0, 0, 0)
         && pdo.entries.as_slice() == entries
 }
 
-/// Whether this is the only PDO, and written again it is the words.
-fn is_only_pdo(alloc: Global, words: &[u16], content: &Content) -> Result<bool, CatFault> {
-    let Content::OnePdo(kind, index, manager, entries) = *content else {
-        return Ok(false);
-    };
-    let read = pdos(alloc, kind, words)?;
-    let is_so = match read.as_slice() {
-        [pdo] => is_pdo(pdo, index, manager, entries),
-        _ => false,
-    };
-    Ok(is_so && write_pdos(alloc, kind, &read)?.as_slice() == words)
+/// Whether these PDOs, written again, are the words.
+fn are_written(alloc: Global, kind: u16, read: &[Pdo], words: &[u16]) -> Result<bool, CatFault> {
+    Ok(write_pdos(alloc, kind, read)?.as_slice() == words)
 }
 
-/// Whether these bytes hold this content.
-fn hold(alloc: Global, bytes: &[u8], content: &Content) -> Result<bool, CatFault> {
+/// Whether this is the only PDO, and written again it is the words.
+fn is_only_pdo(
+    alloc: Global,
+    words: &[u16],
+    kind: u16,
+    index: u16,
+    manager: u8,
+    entries: &[PdoEntry],
+) -> bool {
+    match pdos(alloc, kind, words) {
+        Ok(read) => {
+            are_written(alloc, kind, &read, words) == Ok(true)
+                && is_pdo_alone(&read, index, manager, entries)
+        }
+        Err(_fault) => false,
+    }
+}
+
+/// Whether some bytes of the categories of a slave hold this content.
+fn hold(
+    alloc: Global,
+    categories: &[u8],
+    from: usize,
+    to: usize,
+    content: &Content,
+) -> Result<bool, CatFault> {
+    let bytes = categories.get(from..to).unwrap_or(&[]);
     if bytes.len() % 2 != 0 {
         return Ok(false);
     }
     let words = words_of_bytes(alloc, bytes)?;
-    match content {
+    match *content {
         Content::Managers(managers) => are_managers(alloc, &words, managers),
-        Content::OnePdo(..) => is_only_pdo(alloc, &words, content),
+        Content::OnePdo(kind, index, manager, entries) => {
+            Ok(is_only_pdo(alloc, &words, kind, index, manager, entries))
+        }
     }
 }
 
 #[test]
-fn contents_are_read_and_written(rt: HostRuntime) -> Result<(), Fail> {
-    for (slave, (from, to), content) in READ {
-        let bytes = slave.get(*from..*to).unwrap_or(&[]);
-        assert!(rt; hold(rt.alloc(), bytes, content)?);
+fn contents_are_read_and_written(rt: HostRuntime) {
+    for (categories, (from, to), content) in READ {
+        assert!(rt; hold(rt.alloc(), categories, *from, *to, content) == Ok(true));
     }
-    Ok(())
 }
 
-/// The 256 bytes of a slave: zeros with their check byte, and these categories from word 64 on.
-fn slave(categories: &[u8]) -> [u8; 256] {
-    let mut bytes = [0; 256];
-    bytes[14] = 0x30;
-    for (byte, value) in bytes.iter_mut().skip(128).zip(categories) {
-        *byte = *value;
-    }
-    bytes
-}
+/// The slaves of the line, and one that a category fills.
+const ONE: Bytes = (&[(14, &[0x30]), (128, BOTH)], 0, 256);
+
+const TWO: Bytes = (&[(14, &[0x30]), (128, INPUTS)], 0, 256);
+
+const SLAVES: &[(Bytes, &[Category])] = &[
+    (ONE, FIRST),
+    (TWO, SECOND),
+    (
+        FULL,
+        &[Category {
+            kind: RXPDOS,
+            at: 64,
+            count: 62,
+        }],
+    ),
+];
 
 fn have_chain(alloc: Global, words: &Words, wanted: &[Category]) -> Result<bool, ChainFault> {
     Ok(chain(alloc, words.as_slice())?.as_slice() == wanted)
 }
 
-/// Whether words and a copy of them give these bytes.
-fn are_copied(words: &Words, bytes: &[u8]) -> Result<bool, WordsFault> {
-    let copy = words.try_copy()?;
-    Ok(words.to_bytes()?.as_slice() == bytes && copy.to_bytes()?.as_slice() == bytes)
-}
-
 /// Whether a copy of an image gives these bytes.
-fn is_copied(alloc: Global, bytes: &[u8; 256]) -> Result<bool, WordsFault> {
+fn image_is_copied(alloc: Global, bytes: &[u8]) -> Result<bool, WordsFault> {
     let copy = ImageFile::from_bytes(alloc, bytes)?.try_copy()?;
     let mut written = [0u8; 256];
     if copy.as_slice().len() == 128 {
         copy.as_bytes_into(&mut written);
     }
-    Ok(written == *bytes)
+    Ok(written.as_slice() == bytes)
 }
 
-/// Whether a copy of a slave's half holds these words.
-fn half_is_copied(words: Words, bytes: &[u8]) -> Result<bool, WordsFault> {
+/// Whether a copy of a slave's EEPROM half holds these words.
+fn rom_is_copied(words: Words, bytes: &[u8]) -> Result<bool, WordsFault> {
     let copy = RomHalf::power_up(words, 0x1001, 1).try_copy()?;
     Ok(copy.words().to_bytes()?.as_slice() == bytes)
 }
 
-/// Whether the categories of a slave form this chain, and each of its copies gives its bytes.
-fn is_slave(alloc: Global, categories: &[u8], wanted: &[Category]) -> Result<bool, Fail> {
-    let bytes = slave(categories);
+/// Whether a copy of a slave's process half holds a byte that was written before, and not what is written later.
+fn process_is_copied(alloc: Global, words: &Words) -> Result<bool, AllocError> {
+    let mut half = ProcessHalf::power_up(alloc, words, 0x1001)?;
+    half.poke(0x1100, 0xAA);
+    let copy = half.try_copy()?;
+    half.poke(0x1100, 0xBB);
+    Ok(copy.peek(0x1100) == 0xAA && half.peek(0x1100) == 0xBB)
+}
+
+/// Whether a copy of the words gives these bytes.
+fn words_are_copied(words: &Words, bytes: &[u8]) -> Result<bool, AllocError> {
+    let copy = words.try_copy()?;
+    Ok(copy.to_bytes()?.as_slice() == bytes)
+}
+
+/// Whether the words form this chain, and each copy gives their bytes.
+fn are_copied(alloc: Global, words: Words, bytes: &[u8], wanted: &[Category]) -> bool {
+    let are_copied = have_chain(alloc, &words, wanted) == Ok(true)
+        && image_is_copied(alloc, bytes) == Ok(true)
+        && words_are_copied(&words, bytes) == Ok(true)
+        && process_is_copied(alloc, &words) == Ok(true);
+    rom_is_copied(words, bytes) == Ok(true) && are_copied
+}
+
+fn is_slave(alloc: Global, slave: &Bytes, wanted: &[Category]) -> Result<bool, WordsFault> {
+    let bytes = spelt(alloc, slave)?;
     let words = Words::from_bytes(alloc, &bytes)?;
-    Ok(
-        have_chain(alloc, &words, wanted)?
-            && are_copied(&words, &bytes)?
-            && is_copied(alloc, &bytes)?
-            && half_is_copied(words, &bytes)?,
-    )
+    Ok(are_copied(alloc, words, &bytes, wanted))
 }
 
 #[test]
-fn slaves_are_copied(rt: HostRuntime) -> Result<(), Fail> {
-    assert!(rt; is_slave(rt.alloc(), BOTH, FIRST)?);
-    assert!(rt; is_slave(rt.alloc(), INPUTS, SECOND)?);
-    Ok(())
+fn slaves_are_copied(rt: HostRuntime) {
+    for (slave, wanted) in SLAVES {
+        assert!(rt; is_slave(rt.alloc(), slave, wanted) == Ok(true));
+    }
 }
 
-fn line(alloc: Global) -> Result<Plant, WordsFault> {
-    let first = Words::from_bytes(alloc, &slave(BOTH))?;
-    let second = Words::from_bytes(alloc, &slave(INPUTS))?;
-    Ok(Plant::of(Vec::from_array(alloc, [first, second])?))
+/// Whether a copy of the line has its slaves.
+fn is_copied(alloc: Global, slaves: &[Bytes]) -> Result<bool, WordsFault> {
+    let copy = line_of(alloc, slaves)?.try_copy()?;
+    Ok(is_line(alloc, &copy, slaves)?)
 }
 
 #[test]
-fn a_line_is_copied(rt: HostRuntime) -> Result<(), Fail> {
-    let plant = line(rt.alloc())?;
-    let copy = plant.try_copy()?;
-    assert!(rt; copy.len() == 2 && plant.len() == 2);
-    assert!(rt; copy.slave(0).to_bytes()?.as_slice() == slave(BOTH).as_slice());
-    assert!(rt; copy.slave(1).to_bytes()?.as_slice() == slave(INPUTS).as_slice());
-    Ok(())
+fn a_line_is_copied(rt: HostRuntime) {
+    assert!(rt; is_copied(rt.alloc(), &[ONE, TWO]) == Ok(true));
 }

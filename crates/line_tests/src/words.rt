@@ -1,12 +1,12 @@
 //! Words of devices and of image files, plants, and lists. The check bytes are those of EEPROMs in use.
 
+use crate::devices::{Bytes, line_of, put};
 use lists::ItemList;
 use sii_words::{
-    Identity, ImageFile, Plant, Words, WordsFault, bytes_of_words, is_device_size, is_image_size,
+    Identity, ImageFile, Words, WordsFault, bytes_of_words, is_device_size, is_image_size,
     words_of_bytes,
 };
 use std::alloc::{AllocError, Global};
-use std::test::Fail;
 
 /// Aliases of devices whose other words are zeros, and their check bytes.
 const CHECK_BYTES: &[(u16, u8)] = &[(0x0000, 0x30), (0x0001, 0x19), (0xFFFF, 0xA6)];
@@ -43,9 +43,7 @@ fn counted_bytes() -> [u8; 128] {
 
 fn bytes_with_alias(alias: u16, check: u8) -> [u8; 128] {
     let mut bytes = [0; 128];
-    let [low, high] = alias.to_le_bytes();
-    bytes[8] = low;
-    bytes[9] = high;
+    put(&mut bytes, 8, &alias.to_le_bytes());
     bytes[14] = check;
     bytes
 }
@@ -67,16 +65,21 @@ fn checked_image(alloc: Global, bytes: &[u8]) -> Result<(u16, u8, bool), WordsFa
     Ok((image.alias(), image.check_byte(), image.check_ok()))
 }
 
-#[test]
-fn check_bytes_of_aliases(rt: HostRuntime) -> Result<(), Fail> {
-    for (alias, check) in CHECK_BYTES {
-        let bytes = bytes_with_alias(*alias, *check);
-        assert!(rt; checked_words(rt.alloc(), &bytes)? == (*alias, *check, 0x19, true));
-        assert!(rt; checked_image(rt.alloc(), &bytes)? == (*alias, *check, true));
-    }
-    Ok(())
+/// Whether the bytes are those of a device and of an image with this alias and the right check byte.
+fn are_checked(alloc: Global, alias: u16, check: u8) -> bool {
+    let bytes = bytes_with_alias(alias, check);
+    checked_words(alloc, &bytes) == Ok((alias, check, 0x19, true))
+        && checked_image(alloc, &bytes) == Ok((alias, check, true))
 }
 
+#[test]
+fn check_bytes_of_aliases(rt: HostRuntime) {
+    for (alias, check) in CHECK_BYTES {
+        assert!(rt; are_checked(rt.alloc(), *alias, *check));
+    }
+}
+
+/// Why zeros are no device, and why they are no image.
 fn faults_of(
     alloc: Global,
     length: usize,
@@ -89,15 +92,11 @@ fn faults_of(
 }
 
 #[test]
-fn sizes(rt: HostRuntime) -> Result<(), Fail> {
+fn sizes(rt: HostRuntime) {
     for (length, of_words, of_image) in SIZES {
-        assert!(rt;
-            faults_of(rt.alloc(), *length)? == (*of_words, *of_image),
-            "at {length}"
-        );
+        assert!(rt; faults_of(rt.alloc(), *length) == Ok((*of_words, *of_image)));
     }
     assert!(rt; is_device_size(128) && !is_device_size(65) && is_image_size(65));
-    Ok(())
 }
 
 /// The number of words of a device, its identity, its last word once that is changed, and that of an earlier copy.
@@ -131,28 +130,30 @@ fn written_image(alloc: Global, bytes: &[u8; 128]) -> Result<[u8; 128], WordsFau
     Ok(written)
 }
 
-#[test]
-fn words_read_changed_and_written(rt: HostRuntime) -> Result<(), Fail> {
-    let bytes = counted_bytes();
-    let words = changed_words(rt.alloc(), &bytes)?;
-    assert!(rt; words == (64, COUNTED_IDENTITY, 0xABCD, 0x7F7E));
-    let image = changed_image(rt.alloc(), &bytes)?;
-    assert!(rt; image == (COUNTED_IDENTITY, 0xABCD, 0x7F7E));
-    assert!(rt; written_image(rt.alloc(), &bytes)? == bytes);
-    let device = Words::from_bytes(rt.alloc(), &bytes)?;
-    assert!(rt; device.to_bytes()?.as_slice() == bytes.as_slice());
-    Ok(())
+/// Whether the bytes of a device, written again, are these.
+fn is_written(alloc: Global, bytes: &[u8]) -> Result<bool, WordsFault> {
+    let words = Words::from_bytes(alloc, bytes)?;
+    Ok(words.to_bytes()?.as_slice() == bytes)
 }
 
-fn plant_of_two(alloc: Global) -> Result<Plant, WordsFault> {
-    let first = Words::from_bytes(alloc, &counted_bytes())?;
-    let second = Words::from_bytes(alloc, &counted_bytes())?;
-    Ok(Plant::of(Vec::from_array(alloc, [first, second])?))
+#[test]
+fn words_read_changed_and_written(rt: HostRuntime) {
+    let alloc = rt.alloc();
+    let bytes = counted_bytes();
+    assert!(rt;
+        changed_words(alloc, &bytes) == Ok((64, COUNTED_IDENTITY, 0xABCD, 0x7F7E))
+            && changed_image(alloc, &bytes) == Ok((COUNTED_IDENTITY, 0xABCD, 0x7F7E))
+            && written_image(alloc, &bytes) == Ok(bytes)
+            && is_written(alloc, &bytes) == Ok(true)
+    );
 }
+
+/// 128 bytes with alias 0x0908.
+const NAMED: Bytes = (&[(8, &[0x08, 0x09])], 0, 128);
 
 /// How many slaves a plant has, and the aliases of the second one before and after a change.
 fn changed_plant(alloc: Global) -> Result<(usize, u16, u16), WordsFault> {
-    let mut plant = plant_of_two(alloc)?;
+    let mut plant = line_of(alloc, &[NAMED, NAMED])?;
     if plant.len() < 2 || plant.slave(1).len() < 64 {
         return Ok((0, 0, 0));
     }
@@ -162,17 +163,26 @@ fn changed_plant(alloc: Global) -> Result<(usize, u16, u16), WordsFault> {
 }
 
 #[test]
-fn a_plant_of_two(rt: HostRuntime) -> Result<(), Fail> {
-    assert!(rt; changed_plant(rt.alloc())? == (2, 0x0908, 0x0003));
-    Ok(())
+fn a_plant_of_two(rt: HostRuntime) {
+    assert!(rt; changed_plant(rt.alloc()) == Ok((2, 0x0908, 0x0003)));
+}
+
+/// A copy of the words of these bytes.
+fn copied_list(alloc: Global, bytes: &[u8; 4]) -> Result<ItemList<u16>, AllocError> {
+    let list = ItemList::from_vec(words_of_bytes(alloc, bytes)?);
+    Ok(list.try_copy()?)
+}
+
+/// Whether these bytes are those of the words, read and written.
+fn are_words(alloc: Global, bytes: &[u8; 4], words: &[u16]) -> Result<bool, AllocError> {
+    let copy = copied_list(alloc, bytes)?;
+    let is_read = copy.as_slice() == words;
+    let written = bytes_of_words(alloc, &copy.into_vec())?;
+    Ok(is_read && written.as_slice() == bytes.as_slice())
 }
 
 #[test]
-fn words_and_their_bytes(rt: HostRuntime) -> Result<(), Fail> {
-    let words = words_of_bytes(rt.alloc(), &[0x00, 0x16, 0xAB, 0xCD])?;
-    let list = ItemList::from_vec(words).try_copy()?;
-    assert!(rt; list.as_slice() == [0x1600, 0xCDAB].as_slice());
-    let bytes = bytes_of_words(rt.alloc(), &list.into_vec())?;
-    assert!(rt; bytes.as_slice() == [0x00, 0x16, 0xAB, 0xCD].as_slice());
-    Ok(())
+fn words_and_their_bytes(rt: HostRuntime) {
+    let words = [0x1600, 0xCDAB];
+    assert!(rt; are_words(rt.alloc(), &[0x00, 0x16, 0xAB, 0xCD], &words) == Ok(true));
 }

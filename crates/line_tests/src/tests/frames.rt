@@ -169,8 +169,10 @@ fn is_spelled_as(command: Command, address: u32, content: &[u8], bytes: &[u8]) -
 fn a_datagram_has_these_bytes(rt: HostRuntime) {
     assert!(rt; fp(0x1001, 0x0502) == 0x0502_1001);
     for (command, address, content, bytes) in SPELLED {
-        assert!(rt; is_spelled_as(*command, *address, content, bytes));
-        assert!(rt; reads_as(bytes, *command, *address, content));
+        assert!(rt;
+            is_spelled_as(*command, *address, content, bytes)
+                && reads_as(bytes, *command, *address, content)
+        );
     }
 }
 
@@ -237,10 +239,13 @@ fn counted_up(frame: &Frame) -> usize {
 #[test]
 fn a_frame_has_room_for_124_datagrams(rt: HostRuntime) {
     let frame = full_frame();
-    assert!(rt; counted_up(&frame) == 124 && frame.count() == 124);
-    assert!(rt; is_read_as(frame.as_bytes(), 124, frame.as_bytes()));
     // A code that has a variant of its own is read as that variant.
-    assert!(rt; frame.datagram(4).command == Command::Fprd);
+    assert!(rt;
+        counted_up(&frame) == 124
+            && frame.count() == 124
+            && is_read_as(frame.as_bytes(), 124, frame.as_bytes())
+            && frame.datagram(4).command == Command::Fprd
+    );
 }
 
 // A poll and an issue.

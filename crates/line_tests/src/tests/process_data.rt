@@ -1,6 +1,7 @@
 //! A line of slaves in memory whose process data is configured and exchanged as their EEPROMs describe it.
 
 use super::{process_halves, process_line};
+use crate::devices::put;
 use cyclic::{CycleFault, configure, reconfigure, turn};
 use ecat_frame::{Command, Frame, fp};
 use esc_model::ProcessHalf;
@@ -58,23 +59,27 @@ const STANDING: &[(usize, u16, &[u8])] = &[
     (1, 0x1000, &[0x55, 0x06]),
 ];
 
-// The inputs that come back from these two slaves.
-const INPUTS_BACK: &[u8] = &[0x11, 0x22, 0x33, 0x44, 0x55, 0x06];
+// Inputs after a turn: all have this byte, but for some from a place on.
+type Inputs = (u8, usize, &'static [u8]);
 
-// The inputs before a turn. One that fails leaves them unchanged.
-const KEPT: &[u8] = &[0xee; 6];
+// The inputs that come back from these two slaves, and from one whose inputs begin at 0x1000.
+const BACK: Inputs = (0, 0, &[0x11, 0x22, 0x33, 0x44, 0x55, 0x06]);
 
-// The words of a slave, 320 of them, with these categories.
+const ALL_BACK: Inputs = (0, 0x180, &[0x11, 0x22, 0x33, 0x44]);
+
+// A turn that fails leaves the inputs unchanged.
+const KEPT: Inputs = (0xee, 0, &[]);
+
+// The words of a slave, 512 of them, with these categories.
 fn words_of(alloc: Global, categories: &[u8]) -> Option<Words> {
-    let mut bytes = [0u8; 640];
+    let mut bytes = [0u8; 1024];
     bytes[14] = 0x30;
-    let count = categories.len().min(512);
-    bytes[128..128 + count].copy_from_slice(&categories[..count]);
+    put(&mut bytes, 128, categories);
     Words::from_bytes(alloc, &bytes).ok()
 }
 
 // A line of slaves with these categories.
-fn plant_of(alloc: Global, categories: &[&[u8]]) -> Option<Plant> {
+pub(crate) fn plant_of(alloc: Global, categories: &[&[u8]]) -> Option<Plant> {
     let mut slaves = Vec::new(alloc);
     for of_slave in categories {
         slaves.push(words_of(alloc, of_slave)?).ok()?;
@@ -113,7 +118,7 @@ pub(super) fn line_of(alloc: Global, stations: &[u16]) -> Option<MemSite> {
     let words = words_of(alloc, NOTHING)?;
     let mut process = process_halves(alloc, &words, stations)?;
     stand_all(&mut process);
-    process_line(alloc, 320, process)
+    process_line(alloc, 512, process)
 }
 
 // Whether a register of a slave reads as these bytes.
@@ -140,160 +145,182 @@ fn is_configured(site: &mut impl Site) -> bool {
     true
 }
 
-// Whether a turn with these outputs has this result, and leaves these inputs.
+// Whether a turn with these outputs has this answer, and leaves these inputs.
 fn turns(
     site: &mut impl Site,
     plan: &Plan,
     outputs: &[u8],
     answer: Result<u16, CycleFault>,
-    left: &[u8],
+    left: &Inputs,
 ) -> bool {
+    let (fill, at, piece) = *left;
+    let mut wanted = [fill; 1486];
+    put(&mut wanted, at, piece);
     let mut bytes = [0xeeu8; 1486];
     let inputs = plan.image.inputs();
     let fits = site.has_process() && outputs.len() == plan.image.outputs() && inputs <= 1486;
-    fits && turn(site, plan, outputs, &mut bytes[..inputs]) == answer && &bytes[..inputs] == left
+    fits && turn(site, plan, outputs, &mut bytes[..inputs]) == answer
+        && bytes[..inputs] == wanted[..inputs]
 }
 
-// Whether the two slaves are configured, and exchange the output 0xaa and their inputs.
-fn exchange(site: &mut impl Site, plan: &Plan) -> bool {
-    site.has_process()
-        && configure(site, plan).is_ok()
-        && is_configured(site)
-        && turns(site, plan, &[0xaa], Ok(4), INPUTS_BACK)
-        && holds(site, 0, 0x1100, &[0xaa])
+// Something that is done with a line, and what must come of it.
+#[derive(Clone, Copy)]
+enum Act {
+    // The line is configured for its process data, or for none.
+    Configure,
+    Clear,
+    // It is reconfigured from none to its process data, and back.
+    Come,
+    Go,
+    // The two slaves are configured as `CONFIGURED` says.
+    Show,
+    // A turn with these outputs has this answer, and leaves these inputs.
+    Turn(&'static [u8], Result<u16, CycleFault>, Inputs),
+    // So has one without process data.
+    Idle,
+    // Slave, register, and the bytes that it holds.
+    Hold(u16, u16, &'static [u8]),
+    // Slave 1 takes no part in anything from now on.
+    Mute,
+    // The next frame is lost.
+    Lose,
 }
 
-// Whether a turn fails if slave 1 takes no part in it.
-fn miss_a_slave(site: &mut MemSite, plan: &Plan) -> bool {
-    site.mute(1, true);
-    let (seen, expected) = (3, 4);
-    let fault = CycleFault::WrongCounter { seen, expected };
-    turns(site, plan, &[0xaa], Err(fault), KEPT)
+// Slave 1 takes no part in a turn, and a frame is lost.
+const MISSED: Result<u16, CycleFault> = Err(CycleFault::WrongCounter {
+    seen: 3,
+    expected: 4,
+});
+
+const LOST: Result<u16, CycleFault> = Err(CycleFault::Lost);
+
+const EXCHANGED: &[Act] = &[
+    Act::Configure,
+    Act::Show,
+    Act::Turn(&[0xaa], Ok(4), BACK),
+    Act::Hold(0, 0x1100, &[0xaa]),
+    Act::Mute,
+    Act::Turn(&[0xaa], MISSED, KEPT),
+    Act::Lose,
+    Act::Turn(&[0xaa], LOST, KEPT),
+];
+
+const RECONFIGURED: &[Act] = &[
+    Act::Clear,
+    Act::Idle,
+    Act::Come,
+    Act::Show,
+    Act::Go,
+    Act::Hold(0, 0x0600, &[0; 112]),
+    Act::Hold(1, 0x0600, &[0; 112]),
+];
+
+// 0x15cd is the last byte of the sync manager's area.
+const LONGEST_OUTPUTS: &[Act] = &[
+    Act::Configure,
+    Act::Turn(&[7; 1486], Ok(2), KEPT),
+    Act::Hold(0, 0x15cd, &[7]),
+];
+
+const LONGEST_INPUTS: &[Act] = &[
+    Act::Configure,
+    Act::Turn(&[], Ok(1), ALL_BACK),
+    Act::Hold(0, 0x15cd, &[0]),
+];
+
+fn is_configured_for(site: &mut impl Site, plan: &Plan) -> bool {
+    site.has_process() && configure(site, plan).is_ok()
 }
 
-// Whether a turn fails if its frame is lost.
-fn lose_a_frame(site: &mut MemSite, plan: &Plan) -> bool {
-    site.fail_once(0);
-    turns(site, plan, &[0xaa], Err(CycleFault::Lost), KEPT)
+fn is_reconfigured(site: &mut impl Site, old: &Plan, new: &Plan) -> bool {
+    site.has_process() && reconfigure(site, old, new).is_ok()
 }
 
-// Whether two slaves exchange data, and turns fail as they should.
-fn exchange_and_fail(alloc: Global) -> bool {
-    let Some(plan) = plan_of(alloc, &[BOTH, INPUTS]) else {
-        return false;
-    };
-    let Some(mut site) = line_of(alloc, &[0x1001, 0x1002]) else {
-        return false;
-    };
-    let goes_so = exchange(&mut site, &plan)
-        && miss_a_slave(&mut site, &plan)
-        && lose_a_frame(&mut site, &plan);
+// Whether the act has come to what it must.
+fn comes(site: &mut MemSite, plan: &Plan, none: &Plan, act: &Act) -> bool {
+    match *act {
+        Act::Configure => is_configured_for(site, plan),
+        Act::Clear => is_configured_for(site, none),
+        Act::Come => is_reconfigured(site, none, plan),
+        Act::Go => is_reconfigured(site, plan, none),
+        Act::Show => is_configured(site),
+        Act::Turn(outputs, answer, left) => turns(site, plan, outputs, answer, &left),
+        Act::Idle => turns(site, none, &[], Ok(0), &KEPT),
+        Act::Hold(slave, register, bytes) => holds(site, slave, register, bytes),
+        Act::Mute => {
+            site.mute(1, true);
+            true
+        }
+        Act::Lose => {
+            site.fail_once(0);
+            true
+        }
+    }
+}
+
+fn all_come(site: &mut MemSite, plan: &Plan, none: &Plan, acts: &[Act]) -> bool {
+    for act in acts {
+        if !comes(site, plan, none, act) {
+            return false;
+        }
+    }
+    true
+}
+
+// Whether all acts come to what they must on a line of slaves with these categories.
+fn goes_so(
+    alloc: Global,
+    stations: &[u16],
+    categories: &[&[u8]],
+    nothing: &[&[u8]],
+    acts: &[Act],
+) -> Option<bool> {
+    let plan = plan_of(alloc, categories)?;
+    let none = plan_of(alloc, nothing)?;
+    let mut site = line_of(alloc, stations)?;
+    let come = all_come(&mut site, &plan, &none, acts);
     drop(site);
-    goes_so
+    Some(come)
 }
 
 #[test]
 fn two_slaves_exchange_data(rt: HostRuntime) {
-    assert!(rt; exchange_and_fail(rt.alloc()));
+    for acts in [EXCHANGED, RECONFIGURED] {
+        assert!(rt;
+            goes_so(
+                rt.alloc(),
+                &[0x1001, 0x1002],
+                &[BOTH, INPUTS],
+                &[NOTHING, NOTHING],
+                acts,
+            ) == Some(true)
+        );
+    }
 }
 
-// Whether a line is configured for no process data, and a turn answers 0.
-fn is_without_data(site: &mut impl Site, empty: &Plan) -> bool {
-    site.has_process() && configure(site, empty).is_ok() && turns(site, empty, &[], Ok(0), &[])
-}
-
-// Whether a line is reconfigured for process data, and back.
-fn comes_and_goes(site: &mut impl Site, empty: &Plan, plan: &Plan) -> bool {
-    site.has_process()
-        && reconfigure(site, empty, plan).is_ok()
-        && is_configured(site)
-        && site.has_process()
-        && reconfigure(site, plan, empty).is_ok()
-        && holds(site, 0, 0x0600, &[0; 112])
-        && holds(site, 1, 0x0600, &[0; 112])
-}
-
-// Whether two slaves are reconfigured from no process data to that of both, and back.
-fn is_reconfigured(alloc: Global) -> bool {
-    let Some(empty) = plan_of(alloc, &[NOTHING, NOTHING]) else {
-        return false;
-    };
-    let Some(plan) = plan_of(alloc, &[BOTH, INPUTS]) else {
-        return false;
-    };
-    let Some(mut site) = line_of(alloc, &[0x1001, 0x1002]) else {
-        return false;
-    };
-    let goes_so = is_without_data(&mut site, &empty) && comes_and_goes(&mut site, &empty, &plan);
-    drop(site);
-    goes_so
-}
-
-#[test]
-fn a_line_is_reconfigured(rt: HostRuntime) {
-    assert!(rt; is_reconfigured(rt.alloc()));
-}
-
-// Categories of a slave with 1,486 bytes for one sync manager: 46 entries of 255 bits and one of 158.
-fn longest(direction: u8, kind: u8) -> [u8; 402] {
+// Categories of a slave with one sync manager: 46 entries of 255 bits and one of this many, of which 158 make 1,486 bytes.
+pub(crate) fn longest(direction: u8, kind: u8, last: u8) -> [u8; 402] {
     let mut bytes = [0u8; 402];
     bytes[..12].copy_from_slice(&[
         41, 0, 4, 0, 0x00, 0x10, 0xce, 0x05, 0x24, 0x00, 0x01, direction,
     ]);
     bytes[12..24].copy_from_slice(&[kind, 0, 192, 0, 0x00, 0x16, 47, 0, 0, 0, 0, 0]);
     for entry in 0..47usize {
-        bytes[24 + 8 * entry + 5] = if entry < 46 { 255 } else { 158 };
+        bytes[24 + 8 * entry + 5] = if entry < 46 { 255 } else { last };
     }
     bytes[400] = 0xff;
     bytes[401] = 0xff;
     bytes
 }
 
-// Whether a turn with these outputs leaves these inputs, and this byte at 0x15cd, the last one of the sync manager's area.
-fn exchange_all(
-    site: &mut impl Site,
-    plan: &Plan,
-    outputs: &[u8],
-    counter: u16,
-    inputs: &[u8],
-    last: u8,
-) -> bool {
-    site.has_process()
-        && configure(site, plan).is_ok()
-        && turns(site, plan, outputs, Ok(counter), inputs)
-        && holds(site, 0, 0x15cd, &[last])
-}
-
-// Whether a slave with these categories does.
-fn exchanges_all(
-    alloc: Global,
-    categories: &[u8],
-    outputs: &[u8],
-    counter: u16,
-    inputs: &[u8],
-    last: u8,
-) -> bool {
-    let Some(plan) = plan_of(alloc, &[categories]) else {
-        return false;
-    };
-    let Some(mut site) = line_of(alloc, &[0x1001]) else {
-        return false;
-    };
-    let goes_so = exchange_all(&mut site, &plan, outputs, counter, inputs, last);
-    drop(site);
-    goes_so
+// Whether all acts come to what they must on a line of one slave.
+fn goes_alone(alloc: Global, categories: &[u8], acts: &[Act]) -> Option<bool> {
+    goes_so(alloc, &[0x1001], &[categories], &[NOTHING], acts)
 }
 
 #[test]
-fn the_longest_outputs_are_exchanged(rt: HostRuntime) {
-    let categories = longest(3, 51);
-    assert!(rt; exchanges_all(rt.alloc(), &categories, &[7; 1486], 2, &[], 7));
-}
-
-#[test]
-fn the_longest_inputs_are_exchanged(rt: HostRuntime) {
-    let mut inputs = [0u8; 1486];
-    inputs[0x180..0x184].copy_from_slice(&[0x11, 0x22, 0x33, 0x44]);
-    let categories = longest(4, 50);
-    assert!(rt; exchanges_all(rt.alloc(), &categories, &[], 1, &inputs, 0));
+fn the_longest_data_are_exchanged(rt: HostRuntime) {
+    let alloc = rt.alloc();
+    assert!(rt; goes_alone(alloc, &longest(3, 51, 158), LONGEST_OUTPUTS) == Some(true));
+    assert!(rt; goes_alone(alloc, &longest(4, 50, 158), LONGEST_INPUTS) == Some(true));
 }

@@ -7,9 +7,19 @@ use std::alloc::Global;
 
 const STATION: u16 = 0x1001;
 
-// For each slave of a line: its FMMUs, where its memory holds bytes, and these bytes; what an exchange adds to the working counter there,
-// and the byte at 0x1100 after it.
-const LINE: &[(&[[u8; 16]], u16, &[u8], u16, u8)] = &[
+// A slave: its FMMUs, where its memory holds bytes, and these bytes; the content of an LRW that comes to it and that goes on; what the
+// slave adds to the working counter, and the byte at 0x1100 after it.
+type Slave = (
+    &'static [[u8; 16]],
+    u16,
+    &'static [u8],
+    [u8; 7],
+    [u8; 7],
+    u16,
+    u8,
+);
+
+const LINE: &[Slave] = &[
     (
         &[
             [0, 0, 0, 0, 1, 0, 0, 7, 0x00, 0x11, 0, 2, 1, 0, 0, 0],
@@ -17,6 +27,8 @@ const LINE: &[(&[[u8; 16]], u16, &[u8], u16, u8)] = &[
         ],
         0x1180,
         &[0x11, 0x22, 0x33, 0x44],
+        [0xaa, 0, 0, 0, 0, 0, 0],
+        [0xaa, 0x11, 0x22, 0x33, 0x44, 0, 0],
         3,
         0xaa,
     ),
@@ -24,6 +36,8 @@ const LINE: &[(&[[u8; 16]], u16, &[u8], u16, u8)] = &[
         &[[5, 0, 0, 0, 2, 0, 0, 7, 0x00, 0x10, 0, 1, 1, 0, 0, 0]],
         0x1000,
         &[0x55, 0x06],
+        [0xaa, 0x11, 0x22, 0x33, 0x44, 0, 0],
+        [0xaa, 0x11, 0x22, 0x33, 0x44, 0x55, 0x06],
         1,
         0x00,
     ),
@@ -122,45 +136,46 @@ fn half_of(alloc: Global, units: &[[u8; 16]], place: u16, memory: &[u8]) -> Opti
     Some(half)
 }
 
-// What an exchange adds to the working counter at a half, and the byte at 0x1100 of a copy after it.
-fn exchanged(half: &mut ProcessHalf, content: &mut [u8]) -> Option<(u16, u8)> {
-    let added = half.take(Command::Lrw, 0, content);
+// The byte at 0x1100 of a copy.
+fn copied_byte(half: &ProcessHalf) -> Option<u8> {
     let copy = half.try_copy().ok()?;
-    Some((added, copy.peek(0x1100)))
+    Some(copy.peek(0x1100))
 }
 
-// What comes back from the line of `LINE`, if each slave does as it says.
-fn back_from_the_line(alloc: Global) -> Option<[u8; 7]> {
-    let mut content = [0xaa, 0, 0, 0, 0, 0, 0];
-    for (units, place, memory, counter, output) in LINE {
-        let mut half = half_of(alloc, units, *place, memory)?;
-        if exchanged(&mut half, &mut content) != Some((*counter, *output)) {
-            return None;
-        }
-    }
-    Some(content)
+// Whether the LRW passes the slave so.
+fn is_passed(alloc: Global, slave: &Slave) -> Option<bool> {
+    let (units, place, memory, content, back, counter, output) = *slave;
+    let mut half = half_of(alloc, units, place, memory)?;
+    let mut content = content;
+    let added = half.take(Command::Lrw, 0, &mut content);
+    Some(added == counter && content == back && copied_byte(&half) == Some(output))
 }
 
 #[test]
 fn a_line_exchanges_data(rt: HostRuntime) {
-    let back = [0xaa, 0x11, 0x22, 0x33, 0x44, 0x55, 0x06];
-    assert!(rt; back_from_the_line(rt.alloc()) == Some(back));
-}
-
-// What the LRW adds to the working counter and reads at a half with this FMMU, and the byte at 0x1000 after it.
-fn mapped(alloc: Global, unit: &[u8; 16]) -> Option<(u16, [u8; 2], u8)> {
-    let mut half = half_of(alloc, &[*unit], 0x1000, &[0xa0, 0xa1])?;
-    let mut content = [1u8, 2];
-    let added = half.take(Command::Lrw, 1, &mut content);
-    Some((added, content, half.peek(0x1000)))
-}
-
-#[test]
-fn ranges_are_mapped_whole(rt: HostRuntime) {
-    for (unit, counter, reads) in RANGES {
-        let byte = if *counter == 3 { 1 } else { 0xa0 };
-        assert!(rt; mapped(rt.alloc(), unit) == Some((*counter, *reads, byte)));
+    for slave in LINE {
+        assert!(rt; is_passed(rt.alloc(), slave) == Some(true));
     }
+}
+
+// Whether the LRW adds this to the working counter and reads this at a half with this FMMU. Where it writes, that is the byte at 0x1000.
+fn is_mapped(half: &mut ProcessHalf, unit: &[u8; 16], counter: u16, reads: [u8; 2]) -> bool {
+    let mut content = [1u8, 2];
+    write_units(half, &[*unit]);
+    stand(half, 0x1000, &[0xa0, 0xa1]);
+    let added = half.take(Command::Lrw, 1, &mut content);
+    let byte = if counter == 3 { 1 } else { 0xa0 };
+    added == counter && content == reads && half.peek(0x1000) == byte
+}
+
+// Whether each FMMU maps its ranges as `RANGES` says.
+fn are_mapped(half: &mut ProcessHalf) -> bool {
+    for (unit, counter, reads) in RANGES {
+        if !is_mapped(half, unit, *counter, *reads) {
+            return false;
+        }
+    }
+    true
 }
 
 // What a datagram of `count` zeros adds to its working counter.
@@ -188,15 +203,17 @@ fn identification(half: &mut ProcessHalf) -> [u8; 4] {
     content
 }
 
-// Whether reads and writes are guarded, and the half still shows its station address and alias after them.
-fn keeps_its_memory(alloc: Global) -> bool {
-    let Some(mut half) = half_of(alloc, &[], 0x1000, &[]) else {
-        return false;
-    };
-    is_guarded(&mut half) && identification(&mut half) == [0x01, 0x10, 0, 0]
+// Whether reads and writes are guarded, the half still shows its station address and alias after them, and its FMMUs map whole ranges.
+fn keeps_its_memory(alloc: Global) -> Option<bool> {
+    let mut half = half_of(alloc, &[], 0x1000, &[])?;
+    Some(
+        is_guarded(&mut half)
+            && identification(&mut half) == [0x01, 0x10, 0, 0]
+            && are_mapped(&mut half),
+    )
 }
 
 #[test]
-fn the_memory_is_guarded(rt: HostRuntime) {
-    assert!(rt; keeps_its_memory(rt.alloc()));
+fn the_memory_is_guarded_and_mapped(rt: HostRuntime) {
+    assert!(rt; keeps_its_memory(rt.alloc()) == Some(true));
 }

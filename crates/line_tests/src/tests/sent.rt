@@ -2,11 +2,12 @@
 //! are those of the format's description; the others were spelt by hand: two bytes of header with the length of the datagram, then command
 //! (4 reads, 5 writes), index, station, register, length, IRQ, content and working counter.
 
+use super::access::{Access, TAKEN, WRITTEN, ZERO_WORDS, all_come};
 use super::process_data::{BOTH, INPUTS, line_of, plan_of};
 use super::recorder::{Recorder, behind};
 use super::{ISSUE, line};
 use cyclic::{configure, turn};
-use esc_rom::{RomFault, issue, open_slave, read_all, settle};
+use esc_rom::RomFault;
 use sii_image::Plan;
 use site_core::{Issued, Settled, Site};
 use std::alloc::Global;
@@ -42,93 +43,68 @@ const FETCH: &[u8] = &[
     0x10, 0x10, 4, 0, 0x01, 0x10, 0x08, 0x05, 4, 0, 0, 0, 0, 0, 0, 0, 0, 0,
 ];
 
-// What is done with slave 0.
-#[derive(Clone, Copy)]
-enum Act {
-    Open,
-    // Word 4 is made 1.
-    Write,
-    // The word is issued again while the slave is busy with it, and settled.
-    WriteTwice,
-    // A settle follows an issue that was lost.
-    Settle,
-    // The slave is given up as it is opened, or read.
-    GiveUp,
-    GiveUpReading,
-}
-
-// What is done, for how many datagrams the slave stays busy with a command, how many frames pass, how many are lost then, and the frames
-// that are sent. A frame that must be taken is sent three times at most.
-const SENT: &[(Act, u32, u32, u32, &[&[u8]])] = &[
-    (Act::Open, 0, 0, 0, &[FORCE, ALLOW, POLL, CLEAR]),
-    (Act::Write, 0, 0, 0, &[ISSUE, POLL]),
-    (Act::Write, 2, 0, 0, &[ISSUE, POLL, POLL, POLL]),
-    (
-        Act::WriteTwice,
-        3,
-        0,
-        0,
-        &[ISSUE, ISSUE, POLL, POLL, POLL, CLEAR],
-    ),
-    (Act::Settle, 0, 0, 0, &[POLL, CLEAR]),
-    (
-        Act::Open,
-        0,
-        0,
-        2,
-        &[FORCE, FORCE, FORCE, ALLOW, POLL, CLEAR],
-    ),
-    (Act::GiveUp, 0, 0, 3, &[FORCE, FORCE, FORCE]),
-    (Act::GiveUp, 0, 1, 3, &[FORCE, ALLOW, ALLOW, ALLOW]),
-    (
-        Act::GiveUp,
-        0,
-        3,
-        3,
-        &[FORCE, ALLOW, POLL, CLEAR, CLEAR, CLEAR],
-    ),
-    (Act::GiveUpReading, 0, 1, 3, &[POLL, READ_0, READ_0, READ_0]),
-];
-
 // The fault of a slave that is given up.
 const DEAD: RomFault = RomFault::SlaveDead { slave: 0 };
 
-// Whether word 4 is written, or found busy by a second issue.
-fn is_written(site: &mut impl Site, second: Option<Issued>, settled: Settled) -> bool {
-    if !site.owns(0) || issue(site, 0, 4, 1) != Ok(Issued::Taken) {
-        return false;
-    }
-    match second {
-        Some(issued) => {
-            issue(site, 0, 4, 1) == Ok(issued) && settle(site, 0, false) == Ok(settled)
-        }
-        None => settle(site, 0, true) == Ok(settled),
-    }
-}
+const OPENED: Access = Access::Open(0, Ok(()));
 
-// Whether it is done as it should be.
-fn is_done(alloc: Global, site: &mut impl Site, act: Act) -> bool {
-    if !site.owns(0) {
-        return false;
-    }
-    match act {
-        Act::Open => open_slave(site, 0).is_ok(),
-        Act::Write => is_written(site, None, Settled::Written),
-        Act::WriteTwice => is_written(site, Some(Issued::NotTaken), Settled::Again),
-        Act::Settle => settle(site, 0, false) == Ok(Settled::Again),
-        Act::GiveUp => open_slave(site, 0) == Err(DEAD),
-        Act::GiveUpReading => read_all(alloc, site, 0).err() == Some(DEAD),
-    }
-}
+const GIVEN_UP: Access = Access::Open(0, Err(DEAD));
+
+// What wasn't taken is settled.
+const CLEARED: Access = Access::Settle(0, false, Ok(Settled::Again));
+
+// The word is issued again while the slave is busy with it.
+const NOT_TAKEN: Access = Access::Issue(0, 4, 1, Ok(Issued::NotTaken));
+
+// For how many datagrams the slave stays busy with a command, how many frames pass, how many are lost then, what is done with slave 0,
+// and the frames that are sent. A frame that must be taken is sent three times at most.
+type Sent = (u32, u32, u32, &'static [Access], &'static [&'static [u8]]);
+
+const SENT: &[Sent] = &[
+    (0, 0, 0, &[OPENED], &[FORCE, ALLOW, POLL, CLEAR]),
+    (0, 0, 0, &[TAKEN, WRITTEN], &[ISSUE, POLL]),
+    (2, 0, 0, &[TAKEN, WRITTEN], &[ISSUE, POLL, POLL, POLL]),
+    (
+        3,
+        0,
+        0,
+        &[TAKEN, NOT_TAKEN, CLEARED],
+        &[ISSUE, ISSUE, POLL, POLL, POLL, CLEAR],
+    ),
+    (0, 0, 0, &[CLEARED], &[POLL, CLEAR]),
+    (
+        0,
+        0,
+        2,
+        &[OPENED],
+        &[FORCE, FORCE, FORCE, ALLOW, POLL, CLEAR],
+    ),
+    (0, 0, 3, &[GIVEN_UP], &[FORCE, FORCE, FORCE]),
+    (0, 1, 3, &[GIVEN_UP], &[FORCE, ALLOW, ALLOW, ALLOW]),
+    (
+        0,
+        3,
+        3,
+        &[GIVEN_UP],
+        &[FORCE, ALLOW, POLL, CLEAR, CLEAR, CLEAR],
+    ),
+    (
+        0,
+        1,
+        3,
+        &[Access::Read(Err(DEAD))],
+        &[POLL, READ_0, READ_0, READ_0],
+    ),
+];
 
 // Whether these frames are sent.
-fn sends(alloc: Global, row: &(Act, u32, u32, u32, &[&[u8]])) -> bool {
-    let (act, delay, passing, losing, frames) = *row;
+fn sends(alloc: Global, row: &Sent) -> bool {
+    let (delay, passing, losing, accesses, frames) = *row;
     let Some(site) = line(alloc, delay) else {
         return false;
     };
     let mut recorder = Recorder::of(alloc, site, passing, losing);
-    let sends = is_done(alloc, &mut recorder, act) && recorder.has_sent(frames);
+    let sends = all_come(alloc, &mut recorder, accesses) && recorder.has_sent(frames);
     drop(recorder);
     sends
 }
@@ -151,18 +127,13 @@ fn behind_a_read(sent: &[u8]) -> Option<&[u8]> {
     Some(left)
 }
 
-// Whether all words are read.
-fn is_read(alloc: Global, site: &mut impl Site) -> bool {
-    site.owns(0) && read_all(alloc, site, 0).is_ok()
-}
-
 // Whether all words are read by the frames of a read.
 fn reads(alloc: Global) -> bool {
     let Some(site) = line(alloc, 0) else {
         return false;
     };
     let mut recorder = Recorder::of(alloc, site, 0, 0);
-    let is_read = is_read(alloc, &mut recorder);
+    let is_read = all_come(alloc, &mut recorder, &[Access::Read(Ok(ZERO_WORDS))]);
     let is_so = match behind_a_read(recorder.sent()) {
         Some(left) => left.is_empty(),
         None => false,

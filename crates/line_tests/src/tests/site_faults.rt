@@ -1,62 +1,350 @@
-//! What faults and power cuts leave of a disk and a slave in memory.
+//! What is done with a line in memory and its disk, and what faults and power cuts leave of them.
 
-use super::{site_of, zero_words};
+use super::access::{self, Access, TAKEN, WITH_ALIAS, WRITTEN};
+use super::{ISSUE, line_with};
 use ecat_frame::{Command, Frame, fp};
-use esc_model::RomHalf;
-use site_core::{DeviceFault, Site};
+use esc_rom::RomFault;
+use site_core::{DeviceFault, Issued, Settled, Site};
 use site_mem::{MemSite, Parts, Pattern};
 use std::alloc::Global;
 
-// A 7 is written at byte 0 and synced; then 8 and 8 are. How many of these device writes succeed before one is torn, by which pattern,
-// and the disk after it.
-const TORN: &[(u64, Pattern, [u8; 4])] = &[
-    (2, Pattern::Old, [7, 2, 3, 4]),
-    (3, Pattern::Old, [7, 2, 3, 4]),
-    (2, Pattern::New, [8, 8, 3, 4]),
-    (3, Pattern::New, [8, 8, 3, 4]),
-    (2, Pattern::Fill(0x12a5), [0xa5, 0xa5, 3, 4]),
-    (3, Pattern::Fill(0x12a5), [0xa5, 0xa5, 3, 4]),
-];
-
-// The site stops in word 4 while a 9 at byte 0 is unsynced: the pattern, and the disk and word 4 after it.
-const TORN_WITH_A_WORD: &[(Pattern, [u8; 4], u16)] = &[
-    (Pattern::Old, [1, 2, 3, 4], 0),
-    (Pattern::New, [9, 2, 3, 4], 1),
-    (Pattern::Fill(0xdead), [0xad, 2, 3, 4], 0xdead),
-];
-
-// The fuse's pattern, where bytes are written and not synced, these bytes, and the disk in a snapshot.
-const SNAPSHOTS: &[(Option<Pattern>, usize, &[u8], &[u8])] = &[
-    (None, 1, &[8, 9], &[1, 2, 3, 4]),
-    (None, 4, &[5], &[1, 2, 3, 4]),
-    (Some(Pattern::Old), 1, &[8, 9], &[1, 2, 3, 4]),
-    (Some(Pattern::Old), 4, &[5], &[1, 2, 3, 4]),
-    (Some(Pattern::New), 1, &[8, 9], &[1, 8, 9, 4]),
-    (Some(Pattern::New), 4, &[5], &[1, 2, 3, 4, 5]),
-    (Some(Pattern::Fill(0x12a5)), 1, &[8, 9], &[1, 0xa5, 0xa5, 4]),
-    (Some(Pattern::Fill(0x12a5)), 4, &[5], &[1, 2, 3, 4, 0xa5]),
-];
-
-// How many writes of a word are to end with an error, how often word 4 is issued and polled, and its value after that.
-const FAILED: &[(u32, u32, u16)] = &[(1, 1, 0), (1, 2, 1)];
-
-// A line of one slave of 64 words, and a disk of the bytes 1, 2, 3 and 4.
-fn site(alloc: Global) -> Option<MemSite> {
-    let sizes = [64].to_vec(alloc).ok()?;
-    let disk = [1, 2, 3, 4].to_vec(alloc).ok()?;
-    let mut halves = Vec::new(alloc);
-    let words = zero_words(alloc)?;
-    halves.push(Some(RomHalf::power_up(words, 0x1001, 0))).ok()?;
-    let parts = Parts {
-        sizes,
-        disk: Some(disk),
-        halves,
-        process: None,
-    };
-    site_of(alloc, parts)
+// Something that is done with a line, and what must come of it.
+#[derive(Clone, Copy)]
+enum Deed {
+    // This number of calls succeed, and the next fails.
+    FailOnce(u64),
+    // This number of words that slave 0 is given end with an error.
+    FailWords(u32),
+    Access(Access),
+    Disk(DiskDeed),
+    // A frame issues a 1 for word 4 of slave 0, or polls it: its fault, if it has one.
+    Send(Option<DeviceFault>),
+    Poll(Option<DeviceFault>),
+    // There is one slave, of 64 words.
+    IsAlone,
 }
 
-// The fault of a datagram for the control register of the slave, if it fails.
+#[derive(Clone, Copy)]
+enum DiskDeed {
+    // Bytes are written at byte 0: the fault, if there is one.
+    Write(&'static [u8], Option<DeviceFault>),
+    // Bytes are written from a place on.
+    WriteAt(usize, &'static [u8]),
+    Sync(Option<DeviceFault>),
+    Length(Result<usize, DeviceFault>),
+    // Of five bytes these are the last three.
+    Read([u8; 3]),
+}
+
+const STOPPED: Option<DeviceFault> = Some(DeviceFault::Stopped);
+
+// A line and what is done with it.
+#[derive(Clone, Copy)]
+struct Case {
+    // The station addresses of its slaves, of 64 words each.
+    stations: &'static [u16],
+    // For how many datagrams a command keeps a slave busy.
+    delay: u32,
+    // How many device writes succeed before the power is cut in one, and the pattern that this leaves.
+    fuse: Option<(u64, Pattern)>,
+    deeds: &'static [Deed],
+    // Whether a snapshot is taken in place of the parts.
+    is_snapshot: bool,
+    // The disk after them, and of each slave word 4 and whether it is in flight.
+    disk: &'static [u8],
+    words: &'static [(u16, bool)],
+}
+
+// A line of one slave, and a disk of the bytes 1, 2, 3 and 4.
+const ONE: Case = Case {
+    stations: &[0x1001],
+    delay: 0,
+    fuse: None,
+    deeds: &[],
+    is_snapshot: false,
+    disk: &[1, 2, 3, 4],
+    words: &[(0, false)],
+};
+
+// Words that are written, and that aren't.
+const WORDS: &[Case] = &[
+    Case {
+        delay: 1,
+        deeds: &[
+            Deed::Access(TAKEN),
+            Deed::Access(WRITTEN),
+            Deed::Access(Access::Open(0, Ok(()))),
+            Deed::Access(Access::Read(Ok(WITH_ALIAS))),
+        ],
+        words: &[(1, false)],
+        ..ONE
+    },
+    // A word whose write ends with an error is issued again.
+    Case {
+        delay: 1,
+        deeds: &[
+            Deed::FailWords(1),
+            Deed::Access(TAKEN),
+            Deed::Access(Access::Settle(0, true, Ok(Settled::Again))),
+            Deed::Access(TAKEN),
+            Deed::Access(WRITTEN),
+            Deed::Access(Access::Open(0, Ok(()))),
+            Deed::Access(Access::Read(Ok(WITH_ALIAS))),
+        ],
+        words: &[(1, false)],
+        ..ONE
+    },
+    // So is one whose frame is lost.
+    Case {
+        delay: 1,
+        deeds: &[
+            Deed::FailOnce(0),
+            Deed::Access(Access::Issue(0, 4, 1, Ok(Issued::Lost))),
+            Deed::Access(Access::Settle(0, false, Ok(Settled::Again))),
+            Deed::Access(TAKEN),
+            Deed::Access(WRITTEN),
+            Deed::Access(Access::Open(0, Ok(()))),
+            Deed::Access(Access::Read(Ok(WITH_ALIAS))),
+        ],
+        words: &[(1, false)],
+        ..ONE
+    },
+    // A lost poll only counts as a poll.
+    Case {
+        delay: 1,
+        deeds: &[
+            Deed::FailOnce(1),
+            Deed::Access(TAKEN),
+            Deed::Access(WRITTEN),
+            Deed::Access(Access::Open(0, Ok(()))),
+            Deed::Access(Access::Read(Ok(WITH_ALIAS))),
+        ],
+        words: &[(1, false)],
+        ..ONE
+    },
+    // Polls have an end.
+    Case {
+        delay: 9_999,
+        deeds: &[Deed::Access(TAKEN), Deed::Access(WRITTEN)],
+        words: &[(1, false)],
+        ..ONE
+    },
+    Case {
+        delay: 10_000,
+        deeds: &[
+            Deed::Access(TAKEN),
+            Deed::Access(Access::Settle(0, true, Ok(Settled::Dead))),
+        ],
+        words: &[(0, true)],
+        ..ONE
+    },
+    // A slave at another station is given up.
+    Case {
+        stations: &[0x1002],
+        delay: 1,
+        deeds: &[
+            Deed::Access(Access::Open(0, Err(RomFault::SlaveDead { slave: 0 }))),
+            Deed::Access(Access::Issue(0, 4, 1, Ok(Issued::NotTaken))),
+        ],
+        ..ONE
+    },
+    // A word that fails keeps its value.
+    Case {
+        deeds: &[Deed::FailWords(1), Deed::Send(None), Deed::Poll(None)],
+        ..ONE
+    },
+    Case {
+        deeds: &[
+            Deed::FailWords(1),
+            Deed::Send(None),
+            Deed::Poll(None),
+            Deed::Send(None),
+            Deed::Poll(None),
+        ],
+        words: &[(1, false)],
+        ..ONE
+    },
+    // Calls that fail change nothing.
+    Case {
+        deeds: &[
+            Deed::FailOnce(1),
+            Deed::Disk(DiskDeed::Length(Ok(4))),
+            Deed::Disk(DiskDeed::Write(&[9], Some(DeviceFault::Disk))),
+            Deed::FailOnce(0),
+            Deed::Send(Some(DeviceFault::Lost)),
+            Deed::Disk(DiskDeed::Sync(None)),
+        ],
+        ..ONE
+    },
+    // What was written is read.
+    Case {
+        deeds: &[
+            Deed::IsAlone,
+            Deed::Disk(DiskDeed::WriteAt(3, &[7, 9])),
+            Deed::Disk(DiskDeed::Length(Ok(5))),
+            Deed::Disk(DiskDeed::Read([3, 7, 9])),
+        ],
+        disk: &[1, 2, 3, 7, 9],
+        ..ONE
+    },
+];
+
+// A 7 is written at byte 0 and synced; then 8 and 8 are. The power is cut in this write, or in the sync after it.
+const CUT_IN_A_WRITE: Case = Case {
+    deeds: &[
+        Deed::Disk(DiskDeed::Write(&[7], None)),
+        Deed::Disk(DiskDeed::Sync(None)),
+        Deed::Disk(DiskDeed::Write(&[8, 8], STOPPED)),
+        Deed::Disk(DiskDeed::Sync(STOPPED)),
+        Deed::Disk(DiskDeed::Length(Err(DeviceFault::Stopped))),
+    ],
+    ..ONE
+};
+
+const CUT_IN_A_SYNC: Case = Case {
+    deeds: &[
+        Deed::Disk(DiskDeed::Write(&[7], None)),
+        Deed::Disk(DiskDeed::Sync(None)),
+        Deed::Disk(DiskDeed::Write(&[8, 8], None)),
+        Deed::Disk(DiskDeed::Sync(STOPPED)),
+        Deed::Disk(DiskDeed::Length(Err(DeviceFault::Stopped))),
+    ],
+    ..ONE
+};
+
+// The power is cut in word 4 while a 9 at byte 0 is unsynced.
+const CUT_IN_A_WORD: Case = Case {
+    deeds: &[Deed::Disk(DiskDeed::Write(&[9], None)), Deed::Send(STOPPED)],
+    ..ONE
+};
+
+// The power is cut in the word of the second slave, while that of the first is in flight.
+const CUT_IN_THE_SECOND: Case = Case {
+    stations: &[0x1001, 0x1002],
+    delay: 9,
+    deeds: &[
+        Deed::Access(TAKEN),
+        Deed::Access(Access::Issue(1, 4, 1, Err(DeviceFault::Stopped))),
+        Deed::Access(Access::Settle(0, true, Err(DeviceFault::Stopped))),
+        Deed::Access(Access::Open(1, Err(RomFault::Stopped))),
+    ],
+    ..ONE
+};
+
+const CUTS: &[Case] = &[
+    Case {
+        fuse: Some((2, Pattern::Old)),
+        disk: &[7, 2, 3, 4],
+        ..CUT_IN_A_WRITE
+    },
+    Case {
+        fuse: Some((2, Pattern::New)),
+        disk: &[8, 8, 3, 4],
+        ..CUT_IN_A_WRITE
+    },
+    Case {
+        fuse: Some((2, Pattern::Fill(0x12a5))),
+        disk: &[0xa5, 0xa5, 3, 4],
+        ..CUT_IN_A_WRITE
+    },
+    Case {
+        fuse: Some((3, Pattern::Old)),
+        disk: &[7, 2, 3, 4],
+        ..CUT_IN_A_SYNC
+    },
+    Case {
+        fuse: Some((3, Pattern::New)),
+        disk: &[8, 8, 3, 4],
+        ..CUT_IN_A_SYNC
+    },
+    Case {
+        fuse: Some((3, Pattern::Fill(0x12a5))),
+        disk: &[0xa5, 0xa5, 3, 4],
+        ..CUT_IN_A_SYNC
+    },
+    Case {
+        fuse: Some((1, Pattern::Old)),
+        ..CUT_IN_A_WORD
+    },
+    Case {
+        fuse: Some((1, Pattern::New)),
+        disk: &[9, 2, 3, 4],
+        words: &[(1, false)],
+        ..CUT_IN_A_WORD
+    },
+    Case {
+        fuse: Some((1, Pattern::Fill(0xdead))),
+        disk: &[0xad, 2, 3, 4],
+        words: &[(0xdead, false)],
+        ..CUT_IN_A_WORD
+    },
+    Case {
+        fuse: Some((1, Pattern::Old)),
+        words: &[(0, true), (0, false)],
+        ..CUT_IN_THE_SECOND
+    },
+    Case {
+        fuse: Some((1, Pattern::New)),
+        words: &[(0, true), (1, false)],
+        ..CUT_IN_THE_SECOND
+    },
+    Case {
+        fuse: Some((1, Pattern::Fill(0xdead))),
+        words: &[(0, true), (0xdead, false)],
+        ..CUT_IN_THE_SECOND
+    },
+];
+
+// Bytes 1 and 2 are written, or a byte behind the end is, and a word is issued. Nothing is synced.
+const INSIDE: Case = Case {
+    deeds: &[Deed::Disk(DiskDeed::WriteAt(1, &[8, 9])), Deed::Send(None)],
+    is_snapshot: true,
+    words: &[(0, true)],
+    ..ONE
+};
+
+const BEHIND: Case = Case {
+    deeds: &[Deed::Disk(DiskDeed::WriteAt(4, &[5])), Deed::Send(None)],
+    is_snapshot: true,
+    words: &[(0, true)],
+    ..ONE
+};
+
+// A snapshot is what a power cut leaves, by the pattern of the fuse, or `Old` without one.
+const SNAPSHOTS: &[Case] = &[
+    INSIDE,
+    BEHIND,
+    Case {
+        fuse: Some((9, Pattern::Old)),
+        ..INSIDE
+    },
+    Case {
+        fuse: Some((9, Pattern::Old)),
+        ..BEHIND
+    },
+    Case {
+        fuse: Some((9, Pattern::New)),
+        disk: &[1, 8, 9, 4],
+        ..INSIDE
+    },
+    Case {
+        fuse: Some((9, Pattern::New)),
+        disk: &[1, 2, 3, 4, 5],
+        ..BEHIND
+    },
+    Case {
+        fuse: Some((9, Pattern::Fill(0x12a5))),
+        disk: &[1, 0xa5, 0xa5, 4],
+        ..INSIDE
+    },
+    Case {
+        fuse: Some((9, Pattern::Fill(0x12a5))),
+        disk: &[1, 2, 3, 4, 0xa5],
+        ..BEHIND
+    },
+];
+
+// The fault of a datagram for the control register of slave 0, if it fails.
 fn fault_of(site: &mut impl Site, command: Command, content: &[u8]) -> Option<DeviceFault> {
     let mut frame = Frame::new();
     let pushed = frame.push(command, 0, fp(0x1001, 0x0502), content);
@@ -66,198 +354,19 @@ fn fault_of(site: &mut impl Site, command: Command, content: &[u8]) -> Option<De
     site.exchange(0, &mut frame).err()
 }
 
-// The fault of a frame that issues a 1 for word 4, if it fails.
-fn issue(site: &mut impl Site) -> Option<DeviceFault> {
-    fault_of(site, Command::Fpwr, &[0x01, 0x02, 4, 0, 0, 0, 1, 0])
-}
-
-// Word 4 of the slave, and whether it is in flight.
-fn word(parts: &Parts) -> Option<(u16, bool)> {
-    match parts.halves.first() {
-        Some(Some(half)) => Some((half.words().alias(), half.in_flight().is_some())),
-        Some(None) | None => None,
-    }
-}
-
-// Whether the disk has these bytes, word 4 this value, and word 4 is in flight or not, as given.
-fn holds(parts: &Parts, bytes: &[u8], alias: u16, is_in_flight: bool) -> bool {
-    match &parts.disk {
-        Some(disk) => disk.as_slice() == bytes && word(parts) == Some((alias, is_in_flight)),
-        None => false,
-    }
-}
-
-// Whether the site leaves these bytes, and word 4 with this value and not in flight.
-fn leaves(site: MemSite, bytes: &[u8], alias: u16) -> bool {
-    let parts = site.into_parts();
-    let is_so = holds(&parts, bytes, alias, false);
-    drop(parts);
-    is_so
-}
-
-// Whether a write and a sync succeed, and a second write does exactly if the site is to stop only in the sync after it (`in_sync`).
-fn stops_in_the_second(site: &mut impl Site, in_sync: bool) -> bool {
-    site.has_disk()
-        && site.disk_write(0, &[7]).is_ok()
-        && site.disk_sync().is_ok()
-        && site.disk_write(0, &[8, 8]).is_ok() == in_sync
-}
-
-// Whether the site has stopped: a sync, and a call for the length after it, report that.
-fn has_stopped(site: &mut impl Site) -> bool {
-    site.has_disk()
-        && site.disk_sync() == Err(DeviceFault::Stopped)
-        && site.disk_len() == Err(DeviceFault::Stopped)
-}
-
-// Whether a power cut after this number of device writes leaves these bytes.
-fn tears(alloc: Global, passing: u64, pattern: Pattern, bytes: &[u8]) -> bool {
-    let Some(mut site) = site(alloc) else {
-        return false;
-    };
-    site.fuse(passing, pattern);
-    let stops = stops_in_the_second(&mut site, passing == 3) && has_stopped(&mut site);
-    leaves(site, bytes, 0) && stops
-}
-
-#[test]
-fn a_stop_tears_unsynced_bytes(rt: HostRuntime) {
-    for (passing, pattern, bytes) in TORN {
-        assert!(rt; tears(rt.alloc(), *passing, *pattern, bytes));
-    }
-}
-
-// Whether a byte is written, and the site stops in the write of a word.
-fn stops_in_a_word(site: &mut impl Site) -> bool {
-    site.has_disk() && site.disk_write(0, &[9]).is_ok() && issue(site) == Some(DeviceFault::Stopped)
-}
-
-// Whether a power cut in a word leaves these bytes and this value of the word.
-fn tears_both(alloc: Global, pattern: Pattern, bytes: &[u8], alias: u16) -> bool {
-    let Some(mut site) = site(alloc) else {
-        return false;
-    };
-    site.fuse(1, pattern);
-    let stops = stops_in_a_word(&mut site);
-    leaves(site, bytes, alias) && stops
-}
-
-#[test]
-fn a_stop_in_a_word_tears_unsynced_bytes(rt: HostRuntime) {
-    for (pattern, bytes, alias) in TORN_WITH_A_WORD {
-        assert!(rt; tears_both(rt.alloc(), *pattern, bytes, *alias));
-    }
-}
-
-// Whether the length is read, and a write fails.
-fn fails_to_write(site: &mut impl Site) -> bool {
-    site.has_disk()
-        && site.disk_len() == Ok(4)
-        && site.disk_write(0, &[9]) == Err(DeviceFault::Disk)
-}
-
-// Whether a frame is lost, and a sync succeeds.
-fn loses_a_frame(site: &mut impl Site) -> bool {
-    issue(site) == Some(DeviceFault::Lost) && site.has_disk() && site.disk_sync().is_ok()
-}
-
-// Whether calls that fail leave the disk and the slave as they were.
-fn fails_in_turn(alloc: Global) -> bool {
-    let Some(mut site) = site(alloc) else {
-        return false;
-    };
-    site.fail_once(1);
-    let fails = fails_to_write(&mut site);
-    site.fail_once(0);
-    let loses = loses_a_frame(&mut site);
-    leaves(site, &[1, 2, 3, 4], 0) && fails && loses
-}
-
-#[test]
-fn calls_that_fail_change_nothing(rt: HostRuntime) {
-    assert!(rt; fails_in_turn(rt.alloc()));
-}
-
-// Issues word 4 this number of times, each with a poll after it. Whether all calls succeed.
-fn is_issued(site: &mut impl Site, times: u32) -> bool {
-    let mut is_well = true;
-    for _issue in 0..times {
-        is_well &= issue(site).is_none() && fault_of(site, Command::Fprd, &[0, 0]).is_none();
-    }
-    is_well
-}
-
-// Whether word 4 has this value after it was issued `times` times, of which the first `failing` end with an error.
-fn keeps_its_value(alloc: Global, failing: u32, times: u32, alias: u16) -> bool {
-    let Some(mut site) = site(alloc) else {
-        return false;
-    };
-    site.fail_writes(0, failing);
-    let is_issued = is_issued(&mut site, times);
-    leaves(site, &[1, 2, 3, 4], alias) && is_issued
-}
-
-#[test]
-fn a_word_that_fails_keeps_its_value(rt: HostRuntime) {
-    for (failing, times, alias) in FAILED {
-        assert!(rt; keeps_its_value(rt.alloc(), *failing, *times, *alias));
-    }
-}
-
 // Whether bytes can be written from byte `at` on.
-fn writes(site: &mut impl Site, at: usize, over: &[u8]) -> bool {
+fn is_written(site: &mut impl Site, at: usize, bytes: &[u8]) -> bool {
     if !site.has_disk() {
         return false;
     }
     match site.disk_len() {
-        Ok(length) => at <= length && site.disk_write(at, over).is_ok(),
+        Ok(length) => at <= length && site.disk_write(at, bytes).is_ok(),
         Err(_) => false,
     }
 }
 
-// Whether a snapshot, with unsynced bytes and a word in flight, has these bytes.
-fn is_left(alloc: Global, site: &mut MemSite, at: usize, over: &[u8], bytes: &[u8]) -> bool {
-    if !writes(site, at, over) || issue(site).is_some() {
-        return false;
-    }
-    match site.snapshot(alloc) {
-        Ok(parts) => {
-            let is_so = holds(&parts, bytes, 0, true);
-            drop(parts);
-            is_so
-        }
-        Err(_memory) => false,
-    }
-}
-
-// Whether a snapshot of a site with this fuse, with unsynced bytes and a word in flight, has these bytes.
-fn is_left_with(
-    alloc: Global,
-    fuse: Option<Pattern>,
-    at: usize,
-    over: &[u8],
-    bytes: &[u8],
-) -> bool {
-    let Some(mut site) = site(alloc) else {
-        return false;
-    };
-    if let Some(pattern) = fuse {
-        site.fuse(9, pattern);
-    }
-    let is_left = is_left(alloc, &mut site, at, over, bytes);
-    drop(site);
-    is_left
-}
-
-#[test]
-fn a_snapshot_is_what_a_stop_leaves(rt: HostRuntime) {
-    for (fuse, at, over, bytes) in SNAPSHOTS {
-        assert!(rt; is_left_with(rt.alloc(), *fuse, *at, over, bytes));
-    }
-}
-
-// The three bytes of the disk from byte 2 on.
-fn read(site: &mut impl Site) -> Option<[u8; 3]> {
+// The last three bytes of five.
+fn last_bytes(site: &mut impl Site) -> Option<[u8; 3]> {
     let mut bytes = [0u8; 3];
     if !site.has_disk() || site.disk_len() != Ok(5) {
         return None;
@@ -266,20 +375,117 @@ fn read(site: &mut impl Site) -> Option<[u8; 3]> {
     Some(bytes)
 }
 
-// Whether a site has a slave of 64 words, and what is written is read.
-fn reads_what_is_written(alloc: Global) -> bool {
-    let Some(mut site) = site(alloc) else {
+fn disk_comes(site: &mut impl Site, deed: &DiskDeed) -> bool {
+    if !site.has_disk() {
         return false;
-    };
-    let is_so = site.slaves() == 1
-        && site.words_of(0) == 64
-        && writes(&mut site, 3, &[7, 9])
-        && read(&mut site) == Some([3, 7, 9]);
+    }
+    match *deed {
+        DiskDeed::Write(bytes, fault) => site.disk_write(0, bytes).err() == fault,
+        DiskDeed::WriteAt(at, bytes) => is_written(site, at, bytes),
+        DiskDeed::Sync(fault) => site.disk_sync().err() == fault,
+        DiskDeed::Length(answer) => site.disk_len() == answer,
+        DiskDeed::Read(bytes) => last_bytes(site) == Some(bytes),
+    }
+}
+
+fn is_alone(site: &impl Site) -> bool {
+    site.slaves() == 1 && site.words_of(0) == 64
+}
+
+// Whether the deed has come to what it must.
+fn comes(alloc: Global, site: &mut MemSite, deed: &Deed) -> bool {
+    match *deed {
+        Deed::FailOnce(calls) => {
+            site.fail_once(calls);
+            true
+        }
+        Deed::FailWords(words) => {
+            site.fail_writes(0, words);
+            true
+        }
+        Deed::Access(access) => access::comes(alloc, site, &access),
+        Deed::Disk(disk) => disk_comes(site, &disk),
+        Deed::Send(fault) => fault_of(site, Command::Fpwr, &ISSUE[12..20]) == fault,
+        Deed::Poll(fault) => fault_of(site, Command::Fprd, &[0, 0]) == fault,
+        Deed::IsAlone => is_alone(site),
+    }
+}
+
+fn all_come(alloc: Global, site: &mut MemSite, deeds: &[Deed]) -> bool {
+    for deed in deeds {
+        if !comes(alloc, site, deed) {
+            return false;
+        }
+    }
+    true
+}
+
+// Word 4 of a slave, and whether it is in flight.
+fn word(parts: &Parts, slave: usize) -> Option<(u16, bool)> {
+    match parts.halves.get(slave) {
+        Some(Some(half)) => Some((half.words().alias(), half.in_flight().is_some())),
+        Some(None) | None => None,
+    }
+}
+
+fn are_words(parts: &Parts, words: &[(u16, bool)]) -> bool {
+    for slave in 0..words.len() {
+        if word(parts, slave) != Some(words[slave]) {
+            return false;
+        }
+    }
+    parts.halves.len() == words.len()
+}
+
+// Whether the disk and the slaves hold these bytes and words.
+fn hold(parts: &Parts, case: &Case) -> bool {
+    match &parts.disk {
+        Some(disk) => disk.as_slice() == case.disk && are_words(parts, case.words),
+        None => false,
+    }
+}
+
+// What a snapshot of the site holds, or the site itself.
+fn left_by(alloc: Global, site: MemSite, is_snapshot: bool) -> Option<Parts> {
+    if !is_snapshot {
+        return Some(site.into_parts());
+    }
+    let parts = site.snapshot(alloc).ok();
     drop(site);
-    is_so
+    parts
+}
+
+// Whether all deeds come to what they must, and leave what they must.
+fn goes_so(alloc: Global, case: &Case) -> Option<bool> {
+    let disk = [1, 2, 3, 4].to_vec(alloc).ok()?;
+    let mut site = line_with(alloc, case.stations, case.delay, Some(disk))?;
+    if let Some((writes, pattern)) = case.fuse {
+        site.fuse(writes, pattern);
+    }
+    let come = all_come(alloc, &mut site, case.deeds);
+    let parts = left_by(alloc, site, case.is_snapshot)?;
+    let hold = hold(&parts, case);
+    drop(parts);
+    Some(come && hold)
 }
 
 #[test]
-fn what_was_written_is_read(rt: HostRuntime) {
-    assert!(rt; reads_what_is_written(rt.alloc()));
+fn words_and_bytes_are_written(rt: HostRuntime) {
+    for case in WORDS {
+        assert!(rt; goes_so(rt.alloc(), case) == Some(true));
+    }
+}
+
+#[test]
+fn a_stop_tears_words_and_unsynced_bytes(rt: HostRuntime) {
+    for case in CUTS {
+        assert!(rt; goes_so(rt.alloc(), case) == Some(true));
+    }
+}
+
+#[test]
+fn a_snapshot_is_what_a_stop_leaves(rt: HostRuntime) {
+    for case in SNAPSHOTS {
+        assert!(rt; goes_so(rt.alloc(), case) == Some(true));
+    }
 }

@@ -1,11 +1,11 @@
 //! A line on a wire that loses, doubles, delays and falsifies frames, and slaves that lose their power.
 
+use super::access::{Access, TAKEN, WRITTEN, ZERO_WORDS, all_come};
 use super::zero_words;
 use ecat_frame::{Command, Frame, fp};
 use esc_model::RomHalf;
-use esc_rom::{issue, read_all, settle};
 use sii_words::Words;
-use site_core::{Issued, Settled, Site};
+use site_core::{Issued, Site};
 use site_file::{FileDevice, OpenFiles, RandomAccessFile};
 use site_mem::{Parts, Pattern};
 use site_shadow::ShadowSite;
@@ -220,6 +220,8 @@ enum Act {
     Read,
     // The register is read that says who has access.
     Look,
+    // Words 4, 5 and 6 are made 1, 2 and 3. Before one of them, counted from 0, the power is cut, which leaves this of it.
+    Cut(u32, Pattern),
 }
 
 // The site doesn't stop.
@@ -256,90 +258,172 @@ const WORDS: Option<StopReason> = Some(StopReason::Differs {
     what: Difference::Words,
 });
 
+// Words 4, 5 and 6 before and after word 4 is written.
+const OLD: [u16; 3] = [0, 0, 0];
+
+const NEW: [u16; 3] = [1, 0, 0];
+
+const DEAD: Pattern = Pattern::Fill(0xdead);
+
 // What is done, for how many datagrams the slave stays busy with a command, how many frames pass, how many have the fate, why the
-// site stops, and word 4 then.
-type Mishap = (Act, u32, u32, u32, Fate, Option<StopReason>, u16);
+// site stops, and words 4, 5 and 6 then.
+type Mishap = (Act, u32, u32, u32, Fate, Option<StopReason>, [u16; 3]);
 
 // Frame 0 asks for the word, or for the first two; the others behind it poll.
 const MISHAPS: &[Mishap] = &[
-    (Act::Write, 3, 0, 0, Fate::Passes, GOES_ON, 1),
-    (Act::Read, 3, 0, 0, Fate::Passes, GOES_ON, 0),
-    (Act::Look, 3, 0, 0, Fate::Passes, GOES_ON, 0),
-    (Act::Write, 3, 0, 2, Fate::LostBefore, GOES_ON, 1),
-    (Act::Write, 3, 0, 3, Fate::LostBefore, SILENT, 0),
-    (Act::Write, 3, 0, 2, Fate::LostBehind, GOES_ON, 1),
-    (Act::Write, 3, 0, 3, Fate::LostBehind, SILENT, 1),
-    (Act::Write, 3, 1, 2, Fate::LostBehind, GOES_ON, 1),
-    (Act::Write, 3, 1, 3, Fate::LostBefore, SILENT, 1),
+    (Act::Write, 3, 0, 0, Fate::Passes, GOES_ON, NEW),
+    (Act::Read, 3, 0, 0, Fate::Passes, GOES_ON, OLD),
+    (Act::Look, 3, 0, 0, Fate::Passes, GOES_ON, OLD),
+    (Act::Write, 3, 0, 2, Fate::LostBefore, GOES_ON, NEW),
+    (Act::Write, 3, 0, 3, Fate::LostBefore, SILENT, OLD),
+    (Act::Write, 3, 0, 2, Fate::LostBehind, GOES_ON, NEW),
+    (Act::Write, 3, 0, 3, Fate::LostBehind, SILENT, NEW),
+    (Act::Write, 3, 1, 2, Fate::LostBehind, GOES_ON, NEW),
+    (Act::Write, 3, 1, 3, Fate::LostBefore, SILENT, NEW),
     // The slave was at rest before it was seen busy.
-    (Act::Write, 1, 0, 1, Fate::LostBehind, UNCONFIRMED, 1),
-    (Act::Write, 3, 0, 9, Fate::Doubled, GOES_ON, 1),
-    (Act::Write, 3, 0, 9, Fate::SentTwice, GOES_ON, 1),
-    (Act::Write, 3, 0, 1, Fate::Delayed, GOES_ON, 1),
-    (Act::Write, 3, 1, 1, Fate::Delayed, GOES_ON, 1),
-    (Act::Read, 1, 3, 1, Fate::Delayed, GOES_ON, 0),
+    (Act::Write, 1, 0, 1, Fate::LostBehind, UNCONFIRMED, NEW),
+    (Act::Write, 3, 0, 9, Fate::Doubled, GOES_ON, NEW),
+    (Act::Write, 3, 0, 9, Fate::SentTwice, GOES_ON, NEW),
+    (Act::Write, 3, 0, 1, Fate::Delayed, GOES_ON, NEW),
+    (Act::Write, 3, 1, 1, Fate::Delayed, GOES_ON, NEW),
+    (Act::Read, 1, 3, 1, Fate::Delayed, GOES_ON, OLD),
     // A frame that isn't one any more, or has another number, is sent again.
-    (Act::Write, 3, 0, 1, Fate::Turned(0, 1), GOES_ON, 1),
-    (Act::Write, 3, 0, 1, Fate::Turned(8, 1), GOES_ON, 1),
-    (Act::Write, 3, 0, 1, Fate::Turned(22, 1), GOES_ON, 1),
-    (Act::Write, 3, 0, 1, Fate::Turned(24, 1), GOES_ON, 1),
+    (Act::Write, 3, 0, 1, Fate::Turned(0, 1), GOES_ON, NEW),
+    (Act::Write, 3, 0, 1, Fate::Turned(8, 1), GOES_ON, NEW),
+    (Act::Write, 3, 0, 1, Fate::Turned(22, 1), GOES_ON, NEW),
+    (Act::Write, 3, 0, 1, Fate::Turned(24, 1), GOES_ON, NEW),
     // Command, index, station, register and content of a write.
-    (Act::Write, 3, 0, 1, Fate::Turned(2, 1), DATAGRAM, 1),
-    (Act::Write, 3, 0, 1, Fate::Turned(3, 1), DATAGRAM, 1),
-    (Act::Write, 3, 0, 1, Fate::Turned(4, 1), DATAGRAM, 1),
-    (Act::Write, 3, 0, 1, Fate::Turned(6, 1), DATAGRAM, 1),
-    (Act::Write, 3, 0, 1, Fate::Turned(18, 1), DATAGRAM, 1),
-    (Act::Write, 3, 0, 1, Fate::Turned(20, 1), COUNTER, 1),
+    (Act::Write, 3, 0, 1, Fate::Turned(2, 1), DATAGRAM, NEW),
+    (Act::Write, 3, 0, 1, Fate::Turned(3, 1), DATAGRAM, NEW),
+    (Act::Write, 3, 0, 1, Fate::Turned(4, 1), DATAGRAM, NEW),
+    (Act::Write, 3, 0, 1, Fate::Turned(6, 1), DATAGRAM, NEW),
+    (Act::Write, 3, 0, 1, Fate::Turned(18, 1), DATAGRAM, NEW),
+    (Act::Write, 3, 0, 1, Fate::Turned(20, 1), COUNTER, NEW),
     // The IRQ word, and what is free in the datagram with the number.
-    (Act::Write, 3, 0, 1, Fate::Turned(10, 1), GOES_ON, 1),
-    (Act::Write, 3, 0, 1, Fate::Turned(23, 1), GOES_ON, 1),
-    (Act::Write, 3, 0, 1, Fate::Turned(32, 1), GOES_ON, 1),
+    (Act::Write, 3, 0, 1, Fate::Turned(10, 1), GOES_ON, NEW),
+    (Act::Write, 3, 0, 1, Fate::Turned(23, 1), GOES_ON, NEW),
+    (Act::Write, 3, 0, 1, Fate::Turned(32, 1), GOES_ON, NEW),
     // Write enable, bits 5 to 7, the command, bits 11 and 12, and 13 and 14 of a poll that finds the slave busy.
-    (Act::Write, 3, 1, 1, Fate::Turned(12, 0xe1), GOES_ON, 1),
-    (Act::Write, 3, 1, 1, Fate::Turned(13, 0x1f), GOES_ON, 1),
-    (Act::Write, 3, 1, 1, Fate::Turned(13, 0x20), ERRORS, 1),
-    (Act::Write, 3, 1, 1, Fate::Turned(13, 0x40), ERRORS, 1),
-    (Act::Write, 3, 1, 1, Fate::Turned(14, 1), COUNTER, 1),
+    (Act::Write, 3, 1, 1, Fate::Turned(12, 0xe1), GOES_ON, NEW),
+    (Act::Write, 3, 1, 1, Fate::Turned(13, 0x1f), GOES_ON, NEW),
+    (Act::Write, 3, 1, 1, Fate::Turned(13, 0x20), ERRORS, NEW),
+    (Act::Write, 3, 1, 1, Fate::Turned(13, 0x40), ERRORS, NEW),
+    (Act::Write, 3, 1, 1, Fate::Turned(14, 1), COUNTER, NEW),
     // Busy, and bits 13 and 14 of a poll that finds it idle.
-    (Act::Write, 0, 1, 1, Fate::Turned(13, 0x80), GOES_ON, 1),
-    (Act::Write, 0, 1, 1, Fate::Turned(13, 0x20), FAILED, 1),
-    (Act::Write, 0, 1, 1, Fate::Turned(13, 0x40), FAILED, 1),
+    (Act::Write, 0, 1, 1, Fate::Turned(13, 0x80), GOES_ON, NEW),
+    (Act::Write, 0, 1, 1, Fate::Turned(13, 0x20), FAILED, NEW),
+    (Act::Write, 0, 1, 1, Fate::Turned(13, 0x40), FAILED, NEW),
     // The words that were read, and who has access.
-    (Act::Read, 0, 3, 1, Fate::Turned(12, 1), WORDS, 0),
-    (Act::Read, 0, 3, 1, Fate::Turned(15, 0x80), WORDS, 0),
-    (Act::Look, 0, 0, 1, Fate::Turned(12, 1), ACCESS, 0),
-    (Act::Look, 0, 0, 1, Fate::Turned(12, 2), ACCESS, 0),
-];
-
-// Before which word the power is cut, what that leaves of it, and words 4, 5 and 6 then.
-const CUTS: &[(u32, Pattern, [u16; 3])] = &[
-    (0, Pattern::Old, [0, 0, 0]),
-    (0, Pattern::New, [1, 0, 0]),
-    (0, Pattern::Fill(0xdead), [0xdead, 0, 0]),
-    (1, Pattern::Old, [1, 0, 0]),
-    (1, Pattern::Fill(0xdead), [1, 0xdead, 0]),
-    (2, Pattern::Fill(0xdead), [1, 2, 0xdead]),
-    (2, Pattern::New, [1, 2, 3]),
-];
-
-// How many frames pass, how many have the fate, and how many slaves are found, or why none are.
-const BROUGHT_UP: &[(u32, u32, Fate, Result<usize, LineFault>)] = &[
-    (0, 0, Fate::Passes, Ok(1)),
-    (0, 3, Fate::LostBefore, Err(LineFault::Silent)),
-    (9, 3, Fate::LostBehind, Err(LineFault::Silent)),
-    (0, 1, Fate::Turned(13, 1), Err(LineFault::NoSlaves)),
+    (Act::Read, 0, 3, 1, Fate::Turned(12, 1), WORDS, OLD),
+    (Act::Read, 0, 3, 1, Fate::Turned(15, 0x80), WORDS, OLD),
+    (Act::Look, 0, 0, 1, Fate::Turned(12, 1), ACCESS, OLD),
+    (Act::Look, 0, 0, 1, Fate::Turned(12, 2), ACCESS, OLD),
+    // The power is cut.
     (
-        0,
+        Act::Cut(0, Pattern::Old),
         1,
-        Fate::Turned(13, 0x80),
+        0,
+        0,
+        Fate::Passes,
+        COUNTER,
+        OLD,
+    ),
+    (
+        Act::Cut(0, Pattern::New),
+        1,
+        0,
+        0,
+        Fate::Passes,
+        COUNTER,
+        NEW,
+    ),
+    (
+        Act::Cut(0, DEAD),
+        1,
+        0,
+        0,
+        Fate::Passes,
+        COUNTER,
+        [0xdead, 0, 0],
+    ),
+    (
+        Act::Cut(1, Pattern::Old),
+        1,
+        0,
+        0,
+        Fate::Passes,
+        COUNTER,
+        NEW,
+    ),
+    (
+        Act::Cut(1, DEAD),
+        1,
+        0,
+        0,
+        Fate::Passes,
+        COUNTER,
+        [1, 0xdead, 0],
+    ),
+    (
+        Act::Cut(2, DEAD),
+        1,
+        0,
+        0,
+        Fate::Passes,
+        COUNTER,
+        [1, 2, 0xdead],
+    ),
+    (
+        Act::Cut(2, Pattern::New),
+        1,
+        0,
+        0,
+        Fate::Passes,
+        COUNTER,
+        [1, 2, 3],
+    ),
+];
+
+// What becomes of frames, and how many slaves are found, or why none are.
+const BROUGHT_UP: &[(Plan, Result<usize, LineFault>)] = &[
+    (WELL, Ok(1)),
+    (
+        Plan {
+            passing: 0,
+            failing: 3,
+            fate: Fate::LostBefore,
+        },
+        Err(LineFault::Silent),
+    ),
+    (
+        Plan {
+            passing: 9,
+            failing: 3,
+            fate: Fate::LostBehind,
+        },
+        Err(LineFault::Silent),
+    ),
+    (
+        Plan {
+            passing: 0,
+            failing: 1,
+            fate: Fate::Turned(13, 1),
+        },
+        Err(LineFault::NoSlaves),
+    ),
+    (
+        Plan {
+            passing: 0,
+            failing: 1,
+            fate: Fate::Turned(13, 0x80),
+        },
         Err(LineFault::TooManySlaves { slaves: 129 }),
     ),
 ];
 
 // A wire with one slave, which stays busy for so many datagrams.
 fn new_wire(alloc: Global, delay: u32) -> Option<NumberedWire<TestWire>> {
-    let mut plant = Vec::new(alloc);
-    plant.push(zero_words(alloc)?).ok()?;
+    let plant = Vec::from_array(alloc, [zero_words(alloc)?]).ok()?;
     let line = PracticeLine::power_up(alloc, &plant, delay).ok()?;
     Some(NumberedWire::new(wire_of(line), 7))
 }
@@ -360,11 +444,9 @@ fn planned(
 
 // The parts of a line of a slave with these words.
 fn parts_of(alloc: Global, words: Words) -> Option<Parts> {
-    let mut sizes = Vec::new(alloc);
-    let mut halves = Vec::new(alloc);
-    sizes.push(words.len() as u16).ok()?;
+    let sizes = Vec::from_array(alloc, [words.len() as u16]).ok()?;
     let half = RomHalf::power_up(words, 0x1001, 1);
-    halves.push(Some(half)).ok()?;
+    let halves = Vec::from_array(alloc, [Some(half)]).ok()?;
     Some(Parts {
         sizes,
         disk: None,
@@ -401,24 +483,6 @@ fn site_on<'f>(
     Some(ShadowSite::of_parts(alloc, parts, device))
 }
 
-// Whether the word becomes the value, as on a line in memory.
-fn is_written(site: &mut impl Site, word: u16, value: u16) -> bool {
-    site.owns(0)
-        && issue(site, 0, word, value) == Ok(Issued::Taken)
-        && settle(site, 0, true) == Ok(Settled::Written)
-}
-
-// Whether the words are read as zeros, but for the check byte.
-fn is_read(alloc: Global, site: &mut impl Site) -> bool {
-    if !site.owns(0) {
-        return false;
-    }
-    match (read_all(alloc, site, 0), zero_words(alloc)) {
-        (Ok(found), Some(words)) => found.as_slice() == words.as_slice(),
-        _ => false,
-    }
-}
-
 // Whether the station is seen to have access.
 fn has_access(site: &mut impl Site) -> bool {
     let mut frame = Frame::new();
@@ -430,12 +494,31 @@ fn has_access(site: &mut impl Site) -> bool {
         && frame.as_bytes().get(12) == Some(&0)
 }
 
+// Words 4, 5 and 6 become 1, 2 and 3.
+const THREE_WORDS: &[Access] = &[
+    TAKEN,
+    WRITTEN,
+    Access::Issue(0, 5, 2, Ok(Issued::Taken)),
+    WRITTEN,
+    Access::Issue(0, 6, 3, Ok(Issued::Taken)),
+    WRITTEN,
+];
+
 // Whether it is done as on a line in memory.
 fn is_done(alloc: Global, site: &mut impl Site, act: Act) -> bool {
     match act {
-        Act::Write => is_written(site, 4, 1),
-        Act::Read => is_read(alloc, site),
+        Act::Write => all_come(alloc, site, &[TAKEN, WRITTEN]),
+        Act::Read => all_come(alloc, site, &[Access::Read(Ok(ZERO_WORDS))]),
         Act::Look => has_access(site),
+        Act::Cut(..) => all_come(alloc, site, THREE_WORDS),
+    }
+}
+
+// Before which word the power is cut, if it is, and what that leaves of the word.
+fn cut_of(act: Act) -> (Option<u32>, Pattern) {
+    match act {
+        Act::Cut(word, pattern) => (Some(word), pattern),
+        _ => (None, Pattern::Old),
     }
 }
 
@@ -453,50 +536,28 @@ fn left_by(
 
 // Whether a mishap ends so.
 fn ends_so(alloc: Global, mishap: &Mishap) -> Option<bool> {
-    let (act, delay, passing, failing, fate, reason, alias) = *mishap;
+    let (act, delay, passing, failing, fate, reason, left) = *mishap;
     let plan = Plan {
         passing,
         failing,
         fate,
     };
+    let (word, pattern) = cut_of(act);
     let files = OpenFiles {
         journal: NoFile,
         images: Vec::new(alloc),
     };
-    let mut site = site_on(alloc, &files, delay, plan, None, Pattern::Old)?;
+    let mut site = site_on(alloc, &files, delay, plan, word, pattern)?;
     let is_done = is_done(alloc, &mut site, act);
     let (found, words) = left_by(alloc, site)?;
-    Some(is_done == reason.is_none() && found == reason && words.alias() == alias)
+    let is_left = words.as_slice().get(4..7) == Some(&left);
+    Some(is_done == reason.is_none() && found == reason && is_left)
 }
 
 #[test]
 fn mishaps_end_well_or_stop(rt: HostRuntime) {
     for mishap in MISHAPS {
         assert!(rt; ends_so(rt.alloc(), mishap) == Some(true));
-    }
-}
-
-// Whether words 4, 5 and 6 can't all be written, or the site has stopped behind the last one.
-fn is_cut(site: &mut impl Site) -> bool {
-    !is_written(site, 4, 1) || !is_written(site, 5, 2) || !is_written(site, 6, 3)
-}
-
-// Whether a power cut in a word leaves these.
-fn is_left(alloc: Global, word: u32, pattern: Pattern, left: &[u16; 3]) -> Option<bool> {
-    let files = OpenFiles {
-        journal: NoFile,
-        images: Vec::new(alloc),
-    };
-    let mut site = site_on(alloc, &files, 1, WELL, Some(word), pattern)?;
-    let is_cut = is_cut(&mut site);
-    let (found, words) = left_by(alloc, site)?;
-    Some(is_cut && found == COUNTER && words.as_slice().get(4..7) == Some(left))
-}
-
-#[test]
-fn power_cuts_leave_a_prefix(rt: HostRuntime) {
-    for (word, pattern, left) in CUTS {
-        assert!(rt; is_left(rt.alloc(), *word, *pattern, left) == Some(true));
     }
 }
 
@@ -513,13 +574,8 @@ fn brought_up(alloc: Global, plan: Plan) -> Option<Result<usize, LineFault>> {
 
 #[test]
 fn lines_are_brought_up(rt: HostRuntime) {
-    for (passing, failing, fate, found) in BROUGHT_UP {
-        let plan = Plan {
-            passing: *passing,
-            failing: *failing,
-            fate: *fate,
-        };
-        assert!(rt; brought_up(rt.alloc(), plan) == Some(*found));
+    for (plan, found) in BROUGHT_UP {
+        assert!(rt; brought_up(rt.alloc(), *plan) == Some(*found));
     }
 }
 

@@ -35,6 +35,37 @@ const REFUSED: &[(Line, JournalFault)] = &[
         },
         BadVersion { found: 9 },
     ),
+    // Areas of 4,095, 4,194,305 and 4,097 bytes: two outside their limits, and one that is longer than the file.
+    (
+        Line {
+            header: [0xa5, 0x02, 0x02, 0x00, 0xff, 0x0f, 0x00, 0x00],
+            ..TWO
+        },
+        BadJournal { at: 4 },
+    ),
+    (
+        Line {
+            header: [0xa5, 0x02, 0x02, 0x00, 0x01, 0x00, 0x40, 0x00],
+            ..TWO
+        },
+        BadJournal { at: 4 },
+    ),
+    (
+        Line {
+            header: [0xa5, 0x02, 0x02, 0x00, 0x01, 0x10, 0x00, 0x00],
+            ..TWO
+        },
+        BadJournal { at: 4104 },
+    ),
+    // The mark of a migration behind an open gate is none.
+    (
+        Line {
+            header: [0xa5, 0x77, 0x02, 0x00, 0x00, 0x10, 0x00, 0x00],
+            first: &[0xa5, 0x4d, 0x49, 0x47, 0x32],
+            ..TWO
+        },
+        BadVersion { found: 0x77 },
+    ),
     (
         Line {
             header: [0xa5, 0x02, 0x02, 0x00, 0x00, 0x10, 0x00, 0x00],
