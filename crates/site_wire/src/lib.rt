@@ -8,6 +8,8 @@ mod ethernet;
 mod faults;
 mod numbered;
 mod practice;
+mod practice_files;
+mod practice_wire;
 mod wire;
 
 pub use bringing_up::bring_up;
@@ -16,4 +18,6 @@ pub use ethernet::EthernetWire;
 pub use faults::{Difference, LineFault, StopReason};
 pub use numbered::NumberedWire;
 pub use practice::PracticeLine;
+pub use practice_files::PracticeFiles;
+pub use practice_wire::{Fate, Mishap, PracticeWire};
 pub use wire::Wire;

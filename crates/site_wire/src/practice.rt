@@ -16,6 +16,8 @@ struct PracticeSlave {
     half: RomHalf,
     /// The configured station address; 0 where it has none.
     station: u16,
+    /// How many words it has begun to write.
+    begun: u32,
 }
 
 /// A line of slaves in memory that takes frames as a line on a wire does: broadcast reads, station addresses by position (which are
@@ -32,12 +34,25 @@ fn switched_on(words: Words, delay: u32) -> PracticeSlave {
     PracticeSlave {
         half: RomHalf::power_up(words, FIRST_STATION, delay),
         station: 0,
+        begun: 0,
     }
 }
 
 impl PracticeSlave {
-    /// Takes a datagram as the slave behind so many others, and answers what that adds to its working counter.
+    /// Takes a datagram as the slave behind so many others, and answers what that adds to its working counter. Counts a word that it begins
+    /// to write.
     fn take(&mut self, place: u16, command: Command, address: u32, content: &mut [u8]) -> u16 {
+        let before = self.half.in_flight();
+        let added = self.answer(place, command, address, content);
+        let now = self.half.in_flight();
+        if now.is_some() && now != before {
+            self.begun = self.begun.saturating_add(1);
+        }
+        added
+    }
+
+    /// Takes a datagram, and answers what that adds to its working counter.
+    fn answer(&mut self, place: u16, command: Command, address: u32, content: &mut [u8]) -> u16 {
         let station = (address % 65536) as u16;
         let register = (address / 65536) as u16;
         match command {
@@ -72,7 +87,9 @@ impl PracticeSlave {
             };
             self.half.rest(Rest::Torn(left));
         }
+        let begun = self.begun;
         *self = switched_on(self.half.words().try_copy()?, delay);
+        self.begun = begun;
         Ok(())
     }
 }
@@ -145,6 +162,15 @@ impl PracticeLine {
             Some(slave) => slave.half.in_flight(),
             None => None,
         }
+    }
+
+    /// How many words the slaves have begun to write.
+    pub fn begun(&self) -> u32 {
+        let mut begun = 0u32;
+        for slave in &self.slaves {
+            begun = begun.saturating_add(slave.begun);
+        }
+        begun
     }
 
     /// The power is cut, and comes back: words in flight are torn by the pattern, and the slaves have no station addresses.

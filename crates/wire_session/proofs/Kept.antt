@@ -5,7 +5,6 @@ use Rattle.std.proofs.lemmas.List.Elements.{All-map, All-more}
 use Rattle.station_files.specs.Faults as station
 use Rattle.station_files.specs.Files.{Known, IsAbsent, ChangesOnly, ChangesAmong}
 use Rattle.station_files.specs.declared.faults.Fault.{Fault}
-use Rattle.station_files.specs.declared.faults.Fault.TheVariants.{File, Memory}
 use Rattle.wire_session.specs.Backup.{Backs, ComesBeforeWrites, KeepsAll}
 use Rattle.wire_session.specs.declared.faults.WireFault.{WireFault}
 use Rattle.wire_session.specs.declared.faults.WireFault.TheVariants.{Station}

@@ -1,17 +1,14 @@
 -- What the files hold after a recovery on a wire.
-use Rattle.std.proofs.Common.{◌≡◌, ◌≢◌, ℕ, List, [], ◌∷◌, length, Result, Ok, Err, IsErr, inl, inr, sym, refl, subst, ◌∙◌, ap, arith}
-use Rattle.std.specs.Prelude.{⊤, IfErr, OnOk, string_bytes, Contains}
-use Rattle.std.proofs.lemmas.List.{length-map}
+use Rattle.std.proofs.Common.{◌≡◌, ℕ, List, [], ◌∷◌, Result, Ok, Err, inl, inr, sym, subst, ◌∙◌, arith}
+use Rattle.std.specs.Prelude.{⊤, IfErr, OnOk, string_bytes}
 use Rattle.std.proofs.lemmas.List.Elements.{Contains-append_left}
-use Rattle.site_core.specs.Line.{Line}
 use Rattle.site_core.specs.State.{State, Seen}
 use Rattle.site_shadow.specs.Site.{SiteValue}
 use Rattle.station_alone.specs.Station.{Station}
 use Rattle.station_alone.specs.Recovery.{HasRecovered, BeginsRecovered}
 use Rattle.station_text.specs.declared.line_file.LineFile.{LineFile}
-use Rattle.station_files.specs.Files.{Known, HasBytes, ChangesAmong, ChangesOnly}
-use Rattle.station_files.specs.Faults as station
-use Rattle.station_files.specs.LineFiles.{SpellsLine, names_of}
+use Rattle.station_files.specs.Files.{Known, ChangesAmong, ChangesOnly}
+use Rattle.station_files.specs.LineFiles.{names_of}
 use Rattle.station_session.specs.Site.{IsSiteOf, files_of, switched_on, HoldsSite}
 use Rattle.wire_session.specs.declared.faults.WireFault.{WireFault}
 use Rattle.wire_session.specs.declared.faults.WireFault.TheVariants as wire
@@ -21,14 +18,14 @@ use Rattle.wire_session.specs.Opening.{RefusesInit, IsFound, LeavesImages, EndsR
 
 -- ---- the journal is opened
 
-among_only : (old new : Known) (line : LineFile) → ChangesOnly old new (string_bytes line.journal) → ChangesAmong old new (files_of line)
+pub among_only : (old new : Known) (line : LineFile) → ChangesOnly old new (string_bytes line.journal) → ChangesAmong old new (files_of line)
 among_only old new line only = λ other absent.
     only other (λ same. absent (Contains-append_left (string_bytes line.journal ∷ []) (names_of line) other (0, omega arith, sym same)))
 
-among_both : (old mid new : Known) (line : LineFile) → ChangesOnly old mid (string_bytes line.journal) → ChangesAmong mid new (files_of line) → ChangesAmong old new (files_of line)
+pub among_both : (old mid new : Known) (line : LineFile) → ChangesOnly old mid (string_bytes line.journal) → ChangesAmong mid new (files_of line) → ChangesAmong old new (files_of line)
 among_both old mid new line only among = λ other absent. among other absent ∙ among_only old mid line only other absent
 
-only_both : {T : Type 0} (result : Result T WireFault) (old mid new : Known) (line : LineFile) → ChangesOnly old mid (string_bytes line.journal) → LeavesImages result mid new line → LeavesImages result old new line
+pub only_both : {T : Type 0} (result : Result T WireFault) (old mid new : Known) (line : LineFile) → ChangesOnly old mid (string_bytes line.journal) → LeavesImages result mid new line → LeavesImages result old new line
 only_both (Ok value) old mid new line only leaves = tt
 only_both (Err fault) old mid new line only leaves = λ apart. λ other not. leaves apart other not ∙ only other not
 
@@ -42,8 +39,8 @@ ends_opened result old mid new line plant bytes site only made ends = record {
 
 -- ---- the line is recovered
 
-unsaved_by : (result : Result (Unit {0}) WireFault) (old new : Known) (line : LineFile) → IfErr result IsOfStream → LeavesImages result old new line
-unsaved_by (Ok done) old new line failed = tt
+pub unsaved_by : {T : Type 0} (result : Result T WireFault) (old new : Known) (line : LineFile) → IfErr result IsOfStream → LeavesImages result old new line
+unsaved_by (Ok value) old new line failed = tt
 unsaved_by (Err fault) old new line failed = λ apart. absurd (apart failed)
 
 saved_by : (result : Result (Unit {0}) WireFault) (new : Known) (line : LineFile) (before : Seen) (s : Station) (state : State) → HasRecovered s → BeginsRecovered before s → state ≡ s.seen.state → OnOk result (HoldsSite new line state)

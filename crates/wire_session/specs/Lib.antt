@@ -1,2 +1,3 @@
 pub mod Backup
 pub mod Opening
+pub mod Running

@@ -29,6 +29,13 @@ pub enum Task<'a> {
         /// The name of the line file.
         line: &'a str,
     },
+    /// Runs a script on the line.
+    Run {
+        /// The name of the line file.
+        line: &'a str,
+        /// The name of the script file.
+        script: &'a str,
+    },
     /// Recovers the line.
     Recover {
         /// The name of the line file.
@@ -55,7 +62,8 @@ starts this program. Text goes to standard error, or to the file that --text nam
 Faults go to standard error as: fault CODE NAME. The subcommand explain says what
 a code means.
 
-Exit status: 0 done, 2 wrong usage, 3 a file or its form, 4 the line, 5 no memory.
+Exit status: 0 done, 1 a command was refused, 2 wrong usage, 3 a file or its form,
+4 the line, 5 no memory.
 
 Example, with the text on standard output:
   launch eth0 2000 sii_wire --text /dev/fd/3 scan";
@@ -79,6 +87,20 @@ const INIT_ANSWERS: &str = "Answers:
 The line file has to name an image file for each slave, and these have to be there,
 as backup leaves them. A journal that is there already is never written over:
 fault 94 Exists.";
+
+/// The help text on what `run` prints and writes.
+const RUN_ANSWERS: &str = "Answers:
+  command I accepted N           command I of the script has number N, from 0
+  command I refused CODE NAME    it isn't done, and changes nothing
+  ... at P                       of a group, edit P is the reason
+  accepted A durable D settled S
+                                 how many commands were accepted, how many of
+                                 them no power cut can undo any more, and how
+                                 many are in the slaves
+The script is one of sii_station, whose run --help shows a command of each kind. It
+is read before a frame is sent. In the end each image file has the words of its
+slave. After a fault of the line or the journal the image files are as they were.
+Recover the line then: each durable command is done as a whole.";
 
 /// The help text on what `recover` prints and writes.
 const RECOVER_ANSWERS: &str = "Answers:
@@ -142,7 +164,7 @@ fn task_of<'a>(command: &mut Command<'a>, matches: &ArgMatches<'a>) -> Result<Ta
     }
 }
 
-/// The task of `scan`, `backup`, `init`, `recover` or `explain`, whose arguments need no further check.
+/// The task of `scan`, `backup`, `init`, `run`, `recover` or `explain`, whose arguments need no further check.
 fn plain_task<'a>(matches: &ArgMatches<'a>) -> Option<Task<'a>> {
     if matches.subcommand_matches("scan").is_some() {
         return Some(Task::Scan);
@@ -160,6 +182,12 @@ fn plain_task<'a>(matches: &ArgMatches<'a>) -> Option<Task<'a>> {
             line: line_of(init),
         });
     }
+    if let Some(run) = matches.subcommand_matches("run") {
+        return Some(Task::Run {
+            line: line_of(run),
+            script: script_of(run),
+        });
+    }
     let recover = matches.subcommand_matches("recover")?;
     Some(Task::Recover {
         line: line_of(recover),
@@ -169,6 +197,11 @@ fn plain_task<'a>(matches: &ArgMatches<'a>) -> Option<Task<'a>> {
 /// The name of the line file. It is required, so it is there.
 fn line_of<'a>(matches: &ArgMatches<'a>) -> &'a str {
     matches.get_str("LINE").unwrap_or("")
+}
+
+/// The name of the script file. It is required, so it is there.
+fn script_of<'a>(matches: &ArgMatches<'a>) -> &'a str {
+    matches.get_str("SCRIPT").unwrap_or("")
 }
 
 /// The task of `slaves`. `--left` is checked even without `--cut`.
@@ -204,6 +237,7 @@ fn program<'a>(alloc: Global) -> Result<Command<'a>, AllocError> {
     let program = with_subcommand(program, scan_command(alloc))?;
     let program = with_subcommand(program, backup_command(alloc))?;
     let program = with_subcommand(program, init_command(alloc))?;
+    let program = with_subcommand(program, run_command(alloc))?;
     let program = with_subcommand(program, recover_command(alloc))?;
     let program = with_subcommand(program, slaves_command(alloc))?;
     with_subcommand(program, explain_command(alloc))
@@ -261,6 +295,24 @@ fn init_command<'a>(alloc: Global) -> Result<Command<'a>, AllocError> {
         .after_help("Example:\n  launch eth0 2000 sii_wire init line.toml")
         .after_long_help(INIT_ANSWERS)
         .arg(line_argument(alloc))
+}
+
+fn script_argument<'a>(alloc: Global) -> Arg<'a> {
+    Arg::new(alloc, "SCRIPT")
+        .help("The script file: the commands in order, in TOML")
+        .required(true)
+}
+
+fn run_command<'a>(alloc: Global) -> Result<Command<'a>, AllocError> {
+    Command::new(alloc, "run")
+        .about("Runs the commands of a script on the line")
+        .long_about(
+            "Brings up the line, submits the commands of the script in order, carries them out, and writes the words of each slave to its image file.",
+        )
+        .after_help("Example:\n  launch eth0 2000 sii_wire run line.toml script.toml")
+        .after_long_help(RUN_ANSWERS)
+        .arg(line_argument(alloc))?
+        .arg(script_argument(alloc))
 }
 
 fn recover_command<'a>(alloc: Global) -> Result<Command<'a>, AllocError> {

@@ -12,6 +12,7 @@ mod plan;
 mod practice;
 mod reasons;
 mod recovery;
+mod running;
 mod scan;
 mod serving;
 
@@ -22,6 +23,7 @@ pub use faults::WireFault;
 pub use init::init_on_wire;
 pub use practice::{PowerCut, serve_slaves};
 pub use recovery::recover_line;
+pub use running::run_script;
 pub use scan::scan_line;
 pub use serving::{refuse_text, refuse_words, serve, show_usage};
 pub use station_files::FileStore;

@@ -1,13 +1,10 @@
 //! The subcommand `slaves`: a line to practise on, whose slaves hold the words of image files.
 
-ghost use Rattle.std.specs.Prelude.{◌<◌};
-
 use crate::faults::WireFault;
 use ecat_frame::{Frame, MAX_LEN};
-use esc_model::WordWrite;
 use site_file::RandomAccessFile;
 use site_shadow::Pattern;
-use site_wire::{PracticeLine, Wire};
+use site_wire::{PracticeFiles, PracticeLine, Wire};
 use station_files::{Fault, Store, load_line, load_slaves};
 use station_text::LineFile;
 use std::alloc::Global;
@@ -29,17 +26,6 @@ pub struct PowerCut {
     pub left: u16,
 }
 
-/// Slaves whose words are also in open image files.
-#[derive(Drop)]
-struct PracticeSlaves<F> {
-    line: PracticeLine,
-    images: Vec<F>,
-    /// The word that each slave writes.
-    writing: [Option<WordWrite>; 64],
-    /// How many words the slaves have begun to write.
-    begun: u32,
-}
-
 /// What was heard on the wire.
 #[derive(Drop)]
 enum Heard {
@@ -48,59 +34,6 @@ enum Heard {
     Nothing,
     /// A read of no bytes.
     Empty,
-}
-
-impl<F: RandomAccessFile> PracticeSlaves<F> {
-    /// A frame goes through the slaves. The words that they have written since the last one are in their files then, synced.
-    fn take(&mut self, frame: &mut Frame) -> io::Result<()> {
-        self.line.take(frame);
-        self.note_all()
-    }
-
-    /// The power is cut, and words in flight hold `left`.
-    fn cut_power(&mut self, left: u16) -> Result<(), WireFault> {
-        self.line.cut_power(Pattern::Fill(left))?;
-        self.note_all()?;
-        Ok(())
-    }
-
-    fn note_all(&mut self) -> io::Result<()> {
-        for slave in 0..64usize {
-            self.note(slave)?;
-        }
-        Ok(())
-    }
-
-    /// Notes which word a slave writes, and saves the word that it wrote before.
-    fn note(&mut self, slave: usize) -> io::Result<()>
-        requires { slave < 64 }
-    {
-        let now = self.line.in_flight(slave);
-        let before = self.writing[slave];
-        if now == before {
-            return Ok(());
-        }
-        self.writing[slave] = now;
-        if now.is_some() {
-            self.begun = self.begun.saturating_add(1);
-        }
-        match before {
-            Some(write) => self.save(slave, write.word),
-            None => Ok(()),
-        }
-    }
-
-    /// Writes a word of a slave to its file, and syncs it.
-    fn save(&self, slave: usize, word: u16) -> io::Result<()> {
-        let (Some(words), Some(image)) = (self.line.words(slave), self.images.get(slave)) else {
-            return Ok(());
-        };
-        let Some(value) = words.as_slice().get(usize::from(word)) else {
-            return Ok(());
-        };
-        image.write_all_at(&value.to_le_bytes(), 2 * u64::from(word))?;
-        image.sync_data()
-    }
 }
 
 /// Serves the slaves of the line file `name` on this wire, with the words of their image files, until the power is cut or the program is
@@ -138,15 +71,10 @@ fn switch_on<S: Store>(
     alloc: Global,
     line: &LineFile,
     store: &mut S,
-) -> Result<PracticeSlaves<S::File>, Fault> {
+) -> Result<PracticeFiles<S::File>, Fault> {
     let practice = power_up(alloc, line, store)?;
     match open_images(alloc, &line.images, store) {
-        Ok(images) => Ok(PracticeSlaves {
-            line: practice,
-            images,
-            writing: [None; 64],
-            begun: 0,
-        }),
+        Ok(images) => Ok(PracticeFiles::new(practice, images)),
         Err(fault) => Err(fault),
     }
 }
@@ -195,15 +123,15 @@ fn hear<W: Wire>(wire: &mut W) -> Result<Heard, Fault> {
 
 /// Answers one frame. Returns whether the power was cut, and then the frame isn't answered.
 fn answer<W: Wire, F: RandomAccessFile>(
-    slaves: &mut PracticeSlaves<F>,
+    slaves: &mut PracticeFiles<F>,
     cut: Option<PowerCut>,
     wire: &mut W,
     mut frame: Frame,
 ) -> Result<bool, WireFault> {
     slaves.take(&mut frame)?;
     match cut {
-        Some(cut) if slaves.begun >= cut.word => {
-            slaves.cut_power(cut.left)?;
+        Some(cut) if slaves.begun() >= cut.word => {
+            slaves.cut_power(Pattern::Fill(cut.left))?;
             Ok(true)
         }
         _ => {
@@ -216,7 +144,7 @@ fn answer<W: Wire, F: RandomAccessFile>(
 
 /// Answers frames until the power is cut or the wire is closed.
 fn serve_frames<W: Wire, F: RandomAccessFile, O: Write>(
-    slaves: &mut PracticeSlaves<F>,
+    slaves: &mut PracticeFiles<F>,
     cut: Option<PowerCut>,
     wire: &mut W,
     output: &mut O,
@@ -227,7 +155,7 @@ fn serve_frames<W: Wire, F: RandomAccessFile, O: Write>(
             Heard::Frame(frame) => {
                 empty = 0;
                 if answer(slaves, cut, wire, frame)? {
-                    return print_cut(slaves.begun, output);
+                    return print_cut(slaves.begun(), output);
                 }
             }
             Heard::Nothing => empty = 0,

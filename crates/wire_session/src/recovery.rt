@@ -14,10 +14,9 @@ use site_shadow::ShadowSite;
 use site_wire::{NumberedWire, Wire, WireDevice};
 use station_alone::{Recovered, recover};
 use station_files::Store;
-use station_session::{of_open, save_site, site_of};
+use station_session::{of_open, save_site, site_of, write_recovered};
 use station_text::LineFile;
 use std::alloc::Global;
-use std::io;
 use std::io::Write;
 
 /// Recovers the line on this wire, whose line file is `name`, with its journal: what is live in the journal is done, and the slaves then
@@ -121,18 +120,4 @@ fn save_recovered<D: KeepsReason + Drop, S: Store, O: Write>(
     save_site(alloc, line, site, store)?;
     write_recovered(recovered, output)?;
     Ok(())
-}
-
-/// Writes the counts of a recovery as one line: batches and commands that were live, and words that were written.
-fn write_recovered<O: Write>(recovered: Recovered, output: &mut O) -> io::Result<()> {
-    let Recovered {
-        batches,
-        commands,
-        words,
-    } = recovered;
-    writeln!(
-        output,
-        "recovered batches {batches} commands {commands} words {words}"
-    )?;
-    output.flush()
 }

@@ -7,6 +7,7 @@ use crate::faults::WireFault;
 use crate::init::init_on_wire;
 use crate::practice::serve_slaves;
 use crate::recovery::recover_line;
+use crate::running::run_script;
 use crate::scan::scan_line;
 use clap::Error;
 use clap::error::ErrorKind;
@@ -16,8 +17,8 @@ use std::alloc::Global;
 use std::io;
 use std::io::{Read, Write};
 
-/// Carries out a task on the wire that is read and written by these two, and returns the exit status: 0 done, 3 a file or its form, 4 the
-/// line, 5 out of memory. The frames are numbered from the one behind `number` on. Faults are printed to `faults`.
+/// Carries out a task on the wire that is read and written by these two, and returns the exit status: 0 done, 1 a command was refused, 3 a
+/// file or its form, 4 the line, 5 out of memory. The frames are numbered from the one behind `number` on. Faults are printed to `faults`.
 pub fn serve<R: Read + Drop, W: Write + Drop, S: Store, O: Write, E: Write>(
     alloc: Global,
     task: Task<'_>,
@@ -37,21 +38,38 @@ fn do_task<R: Read + Drop, W: Write + Drop, S: Store, O: Write>(
     mut wire: NumberedWire<EthernetWire<R, W>>,
     store: &mut S,
     output: &mut O,
-) -> Result<(), WireFault> {
+) -> Result<ExitStatus, WireFault> {
     match task {
-        Task::Scan => scan_line(alloc, &mut wire, output),
-        Task::Backup { line } => backup_line(alloc, &mut wire, line, store),
-        Task::Init { line } => init_on_wire(alloc, &mut wire, line, store, output),
-        Task::Recover { line } => recover_line(alloc, wire, line, store, output),
-        Task::Slaves { line, cut } => { serve_slaves(alloc, line, cut, wire.wire(), store, output) }
-        Task::Explain => Ok(explain(alloc, output)?),
+        Task::Scan => all_done(scan_line(alloc, &mut wire, output)),
+        Task::Backup { line } => all_done(backup_line(alloc, &mut wire, line, store)),
+        Task::Init { line } => all_done(init_on_wire(alloc, &mut wire, line, store, output)),
+        Task::Run { line, script } => run_script(alloc, wire, line, script, store, output),
+        Task::Recover { line } => all_done(recover_line(alloc, wire, line, store, output)),
+        Task::Slaves { line, cut } => all_done(serve_slaves(
+            alloc,
+            line,
+            cut,
+            wire.wire(),
+            store,
+            output,
+        )),
+        Task::Explain => {
+            explain(alloc, output)?;
+            Ok(ExitStatus::Done)
+        }
     }
 }
 
-/// The exit status for a result: `Done`, or that of the fault, which is printed.
-fn status_of<E: Write>(ended: Result<(), WireFault>, faults: &mut E) -> ExitStatus {
+/// `Done` where no fault came.
+fn all_done(ended: Result<(), WireFault>) -> Result<ExitStatus, WireFault> {
+    ended?;
+    Ok(ExitStatus::Done)
+}
+
+/// The exit status for a result: that of what was done, or that of the fault, which is printed.
+fn status_of<E: Write>(ended: Result<ExitStatus, WireFault>, faults: &mut E) -> ExitStatus {
     match ended {
-        Ok(()) => ExitStatus::Done,
+        Ok(status) => status,
         Err(fault) => {
             let _ = writeln!(faults, "{fault}");
             fault.status()

@@ -10,8 +10,8 @@ use site_file::{FileDevice, OpenFiles, RandomAccessFile};
 use site_mem::{Parts, Pattern};
 use site_shadow::ShadowSite;
 use site_wire::{
-    Difference, LineFault, NumberedWire, PracticeLine, StopReason, Wire, WireDevice, WireSite,
-    bring_up,
+    Difference, Fate, LineFault, Mishap, NumberedWire, PracticeLine, PracticeWire, StopReason,
+    WireDevice, WireSite, bring_up,
 };
 use std::alloc::Global;
 use std::io;
@@ -38,178 +38,11 @@ impl RandomAccessFile for NoFile {
     }
 }
 
-// What becomes of a frame.
-#[derive(Clone, Copy)]
-enum Fate {
-    Passes,
-    // It is lost before the slaves.
-    LostBefore,
-    // It is lost behind them.
-    LostBehind,
-    // It comes back twice.
-    Doubled,
-    // It goes through the slaves twice, and comes back twice.
-    SentTwice,
-    // It comes back before the answer to the next one.
-    Delayed,
-    // These bits of a byte are turned on the way back.
-    Turned(usize, u8),
-}
-
-// The bytes of a frame.
-#[derive(Clone, Copy)]
-struct Packet {
-    bytes: [u8; 64],
-    length: usize,
-}
-
-fn packet_of(bytes: &[u8]) -> Packet {
-    let mut packet = Packet {
-        bytes: [0; 64],
-        length: bytes.len().min(64),
-    };
-    for (place, byte) in bytes.iter().enumerate() {
-        if let Some(slot) = packet.bytes.get_mut(place) {
-            *slot = *byte;
-        }
-    }
-    packet
-}
-
-// The frames that have one fate, of those that are sent.
-#[derive(Clone, Copy)]
-struct Plan {
-    passing: u32,
-    failing: u32,
-    fate: Fate,
-}
-
-const WELL: Plan = Plan {
+const WELL: Mishap = Mishap {
     passing: 0,
     failing: 0,
     fate: Fate::Passes,
 };
-
-// A wire in memory.
-#[derive(Drop)]
-struct TestWire {
-    line: PracticeLine,
-    plan: Plan,
-    answers: [Option<Packet>; 4],
-    late: Option<Packet>,
-    // How many words are still taken before the power is cut in one, and what that leaves of it.
-    words: Option<u32>,
-    left: Pattern,
-}
-
-fn wire_of(line: PracticeLine) -> TestWire {
-    TestWire {
-        line,
-        plan: WELL,
-        answers: [None; 4],
-        late: None,
-        words: None,
-        left: Pattern::Old,
-    }
-}
-
-impl TestWire {
-    // The fate of the next frame.
-    fn next_fate(&mut self) -> Fate {
-        if self.plan.passing > 0 {
-            self.plan.passing -= 1;
-            return Fate::Passes;
-        }
-        if self.plan.failing > 0 {
-            self.plan.failing -= 1;
-            return self.plan.fate;
-        }
-        Fate::Passes
-    }
-
-    // A frame waits to be received.
-    fn push(&mut self, packet: Packet) {
-        for slot in &mut self.answers {
-            if slot.is_none() {
-                *slot = Some(packet);
-                return;
-            }
-        }
-    }
-
-    fn pop(&mut self) -> Option<Packet> {
-        let [first, second, third, fourth] = self.answers;
-        self.answers = [second, third, fourth, None];
-        first
-    }
-
-    // The frame goes through the slaves. The power is cut in the word that the plan says.
-    fn pass(&mut self, frame: &mut Frame) {
-        let was_writing = self.line.in_flight(0).is_some();
-        self.line.take(frame);
-        if was_writing || self.line.in_flight(0).is_none() {
-            return;
-        }
-        match self.words {
-            Some(0) => {
-                let _ = self.line.cut_power(self.left);
-            }
-            Some(words) => self.words = Some(words - 1),
-            None => {}
-        }
-    }
-
-    // The frame comes back with this fate.
-    fn come_back(&mut self, fate: Fate, bytes: &[u8]) {
-        let mut packet = packet_of(bytes);
-        if let Some(late) = self.late {
-            self.late = None;
-            self.push(late);
-        }
-        match fate {
-            Fate::LostBefore | Fate::LostBehind => return,
-            Fate::Doubled | Fate::SentTwice => self.push(packet),
-            Fate::Delayed => {
-                self.late = Some(packet);
-                return;
-            }
-            Fate::Turned(at, bits) => {
-                if let Some(byte) = packet.bytes.get_mut(at) {
-                    *byte ^= bits;
-                }
-            }
-            Fate::Passes => {}
-        }
-        self.push(packet);
-    }
-}
-
-impl Wire for TestWire {
-    fn send(&mut self, bytes: &[u8]) -> io::Result<()> {
-        let fate = self.next_fate();
-        if let Fate::LostBefore = fate {
-            return Ok(());
-        }
-        let Ok(mut frame) = Frame::parse(bytes) else {
-            return Err(io::Error::other("no frame"));
-        };
-        self.pass(&mut frame);
-        if let (Fate::SentTwice, Ok(mut copy)) = (fate, Frame::parse(bytes)) {
-            self.pass(&mut copy);
-        }
-        self.come_back(fate, frame.as_bytes());
-        Ok(())
-    }
-
-    fn receive(&mut self, bytes: &mut [u8]) -> io::Result<usize> {
-        let Some(packet) = self.pop() else {
-            return Err(io::Error::other("nothing comes"));
-        };
-        let length = packet.length.min(bytes.len()).min(64);
-        bytes[..length].copy_from_slice(&packet.bytes[..length]);
-        Ok(length)
-    }
-}
 
 // What is done with a line on a wire.
 #[derive(Clone, Copy)]
@@ -267,10 +100,10 @@ const DEAD: Pattern = Pattern::Fill(0xdead);
 
 // What is done, for how many datagrams the slave stays busy with a command, how many frames pass, how many have the fate, why the
 // site stops, and words 4, 5 and 6 then.
-type Mishap = (Act, u32, u32, u32, Fate, Option<StopReason>, [u16; 3]);
+type Case = (Act, u32, u32, u32, Fate, Option<StopReason>, [u16; 3]);
 
 // Frame 0 asks for the word, or for the first two; the others behind it poll.
-const MISHAPS: &[Mishap] = &[
+const CASES: &[Case] = &[
     (Act::Write, 3, 0, 0, Fate::Passes, GOES_ON, NEW),
     (Act::Read, 3, 0, 0, Fate::Passes, GOES_ON, OLD),
     (Act::Look, 3, 0, 0, Fate::Passes, GOES_ON, OLD),
@@ -385,10 +218,10 @@ const MISHAPS: &[Mishap] = &[
 ];
 
 // What becomes of frames, and how many slaves are found, or why none are.
-const BROUGHT_UP: &[(Plan, Result<usize, LineFault>)] = &[
+const BROUGHT_UP: &[(Mishap, Result<usize, LineFault>)] = &[
     (WELL, Ok(1)),
     (
-        Plan {
+        Mishap {
             passing: 0,
             failing: 3,
             fate: Fate::LostBefore,
@@ -396,7 +229,7 @@ const BROUGHT_UP: &[(Plan, Result<usize, LineFault>)] = &[
         Err(LineFault::Silent),
     ),
     (
-        Plan {
+        Mishap {
             passing: 9,
             failing: 3,
             fate: Fate::LostBehind,
@@ -404,7 +237,7 @@ const BROUGHT_UP: &[(Plan, Result<usize, LineFault>)] = &[
         Err(LineFault::Silent),
     ),
     (
-        Plan {
+        Mishap {
             passing: 0,
             failing: 1,
             fate: Fate::Turned(13, 1),
@@ -412,7 +245,7 @@ const BROUGHT_UP: &[(Plan, Result<usize, LineFault>)] = &[
         Err(LineFault::NoSlaves),
     ),
     (
-        Plan {
+        Mishap {
             passing: 0,
             failing: 1,
             fate: Fate::Turned(13, 0x80),
@@ -422,23 +255,24 @@ const BROUGHT_UP: &[(Plan, Result<usize, LineFault>)] = &[
 ];
 
 // A wire with one slave, which stays busy for so many datagrams.
-fn new_wire(alloc: Global, delay: u32) -> Option<NumberedWire<TestWire>> {
+fn new_wire(alloc: Global, delay: u32) -> Option<NumberedWire<PracticeWire>> {
     let plant = Vec::from_array(alloc, [zero_words(alloc)?]).ok()?;
     let line = PracticeLine::power_up(alloc, &plant, delay).ok()?;
-    Some(NumberedWire::new(wire_of(line), 7))
+    Some(NumberedWire::new(PracticeWire::new(line), 7))
 }
 
-// The wire with these plans.
+// The wire with this mishap, and with a power cut in the midst of a word.
 fn planned(
-    mut wire: NumberedWire<TestWire>,
-    plan: Plan,
-    words: Option<u32>,
-    left: Pattern,
-) -> NumberedWire<TestWire> {
+    mut wire: NumberedWire<PracticeWire>,
+    mishap: Mishap,
+    cut: Option<(u32, Pattern)>,
+) -> NumberedWire<PracticeWire> {
     let under = wire.wire();
-    under.plan = plan;
-    under.words = words;
-    under.left = left;
+    under.plan(mishap);
+    match cut {
+        Some((words, left)) => under.cut_behind(words, left),
+        None => under.keep_power(),
+    }
     wire
 }
 
@@ -456,7 +290,7 @@ fn parts_of(alloc: Global, words: Words) -> Option<Parts> {
 }
 
 // The words of the only slave, as the line is brought up.
-fn words_found(alloc: Global, wire: &mut NumberedWire<TestWire>) -> Option<Words> {
+fn words_found(alloc: Global, wire: &mut NumberedWire<PracticeWire>) -> Option<Words> {
     let mut plant = bring_up(alloc, wire).ok()?;
     let words = plant.pop();
     drop(plant);
@@ -468,17 +302,16 @@ fn site_on<'f>(
     alloc: Global,
     files: &'f OpenFiles<NoFile>,
     delay: u32,
-    plan: Plan,
-    words: Option<u32>,
-    left: Pattern,
-) -> Option<WireSite<'f, TestWire, NoFile>> {
+    mishap: Mishap,
+    cut: Option<(u32, Pattern)>,
+) -> Option<WireSite<'f, PracticeWire, NoFile>> {
     let mut wire = new_wire(alloc, delay)?;
     let found = words_found(alloc, &mut wire)?;
     let parts = parts_of(alloc, found)?;
     if !parts.is_whole() {
         return None;
     }
-    let wire = planned(wire, plan, words, left);
+    let wire = planned(wire, mishap, cut);
     let device = WireDevice::new(wire, FileDevice::new(files));
     Some(ShadowSite::of_parts(alloc, parts, device))
 }
@@ -514,40 +347,39 @@ fn is_done(alloc: Global, site: &mut impl Site, act: Act) -> bool {
     }
 }
 
-// Before which word the power is cut, if it is, and what that leaves of the word.
-fn cut_of(act: Act) -> (Option<u32>, Pattern) {
+// Before which word the power is cut, and what that leaves of the word, if it is cut.
+fn cut_of(act: Act) -> Option<(u32, Pattern)> {
     match act {
-        Act::Cut(word, pattern) => (Some(word), pattern),
-        _ => (None, Pattern::Old),
+        Act::Cut(word, pattern) => Some((word, pattern)),
+        _ => None,
     }
 }
 
 // Why the site has stopped, if it has, and the words that a wire without mishaps finds then.
 fn left_by(
     alloc: Global,
-    site: WireSite<'_, TestWire, NoFile>,
+    site: WireSite<'_, PracticeWire, NoFile>,
 ) -> Option<(Option<StopReason>, Words)> {
     let (parts, device) = site.into_parts();
     drop(parts);
     let reason = device.reason();
-    let mut wire = planned(device.into_wire(), WELL, None, Pattern::Old);
+    let mut wire = planned(device.into_wire(), WELL, None);
     Some((reason, words_found(alloc, &mut wire)?))
 }
 
 // Whether a mishap ends so.
-fn ends_so(alloc: Global, mishap: &Mishap) -> Option<bool> {
-    let (act, delay, passing, failing, fate, reason, left) = *mishap;
-    let plan = Plan {
+fn ends_so(alloc: Global, case: &Case) -> Option<bool> {
+    let (act, delay, passing, failing, fate, reason, left) = *case;
+    let mishap = Mishap {
         passing,
         failing,
         fate,
     };
-    let (word, pattern) = cut_of(act);
     let files = OpenFiles {
         journal: NoFile,
         images: Vec::new(alloc),
     };
-    let mut site = site_on(alloc, &files, delay, plan, word, pattern)?;
+    let mut site = site_on(alloc, &files, delay, mishap, cut_of(act))?;
     let is_done = is_done(alloc, &mut site, act);
     let (found, words) = left_by(alloc, site)?;
     let is_left = words.as_slice().get(4..7) == Some(&left);
@@ -556,15 +388,15 @@ fn ends_so(alloc: Global, mishap: &Mishap) -> Option<bool> {
 
 #[test]
 fn mishaps_end_well_or_stop(rt: HostRuntime) {
-    for mishap in MISHAPS {
-        assert!(rt; ends_so(rt.alloc(), mishap) == Some(true));
+    for case in CASES {
+        assert!(rt; ends_so(rt.alloc(), case) == Some(true));
     }
 }
 
 // How many slaves are found where frames have this fate. None where memory is wanted.
-fn brought_up(alloc: Global, plan: Plan) -> Option<Result<usize, LineFault>> {
+fn brought_up(alloc: Global, mishap: Mishap) -> Option<Result<usize, LineFault>> {
     let wire = new_wire(alloc, 2)?;
-    let mut wire = planned(wire, plan, None, Pattern::Old);
+    let mut wire = planned(wire, mishap, None);
     match bring_up(alloc, &mut wire) {
         Ok(plant) => Some(Ok(plant.len())),
         Err(LineFault::Memory) => None,
@@ -574,8 +406,8 @@ fn brought_up(alloc: Global, plan: Plan) -> Option<Result<usize, LineFault>> {
 
 #[test]
 fn lines_are_brought_up(rt: HostRuntime) {
-    for (plan, found) in BROUGHT_UP {
-        assert!(rt; brought_up(rt.alloc(), *plan) == Some(*found));
+    for (mishap, found) in BROUGHT_UP {
+        assert!(rt; brought_up(rt.alloc(), *mishap) == Some(*found));
     }
 }
 
@@ -583,12 +415,12 @@ fn lines_are_brought_up(rt: HostRuntime) {
 fn is_always_brought_up(alloc: Global, fate: Fate) -> bool {
     let mut is_always = true;
     for passing in 0..40u32 {
-        let plan = Plan {
+        let mishap = Mishap {
             passing,
             failing: 1,
             fate,
         };
-        is_always &= brought_up(alloc, plan) == Some(Ok(1));
+        is_always &= brought_up(alloc, mishap) == Some(Ok(1));
     }
     is_always
 }

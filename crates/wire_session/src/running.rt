@@ -1,0 +1,188 @@
+//! The subcommand `run`.
+ghost use Rattle.std.specs.Prelude.{◌≡◌, ◌≤◌, length, IfErr, IfOk, IsTrue, OnOk};
+ghost use Rattle.esc_rom.specs.Owned.{OwnsAll};
+ghost use Rattle.station_files.specs.Files.{ChangesAmong};
+ghost use Rattle.station_files.specs.ScriptFiles.{SpellsCommands};
+ghost use Rattle.station_session.specs.Site.{files_of, HoldsSite};
+ghost use Rattle.station_session.specs.Session.{is_old};
+ghost use Rattle.wire_session.specs.Backup.{IsOfStream};
+ghost use Rattle.wire_session.specs.Opening.{IsFound};
+ghost use Rattle.wire_session.specs.Running.{EndsFound, EndsServing, EndsSite, RunsScript};
+
+use crate::faults::{WireFault, why_ended};
+use crate::opening::{Found, find_line, open_journal};
+use crate::reasons::KeepsReason;
+use script_session::serve_commands;
+use sii_edit::Command;
+use site_file::FileDevice;
+use site_shadow::ShadowSite;
+use site_wire::{NumberedWire, Wire, WireDevice};
+use station_alone::Alone;
+use station_files::{ExitStatus, Store, load_script};
+use station_session::{is_old, of_open, open_station, save_site, site_of};
+use station_text::LineFile;
+use std::alloc::Global;
+use std::io::Write;
+
+/// What was found for a run: the line, and the commands of the script.
+#[derive(Drop)]
+struct Given<L> {
+    found: Found<L>,
+    commands: Vec<Command>,
+}
+
+/// Runs the script file `script` on the line on this wire, whose line file is `name`: submits its commands in order, serves them on one
+/// thread, prints the answer to each and the totals, and writes the words of each slave to its image file, which is replaced as a whole. A
+/// journal that isn't of version 2 is recovered and migrated first. Returns the exit status: `Done`, or that of the worst refusal.
+///
+/// # Errors
+///
+/// As for `load_script`; then as for `find_line`. Nothing is written up to there. Then as for `open_journal`, `open_station` and
+/// `serve_commands`, or why the site on the wire has stopped. No image file is written up to there, and a recovery completes what was begun.
+/// Then `File` or `Memory`, as the store answers.
+pub fn run_script<W: Wire + Drop, S: Store, O: Write>(
+    alloc: Global,
+    wire: NumberedWire<W>,
+    name: &str,
+    script: &str,
+    store: &mut S,
+    output: &mut O,
+) -> Result<ExitStatus, WireFault>
+    ensures { RunsScript result (S.files store.old) (S.files store.new) name.now script.now }
+{
+    let mut wire = wire;
+    match find_all(alloc, &mut wire, name, script, store) {
+        Ok(given) => {
+            let Given { found, commands } = given;
+            run_found(alloc, found, &commands, wire, store, output)
+        }
+        Err(fault) => {
+            drop(wire);
+            Err(fault)
+        }
+    }
+}
+
+/// Reads the script, and then finds the line. No file changes. A script that can't be read leaves the wire alone.
+fn find_all<W: Wire, S: Store>(
+    alloc: Global,
+    wire: &mut NumberedWire<W>,
+    name: &str,
+    script: &str,
+    store: &mut S,
+) -> Result<Given<S::Lock>, WireFault>
+    ensures found { IfOk result (λ given. IsFound (S.files store.old) name.now given.found.line given.found.slaves.items given.found.journal.items) }
+    ensures some { IfOk result (λ given. 1 ≤ length given.found.slaves.items) }
+    ensures most { IfOk result (λ given. length given.found.slaves.items ≤ 64) }
+    ensures spelt { IfOk result (λ given. SpellsCommands (S.files store.old) script.now given.commands.items) }
+    ensures same { S.files store.new ≡ S.files store.old }
+{
+    let commands = load_script(alloc, script, store)?;
+    match find_line(alloc, wire, name, store) {
+        Ok(found) => Ok(Given { found, commands }),
+        Err(fault) => {
+            drop(commands);
+            Err(fault)
+        }
+    }
+}
+
+/// Opens the journal of a line that was found, and runs the commands.
+fn run_found<W: Wire + Drop, S: Store, O: Write>(
+    alloc: Global,
+    found: Found<S::Lock>,
+    commands: &[Command],
+    wire: NumberedWire<W>,
+    store: &mut S,
+    output: &mut O,
+) -> Result<ExitStatus, WireFault>
+    requires some { 1 ≤ length found.slaves.items }
+    requires most { length found.slaves.items ≤ 64 }
+    requires count { length found.slaves.items ≡ length found.line.images.items }
+    ensures { EndsFound result (S.files store.old) (S.files store.new) found.line found.slaves.items found.journal.items commands.now }
+{
+    let Found {
+        line,
+        slaves,
+        journal,
+        lock: _lock,
+    } = found;
+    let files = open_journal(alloc, &line, store)?;
+    let was_old = is_old(&journal);
+    let device = WireDevice::new(wire, FileDevice::new(&files));
+    let site = site_of(alloc, &slaves, journal, device)?;
+    run_site(alloc, &line, site, was_old, commands, store, output)
+}
+
+/// Opens the station on this line, and serves the commands.
+fn run_site<D: KeepsReason + Drop, S: Store, O: Write>(
+    alloc: Global,
+    line: &LineFile,
+    site: ShadowSite<D>,
+    was_old: bool,
+    commands: &[Command],
+    store: &mut S,
+    output: &mut O,
+) -> Result<ExitStatus, WireFault>
+    requires disk { IsTrue site.line.has_disk }
+    requires owned { OwnsAll site.line }
+    requires slaves { length site.line.sizes ≡ length line.now.images.items }
+    requires old { was_old ≡ is_old site.seen.state.disk.bytes }
+    ensures { EndsSite result (S.files store.old) (S.files store.new) line.now site commands.now }
+{
+    match open_station(alloc, site, was_old, None) {
+        Ok(alone) => run_station(alloc, line, alone, commands, store, output),
+        Err((left, fault)) => {
+            let reason = left.device().reason();
+            drop(left);
+            Err(why_ended(reason, of_open(fault)))
+        }
+    }
+}
+
+/// Serves the commands on this station, and saves what the slaves hold unless a fault came.
+fn run_station<D: KeepsReason + Drop, S: Store, O: Write>(
+    alloc: Global,
+    line: &LineFile,
+    mut alone: Alone<ShadowSite<D>>,
+    commands: &[Command],
+    store: &mut S,
+    output: &mut O,
+) -> Result<ExitStatus, WireFault>
+    requires disk { IsTrue alone.line.has_disk }
+    requires slaves { length alone.line.sizes ≡ length line.now.images.items }
+    ensures { EndsServing result (S.files store.old) (S.files store.new) line.now alone commands.now }
+{
+    let mut status = ExitStatus::Done;
+    let slaves = line.images.len() as u16;
+    let served = serve_commands(&mut alone, slaves, commands, output, &mut status);
+    let (core, site) = alone.into_parts();
+    drop(core);
+    match served {
+        Ok(()) => save_served(alloc, line, site, status, store),
+        Err(fault) => {
+            let reason = site.device().reason();
+            drop(site);
+            Err(why_ended(reason, fault))
+        }
+    }
+}
+
+/// Saves what the slaves hold, and gives the status of the answers.
+fn save_served<D: KeepsReason + Drop, S: Store>(
+    alloc: Global,
+    line: &LineFile,
+    site: ShadowSite<D>,
+    status: ExitStatus,
+    store: &mut S,
+) -> Result<ExitStatus, WireFault>
+    requires disk { IsTrue site.line.has_disk }
+    requires slaves { length site.line.sizes ≡ length line.now.images.items }
+    ensures saved { OnOk result (HoldsSite (S.files store.new) line.now site.seen.state) }
+    ensures status { IfOk result (λ given. given ≡ status) }
+    ensures others { ChangesAmong (S.files store.old) (S.files store.new) (files_of line.now) }
+    ensures failed { IfErr result IsOfStream }
+{
+    save_site(alloc, line, site, store)?;
+    Ok(status)
+}
