@@ -14,4 +14,4 @@ mod registers;
 
 pub use configuration::{configure, reconfigure};
 pub use fault::CycleFault;
-pub use process_data::{IMAGE_BYTES, turn};
+pub use process_data::turn;

@@ -6,11 +6,8 @@ ghost use Rattle.cyclic.specs.Turn.{turn_order, TakesTurn};
 use crate::exchange::exchange;
 use crate::fault::CycleFault;
 use ecat_frame::{Command, Frame};
-use sii_image::{Plan, ProcessImage};
+use sii_image::{IMAGE_BYTES, Plan, ProcessImage};
 use site_core::Site;
-
-/// The greatest size of a process image, in bytes.
-pub const IMAGE_BYTES: usize = 1486;
 
 /// Copies the outputs to the front of the content.
 fn lay(content: &mut [u8], outputs: &[u8])

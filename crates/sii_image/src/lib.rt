@@ -15,6 +15,7 @@ mod slave_layout;
 pub use fault::ImageFault;
 pub use layout::{Layout, image_of};
 pub use new_layouts::{NewLayout, NewLayouts};
+pub use placement::IMAGE_BYTES;
 pub use plan::Plan;
 pub use process_image::{ProcessImage, Segment};
 pub use slave_layout::SlaveLayout;

@@ -9,8 +9,11 @@ use crate::rows::Row;
 use crate::slave_layout::SlaveLayout;
 use std::alloc::Global;
 
-/// The largest size of a process image in bytes.
-pub(crate) const MOST_BYTES: u32 = 1486;
+/// The greatest size of a process image in bytes: what one datagram carries, in a frame of its own.
+pub const IMAGE_BYTES: usize = 1486;
+
+/// The same as a size of rows.
+pub(crate) const MOST_BYTES: u32 = IMAGE_BYTES as u32;
 
 /// The segments of the rows placed so far, and their size in bytes.
 #[derive(Drop)]

@@ -3,8 +3,8 @@
 ghost use Rattle.std.specs.Prelude.{◌≡◌, length};
 
 use arrayvec::ArrayVec;
-use cyclic::{CycleFault, IMAGE_BYTES};
-use sii_image::Plan;
+use cyclic::CycleFault;
+use sii_image::{IMAGE_BYTES, Plan};
 
 /// One process data cycle to do.
 #[derive(Drop)]
