@@ -6,3 +6,4 @@ pub mod SoFar
 pub mod OneReading
 pub mod Parsed
 pub mod Answered
+mod Lengths

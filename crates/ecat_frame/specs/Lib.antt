@@ -4,3 +4,4 @@ pub mod Fault
 pub mod Kept
 pub mod Answer
 pub mod Reading
+pub mod Copies

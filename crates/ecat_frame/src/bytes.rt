@@ -14,9 +14,6 @@ pub const MAX_LEN: usize = 1500;
 /// The bytes of a datagram besides its content: ten before it, and the two of its working counter.
 pub(crate) const OVERHEAD: usize = 12;
 
-/// The IRQ word, always written as zero.
-const IRQ: [u8; 2] = [0, 0];
-
 /// Bit 7 of a length word's high byte: another datagram follows.
 const MORE: u8 = 0x80;
 
@@ -40,17 +37,19 @@ pub(crate) fn overwrite(bytes: &mut ArrayVec<u8, MAX_LEN>, at: usize, part: &[u8
     bytes.as_mut_slice()[at..at + part.len()].copy_from_slice(part);
 }
 
-/// Appends a datagram as the last one, with bit 15 of its length word clear.
+/// Appends a datagram as the last one, with bit 15 of its length word and its IRQ word clear.
 pub(crate) fn put_datagram(bytes: &mut ArrayVec<u8, MAX_LEN>, datagram: Datagram<'_>)
     requires { array_vec_len bytes.old + 12 + length datagram.content.now ≤ MAX_LEN }
     ensures written { bytes.new.items ≡ bytes.old.items ++ spelled_datagram (pdu datagram.entry) false }
     ensures fits { Fits (pdu datagram.entry) }
 {
-    let length = datagram.content.len() as u16;
-    put(bytes, &[datagram.command.code(), datagram.index]);
-    put(bytes, &datagram.address.to_le_bytes());
-    put(bytes, &length.to_le_bytes());
-    put(bytes, &IRQ);
+    let [a, b, c, d] = datagram.address.to_le_bytes();
+    let [low, high] = (datagram.content.len() as u16).to_le_bytes();
+    let command = datagram.command.code();
+    put(
+        bytes,
+        &[command, datagram.index, a, b, c, d, low, high, 0, 0],
+    );
     put(bytes, datagram.content);
     put(bytes, &datagram.counter.to_le_bytes());
 }

@@ -93,6 +93,16 @@ impl Frame {
         }
     }
 
+    /// Removes all datagrams.
+    pub fn clear(&mut self)
+        ensures { self.new ≡ [] }
+    {
+        self.bytes.clear();
+        put(&mut self.bytes, &[0x00, 0x10]);
+        self.count = 0;
+        self.last = 2;
+    }
+
     /// Appends a datagram with a working counter of 0.
     ///
     /// # Errors

@@ -5,6 +5,7 @@
 
 mod bytes;
 mod command;
+mod copies;
 mod datagram;
 mod fault;
 mod frame;
@@ -13,6 +14,7 @@ mod reading;
 
 pub use bytes::MAX_LEN;
 pub use command::{Command, fp};
+pub use copies::{DatagramHeader, OnlyDatagram, copy_content, copy_of, only_short};
 pub use datagram::Datagram;
 pub use fault::FrameFault;
 pub use frame::{Datagrams, Frame};

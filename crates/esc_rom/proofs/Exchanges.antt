@@ -1,5 +1,5 @@
 -- A frame of one datagram for the EEPROM half of one slave.
-use Rattle.std.proofs.Common.{◌≡◌, ◌⊎◌, ℕ, List, [], ◌∷◌, ◌++◌, map, Option, Some, None, slice_get, Result, Ok, Err, refl, sym, ap, subst, ◌∙◌, inl, inr, arith}
+use Rattle.std.proofs.Common.{◌≡◌, ◌⊎◌, ℕ, Bool, true, false, List, [], ◌∷◌, ◌++◌, map, Some, slice_get, Result, Ok, Err, refl, sym, ap, subst, ◌∙◌, inl, inr, arith}
 use Rattle.std.specs.List.{AllByRecursion}
 use Rattle.ecat_frame.specs.Frame.{Pdu}
 use Rattle.esc_model.specs.SlaveHalf.{SlaveHalf, MayRest}
@@ -158,10 +158,10 @@ lost_half old slave order new sends =
 -- A DATAGRAM THAT BRINGS NO WORD INTO FLIGHT
 
 module _ (old : Seen) (slave : ℕ) (order : Pdu) (new : Seen) (gentle : IsGentle order) where
-  pub back : {came : Option (List Pdu)} {answer : List Pdu} {datagram : Pdu} → came ≡ Some answer → slice_get answer 0 ≡ Some datagram → Sends old slave order (Ok came) new
+  pub back : (answer : List Pdu) {came : Bool} {datagram : Pdu} → came ≡ true → slice_get answer 0 ≡ Some datagram → Sends old slave order (Ok came) answer new
       → Ran (Answers order datagram) old slave 1 new
-  back {answer = answer} {datagram = datagram} is first sent =
-      let sends = subst (λ (o : Option (List Pdu)). Sends old slave order (Ok o) new) is sent in
+  back answer {datagram = datagram} is first sent =
+      let sends = subst (λ (b : Bool). Sends old slave order (Ok b) answer new) is sent in
       record {
         quiet = exchange_quiet old slave order (Ok tt) answer new gentle sends;
         some = let one = Calls-clock old (map (with_half old.state slave) sends.laters) (Ok tt) new sends.call in omega arith;
@@ -169,9 +169,9 @@ module _ (old : Seen) (slave : ℕ) (order : Pdu) (new : Seen) (gentle : IsGentl
         half = back_half old slave order answer new datagram first sends;
       }
 
-  pub lost : {came : Option (List Pdu)} → came ≡ None → Sends old slave order (Ok came) new → Ran (WasLost order old new) old slave 1 new
-  lost is sent =
-      let sends = subst (λ (o : Option (List Pdu)). Sends old slave order (Ok o) new) is sent in
+  pub lost : (answer : List Pdu) {came : Bool} → came ≡ false → Sends old slave order (Ok came) answer new → Ran (WasLost order old new) old slave 1 new
+  lost answer is sent =
+      let sends = subst (λ (b : Bool). Sends old slave order (Ok b) answer new) is sent in
       record {
         quiet = exchange_quiet old slave order (Err device.Lost) (order ∷ []) new gentle sends;
         some = let one = Calls-clock old (map (with_half old.state slave) sends.laters) (Err device.Lost) new sends.call in omega arith;
@@ -179,5 +179,5 @@ module _ (old : Seen) (slave : ℕ) (order : Pdu) (new : Seen) (gentle : IsGentl
         half = lost_half old slave order new sends;
       }
 
-  pub cut : {stop : Stop} → Sends old slave order (Err stop) new → StopsQuietly old 1 new
-  cut sends = record { quiet = exchange_quiet old slave order (Err device.Stopped) (order ∷ []) new gentle sends; stopped = sends.call.stopped.1 refl }
+  pub cut : (answer : List Pdu) {stop : Stop} → Sends old slave order (Err stop) answer new → StopsQuietly old 1 new
+  cut answer sends = record { quiet = exchange_quiet old slave order (Err device.Stopped) (order ∷ []) new gentle sends; stopped = sends.call.stopped.1 refl }

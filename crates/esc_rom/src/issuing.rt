@@ -7,7 +7,7 @@ ghost use Rattle.esc_rom.specs.Access.{IssuesWord};
 
 use crate::registers::CONTROL;
 use crate::send::send;
-use ecat_frame::Command;
+use ecat_frame::{Command, Frame};
 use site_core::{DeviceFault, Issued, Site};
 
 /// Control and status: write enable, and the command write.
@@ -43,10 +43,11 @@ pub fn issue<S: Site>(
     ensures line { S.line site.new ≡ S.line site.old }
 {
     let content = write_content(word, value);
-    let Some(answer) = send(site, slave, Command::Fpwr, CONTROL, &content)? else {
+    let mut frame = Frame::new();
+    if !send(site, &mut frame, slave, Command::Fpwr, CONTROL, &content)? {
         return Ok(Issued::Lost);
-    };
-    if answer.datagram(0).counter == 1 {
+    }
+    if frame.datagram(0).counter == 1 {
         return Ok(Issued::Taken);
     }
     Ok(Issued::NotTaken)

@@ -9,24 +9,25 @@ use crate::fault::{RomFault, Stop};
 use crate::poll::wait_idle;
 use crate::registers::{ACCESS, CONTROL};
 use crate::write::insist;
+use ecat_frame::Frame;
 use site_core::Site;
 
 /// Takes the EEPROM from the PDI, waits until the slave is idle, and clears its errors. Returns whether all that succeeded.
-fn take_over<S: Site>(site: &mut S, slave: u16) -> Result<bool, Stop>
+fn take_over<S: Site>(site: &mut S, frame: &mut Frame, slave: u16) -> Result<bool, Stop>
     requires { Owns (S.line site.old) slave }
     ensures runs { Performs (BecomesOpen (S.seen site.old) slave (S.seen site.new)) (S.seen site.old) slave 10009 result (S.seen site.new) }
     ensures line { S.line site.new ≡ S.line site.old }
 {
-    if !insist(site, slave, ACCESS, &[0x02])? {
+    if !insist(site, frame, slave, ACCESS, &[0x02])? {
         return Ok(false);
     }
-    if !insist(site, slave, ACCESS, &[0x00])? {
+    if !insist(site, frame, slave, ACCESS, &[0x00])? {
         return Ok(false);
     }
-    let Some(_rested) = wait_idle(site, slave)? else {
+    let Some(_rested) = wait_idle(site, frame, slave)? else {
         return Ok(false);
     };
-    insist(site, slave, CONTROL, &[0, 0])
+    insist(site, frame, slave, CONTROL, &[0, 0])
 }
 
 /// Opens the EEPROM of a slave for word access (ETG.1000.4, slave information interface): takes it from the PDI, waits until the slave
@@ -41,7 +42,8 @@ pub fn open_slave<S: Site>(site: &mut S, slave: u16) -> Result<(), RomFault>
     ensures opens { OpensSlave (S.seen site.old) slave result (S.seen site.new) }
     ensures line { S.line site.new ≡ S.line site.old }
 {
-    if take_over(site, slave)? {
+    let mut frame = Frame::new();
+    if take_over(site, &mut frame, slave)? {
         return Ok(());
     }
     Err(RomFault::SlaveDead { slave })

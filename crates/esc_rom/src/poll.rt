@@ -9,7 +9,7 @@ ghost use Rattle.esc_rom.specs.Runs.{Performs, Polled, Waited};
 use crate::fault::Stop;
 use crate::registers::{CONTROL, POLLS};
 use crate::send::send;
-use ecat_frame::{Command, Datagram};
+use ecat_frame::{Command, Datagram, Frame};
 use site_core::Site;
 
 /// How the last command of an idle slave ended.
@@ -44,25 +44,33 @@ fn found(answer: Datagram<'_>) -> Option<Rested>
 }
 
 /// Polls a slave once. None if it isn't seen idle: it is busy, the frame is lost, or the working counter isn't 1.
-pub(crate) fn poll<S: Site>(site: &mut S, slave: u16) -> Result<Option<Rested>, Stop>
+pub(crate) fn poll<S: Site>(
+    site: &mut S,
+    frame: &mut Frame,
+    slave: u16,
+) -> Result<Option<Rested>, Stop>
     requires { Owns (S.line site.old) slave }
     ensures runs { Performs (Polled (S.seen site.old) slave (S.seen site.new)) (S.seen site.old) slave 1 result (S.seen site.new) }
     ensures line { S.line site.new ≡ S.line site.old }
 {
-    match send(site, slave, Command::Fprd, CONTROL, &[0, 0])? {
-        Some(answer) => Ok(found(answer.datagram(0))),
-        None => Ok(None),
+    if !send(site, frame, slave, Command::Fprd, CONTROL, &[0, 0])? {
+        return Ok(None);
     }
+    Ok(found(frame.datagram(0)))
 }
 
 /// Polls a slave until it is seen idle. None if it isn't in 10,000 polls.
-pub(crate) fn wait_idle<S: Site>(site: &mut S, slave: u16) -> Result<Option<Rested>, Stop>
+pub(crate) fn wait_idle<S: Site>(
+    site: &mut S,
+    frame: &mut Frame,
+    slave: u16,
+) -> Result<Option<Rested>, Stop>
     requires { Owns (S.line site.old) slave }
     ensures runs { Performs (Waited (S.seen site.old) slave (S.seen site.new)) (S.seen site.old) slave 10000 result (S.seen site.new) }
     ensures line { S.line site.new ≡ S.line site.old }
 {
     for _poll in 0..POLLS {
-        if let Some(rested) = poll(site, slave)? {
+        if let Some(rested) = poll(site, frame, slave)? {
             return Ok(Some(rested));
         }
     }

@@ -14,7 +14,7 @@ use crate::poll::{Rested, wait_idle};
 use crate::registers::{CONTENT, CONTROL, TRIES};
 use crate::send::send;
 use crate::write::write;
-use ecat_frame::{Command, Datagram};
+use ecat_frame::{Command, Datagram, Frame};
 use sii_words::{Words, WordsFault};
 use site_core::Site;
 use std::alloc::Global;
@@ -64,47 +64,52 @@ fn pair_in(answer: Datagram<'_>) -> Option<WordPair>
 }
 
 /// Fetches the two words that a slave has read. None if the frame is lost, or the working counter isn't 1.
-fn fetch<S: Site>(site: &mut S, slave: u16) -> Result<Option<WordPair>, Stop>
+fn fetch<S: Site>(site: &mut S, frame: &mut Frame, slave: u16) -> Result<Option<WordPair>, Stop>
     requires { Owns (S.line site.old) slave }
     ensures runs { Performs (Fetched (S.seen site.old) slave (S.seen site.new)) (S.seen site.old) slave 1 result (S.seen site.new) }
     ensures line { S.line site.new ≡ S.line site.old }
 {
-    match send(site, slave, Command::Fprd, CONTENT, &[0, 0, 0, 0])? {
-        Some(answer) => Ok(pair_in(answer.datagram(0))),
-        None => Ok(None),
+    if !send(site, frame, slave, Command::Fprd, CONTENT, &[0, 0, 0, 0])? {
+        return Ok(None);
     }
+    Ok(pair_in(frame.datagram(0)))
 }
 
 /// Tries once to read a word and the next one.
-fn try_pair<S: Site>(site: &mut S, slave: u16, word: u16) -> Result<Tried, Stop>
+fn try_pair<S: Site>(site: &mut S, frame: &mut Frame, slave: u16, word: u16) -> Result<Tried, Stop>
     requires { Owns (S.line site.old) slave }
     ensures runs { Performs (TriesRead (S.seen site.old) slave word (S.seen site.new)) (S.seen site.old) slave 10002 result (S.seen site.new) }
     ensures line { S.line site.new ≡ S.line site.old }
 {
     let content = read_content(word);
-    if !write(site, slave, CONTROL, &content)? {
+    if !write(site, frame, slave, CONTROL, &content)? {
         return Ok(Tried::Failed);
     }
-    let Some(rested) = wait_idle(site, slave)? else {
+    let Some(rested) = wait_idle(site, frame, slave)? else {
         return Ok(Tried::Dead);
     };
     let Rested::Well = rested else {
         return Ok(Tried::Failed);
     };
-    let Some(pair) = fetch(site, slave)? else {
+    let Some(pair) = fetch(site, frame, slave)? else {
         return Ok(Tried::Failed);
     };
     Ok(Tried::Read(pair))
 }
 
 /// Reads a word and the next one, in at most three tries. None if the slave is given up.
-fn read_pair<S: Site>(site: &mut S, slave: u16, word: u16) -> Result<Option<WordPair>, Stop>
+fn read_pair<S: Site>(
+    site: &mut S,
+    frame: &mut Frame,
+    slave: u16,
+    word: u16,
+) -> Result<Option<WordPair>, Stop>
     requires { Owns (S.line site.old) slave }
     ensures runs { Performs (ReadsPair (S.seen site.old) slave word (S.seen site.new)) (S.seen site.old) slave 30006 result (S.seen site.new) }
     ensures line { S.line site.new ≡ S.line site.old }
 {
     for _try in 0..TRIES {
-        match try_pair(site, slave, word)? {
+        match try_pair(site, frame, slave, word)? {
             Tried::Read(pair) => return Ok(Some(pair)),
             Tried::Dead => return Ok(None),
             Tried::Failed => {}
@@ -114,18 +119,23 @@ fn read_pair<S: Site>(site: &mut S, slave: u16, word: u16) -> Result<Option<Word
 }
 
 /// Waits until a slave is idle, and replaces `words` by the slave's words, read two by two. Returns whether all were read.
-fn wait_and_fill<S: Site>(site: &mut S, slave: u16, words: &mut Words) -> Result<bool, Stop>
+fn wait_and_fill<S: Site>(
+    site: &mut S,
+    frame: &mut Frame,
+    slave: u16,
+    words: &mut Words,
+) -> Result<bool, Stop>
     requires { Owns (S.line site.old) slave }
     ensures runs { Performs (ReadsAll (S.seen site.old) slave (S.seen site.new) words.new) (S.seen site.old) slave
         (10000 + 30006 * (length words.old / 2)) result (S.seen site.new) }
     ensures length { length words.new ≡ length words.old }
     ensures line { S.line site.new ≡ S.line site.old }
 {
-    let Some(_rested) = wait_idle(site, slave)? else {
+    let Some(_rested) = wait_idle(site, frame, slave)? else {
         return Ok(false);
     };
     for pair in 0..words.len() / 2 {
-        let Some(found) = read_pair(site, slave, (2 * pair) as u16)? else {
+        let Some(found) = read_pair(site, frame, slave, (2 * pair) as u16)? else {
             return Ok(false);
         };
         words.set(2 * pair, found.first);
@@ -162,7 +172,8 @@ pub fn read_all<S: Site>(alloc: Global, site: &mut S, slave: u16) -> Result<Word
     ensures line { S.line site.new ≡ S.line site.old }
 {
     let mut words = blank(alloc, site.words_of(slave))?;
-    if wait_and_fill(site, slave, &mut words)? {
+    let mut frame = Frame::new();
+    if wait_and_fill(site, &mut frame, slave, &mut words)? {
         return Ok(words);
     }
     Err(RomFault::SlaveDead { slave })

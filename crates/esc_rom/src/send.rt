@@ -11,37 +11,38 @@ use ecat_frame::{Command, Frame, fp};
 use esc_model::station_address;
 use site_core::{DeviceFault, Site};
 
-/// A frame with one datagram for a register of a slave.
-fn frame_of(slave: u16, command: Command, register: u16, content: &[u8]) -> Frame
+/// Makes it a frame with one datagram for a register of a slave.
+fn fill(frame: &mut Frame, slave: u16, command: Command, register: u16, content: &[u8])
     requires slave { slave < 64 }
     requires short { length content.now ≤ 16 }
-    ensures { result ≡ sent command 0 (address_of slave register) content.now ∷ [] }
+    ensures { frame.new ≡ sent command 0 (address_of slave register) content.now ∷ [] }
 {
     let address = fp(station_address(slave), register);
-    let mut frame = Frame::new();
+    frame.clear();
     match frame.push(command, 0, address, content) {
-        Ok(()) => frame,
+        Ok(()) => {}
         Err(_) => unreachable!(),
     }
 }
 
-/// Sends one datagram to a register of a slave, and returns what comes back. None if the frame is lost.
+/// Sends one datagram to a register of a slave. What comes back is in `frame`, in place of what it held. Returns false if it is lost.
 pub(crate) fn send<S: Site>(
     site: &mut S,
+    frame: &mut Frame,
     slave: u16,
     command: Command,
     register: u16,
     content: &[u8],
-) -> Result<Option<Frame>, Stop>
+) -> Result<bool, Stop>
     requires owned { Owns (S.line site.old) slave }
     requires short { length content.now ≤ 16 }
-    ensures sends { Sends (S.seen site.old) slave (sent command 0 (address_of slave register) content.now) result (S.seen site.new) }
+    ensures sends { Sends (S.seen site.old) slave (sent command 0 (address_of slave register) content.now) result frame.new (S.seen site.new) }
     ensures line { S.line site.new ≡ S.line site.old }
 {
-    let mut frame = frame_of(slave, command, register, content);
-    match site.exchange(slave, &mut frame) {
-        Ok(()) => Ok(Some(frame)),
-        Err(DeviceFault::Lost) => Ok(None),
+    fill(frame, slave, command, register, content);
+    match site.exchange(slave, frame) {
+        Ok(()) => Ok(true),
+        Err(DeviceFault::Lost) => Ok(false),
         Err(_) => Err(Stop),
     }
 }

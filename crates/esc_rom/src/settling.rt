@@ -9,21 +9,22 @@ use crate::fault::Stop;
 use crate::poll::{Rested, wait_idle};
 use crate::registers::CONTROL;
 use crate::write::write;
+use ecat_frame::Frame;
 use site_core::{DeviceFault, Settled, Site};
 
 /// Polls a slave until it is idle. If the word isn't known to be written, clears the slave's errors.
-fn rest<S: Site>(site: &mut S, slave: u16, taken: bool) -> Result<Settled, Stop>
+fn rest<S: Site>(site: &mut S, frame: &mut Frame, slave: u16, taken: bool) -> Result<Settled, Stop>
     requires { Owns (S.line site.old) slave }
     ensures runs { Performs (BecomesSettled (S.seen site.old) slave taken (S.seen site.new)) (S.seen site.old) slave 10001 result (S.seen site.new) }
     ensures line { S.line site.new ≡ S.line site.old }
 {
-    let Some(rested) = wait_idle(site, slave)? else {
+    let Some(rested) = wait_idle(site, frame, slave)? else {
         return Ok(Settled::Dead);
     };
     if let (Rested::Well, true) = (rested, taken) {
         return Ok(Settled::Written);
     }
-    let _cleared = write(site, slave, CONTROL, &[0, 0])?;
+    let _cleared = write(site, frame, slave, CONTROL, &[0, 0])?;
     Ok(Settled::Again)
 }
 
@@ -42,6 +43,7 @@ pub fn settle<S: Site>(site: &mut S, slave: u16, taken: bool) -> Result<Settled,
     ensures settles { SettlesSlave (S.seen site.old) slave taken result (S.seen site.new) }
     ensures line { S.line site.new ≡ S.line site.old }
 {
-    let settled = rest(site, slave, taken)?;
+    let mut frame = Frame::new();
+    let settled = rest(site, &mut frame, slave, taken)?;
     Ok(settled)
 }

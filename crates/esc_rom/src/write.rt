@@ -11,12 +11,13 @@ ghost use Rattle.esc_rom.specs.Runs.{Performs, Wrote, Insists};
 use crate::fault::Stop;
 use crate::registers::TRIES;
 use crate::send::send;
-use ecat_frame::Command;
+use ecat_frame::{Command, Frame};
 use site_core::Site;
 
 /// Writes to a register once. Returns whether the slave took it: the working counter came back as 1.
 pub(crate) fn write<S: Site>(
     site: &mut S,
+    frame: &mut Frame,
     slave: u16,
     register: u16,
     content: &[u8],
@@ -28,15 +29,16 @@ pub(crate) fn write<S: Site>(
         (S.seen site.old) slave 1 result (S.seen site.new) }
     ensures line { S.line site.new ≡ S.line site.old }
 {
-    match send(site, slave, Command::Fpwr, register, content)? {
-        Some(answer) => Ok(answer.datagram(0).counter == 1),
-        None => Ok(false),
+    if !send(site, frame, slave, Command::Fpwr, register, content)? {
+        return Ok(false);
     }
+    Ok(frame.datagram(0).counter == 1)
 }
 
 /// Writes to a register until the slave takes it, at most three times. Returns whether it did.
 pub(crate) fn insist<S: Site>(
     site: &mut S,
+    frame: &mut Frame,
     slave: u16,
     register: u16,
     content: &[u8],
@@ -49,7 +51,7 @@ pub(crate) fn insist<S: Site>(
     ensures line { S.line site.new ≡ S.line site.old }
 {
     for _try in 0..TRIES {
-        if write(site, slave, register, content)? {
+        if write(site, frame, slave, register, content)? {
             return Ok(true);
         }
     }

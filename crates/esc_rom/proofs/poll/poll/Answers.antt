@@ -1,3 +1,5 @@
+use Rattle.std.proofs.Common.{◌≡◌, true, false, rules, arith}
+use Rattle.std.proofs.lemmas.Grind.{common_steps}
 use Rattle.esc_model.specs.Orders.{poll_order}
 use Rattle.esc_rom.specs.Runs.{Polled}
 use Rattle.esc_rom.proofs.Runs.{cut_as}
@@ -5,29 +7,32 @@ use Rattle.esc_rom.proofs.Exchanges.{back, lost, cut}
 use Rattle.esc_rom.proofs.Polls.{poll_gentle, poll_back, poll_lost, poll_length}
 use Rattle.esc_rom.proofs.poll.poll.Goals as goal
 
-pub returns-in_err-answer-clause-runs : goal.returns-in_err-answer-clause-runs
-returns-in_err-answer-clause-runs g c =
+pub returns-in_err-send-clause-runs : goal.returns-in_err-send-clause-runs
+returns-in_err-send-clause-runs g c =
     let slave = c.args.slave in
     let old = g.S.Site.seen c.args.site.now in
     let new = g.S.Site.seen c.send.new.site in
-    cut_as (Polled old slave new) slave c.from_residual.result c.from_residual.ensures.0 (cut old slave (poll_order slave) new (poll_gentle slave c.requires.1) c.in_err-answer.ensures.sends)
+    cut_as (Polled old slave new) slave c.from_residual.result c.from_residual.ensures.0 (cut old slave (poll_order slave) new (poll_gentle slave c.requires.1) c.send.new.frame c.in_err-send.ensures.sends)
+
+pub returns-then-not-branch-clause-runs : goal.returns-then-not-branch-clause-runs
+returns-then-not-branch-clause-runs g c =
+    let slave = c.args.slave in
+    let old = g.S.Site.seen c.args.site.now in
+    let new = g.S.Site.seen c.send.new.site in
+    let lost_so : c.in_ok-send.field-0 ≡ false = first_of ((cc), search rules, grind (arith, common_steps)) in
+    poll_lost old slave new c.requires.1 (lost old slave (poll_order slave) new (poll_gentle slave c.requires.1) c.send.new.frame lost_so c.in_ok-send.ensures.sends)
 
 pub found-requires : goal.found-requires
 found-requires g c =
     let slave = c.args.slave in
+    let came : c.in_ok-send.field-0 ≡ true = first_of ((cc), search rules, grind (arith, common_steps)) in
     poll_length slave c.requires.1
-    (back (g.S.Site.seen c.args.site.now) slave (poll_order slave) (g.S.Site.seen c.send.new.site) (poll_gentle slave c.requires.1) c.in-Some.is c.datagram.ensures c.in_ok-answer.ensures.sends)
+    (back (g.S.Site.seen c.args.site.now) slave (poll_order slave) (g.S.Site.seen c.send.new.site) (poll_gentle slave c.requires.1) c.send.new.frame came c.datagram.ensures c.in_ok-send.ensures.sends)
 
-pub returns-in-Some-clause-runs : goal.returns-in-Some-clause-runs
-returns-in-Some-clause-runs g c =
+pub returns-clause-runs : goal.returns-clause-runs
+returns-clause-runs g c =
     let slave = c.args.slave in
     let old = g.S.Site.seen c.args.site.now in
     let new = g.S.Site.seen c.send.new.site in
-    poll_back old slave new c.requires.1 c.found.ensures (back old slave (poll_order slave) new (poll_gentle slave c.requires.1) c.in-Some.is c.datagram.ensures c.in_ok-answer.ensures.sends)
-
-pub returns-in-None-clause-runs : goal.returns-in-None-clause-runs
-returns-in-None-clause-runs g c =
-    let slave = c.args.slave in
-    let old = g.S.Site.seen c.args.site.now in
-    let new = g.S.Site.seen c.send.new.site in
-    poll_lost old slave new c.requires.1 (lost old slave (poll_order slave) new (poll_gentle slave c.requires.1) c.in-None.is c.in_ok-answer.ensures.sends)
+    let came : c.in_ok-send.field-0 ≡ true = first_of ((cc), search rules, grind (arith, common_steps)) in
+    poll_back old slave new c.requires.1 c.found.ensures (back old slave (poll_order slave) new (poll_gentle slave c.requires.1) c.send.new.frame came c.datagram.ensures c.in_ok-send.ensures.sends)

@@ -1,31 +1,34 @@
-use Rattle.std.proofs.Common.{refl}
+use Rattle.std.proofs.Common.{◌≡◌, true, false, refl, rules, arith}
+use Rattle.std.proofs.lemmas.Grind.{common_steps}
 use Rattle.ecat_frame.specs.Frame.{sent}
 use Rattle.ecat_frame.specs.declared.command.Command.TheVariants.{Fpwr}
 use Rattle.esc_model.specs.Orders.{address_of}
-use Rattle.std.proofs.Common.{inl, arith}
+use Rattle.std.proofs.Common.{inl}
 use Rattle.esc_rom.specs.Runs.{Wrote}
 use Rattle.esc_rom.proofs.Runs.{cut_as, Ran-weaker}
 use Rattle.esc_rom.proofs.Exchanges.{back, lost, cut}
 use Rattle.esc_rom.proofs.Writes.{write_back}
 use Rattle.esc_rom.proofs.write.write.Goals as goal
 
-pub returns-in_err-answer-clause-runs : goal.returns-in_err-answer-clause-runs
-returns-in_err-answer-clause-runs g c =
+pub returns-in_err-send-clause-runs : goal.returns-in_err-send-clause-runs
+returns-in_err-send-clause-runs g c =
     let order = sent Fpwr 0 (address_of c.args.slave c.args.register) c.args.content.now in
     let old = g.S.Site.seen c.args.site.now in
     let new = g.S.Site.seen c.send.new.site in
-    cut_as (Wrote order old new) c.args.slave c.from_residual.result c.from_residual.ensures.0 (cut old c.args.slave order new c.requires.gentle c.in_err-answer.ensures.sends)
+    cut_as (Wrote order old new) c.args.slave c.from_residual.result c.from_residual.ensures.0 (cut old c.args.slave order new c.requires.gentle c.send.new.frame c.in_err-send.ensures.sends)
 
-pub returns-in-Some-clause-runs : goal.returns-in-Some-clause-runs
-returns-in-Some-clause-runs g c =
+pub returns-then-not-branch-clause-runs : goal.returns-then-not-branch-clause-runs
+returns-then-not-branch-clause-runs g c =
     let order = sent Fpwr 0 (address_of c.args.slave c.args.register) c.args.content.now in
     let old = g.S.Site.seen c.args.site.now in
     let new = g.S.Site.seen c.send.new.site in
-    write_back old c.args.slave (address_of c.args.slave c.args.register) c.args.content.now new _ refl (back old c.args.slave order new c.requires.gentle c.in-Some.is c.datagram.ensures c.in_ok-answer.ensures.sends)
+    let lost_so : c.in_ok-send.field-0 ≡ false = first_of ((cc), search rules, grind (arith, common_steps)) in
+    Ran-weaker (omega arith) (λ half later here there given. inl given) (lost old c.args.slave order new c.requires.gentle c.send.new.frame lost_so c.in_ok-send.ensures.sends)
 
-pub returns-in-None-clause-runs : goal.returns-in-None-clause-runs
-returns-in-None-clause-runs g c =
+pub returns-clause-runs : goal.returns-clause-runs
+returns-clause-runs g c =
     let order = sent Fpwr 0 (address_of c.args.slave c.args.register) c.args.content.now in
     let old = g.S.Site.seen c.args.site.now in
     let new = g.S.Site.seen c.send.new.site in
-    Ran-weaker (omega arith) (λ half later here there given. inl given) (lost old c.args.slave order new c.requires.gentle c.in-None.is c.in_ok-answer.ensures.sends)
+    let came : c.in_ok-send.field-0 ≡ true = first_of ((cc), search rules, grind (arith, common_steps)) in
+    write_back old c.args.slave (address_of c.args.slave c.args.register) c.args.content.now new _ refl (back old c.args.slave order new c.requires.gentle c.send.new.frame came c.datagram.ensures c.in_ok-send.ensures.sends)
