@@ -410,12 +410,12 @@ fn is_applied(
     }
 }
 
-/// Whether it does so on these slaves.
+/// Whether a copy of a command does so on these slaves.
 fn leads_to(alloc: Global, row: &Applied) -> Result<bool, WordsFault> {
     let (slaves, order, runs, after) = *row;
     let plant = line_of(alloc, slaves)?;
-    let command = command(alloc, &order)?;
-    Ok(is_applied(alloc, &plant, &command, runs, after))
+    let copy = command(alloc, &order)?.try_copy()?;
+    Ok(is_applied(alloc, &plant, &copy, runs, after))
 }
 
 #[test]
@@ -468,18 +468,13 @@ fn guarded(alloc: Global, asks: &[(u32, Ask)]) -> Result<GuardedEditList, WordsF
     Ok(GuardedEditList::from_vec(edits))
 }
 
-fn original(alloc: Global, order: &Order) -> Result<Command, WordsFault> {
+fn command(alloc: Global, order: &Order) -> Result<Command, WordsFault> {
     match *order {
         Order::One(ask) => Ok(Command::One(edit(alloc, &ask)?)),
         Order::Swap(a, b) => Ok(Command::Swap { a, b }),
         Order::Group(asks) => Ok(Command::Group(group(alloc, asks)?)),
         Order::Guarded(asks) => Ok(Command::Guarded(guarded(alloc, asks)?)),
     }
-}
-
-/// A copy of the command.
-fn command(alloc: Global, order: &Order) -> Result<Command, WordsFault> {
-    Ok(original(alloc, order)?.try_copy()?)
 }
 
 /// Word 7 of an image and a new alias for it; whether it is accepted, and words 4 and 7 after that.

@@ -8,7 +8,7 @@ use sii_cats::{
     CatFault, Category, ChainFault, Manager, Pdo, PdoEntry, chain, pdos, syncms, write_pdos,
     write_syncms,
 };
-use sii_words::{ImageFile, Words, WordsFault, words_of_bytes};
+use sii_words::{Words, WordsFault, words_of_bytes};
 use std::alloc::{AllocError, Global};
 
 /// The categories of the first slave, and of the second.
@@ -229,16 +229,6 @@ fn have_chain(alloc: Global, words: &Words, wanted: &[Category]) -> Result<bool,
     Ok(chain(alloc, words.as_slice())?.as_slice() == wanted)
 }
 
-/// Whether a copy of an image gives these bytes.
-fn image_is_copied(alloc: Global, bytes: &[u8]) -> Result<bool, WordsFault> {
-    let copy = ImageFile::from_bytes(alloc, bytes)?.try_copy()?;
-    let mut written = [0u8; 256];
-    if copy.as_slice().len() == 128 {
-        copy.as_bytes_into(&mut written);
-    }
-    Ok(written.as_slice() == bytes)
-}
-
 /// Whether a copy of a slave's EEPROM half holds these words.
 fn rom_is_copied(words: Words, bytes: &[u8]) -> Result<bool, WordsFault> {
     let copy = RomHalf::power_up(words, 0x1001, 1).try_copy()?;
@@ -254,17 +244,9 @@ fn process_is_copied(alloc: Global, words: &Words) -> Result<bool, AllocError> {
     Ok(copy.peek(0x1100) == 0xAA && half.peek(0x1100) == 0xBB)
 }
 
-/// Whether a copy of the words gives these bytes.
-fn words_are_copied(words: &Words, bytes: &[u8]) -> Result<bool, AllocError> {
-    let copy = words.try_copy()?;
-    Ok(copy.to_bytes()?.as_slice() == bytes)
-}
-
-/// Whether the words form this chain, and each copy gives their bytes.
+/// Whether the words form this chain, and copies of both halves of a slave with them hold what these do.
 fn are_copied(alloc: Global, words: Words, bytes: &[u8], wanted: &[Category]) -> bool {
     let are_copied = have_chain(alloc, &words, wanted) == Ok(true)
-        && image_is_copied(alloc, bytes) == Ok(true)
-        && words_are_copied(&words, bytes) == Ok(true)
         && process_is_copied(alloc, &words) == Ok(true);
     rom_is_copied(words, bytes) == Ok(true) && are_copied
 }

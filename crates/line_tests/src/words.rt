@@ -1,6 +1,7 @@
 //! Words of devices and of image files, plants, and lists. The check bytes are those of EEPROMs in use.
 
-use crate::devices::{Bytes, line_of, put};
+use crate::devices::{Bytes, line_of, spelt};
+use crate::tests::process_data::{BOTH, INPUTS};
 use lists::ItemList;
 use sii_words::{
     Identity, ImageFile, Words, WordsFault, bytes_of_words, is_device_size, is_image_size,
@@ -8,16 +9,114 @@ use sii_words::{
 };
 use std::alloc::{AllocError, Global};
 
-/// Aliases of devices whose other words are zeros, and their check bytes.
-const CHECK_BYTES: &[(u16, u8)] = &[(0x0000, 0x30), (0x0001, 0x19), (0xFFFF, 0xA6)];
+/// 128 words of zeros with an alias and its check byte.
+const ZERO: Bytes = (&[(14, &[0x30])], 0, 256);
 
-/// The identity in 128 bytes each of which is its own index.
+const ALIAS_1: Bytes = (&[(8, &[0x01]), (14, &[0x19])], 0, 256);
+
+const ALIAS_LAST: Bytes = (&[(8, &[0xFF, 0xFF]), (14, &[0xA6])], 0, 256);
+
+/// The first 128 bytes are each their own index. The check byte, 0x0E, is wrong.
+const COUNTED: Bytes = (
+    &[(
+        0,
+        &[
+            0, 1, 2, 3, 4, 5, 6, 7, 8, 9, 10, 11, 12, 13, 14, 15, 16, 17, 18, 19, 20, 21, 22, 23,
+            24, 25, 26, 27, 28, 29, 30, 31, 32, 33, 34, 35, 36, 37, 38, 39, 40, 41, 42, 43, 44, 45,
+            46, 47, 48, 49, 50, 51, 52, 53, 54, 55, 56, 57, 58, 59, 60, 61, 62, 63, 64, 65, 66, 67,
+            68, 69, 70, 71, 72, 73, 74, 75, 76, 77, 78, 79, 80, 81, 82, 83, 84, 85, 86, 87, 88, 89,
+            90, 91, 92, 93, 94, 95, 96, 97, 98, 99, 100, 101, 102, 103, 104, 105, 106, 107, 108,
+            109, 110, 111, 112, 113, 114, 115, 116, 117, 118, 119, 120, 121, 122, 123, 124, 125,
+            126, 127,
+        ],
+    )],
+    0,
+    256,
+);
+
+/// Two slaves with process data.
+const BOTH_DATA: Bytes = (&[(14, &[0x30]), (128, BOTH)], 0, 256);
+
+const INPUT_DATA: Bytes = (&[(14, &[0x30]), (128, INPUTS)], 0, 256);
+
+const NO_IDENTITY: Identity = Identity {
+    vendor: 0,
+    product: 0,
+    revision: 0,
+    serial: 0,
+};
+
 const COUNTED_IDENTITY: Identity = Identity {
     vendor: 0x1312_1110,
     product: 0x1716_1514,
     revision: 0x1B1A_1918,
     serial: 0x1F1E_1D1C,
 };
+
+/// The alias, the right check byte, that with alias 1, whether the check byte is right, and the identity.
+type Seen = (u16, u8, u8, bool, Identity);
+
+/// What is seen of 128 words.
+const SEEN: &[(Bytes, Seen)] = &[
+    (ZERO, (0, 0x30, 0x19, true, NO_IDENTITY)),
+    (ALIAS_1, (1, 0x19, 0x19, true, NO_IDENTITY)),
+    (ALIAS_LAST, (0xFFFF, 0xA6, 0x19, true, NO_IDENTITY)),
+    (COUNTED, (0x0908, 0xE0, 0xFD, false, COUNTED_IDENTITY)),
+    (BOTH_DATA, (0, 0x30, 0x19, true, NO_IDENTITY)),
+    (INPUT_DATA, (0, 0x30, 0x19, true, NO_IDENTITY)),
+];
+
+/// Whether this is seen of a device, and of its bytes in an earlier copy once its last word is changed.
+fn is_device_of(alloc: Global, bytes: &[u8], seen: &Seen) -> Result<bool, WordsFault> {
+    let (alias, check, with_1, is_right, identity) = *seen;
+    let mut words = Words::from_bytes(alloc, bytes)?;
+    let is_seen = words.alias() == alias
+        && words.check_byte() == check
+        && words.check_byte_with(1) == with_1
+        && words.check_ok() == is_right
+        && words.identity() == identity
+        && words.len() == 128;
+    let copy = words.try_copy()?;
+    words.set(63, 0xABCD);
+    Ok(is_seen && words.get(63) == 0xABCD && copy.to_bytes()?.as_slice() == bytes)
+}
+
+/// The same of an image file.
+fn is_image_of(alloc: Global, bytes: &[u8], seen: &Seen) -> Result<bool, WordsFault> {
+    let (alias, check, _, is_right, identity) = *seen;
+    let mut image = ImageFile::from_bytes(alloc, bytes)?;
+    let is_seen = image.alias() == alias
+        && image.check_byte() == check
+        && image.check_ok() == is_right
+        && image.identity() == identity;
+    let copy = image.try_copy()?;
+    image.set(63, 0xABCD);
+    Ok(is_seen && image.as_slice()[63] == 0xABCD && are_bytes_of(&copy, bytes))
+}
+
+/// Whether the bytes of an image of 128 words are these.
+fn are_bytes_of(image: &ImageFile, bytes: &[u8]) -> bool {
+    let mut written = [0u8; 256];
+    if image.as_slice().len() == 128 {
+        image.as_bytes_into(&mut written);
+    }
+    written.as_slice() == bytes
+}
+
+fn is_seen(alloc: Global, bytes: &Bytes, seen: &Seen) -> Result<bool, WordsFault> {
+    let bytes = spelt(alloc, bytes)?;
+    Ok(
+        is_device_of(alloc, &bytes, seen) == Ok(true)
+            && is_image_of(alloc, &bytes, seen) == Ok(true),
+    )
+}
+
+#[test]
+fn words_are_read_changed_and_written(rt: HostRuntime) {
+    for (bytes, seen) in SEEN {
+        assert!(rt; is_seen(rt.alloc(), bytes, seen) == Ok(true));
+    }
+}
 
 /// Numbers of bytes, and why they are no device and no image.
 const SIZES: &[(usize, Option<WordsFault>, Option<WordsFault>)] = &[
@@ -32,52 +131,6 @@ const SIZES: &[(usize, Option<WordsFault>, Option<WordsFault>)] = &[
     (8_192, None, None),
     (8_194, Some(WordsFault::BadSize), Some(WordsFault::BadSize)),
 ];
-
-fn counted_bytes() -> [u8; 128] {
-    let mut bytes = [0; 128];
-    for i in 0..128u8 {
-        bytes[usize::from(i)] = i;
-    }
-    bytes
-}
-
-fn bytes_with_alias(alias: u16, check: u8) -> [u8; 128] {
-    let mut bytes = [0; 128];
-    put(&mut bytes, 8, &alias.to_le_bytes());
-    bytes[14] = check;
-    bytes
-}
-
-/// The alias and the check byte of a device, its check byte with alias 1, and whether it is right.
-fn checked_words(alloc: Global, bytes: &[u8]) -> Result<(u16, u8, u8, bool), WordsFault> {
-    let words = Words::from_bytes(alloc, bytes)?;
-    Ok((
-        words.alias(),
-        words.check_byte(),
-        words.check_byte_with(1),
-        words.check_ok(),
-    ))
-}
-
-/// The alias and the check byte of an image file, and whether it is right.
-fn checked_image(alloc: Global, bytes: &[u8]) -> Result<(u16, u8, bool), WordsFault> {
-    let image = ImageFile::from_bytes(alloc, bytes)?;
-    Ok((image.alias(), image.check_byte(), image.check_ok()))
-}
-
-/// Whether the bytes are those of a device and of an image with this alias and the right check byte.
-fn are_checked(alloc: Global, alias: u16, check: u8) -> bool {
-    let bytes = bytes_with_alias(alias, check);
-    checked_words(alloc, &bytes) == Ok((alias, check, 0x19, true))
-        && checked_image(alloc, &bytes) == Ok((alias, check, true))
-}
-
-#[test]
-fn check_bytes_of_aliases(rt: HostRuntime) {
-    for (alias, check) in CHECK_BYTES {
-        assert!(rt; are_checked(rt.alloc(), *alias, *check));
-    }
-}
 
 /// Why zeros are no device, and why they are no image.
 fn faults_of(
@@ -97,55 +150,6 @@ fn sizes(rt: HostRuntime) {
         assert!(rt; faults_of(rt.alloc(), *length) == Ok((*of_words, *of_image)));
     }
     assert!(rt; is_device_size(128) && !is_device_size(65) && is_image_size(65));
-}
-
-/// The number of words of a device, its identity, its last word once that is changed, and that of an earlier copy.
-fn changed_words(alloc: Global, bytes: &[u8]) -> Result<(usize, Identity, u16, u16), WordsFault> {
-    let mut words = Words::from_bytes(alloc, bytes)?;
-    let copy = words.try_copy()?;
-    words.set(63, 0xABCD);
-    Ok((
-        words.len(),
-        words.identity(),
-        words.get(63),
-        copy.as_slice()[63],
-    ))
-}
-
-/// The identity in an image, its last word once that is changed, and that of an earlier copy.
-fn changed_image(alloc: Global, bytes: &[u8]) -> Result<(Identity, u16, u16), WordsFault> {
-    let mut image = ImageFile::from_bytes(alloc, bytes)?;
-    let copy = image.try_copy()?;
-    image.set(63, 0xABCD);
-    Ok((image.identity(), image.as_slice()[63], copy.as_slice()[63]))
-}
-
-/// The bytes of an image, written again.
-fn written_image(alloc: Global, bytes: &[u8; 128]) -> Result<[u8; 128], WordsFault> {
-    let image = ImageFile::from_bytes(alloc, bytes)?;
-    let mut written = [0; 128];
-    if image.as_slice().len() == 64 {
-        image.as_bytes_into(&mut written);
-    }
-    Ok(written)
-}
-
-/// Whether the bytes of a device, written again, are these.
-fn is_written(alloc: Global, bytes: &[u8]) -> Result<bool, WordsFault> {
-    let words = Words::from_bytes(alloc, bytes)?;
-    Ok(words.to_bytes()?.as_slice() == bytes)
-}
-
-#[test]
-fn words_read_changed_and_written(rt: HostRuntime) {
-    let alloc = rt.alloc();
-    let bytes = counted_bytes();
-    assert!(rt;
-        changed_words(alloc, &bytes) == Ok((64, COUNTED_IDENTITY, 0xABCD, 0x7F7E))
-            && changed_image(alloc, &bytes) == Ok((COUNTED_IDENTITY, 0xABCD, 0x7F7E))
-            && written_image(alloc, &bytes) == Ok(bytes)
-            && is_written(alloc, &bytes) == Ok(true)
-    );
 }
 
 /// 128 bytes with alias 0x0908.

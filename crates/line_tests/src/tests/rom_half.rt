@@ -40,7 +40,7 @@ const ISSUE: &[u8] = &[0x01, 0x02, 4, 0, 0, 0, 1, 0];
 
 const FLYING: Option<WordWrite> = Some(WordWrite { word: 4, value: 1 });
 
-const WORDS: &[Case] = &[
+const CASES: &[Case] = &[
     (
         0x0030,
         1,
@@ -114,9 +114,7 @@ const WORDS: &[Case] = &[
             Act::Poll(0x02),
         ],
     ),
-];
-
-const DATAGRAMS: &[Case] = &[
+    // Commands are judged.
     (
         0x0030,
         0,
@@ -271,15 +269,8 @@ fn goes_so(alloc: Global, case: &Case) -> bool {
 }
 
 #[test]
-fn words_are_written_and_read(rt: HostRuntime) {
-    for case in WORDS {
-        assert!(rt; goes_so(rt.alloc(), case));
-    }
-}
-
-#[test]
-fn datagrams_are_taken_and_judged(rt: HostRuntime) {
-    for case in DATAGRAMS {
+fn datagrams_come_to_what_they_must(rt: HostRuntime) {
+    for case in CASES {
         assert!(rt; goes_so(rt.alloc(), case));
     }
 }

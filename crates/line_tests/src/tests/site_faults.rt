@@ -469,23 +469,18 @@ fn goes_so(alloc: Global, case: &Case) -> Option<bool> {
     Some(come && hold)
 }
 
-#[test]
-fn words_and_bytes_are_written(rt: HostRuntime) {
-    for case in WORDS {
-        assert!(rt; goes_so(rt.alloc(), case) == Some(true));
+fn all_go_so(alloc: Global, cases: &[Case]) -> bool {
+    for case in cases {
+        if goes_so(alloc, case) != Some(true) {
+            return false;
+        }
     }
+    true
 }
 
 #[test]
-fn a_stop_tears_words_and_unsynced_bytes(rt: HostRuntime) {
-    for case in CUTS {
-        assert!(rt; goes_so(rt.alloc(), case) == Some(true));
-    }
-}
-
-#[test]
-fn a_snapshot_is_what_a_stop_leaves(rt: HostRuntime) {
-    for case in SNAPSHOTS {
-        assert!(rt; goes_so(rt.alloc(), case) == Some(true));
+fn deeds_come_to_what_they_must(rt: HostRuntime) {
+    for cases in [WORDS, CUTS, SNAPSHOTS] {
+        assert!(rt; all_go_so(rt.alloc(), cases));
     }
 }
