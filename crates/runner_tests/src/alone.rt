@@ -11,3 +11,5 @@ mod sites;
 mod stations;
 mod stops;
 mod story;
+mod wire_runs;
+mod wires;

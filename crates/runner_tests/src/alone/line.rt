@@ -71,30 +71,35 @@ fn words(alloc: Global, slave: Slave) -> Option<Words> {
     Words::from_bytes(alloc, &bytes).ok()
 }
 
+/// The words of the slaves. None: memory was refused.
+pub(crate) fn plant_of(alloc: Global, slaves: &[Slave]) -> Option<Vec<Words>> {
+    let mut plant = Vec::new(alloc);
+    for slave in slaves {
+        plant.push(words(alloc, *slave)?).ok()?;
+    }
+    Some(plant)
+}
+
 /// The EEPROM halves, each just powered up with its station address.
-fn halves(alloc: Global, slaves: &[Slave]) -> Option<Vec<Option<RomHalf>>> {
+fn halves(alloc: Global, plant: &[Words]) -> Option<Vec<Option<RomHalf>>> {
     let mut halves = Vec::new(alloc);
-    for (slave, station) in slaves.iter().zip(0x1001u16..0x1041) {
-        let half = RomHalf::power_up(words(alloc, *slave)?, station, 0);
+    for (words, station) in plant.iter().zip(0x1001u16..0x1041) {
+        let half = RomHalf::power_up(words.try_copy().ok()?, station, 0);
         halves.push(Some(half)).ok()?;
     }
     Some(halves)
 }
 
-fn sizes(alloc: Global, slaves: &[Slave]) -> Option<Vec<u16>> {
+fn sizes(alloc: Global, plant: &[Words]) -> Option<Vec<u16>> {
     let mut sizes = Vec::new(alloc);
-    for slave in slaves {
-        let size = match slave {
-            Slave::Zero | Slave::One => 64,
-            Slave::Long => 4096,
-            Slave::Wide => 512,
-        };
-        sizes.push(size).ok()?;
+    for words in plant {
+        sizes.push(words.len() as u16).ok()?;
     }
     Some(sizes)
 }
 
-fn disk(alloc: Global, line: &Line) -> Option<Vec<u8>> {
+/// The bytes of the disk. None: memory was refused.
+pub(crate) fn disk(alloc: Global, line: &Line) -> Option<Vec<u8>> {
     let mut bytes = vec![in alloc; 0u8; 4104].ok()?;
     patch(&mut bytes, 0, &line.header);
     patch(&mut bytes, 8, line.first);
@@ -103,15 +108,20 @@ fn disk(alloc: Global, line: &Line) -> Option<Vec<u8>> {
     Some(bytes)
 }
 
-/// The parts of the line. None: memory was refused.
-pub(crate) fn parts_of(alloc: Global, line: &Line) -> Option<Parts> {
-    let sizes = sizes(alloc, line.slaves)?;
-    let disk = disk(alloc, line)?;
-    let halves = halves(alloc, line.slaves)?;
+/// The parts of a line of slaves with these words, just switched on, and a disk with these bytes. None: memory was refused.
+pub(crate) fn parts_with(alloc: Global, plant: &[Words], disk: Vec<u8>) -> Option<Parts> {
+    let sizes = sizes(alloc, plant)?;
+    let halves = halves(alloc, plant)?;
     Some(Parts {
         sizes,
         disk: Some(disk),
         halves,
         process: None,
     })
+}
+
+/// The parts of the line. None: memory was refused.
+pub(crate) fn parts_of(alloc: Global, line: &Line) -> Option<Parts> {
+    let plant = plant_of(alloc, line.slaves)?;
+    parts_with(alloc, &plant, disk(alloc, line)?)
 }

@@ -5,6 +5,7 @@ use crate::alone::sites::{Trouble, aliases_of, holds, off, open, recovered, site
 use crate::alone::stations::{fault_of, serve, status_of, submit};
 use crate::asks::Ask;
 use book_model::Fault;
+use site_core::Site;
 use site_mem::{MemSite, Parts};
 use station_alone::Alone;
 use std::alloc::Global;
@@ -50,7 +51,7 @@ pub(crate) const UNOPENED: End = End {
     fault: None,
 };
 
-fn run(alloc: Global, station: &mut Alone<MemSite>, way: Way) {
+fn run<S: Site>(alloc: Global, station: &mut Alone<S>, way: Way) {
     for ask in ASKS {
         submit(alloc, station, ask);
         if way == Way::OneByOne {
@@ -61,27 +62,32 @@ fn run(alloc: Global, station: &mut Alone<MemSite>, way: Way) {
 }
 
 /// The counts of a station, and its fault.
-pub(crate) fn end_of(station: &Alone<MemSite>) -> End {
+pub(crate) fn end_of<S: Site>(station: &Alone<S>) -> End {
     End {
         status: status_of(station),
         fault: fault_of(station),
     }
 }
 
-fn ran(alloc: Global, station: Alone<MemSite>, way: Way) -> (MemSite, End) {
+fn ran<S: Site>(alloc: Global, station: Alone<S>, way: Way) -> (S, End) {
     let mut station = station;
     run(alloc, &mut station, way);
     let end = end_of(&station);
     (off(station), end)
 }
 
+/// The site after a run, and how the run ended.
+pub(crate) fn ended_on<S: Site>(alloc: Global, site: S, way: Way) -> (S, End) {
+    match open(alloc, site) {
+        Ok(station) => ran(alloc, station, way),
+        Err((site, _fault)) => (site, UNOPENED),
+    }
+}
+
 /// The line after a run that meets this trouble, and how the run ended. None: memory was refused for the line.
 pub(crate) fn ended(alloc: Global, way: Way, trouble: &Trouble) -> Option<(MemSite, End)> {
     let site = site_of(alloc, parts_of(alloc, &THREE)?, trouble)?;
-    match open(alloc, site) {
-        Ok(station) => Some(ran(alloc, station, way)),
-        Err((site, _fault)) => Some((site, UNOPENED)),
-    }
+    Some(ended_on(alloc, site, way))
 }
 
 /// The aliases that a recovery may find with `acknowledged` commands acknowledged.

@@ -40,14 +40,14 @@ pub(crate) fn site_of(alloc: Global, parts: Parts, trouble: &Trouble) -> Option<
 }
 
 /// Takes the site out of its station.
-pub(crate) fn off(station: Alone<MemSite>) -> MemSite {
+pub(crate) fn off<S: Site>(station: Alone<S>) -> S {
     let (core, site) = station.into_parts();
     drop(core);
     site
 }
 
 /// Opens a station on the site.
-pub(crate) fn open(alloc: Global, site: MemSite) -> Result<Alone<MemSite>, (MemSite, OpenFault)> {
+pub(crate) fn open<S: Site>(alloc: Global, site: S) -> Result<Alone<S>, (S, OpenFault)> {
     if !site.has_disk() || !owns_all(&site) {
         return Err((site, OpenFault::Memory));
     }
@@ -55,7 +55,7 @@ pub(crate) fn open(alloc: Global, site: MemSite) -> Result<Alone<MemSite>, (MemS
 }
 
 /// Recovers the site. Returns the numbers of batches and commands found, and of issues.
-pub(crate) fn recovered(alloc: Global, site: MemSite) -> (MemSite, Result<[u64; 3], OpenFault>) {
+pub(crate) fn recovered<S: Site>(alloc: Global, site: S) -> (S, Result<[u64; 3], OpenFault>) {
     if !site.has_disk() || !owns_all(&site) {
         return (site, Err(OpenFault::Memory));
     }

@@ -2,6 +2,7 @@
 
 use crate::asks::{Ask, command};
 use book_model::Fault;
+use site_core::Site;
 use site_mem::MemSite;
 use station_alone::{Alone, Answer, Choice};
 use std::alloc::Global;
@@ -23,7 +24,7 @@ pub(crate) enum Event {
 }
 
 /// The numbers of accepted, durable and settled commands, and of live bytes.
-pub(crate) fn status_of(station: &Alone<MemSite>) -> [u64; 4] {
+pub(crate) fn status_of<S: Site>(station: &Alone<S>) -> [u64; 4] {
     let status = station.core().status();
     [
         status.accepted,
@@ -34,12 +35,12 @@ pub(crate) fn status_of(station: &Alone<MemSite>) -> [u64; 4] {
 }
 
 /// The fault that has closed the book.
-pub(crate) fn fault_of(station: &Alone<MemSite>) -> Option<Fault> {
+pub(crate) fn fault_of<S: Site>(station: &Alone<S>) -> Option<Fault> {
     station.core().fault()
 }
 
 /// Submits a command.
-pub(crate) fn submit(alloc: Global, station: &mut Alone<MemSite>, ask: &Ask) -> Answer {
+pub(crate) fn submit<S: Site>(alloc: Global, station: &mut Alone<S>, ask: &Ask) -> Answer {
     match command(alloc, ask) {
         Some(command) => station.submit(&command),
         None => Answer::NoMemory,
@@ -56,7 +57,7 @@ pub(crate) fn steps(station: &mut Alone<MemSite>, choice: &Choice, times: u16) -
 }
 
 /// A round of the disk and three slaves. Returns the last answer `Did` or `Failed` of a slave, else that of the disk.
-fn round(station: &mut Alone<MemSite>) -> Answer {
+fn round<S: Site>(station: &mut Alone<S>) -> Answer {
     let mut answer = station.act(&Choice::Disk);
     for slave in 0..3u16 {
         let (_next, second) = station.serve(slave);
@@ -68,7 +69,7 @@ fn round(station: &mut Alone<MemSite>) -> Answer {
 }
 
 /// Makes rounds until one doesn't answer `Did`, and returns that answer.
-pub(crate) fn serve(station: &mut Alone<MemSite>) -> Answer {
+pub(crate) fn serve<S: Site>(station: &mut Alone<S>) -> Answer {
     for _round in 0..10_000u16 {
         let answer = round(station);
         if answer != Answer::Did {
