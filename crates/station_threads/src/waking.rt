@@ -15,6 +15,9 @@
 //! A command whose words already hold their values is settled as its batch goes live, so the sync of a gate looks at the settled commands
 //! too. Entries found at the open aren't counted as settled commands: until the first command is settled, each written word wakes the disk.
 
+ghost use Rattle.std.specs.Prelude.{◌≡◌};
+ghost use Rattle.sii_edit.specs.Command.{slave_of};
+
 use book_model::{RomOutcome, Status};
 use desk_book::{Refusals, Served, Tickets};
 use sii_edit::{Command, Edit, GuardedEdit};
@@ -155,12 +158,14 @@ fn bit_of(slave: u16) -> u64 {
     if slave < 64 { 1 << slave } else { u64::MAX }
 }
 
-/// The bit of the slave that the edit changes.
-fn bit_of_edit(edit: &Edit) -> u64 {
+/// The number of the slave that the edit changes.
+fn slave_of(edit: &Edit) -> u16
+    ensures { result ≡ slave_of edit.now }
+{
     match edit {
-        Edit::Alias { slave, .. } => bit_of(*slave),
-        Edit::Category { slave, .. } => bit_of(*slave),
-        Edit::Image { slave, .. } => bit_of(*slave),
+        Edit::Alias { slave, .. } => *slave,
+        Edit::Category { slave, .. } => *slave,
+        Edit::Image { slave, .. } => *slave,
     }
 }
 
@@ -168,7 +173,7 @@ fn bit_of_edit(edit: &Edit) -> u64 {
 fn bits_of_edits(edits: &[Edit]) -> u64 {
     let mut bits = 0;
     for edit in edits {
-        bits |= bit_of_edit(edit);
+        bits |= bit_of(slave_of(edit));
     }
     bits
 }
@@ -177,7 +182,7 @@ fn bits_of_edits(edits: &[Edit]) -> u64 {
 fn bits_of_guarded(edits: &[GuardedEdit]) -> u64 {
     let mut bits = 0;
     for guarded in edits {
-        bits |= bit_of_edit(&guarded.edit);
+        bits |= bit_of(slave_of(&guarded.edit));
     }
     bits
 }
@@ -185,7 +190,7 @@ fn bits_of_guarded(edits: &[GuardedEdit]) -> u64 {
 /// The bits of the slaves that the command names.
 fn bits_of_command(command: &Command) -> u64 {
     match command {
-        Command::One(edit) => bit_of_edit(edit),
+        Command::One(edit) => bit_of(slave_of(edit)),
         Command::Swap { a, b } => bit_of(*a) | bit_of(*b),
         Command::Group(edits) => bits_of_edits(edits.as_slice()),
         Command::Guarded(edits) => bits_of_guarded(edits.as_slice()),
