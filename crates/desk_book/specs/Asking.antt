@@ -111,6 +111,15 @@ is_of_prefix prefix (Some turn) = turn.prefix == prefix
 abbrev pub has_no_more_turns : Book → List CycleNote → Bool
 has_no_more_turns book log = is_some book.fault || (is_done book && is_of_prefix (applied book) (last_turn log))
 
+-- the cycle exchanged no bytes
+abbrev pub is_without_bytes : Option CycleNote → Bool
+is_without_bytes None = false
+is_without_bytes (Some turn) = turn.size == 0
+
+-- The cycle rests: the last cycle of the log was of the book's plan, and its process image is empty.
+abbrev pub is_resting : Book → List CycleNote → Bool
+is_resting book log = is_of_prefix (applied book) (last_turn log) && is_without_bytes (last_turn log)
+
 -- The book is asked for a plan, and its contents have no process image.
 abbrev pub HasNoImage : Book → (old new : Serving) → Type 0
 HasNoImage book old new = (process_image (planned book) ≡ None) × (new ≡ with_call old (PlanAsked None))
@@ -123,7 +132,9 @@ HearsPlan book Nothing old new = (is_done book ≡ false) × HasNoImage book old
 HearsPlan book NoMemory old new = new ≡ old
 HearsPlan book Stop old new = (is_done book ≡ true) × HasNoImage book old new
 
--- If the jobs have stopped for want of memory, or there are no more cycles to do, the answer is `Stop`. Else the book is asked.
+-- If the jobs have stopped for want of memory, or there are no more cycles to do, the answer is `Stop`. Else, while the cycle rests, it is
+-- `Nothing`. Else the book is asked.
 abbrev pub AsksPlan : Book → Heard Plan → (old new : Serving) → Type 0
 AsksPlan book heard old new =
-    MatchBool (old.has_stopped || has_no_more_turns book (cycle_log old.calls)) (IsUnasked Stop heard old new) (HearsPlan book heard old new)
+    MatchBool (old.has_stopped || has_no_more_turns book (cycle_log old.calls)) (IsUnasked Stop heard old new)
+    (MatchBool (is_resting book (cycle_log old.calls)) (IsUnasked Nothing heard old new) (HearsPlan book heard old new))

@@ -2,7 +2,7 @@
 
 ghost use Rattle.std.specs.Prelude.{◌≡◌, Some};
 ghost use Rattle.book_model.specs.Reading.{applied};
-ghost use Rattle.desk_book.specs.Asking.{AsksPlan, HearsPlan, has_no_more_turns, is_done, is_of_prefix, last_turn, note_of};
+ghost use Rattle.desk_book.specs.Asking.{AsksPlan, HearsPlan, has_no_more_turns, is_done, is_of_prefix, is_resting, is_without_bytes, last_turn, note_of};
 ghost use Rattle.desk_book.specs.Calls.{replayed, AreAnswered};
 ghost use Rattle.desk_book.specs.Logs.{cycle_log};
 
@@ -51,18 +51,39 @@ impl<T: Tickets, R: Refusals> Served<T, R> {
         self.core.fault().is_some() || self.is_done() && self.is_last_turn_of_plan()
     }
 
+    /// Whether the last cycle exchanged no bytes, because its process image is empty.
+    fn is_last_turn_without_bytes(&self) -> bool
+        ensures { result ≡ is_without_bytes (last_turn (cycle_log self.now.calls)) }
+    {
+        match self.cycle.as_slice().last() {
+            Some(last) => last.size == 0,
+            None => false,
+        }
+    }
+
+    /// Whether the cycle rests: the last cycle had the image after the commands that are settled in a row, and this image is empty.
+    fn is_resting(&self) -> bool
+        ensures { result ≡ is_resting (replayed T.opened self.now.calls) (cycle_log self.now.calls) }
+    {
+        self.is_last_turn_of_plan() && self.is_last_turn_without_bytes()
+    }
+
     /// Answers the plan of the next process data cycle: the process image after the commands that are settled in a row.
     ///
     /// The memory for its note is taken before the book is asked. After `NoMemory` nothing has changed. The answer is `Stop` once the jobs
     /// have stopped for want of memory, or the book has a fault; and once it is finished and all its commands are settled, if the last
     /// cycle had the image after all of them, or if there is no such image. It is `Nothing` while there is no image but there may be one
-    /// later.
+    /// later. An empty image gets one cycle, which configures the line for it; then the answer is `Nothing`, and the book isn't asked, until
+    /// more commands are settled.
     pub fn cycle_next(&mut self) -> Heard<Plan>
         ensures asks { AsksPlan (replayed T.opened self.old.calls) result self.old self.new }
         ensures answered { AreAnswered T.opened self.new.calls }
     {
         if self.is_out_of_memory || self.has_no_more_turns() {
             return Heard::Stop;
+        }
+        if self.is_resting() {
+            return Heard::Nothing;
         }
         self.hear_plan()
     }

@@ -1,6 +1,6 @@
 //! Commands as rows of a table.
 
-use sii_edit::{Command, Edit, EditList, WordList};
+use sii_edit::{Command, Edit, EditList, GuardedEdit, GuardedEditList, WordList};
 use sii_words::ImageFile;
 use std::alloc::Global;
 
@@ -12,6 +12,8 @@ pub(crate) enum Ask {
     Swap(u16, u16),
     /// Slave and alias of each edit of a group.
     Group(&'static [(u16, u16)]),
+    /// Slave and alias of each edit of a guarded group that expects no identity.
+    Guarded(&'static [(u16, u16)]),
     /// An image of slave 0 with this alias and check byte and an end mark in word 64. Behind it this number of words have this in both
     /// bytes.
     Image((u8, u8), u16, u8),
@@ -29,6 +31,18 @@ fn group(alloc: Global, aliases: &[(u16, u16)]) -> Option<Command> {
         edits.push(edit).ok()?;
     }
     Some(Command::Group(EditList::from_vec(edits)))
+}
+
+fn guarded(alloc: Global, aliases: &[(u16, u16)]) -> Option<Command> {
+    let mut edits = Vec::new(alloc);
+    for (slave, value) in aliases {
+        let edit = Edit::Alias {
+            slave: *slave,
+            value: *value,
+        };
+        edits.push(GuardedEdit { expect: None, edit }).ok()?;
+    }
+    Some(Command::Guarded(GuardedEditList::from_vec(edits)))
 }
 
 fn image(alloc: Global, name: (u8, u8), count: u16, fill: u8) -> Option<Command> {
@@ -63,6 +77,7 @@ pub(crate) fn command(alloc: Global, ask: &Ask) -> Option<Command> {
         Ask::Alias(slave, value) => Some(Command::One(Edit::Alias { slave, value })),
         Ask::Swap(a, b) => Some(Command::Swap { a, b }),
         Ask::Group(aliases) => group(alloc, aliases),
+        Ask::Guarded(aliases) => guarded(alloc, aliases),
         Ask::Image(name, count, fill) => image(alloc, name, count, fill),
         Ask::Outputs(last) => outputs(alloc, last),
     }

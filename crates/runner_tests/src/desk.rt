@@ -8,3 +8,4 @@ mod session;
 mod sites;
 mod stops;
 mod submitter;
+mod wakes;

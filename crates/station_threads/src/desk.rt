@@ -5,25 +5,27 @@ ghost use Rattle.desk_book.specs.Closing.{IsReceiptOf};
 ghost use Rattle.desk_book.specs.Submitting.{CountsRefusal};
 
 use crate::sides::{CycleSide, DiskSide, RomSide};
+use crate::waking::{Sleepers, Wakes, disk_told, slave_told};
 use book_core::Core;
-use book_model::Status;
+use book_model::{RomOutcome, Status};
 use desk_book::{
     BlankLedger, Receipt, Refusals, Refused, Served, Share, ShareFault, Ticket, Tickets,
     Unacknowledged,
 };
 use jrn_format::AREA_START;
 use sii_edit::Command;
+use site_core::DeviceFault;
 use std::alloc::{AllocError, Global};
 use std::marker::Model;
-use std::sync::{Condvar, Mutex, Wait};
+use std::sync::{Mutex, Wait};
 
-/// A book of commands under one lock, with a condition variable for those who wait.
+/// A book of commands under one lock, with a condition variable for each kind of those who wait, and for each slave its own.
 ///
 /// No device call is made while the lock is held. Contracts see where the journal's area ends.
 #[derive(Drop)]
 pub struct Desk<T: Tickets, R: Refusals> {
     pub(crate) served: Mutex<Served<T, R>>,
-    pub(crate) changed: Condvar,
+    pub(crate) sleepers: Sleepers,
     pub(crate) alloc: Global,
     /// The byte of the file at which the journal's area ends: 8 plus its capacity.
     pub(crate) limit: usize,
@@ -58,10 +60,14 @@ impl<T: Tickets, R: Refusals> Desk<T, R> {
         ensures { IfOk result (λ desk. desk.limit ≡ 8 + core.capacity) }
     {
         let limit = AREA_START + core.capacity() as usize;
+        let Ok(sleepers) = Sleepers::new(alloc, core.contents().len()) else {
+            drop(core);
+            return Err(AllocError);
+        };
         let served = Served::of(alloc, core, tickets, refusals)?;
         Ok(Desk {
             served: Mutex::new(served),
-            changed: Condvar::new(),
+            sleepers,
             alloc,
             limit,
         })
@@ -101,9 +107,11 @@ impl<T: Tickets, R: Refusals> Desk<T, R> {
         ensures refused { IfErr result (λ refused. CountsRefusal refused.refusal share.old share.new) }
     {
         let answer = self.served.lock(rt).submit(share, command);
-        self.changed.notify_all();
         match answer {
-            Ok(ticket) => return Ok(ticket),
+            Ok(ticket) => {
+                self.sleepers.wake(Wakes::ACCEPTED);
+                return Ok(ticket);
+            }
             Err(refused) => return Err(refused),
         }
     }
@@ -123,9 +131,12 @@ impl<T: Tickets, R: Refusals> Desk<T, R> {
         ensures handed_back { IfErr result (λ refused. refused.ticket ≡ ticket) }
     {
         let number = ticket.number();
-        let served = self.changed.wait_while(rt, self.served.lock(rt), |served| {
-            served.is_pending(number) && !served.is_out_of_memory()
-        });
+        let served = self
+            .sleepers
+            .receipts
+            .wait_while(rt, self.served.lock(rt), |served| {
+                served.is_pending(number) && !served.is_out_of_memory()
+            });
         match served.receipt(ticket) {
             Ok(receipt) => return Ok(receipt),
             Err(refused) => return Err(refused),
@@ -135,7 +146,7 @@ impl<T: Tickets, R: Refusals> Desk<T, R> {
     /// Accepts no more commands. Those that were accepted are still carried out.
     pub fn finish<W: Wait>(&self, rt: &W) {
         self.served.lock(rt).finish();
-        self.changed.notify_all();
+        self.sleepers.wake(Wakes::EVERYBODY);
     }
 
     /// How many commands are accepted, durable and settled, and how many bytes of the journal are live.
@@ -158,16 +169,32 @@ impl<T: Tickets, R: Refusals> Desk<T, R> {
     /// Stops the jobs for want of memory, and wakes all who wait at the desk.
     pub(crate) fn stop_for_memory<W: Wait>(&self, rt: &W) {
         self.served.lock(rt).stop_for_memory();
-        self.changed.notify_all();
+        self.sleepers.wake(Wakes::EVERYBODY);
+    }
+
+    /// Reports the outcome of the disk's action, and wakes those to whom it gives work.
+    pub(crate) fn disk_done<W: Wait>(&self, rt: &W, outcome: Result<(), DeviceFault>) {
+        let wakes = disk_told(&mut *self.served.lock(rt), outcome);
+        self.sleepers.wake(wakes);
+    }
+
+    /// Reports the outcome of a slave's job, and wakes those to whom it gives work.
+    pub(crate) fn slave_done<W: Wait>(&self, rt: &W, slave: u16, outcome: RomOutcome) {
+        let wakes = slave_told(&mut *self.served.lock(rt), slave, outcome);
+        self.sleepers.wake(wakes);
+        self.sleepers.wake_slave(slave);
     }
 
     /// Waits until the book's status differs from `seen`, the book accepts no commands, or the jobs have stopped for want of memory.
     /// Answers its status then.
     pub fn changed<W: Wait>(&self, rt: &W, seen: &Status) -> Status {
         let seen = *seen;
-        let served = self.changed.wait_while(rt, self.served.lock(rt), |served| {
-            served.status() == seen && !served.is_closed() && !served.is_out_of_memory()
-        });
+        let served = self
+            .sleepers
+            .watchers
+            .wait_while(rt, self.served.lock(rt), |served| {
+                served.status() == seen && !served.is_closed() && !served.is_out_of_memory()
+            });
         served.status()
     }
 

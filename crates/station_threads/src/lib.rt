@@ -11,6 +11,7 @@ mod serving;
 mod sides;
 mod sites;
 mod starting;
+mod waking;
 
 pub use client::Client;
 pub use closing::{CloseFault, Closed, Ends, NotClosed, close};

@@ -160,7 +160,7 @@ impl<'a, T: Tickets, R: Refusals> Dispatch<DiskLog> for DiskSide<'a, T, R> {
             }
             Heard::Nothing => {
                 self.patience.granted();
-                desk.changed.wait(rt, served);
+                desk.sleepers.disk.wait(rt, served);
                 Turn::Again
             }
             Heard::NoMemory => {
@@ -173,8 +173,7 @@ impl<'a, T: Tickets, R: Refusals> Dispatch<DiskLog> for DiskSide<'a, T, R> {
 
     fn done<W: Wait>(&mut self, rt: &W, outcome: Result<(), DeviceFault>) {
         let desk = self.desk;
-        desk.served.lock(rt).disk_done(outcome);
-        desk.changed.notify_all();
+        desk.disk_done(rt, outcome);
         self.notes.tell(outcome);
         self.has_job = false;
     }
@@ -216,7 +215,7 @@ impl<'a, T: Tickets, R: Refusals> Dispatch<RomLog> for RomSide<'a, T, R> {
             }
             Heard::Nothing => {
                 self.patience.granted();
-                desk.changed.wait(rt, served);
+                desk.sleepers.sleep_as_slave(rt, self.slave, served);
                 Turn::Again
             }
             Heard::NoMemory => {
@@ -229,8 +228,7 @@ impl<'a, T: Tickets, R: Refusals> Dispatch<RomLog> for RomSide<'a, T, R> {
 
     fn done<W: Wait>(&mut self, rt: &W, outcome: RomOutcome) {
         let desk = self.desk;
-        desk.served.lock(rt).slave_done(self.slave, outcome);
-        desk.changed.notify_all();
+        desk.slave_done(rt, self.slave, outcome);
         self.notes.tell(outcome);
         self.has_job = false;
     }
@@ -277,7 +275,7 @@ impl<'a, T: Tickets, R: Refusals> Dispatch<CycleLog> for CycleSide<'a, T, R> {
             }
             Heard::Nothing => {
                 self.patience.granted();
-                desk.changed.wait(rt, served);
+                desk.sleepers.cycle.wait(rt, served);
                 Turn::Again
             }
             Heard::NoMemory => {
