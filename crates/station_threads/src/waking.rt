@@ -4,16 +4,18 @@
 //!
 //! | Who sleeps | Until | Woken by |
 //! |---|---|---|
-//! | the disk, at rest | a command is queued, or the older half is settled | an accepted command; a written word behind which more commands are settled, or none yet |
-//! | a slave's worker, with nothing to write | a live batch names a word of it; in a finished book, all commands are durable | the sync of a gate, whose commands name the slave, or in a finished book |
-//! | the cycle, without an image or with an empty one | more commands are settled | a written word or the sync of a gate, behind which more are settled |
+//! | the disk, at rest | a command is queued; the older half is settled | an accepted command; a written word (2) |
+//! | a slave's worker, with nothing to write | a live batch names it | the sync of a gate whose commands name the slave |
+//! | the same in a finished book | all commands are durable | the sync of a gate |
+//! | the cycle, without an image or with an empty one | more commands are settled | a written word, the sync of a gate (1) |
 //! | who waits for a receipt | the command is durable | the sync of a gate |
-//! | who watches `changed` | the status differs | each outcome and each accepted command behind which it differs |
-//! | all of these | a fault, `finish`, or want of memory | the outcome that is a fault, `finish`, `stop_for_memory` |
+//! | who watches `changed` | the status differs | each outcome and each accepted command that changes it |
+//! | all of these | a fault, `finish`, want of memory | the outcome that is a fault, `finish`, `stop_for_memory` |
 //! | a second dispatch of the disk or of a slave | the job that is out has its outcome | that outcome |
 //!
-//! A command whose words already hold their values is settled as its batch goes live, so the sync of a gate looks at the settled commands
-//! too. Entries found at the open aren't counted as settled commands: until the first command is settled, each written word wakes the disk.
+//! (1) Where more commands are settled then. A command whose words already hold their values is settled as its batch goes live.
+//!
+//! (2) Where more commands are settled then, or none is yet: the entries found at the open aren't counted as settled commands.
 
 ghost use Rattle.std.specs.Prelude.{◌≡◌};
 ghost use Rattle.sii_edit.specs.Command.{slave_of};

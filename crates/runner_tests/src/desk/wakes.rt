@@ -374,14 +374,25 @@ fn sleep_for_receipt<T: Tickets, R: Refusals, W: Wait>(
     }
 }
 
+/// Who is about to sleep, with the status of the book and the last ticket.
+#[derive(Drop)]
+struct Tired {
+    sleeper: Sleeper,
+    seen: Status,
+    ticket: Option<Ticket>,
+}
+
 /// Sleeps until it is woken.
 fn slept<T: Tickets + Send + Sync, R: Refusals + Send + Sync, W: Wait>(
     rt: &W,
     desk: &Desk<T, R>,
-    sleeper: Sleeper,
-    seen: Status,
-    ticket: Option<Ticket>,
+    tired: Tired,
 ) -> End {
+    let Tired {
+        sleeper,
+        seen,
+        ticket,
+    } = tired;
     match sleeper {
         Sleeper::Disk => sleep_as_disk(rt, desk),
         Sleeper::Slave(slave) => sleep_as_slave(rt, desk, slave),
@@ -412,11 +423,14 @@ fn ended_in<
     trial: &Trial,
 ) -> Option<End> {
     let (_before, sleeper, change, _end) = *trial;
-    let seen = desk.status(rt);
-    let ticket = submitter.last.take();
+    let tired = Tired {
+        sleeper,
+        seen: desk.status(rt),
+        ticket: submitter.last.take(),
+    };
     let sleeps = move || -> End
         requires { IsSync W.row }
-    { slept(rt, desk, sleeper, seen, ticket) };
+    { slept(rt, desk, tired) };
     let Ok(handle) = scope.spawn(sleeps) else {
         return None;
     };
