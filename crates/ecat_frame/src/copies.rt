@@ -1,8 +1,8 @@
 //! Copies of frames and of their datagrams.
 
-ghost use Rattle.std.specs.Prelude.{◌≡◌, ◌+◌, ◌≤◌, ◌<◌, take, length, slice_get, Some, IfSome};
+ghost use Rattle.std.specs.Prelude.{◌≡◌, ◌+◌, ◌≤◌, ◌<◌, take, length, slice_get, Some, IfSome, IfNone};
 ghost use Rattle.ecat_frame.specs.Frame.{Pdu, spelling};
-ghost use Rattle.ecat_frame.specs.Copies.{IsCopyOf, IsOnly};
+ghost use Rattle.ecat_frame.specs.Copies.{IsCopyOf, IsOnly, IsShort};
 
 use crate::bytes::MAX_LEN;
 use crate::command::Command;
@@ -60,7 +60,8 @@ pub fn copy_content(frame: &Frame, k: usize, buffer: &mut [u8; MAX_LEN]) -> Data
 
 /// A copy of the only datagram of a frame. None if there are more, or its content is longer than 16 bytes.
 pub fn only_short(frame: &Frame) -> Option<OnlyDatagram>
-    ensures { IfSome result (λ only. IsOnly frame.now only.header only.content) }
+    ensures only { IfSome result (λ only. IsOnly frame.now only.header only.content) }
+    ensures none { IfNone result (¬ IsShort frame.now) }
 {
     if frame.count() != 1 {
         return None;

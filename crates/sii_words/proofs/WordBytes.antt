@@ -1,8 +1,8 @@
 -- The bytes of a list of words.
-use Rattle.std.proofs.Common.{◌≡◌, ℕ, suc, ◌+◌, ◌*◌, ◌-◌, ◌/◌, ◌%◌, ◌<◌, ◌≤◌, List, [], ◌∷◌, ◌++◌, length, get_or, take, drop, set, refl, ap, append_assoc, Fits, w8, w16, arith}
+use Rattle.std.proofs.Common.{◌≡◌, ℕ, suc, ◌+◌, ◌*◌, ◌/◌, ◌%◌, ◌<◌, List, [], ◌∷◌, ◌++◌, length, get_or, take, set, refl, ap, append_assoc, Fits, w8, w16, arith}
 use Rattle.std.proofs.Math.Seq.{take-suc-set}
 use Rattle.std.proofs.Math.ListN.{length-set}
-use Rattle.std.proofs.lemmas.List.{take_more, take_all, get_or-append-add}
+use Rattle.std.proofs.lemmas.List.{take_more}
 use Rattle.sii_words.specs.Words.{bytes_of}
 
 bytes_of-append : (words more : List ℕ) → bytes_of (words ++ more) ≡ bytes_of words ++ bytes_of more
@@ -36,17 +36,29 @@ low_of low high fits = omega arith
 high_of : (low high : ℕ) → low < 256 → (low + high * 256) / 256 ≡ high
 high_of low high fits = omega arith
 
--- the word that the first two bytes of the rest spell
-pub word_spelt : (words rest bytes : List ℕ) (word n : ℕ) → 2 ≤ length rest → n ≡ length rest - 2 → ((i : ℕ) → Fits w8 (get_or bytes i 0))
-    → word ≡ get_or rest 0 0 + get_or rest 1 0 * 256 → bytes_of words ++ rest ≡ bytes
-    → bytes_of (words ++ word ∷ []) ++ take n (drop 2 rest) ≡ bytes
-word_spelt words [] bytes word n some count fits spelt all = absurd (omega arith)
-word_spelt words (low ∷ []) bytes word n some count fits spelt all = absurd (omega arith)
-word_spelt words (low ∷ high ∷ more) bytes word n some count fits spelt all =
-    let here : get_or bytes (length (bytes_of words) + 0) 0 ≡ low = rw (← all) (get_or-append-add (bytes_of words) (low ∷ high ∷ more) 0 0) in
-    let small : low < 256 = omega (arith, here, fits (length (bytes_of words) + 0)) in
-    let enough : length more ≤ n = omega arith in
-    rw (bytes_of-append words (word ∷ []), spelt, low_of low high small, high_of low high small, take_all n more enough, append_assoc) all
+-- one word more is read
+pub word_read : (words bytes : List ℕ) (i word : ℕ) → i < length words → length bytes ≡ 2 * length words → ((k : ℕ) → Fits w8 (get_or bytes k 0))
+    → word ≡ get_or bytes (2 * i) 0 + get_or bytes (2 * i + 1) 0 * 256 → bytes_of (take i words) ≡ take (2 * i) bytes
+    → bytes_of (take (i + 1) (set words i word)) ≡ take (2 * (i + 1)) bytes
+word_read words bytes i word within count fits spelt so_far =
+    let one : i + 1 ≡ suc i = omega arith in
+    let two : 2 * (i + 1) ≡ 2 * i + 1 + 1 = omega arith in
+    let first : 2 * i < length bytes = omega arith in
+    let second : 2 * i + 1 < length bytes = omega arith in
+    let low : get_or bytes (2 * i) 0 < 256 = omega (arith, fits (2 * i)) in
+    rw (
+      two,
+      take_more bytes (2 * i + 1) 0 second,
+      take_more bytes (2 * i) 0 first,
+      append_assoc,
+      one,
+      take-suc-set words i word within,
+      bytes_of-append (take i words) (word ∷ []),
+      spelt,
+      low_of (get_or bytes (2 * i) 0) (get_or bytes (2 * i + 1) 0) low,
+      high_of (get_or bytes (2 * i) 0) (get_or bytes (2 * i + 1) 0) low,
+      so_far,
+    ) refl
 
 -- lists of words with the same bytes are equal
 pub same_bytes : (words others : List ℕ) → bytes_of words ≡ bytes_of others → words ≡ others

@@ -18,13 +18,20 @@ pub fn words_of_bytes(alloc: Global, bytes: &[u8]) -> Result<Vec<u16>, AllocErro
     ensures words { IfOk result (λ words. bytes_of words.items ≡ bytes.now) }
     ensures count { IfOk result (λ words. length words.items ≡ length bytes.now / 2) }
 {
-    let mut words = Vec::with_capacity(alloc, bytes.len() / 2)?;
-    let mut rest = bytes;
-    while let [low, high, after @ ..] = rest {
-        words.push(u16::from_le_bytes([*low, *high]))?;
-        rest = after;
-    }
+    let mut words = vec![in alloc; 0u16; bytes.len() / 2]?;
+    read_bytes(bytes, &mut words);
     Ok(words)
+}
+
+/// Makes the words those of the bytes, each word low byte first.
+fn read_bytes(bytes: &[u8], words: &mut [u16])
+    requires { length bytes.now ≡ 2 * length words.old }
+    ensures words { bytes_of words.new ≡ bytes.now }
+    ensures count { length words.new ≡ length words.old }
+{
+    for i in 0..words.len() {
+        words[i] = u16::from_le_bytes([bytes[2 * i], bytes[2 * i + 1]]);
+    }
 }
 
 /// The bytes of these words, each word low byte first.
