@@ -1,3 +1,4 @@
 pub mod Loaded
+pub mod Pairs
 pub mod Saved
 pub mod ScriptFaults

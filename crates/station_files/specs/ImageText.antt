@@ -1,10 +1,21 @@
 -- An image as the program reads and writes it: as bytes, or with `--hex` as hexadecimal text.
-use Rattle.std.specs.Prelude.{◌≡◌, ◌⊎◌, ◌/◌, ◌%◌, ℕ, Bool, true, List, length, Ok, IsErr, MatchBool, IsUtf8, ⊤}
+use Rattle.std.specs.Prelude.{◌≡◌, ◌⊎◌, ◌/◌, ◌%◌, ℕ, Bool, true, List, length, Option, Some, None, Ok, IsErr, MatchBool, IsUtf8, ⊤}
 use Rattle.hex.specs.Hex.{decode_of, encode_lower}
 use Rattle.sii_words.specs.Words.{IsImageSize}
 use Rattle.station_text.specs.Hexadecimal.{without_whitespace}
+use Rattle.station_files.specs.Files.{Known}
 use Rattle.station_files.specs.declared.faults.Fault.{Fault}
 use Rattle.station_files.specs.declared.faults.Fault.TheVariants.{OddLength, BadSize, BadHex, Memory, File}
+
+-- the bytes of a file that is there, as far as they are known
+abbrev pub held_of : Option (Option (List ℕ)) → Option (List ℕ)
+held_of None = None
+held_of (Some held) = held
+
+-- the text that an image is read from, as far as it is known: that of the file of this name, or the rest of the input where there is no name
+abbrev pub text_of : Option (List ℕ) → Option (List ℕ) → Known → Option (List ℕ)
+text_of None input files = input
+text_of (Some name) input files = held_of (files name)
 
 -- the input spells these bytes; hexadecimal digits may be of either case
 abbrev pub Spells : Bool → List ℕ → List ℕ → Type 0

@@ -1,4 +1,5 @@
 pub mod Alias
+pub mod Diff
 pub mod Faults
 pub mod Files
 pub mod ImageText

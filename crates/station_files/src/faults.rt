@@ -76,7 +76,7 @@ pub enum Failure {
 pub enum ExitStatus {
     /// Everything was done.
     Done = 0,
-    /// A command was refused.
+    /// A command was refused, or two images differ.
     Refused = 1,
     /// The arguments are wrong.
     Usage = 2,

@@ -1,30 +1,61 @@
-//! Reads one EEPROM image from a stream and writes one, as bytes or as hexadecimal text.
-ghost use Rattle.std.specs.Prelude.{◌≡◌, List, ℕ, IfOk, IfErr, IfSome, OnOk};
+//! Reads one EEPROM image from a file or a stream and writes one, as bytes or as hexadecimal text.
+ghost use Rattle.std.specs.Prelude.{◌≡◌, List, ℕ, IfOk, IfErr, IfSome, IsSome, OnOk, option_map};
 ghost use Rattle.std.specs.Io.KnownBytes.{Appends};
 ghost use Rattle.sii_words.specs.Words.{bytes_of};
 ghost use Rattle.station_files.specs.Faults.{IsOfStream};
-ghost use Rattle.station_files.specs.ImageText.{RefusesInput, Spells, SpellsLower};
+ghost use Rattle.station_files.specs.ImageText.{RefusesInput, Spells, SpellsLower, text_of};
 
 use crate::faults::Fault;
 use crate::printing::write_whole;
 use crate::reading::read_to_end;
+use crate::store::{Store, read_file};
 use sii_words::ImageFile;
 use station_text::{hex_lines, read_hex};
 use std::alloc::{AllocError, Global};
 use std::io::{Read, Write};
 
-/// Reads an EEPROM image of 64 to 4,096 words from a reader, up to its end. With `hex` the input is hexadecimal text.
+/// Reads an EEPROM image of 64 to 4,096 words, from the file of this name, or from the input, up to its end, where no name is given. With
+/// `hex` the text is hexadecimal.
 ///
 /// # Errors
 ///
-/// `File` where the input can't be read; with `hex`, `BadHex` where it is not pairs of hexadecimal digits; `OddLength` for an odd number
-/// of bytes; `BadSize` for a wrong number of words. `Memory` may come at any point.
-pub fn read_image<R: Read>(alloc: Global, hex: bool, input: &mut R) -> Result<ImageFile, Fault>
-    ensures read { IfOk result (λ image. IfSome (R.remaining input.old) (λ text. Spells hex text (bytes_of image))) }
-    ensures refused { IfErr result (λ fault. IfSome (R.remaining input.old) (λ text. RefusesInput hex text fault)) }
+/// `File` where the file is absent, or file or input can't be read; with `hex`, `BadHex` where the text is not pairs of hexadecimal digits;
+/// `OddLength` for an odd number of bytes; `BadSize` for a wrong number of words. `Memory` may come at any point.
+pub fn read_image<R: Read, S: Store>(
+    alloc: Global,
+    hex: bool,
+    file: Option<&str>,
+    input: &mut R,
+    store: &mut S,
+) -> Result<ImageFile, Fault>
+    ensures read { IfOk result (λ image. IfSome (text_of (option_map (λ name. name.now) file) (R.remaining input.old) (S.files store.old))
+        (λ text. Spells hex text (bytes_of image))) }
+    ensures refused { IfErr result (λ fault. IfSome (text_of (option_map (λ name. name.now) file) (R.remaining input.old) (S.files store.old))
+        (λ text. RefusesInput hex text fault)) }
+    ensures same { S.files store.new ≡ S.files store.old }
+    ensures unread { IsSome file → R.remaining input.new ≡ R.remaining input.old }
 {
-    let bytes = read_to_end(alloc, input)?;
+    let bytes = read_text(alloc, file, input, store)?;
     spelt_image(alloc, hex, &bytes)
+}
+
+/// The bytes of the file of this name, or those that are left of the input where no name is given.
+fn read_text<R: Read, S: Store>(
+    alloc: Global,
+    file: Option<&str>,
+    input: &mut R,
+    store: &mut S,
+) -> Result<Vec<u8>, Fault>
+    ensures read { IfOk result (λ bytes. IfSome (text_of (option_map (λ name. name.now) file) (R.remaining input.old) (S.files store.old))
+        (λ text. bytes.items ≡ text)) }
+    ensures failed { IfErr result IsOfStream }
+    ensures same { S.files store.new ≡ S.files store.old }
+    ensures unread { IsSome file → R.remaining input.new ≡ R.remaining input.old }
+{
+    match file {
+        Some(name) => read_file(alloc, name, store),
+        None => Ok(read_to_end(alloc, input)?),
+    }
 }
 
 /// The image that `input` holds: its bytes, or with `hex` their hexadecimal text.

@@ -1,8 +1,9 @@
 //! Reads the files of a line and of a script into values and writes them back, prints faults, and does the subcommands that need no
-//! journal: `alias`, `show` and `layout`.
+//! journal: `alias`, `show`, `diff` and `layout`.
 #![tactic(auto)]
 
 mod alias;
+mod diff;
 mod faults;
 mod file_store;
 mod image;
@@ -19,6 +20,7 @@ mod show;
 mod store;
 
 pub use alias::set_alias;
+pub use diff::diff_images;
 pub use faults::{ExitStatus, Failure, Fault, Refused, worse};
 pub use file_store::{FileStore, SystemFile, SystemLock};
 pub use layout::show_layout;

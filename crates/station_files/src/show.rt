@@ -1,35 +1,75 @@
 //! The subcommand `show`.
-ghost use Rattle.std.specs.Prelude.{IfOk, IfErr, IfSome};
-ghost use Rattle.station_files.specs.ImageText.{RefusesInput};
+ghost use Rattle.std.specs.Prelude.{◌≡◌, ◌↔◌, IfOk, IfErr, IfSome, IsSome, IsTrue, option_map};
+ghost use Rattle.station_files.specs.ImageText.{RefusesInput, text_of};
 ghost use Rattle.station_files.specs.Show.{IsStatusOf, ShowsStatus};
 
 use crate::faults::{ExitStatus, Fault};
 use crate::image::read_image;
 use crate::printing::print_listing;
-use station_listing::{Listing, list_image};
-use std::alloc::Global;
+use crate::store::Store;
+use sii_words::ImageFile;
+use station_listing::{ItemListing, Listing, list_image, list_items};
+use std::alloc::{AllocError, Global};
+use std::fmt;
 use std::io::{Read, Write};
 
-/// Reads an EEPROM image and prints its listing. With `hex` the input is hexadecimal text. The status is `Done` where the check byte is
+/// Reads an EEPROM image, of the file of this name or from the input, and prints its listing, with `all` its items behind it. With `hex` its
+/// text is hexadecimal. The status is `Done` where the check byte is
 /// right and the chain and all contents can be read, and `File` otherwise.
 ///
 /// # Errors
 ///
 /// As for `read_image`; then `Memory`, where the listing can't be made; then as for `print_listing`. Nothing is printed before the listing
 /// is complete.
-pub fn show_image<R: Read, W: Write>(
+pub fn show_image<R: Read, S: Store, W: Write>(
     alloc: Global,
     hex: bool,
+    all: bool,
+    file: Option<&str>,
     input: &mut R,
+    store: &mut S,
     output: &mut W,
 ) -> Result<ExitStatus, Fault>
-    ensures status { IfOk result (ShowsStatus hex (R.remaining input.old)) }
-    ensures refused { IfErr result (λ fault. IfSome (R.remaining input.old) (λ text. RefusesInput hex text fault)) }
+    ensures status { IfOk result (ShowsStatus hex (text_of (option_map (λ name. name.now) file) (R.remaining input.old) (S.files store.old))) }
+    ensures refused { IfErr result (λ fault. IfSome (text_of (option_map (λ name. name.now) file) (R.remaining input.old) (S.files store.old))
+        (λ text. RefusesInput hex text fault)) }
+    ensures same { S.files store.new ≡ S.files store.old }
 {
-    let image = read_image(alloc, hex, input)?;
+    let image = read_image(alloc, hex, file, input, store)?;
     let listing = list_image(alloc, &image)?;
-    print_listing(alloc, &listing, output)?;
+    let items = items_of(alloc, all, &image)?;
+    let shown = Shown {
+        listing: &listing,
+        items: &items,
+    };
+    print_listing(alloc, &shown, output)?;
     Ok(status_of(&listing))
+}
+
+/// What is printed: the listing of an image, and behind it its items, where they are asked for.
+#[derive(Clone, Copy)]
+struct Shown<'a> {
+    listing: &'a Listing,
+    items: &'a Option<ItemListing>,
+}
+
+impl fmt::Display for Shown<'_> {
+    fn fmt<W: fmt::Write>(&self, f: &mut fmt::Formatter<W>) -> fmt::Result {
+        write!(f, "{}", self.listing)?;
+        match self.items {
+            Some(items) => write!(f, "{items}"),
+            None => Ok(()),
+        }
+    }
+}
+
+fn items_of(alloc: Global, all: bool, image: &ImageFile) -> Result<Option<ItemListing>, AllocError>
+    ensures { IfOk result (λ items. IsSome items ↔ IsTrue all) }
+{
+    if all {
+        return Ok(Some(list_items(alloc, image)?));
+    }
+    Ok(None)
 }
 
 /// `Done` for a sound listing, `File` for any other.

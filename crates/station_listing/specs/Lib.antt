@@ -1,2 +1,3 @@
+pub mod ImageItems
 pub mod ImageListing
 pub mod LayoutListing

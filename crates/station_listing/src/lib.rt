@@ -3,10 +3,14 @@
 
 mod codes;
 mod content;
+mod items;
 mod layout_listing;
+mod lines;
 mod listing;
 
 pub use codes::{CODES, Code, CodeEntry, each_code_is_listed, find_code};
 pub use content::Content;
+pub use items::{General, Items, read_items};
 pub use layout_listing::{Direction, LayoutListing, ListedSegment, list_layout};
+pub use lines::{CategoryLines, Field, ItemListing, Label, Line, list_items};
 pub use listing::{CheckByte, ListedCategory, ListedChain, Listing, list_image};

@@ -1,7 +1,8 @@
 //! Reads the arguments of the program; also has the help texts.
 
+use crate::image_arguments::{alias_command, diff_command, image_task, show_command};
 use clap::error::ErrorKind;
-use clap::{Arg, ArgAction, ArgMatches, Command, Error, value_parser};
+use clap::{Arg, ArgMatches, Command, Error, value_parser};
 use station_listing::{Code, find_code};
 use station_session::Fuse;
 use std::alloc::{AllocError, Global};
@@ -9,17 +10,32 @@ use std::alloc::{AllocError, Global};
 /// What a command line asks for: a subcommand with its arguments.
 #[derive(Clone, Copy)]
 pub enum Task<'a> {
-    /// Sets the configured station alias of the image on standard input.
+    /// Sets the configured station alias of an image.
     Alias {
         /// The new alias.
         value: u16,
         /// Whether input and output are hexadecimal text.
         hex: bool,
+        /// The name of the image's file; `None` for standard input.
+        file: Option<&'a str>,
     },
-    /// Prints the listing of the image on standard input.
+    /// Prints the listing of an image.
     Show {
-        /// Whether the input is hexadecimal text.
+        /// Whether the image is hexadecimal text.
         hex: bool,
+        /// Whether each item is printed too.
+        all: bool,
+        /// The name of the image's file; `None` for standard input.
+        file: Option<&'a str>,
+    },
+    /// Prints what two images differ in.
+    Diff {
+        /// Whether the images are hexadecimal text.
+        hex: bool,
+        /// The name of the first image's file; `None` for standard input.
+        old: Option<&'a str>,
+        /// The name of the second image's file; `None` for standard input.
+        new: Option<&'a str>,
     },
     /// Makes an empty journal for a line.
     Init {
@@ -176,8 +192,8 @@ fn read_words<'a>(command: &mut Command<'a>, words: &'a [String]) -> Result<Task
 
 /// The task of the subcommand that was given.
 fn task_of<'a>(command: &mut Command<'a>, matches: &ArgMatches<'a>) -> Result<Task<'a>, Error> {
-    if let Some(alias) = matches.subcommand_matches("alias") {
-        return alias_task(command, alias);
+    if let Some(task) = image_task(command, matches)? {
+        return Ok(task);
     }
     if let Some(run) = matches.subcommand_matches("run") {
         return run_task(command, run);
@@ -195,13 +211,8 @@ fn task_of<'a>(command: &mut Command<'a>, matches: &ArgMatches<'a>) -> Result<Ta
     }
 }
 
-/// The task of `show`, `init`, `recover` or `layout`, whose arguments need no further check.
+/// The task of `init`, `recover` or `layout`, whose arguments need no further check.
 fn plain_task<'a>(matches: &ArgMatches<'a>) -> Option<Task<'a>> {
-    if let Some(show) = matches.subcommand_matches("show") {
-        return Some(Task::Show {
-            hex: show.get_flag("hex"),
-        });
-    }
     if let Some(init) = matches.subcommand_matches("init") {
         return Some(init_task(init));
     }
@@ -220,6 +231,7 @@ fn station<'a>(alloc: Global) -> Result<Command<'a>, AllocError> {
         .after_help("Example:\n  sii_station alias 1001 < slave.bin > renamed.bin")
         .subcommand_required(true);
     let station = with_subcommand(station, show_command(alloc))?;
+    let station = with_subcommand(station, diff_command(alloc))?;
     let station = with_subcommand(station, alias_command(alloc))?;
     let station = with_subcommand(station, init_command(alloc))?;
     let station = with_subcommand(station, run_command(alloc))?;
@@ -234,45 +246,6 @@ fn with_subcommand<'a>(
     subcommand: Result<Command<'a>, AllocError>,
 ) -> Result<Command<'a>, AllocError> {
     command.subcommand(subcommand?)
-}
-
-fn hex_argument<'a>(alloc: Global, help: &'a str) -> Arg<'a> {
-    Arg::new(alloc, "hex")
-        .long("hex")
-        .help(help)
-        .action(ArgAction::SetTrue)
-}
-
-fn show_command<'a>(alloc: Global) -> Result<Command<'a>, AllocError> {
-    Command::new(alloc, "show")
-        .about("Prints what an EEPROM image says")
-        .long_about(
-            "Reads the image of a slave's EEPROM from standard input and prints its alias, whether its check byte is right, its identity \
-            and its categories. An image has 64 to 4096 words, low byte first.",
-        )
-        .after_help("Example:\n  sii_station show < slave.bin")
-        .arg(hex_argument(alloc, "Reads hexadecimal text in place of bytes"))
-}
-
-fn value_argument<'a>(alloc: Global) -> Arg<'a> {
-    Arg::new(alloc, "VALUE")
-        .help("The new alias, 0 to 65535")
-        .required(true)
-        .value_parser(value_parser!(u16))
-}
-
-fn alias_command<'a>(alloc: Global) -> Result<Command<'a>, AllocError> {
-    Command::new(alloc, "alias")
-        .about(
-            "Sets the configured station alias of an EEPROM image, and the check byte that goes with it",
-        )
-        .long_about(
-            "Reads the image of a slave's EEPROM from standard input, sets the configured station alias and the check byte that goes with \
-            it, and writes the image to standard output. An image has 64 to 4096 words, low byte first.",
-        )
-        .after_help("Example:\n  sii_station alias 1001 < slave.bin > renamed.bin")
-        .arg(value_argument(alloc))?
-        .arg(hex_argument(alloc, "Reads and writes hexadecimal text in place of bytes"))
 }
 
 fn init_command<'a>(alloc: Global) -> Result<Command<'a>, AllocError> {
@@ -411,24 +384,8 @@ fn layout_task<'a>(matches: &ArgMatches<'a>) -> Task<'a> {
     }
 }
 
-/// The value is required, and may have digits only.
-fn alias_task<'a>(command: &mut Command<'a>, matches: &ArgMatches<'a>) -> Result<Task<'a>, Error> {
-    let text = matches.get_str("VALUE").unwrap_or("");
-    match matches.get_one::<u16>("VALUE") {
-        Some(value) if is_digits(text) => Ok(Task::Alias {
-            value,
-            hex: matches.get_flag("hex"),
-        }),
-        _ => refused(
-            command,
-            ErrorKind::ValueValidation,
-            "VALUE is a number in digits, 0 to 65535",
-        ),
-    }
-}
-
 /// Whether a text has digits only: a sign is not taken.
-fn is_digits(text: &str) -> bool {
+pub fn is_digits(text: &str) -> bool {
     text.bytes().all(|byte| byte.is_ascii_digit())
 }
 
@@ -451,7 +408,7 @@ fn explain_task<'a>(
 }
 
 /// The error for wrong arguments: this message, and the usage.
-fn refused<'a>(
+pub fn refused<'a>(
     command: &mut Command<'a>,
     kind: ErrorKind,
     message: &str,

@@ -3,6 +3,7 @@
 
 mod arguments;
 mod explain;
+mod image_arguments;
 mod serving;
 
 pub use arguments::{Task, read_arguments};

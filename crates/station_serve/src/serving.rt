@@ -5,7 +5,8 @@ use crate::{Task, read_arguments};
 use clap::Error;
 use clap::error::ErrorKind;
 use station_files::{
-    ExitStatus, Fault, Store, report, report_fault, set_alias, show_image, show_layout, status_of,
+    ExitStatus, Fault, Store, diff_images, report, report_fault, set_alias, show_image,
+    show_layout, status_of,
 };
 use station_session::{Fuse, init_line, recover_line, run_script};
 use std::alloc::Global;
@@ -14,7 +15,7 @@ use std::io::{Read, Write};
 use std::sync::Wait;
 use std::thread::Threads;
 
-/// Carries out a command line and returns the exit status: 0 done, 1 a command was refused, 2 wrong usage, 3 a file or its form, 4 a device
+/// Carries out a command line and returns the exit status: 0 done, 1 a command was refused or two images differ, 2 wrong usage, 3 a file or its form, 4 a device
 /// or a power cut, 5 out of memory. The first argument is the program's name. Faults are printed to `faults`.
 pub fn serve<H: Wait + Threads + Sync, R: Read, S: Store, W: Write, E: Write>(
     rt: &H,
@@ -26,14 +27,20 @@ pub fn serve<H: Wait + Threads + Sync, R: Read, S: Store, W: Write, E: Write>(
     faults: &mut E,
 ) -> u8 {
     let status = match read_arguments(alloc, args) {
-        Ok(Task::Alias { value, hex }) => match set_alias(alloc, value, hex, input, output) {
-            Ok(()) => ExitStatus::Done,
-            Err(failure) => report(failure, faults),
-        },
-        Ok(Task::Show { hex }) => match show_image(alloc, hex, input, output) {
-            Ok(status) => status,
-            Err(fault) => report_fault(fault, faults),
-        },
+        Ok(Task::Alias { value, hex, file }) => {
+            match set_alias(alloc, value, hex, file, input, store, output) {
+                Ok(()) => ExitStatus::Done,
+                Err(failure) => report(failure, faults),
+            }
+        }
+        Ok(Task::Show { hex, all, file }) => told(
+            show_image(alloc, hex, all, file, input, store, output),
+            faults,
+        ),
+        Ok(Task::Diff { hex, old, new }) => told(
+            diff_images(alloc, hex, old, new, input, store, output),
+            faults,
+        ),
         Ok(Task::Layout { line }) => status_of(show_layout(alloc, line, store, output), faults),
         Ok(Task::Explain { code }) => status_of(explain(alloc, code, output), faults),
         Ok(Task::Init { line }) => status_of(init_line(alloc, line, store, output), faults),
@@ -44,6 +51,14 @@ pub fn serve<H: Wait + Threads + Sync, R: Read, S: Store, W: Write, E: Write>(
         Err(error) => show_usage(&error, output, faults),
     };
     status as u8
+}
+
+/// The exit status that a subcommand ended with, or that of its fault, which is printed.
+fn told<E: Write>(ended: Result<ExitStatus, Fault>, faults: &mut E) -> ExitStatus {
+    match ended {
+        Ok(status) => status,
+        Err(fault) => report_fault(fault, faults),
+    }
 }
 
 /// Prints the help or the version that was asked for, or what is wrong with the arguments.

@@ -2,6 +2,7 @@
 
 mod case;
 mod cuts;
+mod differences;
 mod images;
 mod journals;
 mod lines;

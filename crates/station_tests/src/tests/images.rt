@@ -6,7 +6,7 @@ use std::test::Fail;
 use std::thread::Threads;
 
 /// A slave with eight digital inputs and eight outputs, from its first word to the end mark.
-const DIGITAL_IO: &str = "04010000000000000000000000003900
+pub const DIGITAL_IO: &str = "04010000000000000000000000003900
 570e00008830010000001100172a0000
 00000000000000000000000000000000
 00000000000000000000000000000000

@@ -77,6 +77,8 @@ const READING: &[&str] = &[
     "station show --hex",
     "station alias 1",
     "station alias 1 --hex",
+    "station show --all -",
+    "station diff - s0.bin",
 ];
 
 #[test]
@@ -163,6 +165,9 @@ fn is_unwritten(
 /// Runs that print.
 const PRINTING: &[&str] = &[
     "station show",
+    "station show --all s0.bin",
+    "station alias 1 s0.bin",
+    "station diff s0.bin -",
     "station layout line.toml",
     "station init new.toml",
     "station run line.toml script.toml",

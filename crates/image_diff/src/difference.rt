@@ -1,0 +1,70 @@
+//! What two images differ in.
+ghost use Rattle.std.specs.Prelude.{◌≡◌, ◌↔◌, IfOk, IsTrue};
+ghost use Rattle.image_diff.specs.Difference.{Compares, NothingDiffers, NamesDifferences};
+
+use crate::categories::print_chains;
+use crate::head::{Head, print_heads};
+use crate::words::{WordChanges, compare_words};
+use sii_words::ImageFile;
+use station_listing::{ItemListing, list_items};
+use std::alloc::{AllocError, Global};
+use std::fmt;
+
+/// What two images differ in.
+#[derive(Drop)]
+pub struct Difference {
+    /// The head of the first image.
+    pub old: Head,
+    /// The head of the second image.
+    pub new: Head,
+    /// The items of the first image.
+    pub old_items: ItemListing,
+    /// The items of the second image.
+    pub new_items: ItemListing,
+    /// The words that differ.
+    pub words: WordChanges,
+}
+
+/// Compares two images. It finds no difference exactly where both have the same words, and a word that both have stands in a listed stretch
+/// exactly where its values differ.
+///
+/// # Errors
+///
+/// Memory was refused.
+pub fn compare(alloc: Global, old: &ImageFile, new: &ImageFile) -> Result<Difference, AllocError>
+    ensures compared { IfOk result (Compares old.now new.now) }
+    ensures same { IfOk result (λ difference. NothingDiffers difference ↔ (old.now ≡ new.now)) }
+    ensures named { IfOk result (NamesDifferences old.now new.now) }
+{
+    let difference = compare_parts(alloc, old, new)?;
+    Ok(difference)
+}
+
+fn compare_parts(alloc: Global, old: &ImageFile, new: &ImageFile) -> Result<Difference, AllocError>
+    ensures { IfOk result (Compares old.now new.now) }
+{
+    Ok(Difference {
+        old: Head::of(old),
+        new: Head::of(new),
+        old_items: list_items(alloc, old)?,
+        new_items: list_items(alloc, new)?,
+        words: compare_words(alloc, old.as_slice(), new.as_slice())?,
+    })
+}
+
+impl Difference {
+    /// Whether the images have the same words.
+    pub fn is_none(&self) -> bool
+        ensures { IsTrue result ↔ NothingDiffers self.now }
+    {
+        self.old.count == self.new.count && self.words.new.is_empty()
+    }
+}
+
+impl fmt::Display for Difference {
+    fn fmt<W: fmt::Write>(&self, f: &mut fmt::Formatter<W>) -> fmt::Result {
+        print_heads(f, self.old, self.new)?;
+        print_chains(f, &self.old_items, &self.new_items)?;
+        write!(f, "{}", self.words)
+    }
+}

@@ -1,0 +1,57 @@
+//! The subcommand `diff`.
+ghost use Rattle.std.specs.Prelude.{◌≡◌, IfOk, IfErr, IfSome, option_map};
+ghost use Rattle.station_files.specs.Diff.{IsStatusOf, RefusesPair, TellsDifference, second_text};
+ghost use Rattle.station_files.specs.ImageText.{text_of};
+
+use crate::faults::{ExitStatus, Fault};
+use crate::image::read_image;
+use crate::printing::print_listing;
+use crate::store::Store;
+use image_diff::{Difference, compare};
+use std::alloc::Global;
+use std::io::{Read, Write};
+
+/// Reads two EEPROM images and prints what they differ in. Each is read from the file of its name, or, where no name is given, from the input;
+/// that is meant for one of them, since the input is read to its end. With `hex` both texts are hexadecimal. The status is `Done` where the
+/// images have the same words, and `Refused` where they differ.
+///
+/// # Errors
+///
+/// As for `read_image`, of the first image and then of the second; then `Memory`, where the images can't be compared; then as for
+/// `print_listing`. Nothing is printed before the comparison is complete.
+pub fn diff_images<R: Read, S: Store, W: Write>(
+    alloc: Global,
+    hex: bool,
+    old: Option<&str>,
+    new: Option<&str>,
+    input: &mut R,
+    store: &mut S,
+    output: &mut W,
+) -> Result<ExitStatus, Fault>
+    ensures status { IfOk result (λ status.
+        IfSome (text_of (option_map (λ name. name.now) old) (R.remaining input.old) (S.files store.old)) (λ first.
+        IfSome (second_text (option_map (λ name. name.now) old) (option_map (λ name. name.now) new) (R.remaining input.old) (S.files store.old)) (λ second.
+        TellsDifference hex first second status))) }
+    ensures refused { IfErr result (λ fault.
+        IfSome (text_of (option_map (λ name. name.now) old) (R.remaining input.old) (S.files store.old)) (λ first.
+        IfSome (second_text (option_map (λ name. name.now) old) (option_map (λ name. name.now) new) (R.remaining input.old) (S.files store.old)) (λ second.
+        RefusesPair hex first second fault))) }
+    ensures same { S.files store.new ≡ S.files store.old }
+{
+    let first = read_image(alloc, hex, old, input, store)?;
+    let second = read_image(alloc, hex, new, input, store)?;
+    let difference = compare(alloc, &first, &second)?;
+    print_listing(alloc, &difference, output)?;
+    Ok(status_of(&difference))
+}
+
+/// `Done` where nothing differs, `Refused` where something does.
+fn status_of(difference: &Difference) -> ExitStatus
+    ensures { IsStatusOf difference.now result }
+{
+    if difference.is_none() {
+        ExitStatus::Done
+    } else {
+        ExitStatus::Refused
+    }
+}
