@@ -65,8 +65,30 @@ pub(crate) fn stand_at_their_numbers(
     true
 }
 
-/// Whether no two receipts have the same number.
+/// Whether no two receipts have the same number. Receipts in the order of their numbers are told apart in one pass.
 pub(crate) fn are_apart(receipts: &[Receipt]) -> bool
+    ensures { IsTrue result ↔ AreApart receipts.now }
+{
+    are_rising(receipts) || have_each_their_own(receipts)
+}
+
+/// Whether the number of each receipt is above that of the one before it.
+fn are_rising(receipts: &[Receipt]) -> bool
+    ensures { IsTrue result → AreApart receipts.now }
+{
+    let mut least = 0;
+    for i in 0..receipts.len() {
+        let number = receipts[i].number();
+        if number < least || number == u64::MAX {
+            return false;
+        }
+        least = number + 1;
+    }
+    true
+}
+
+/// Whether no two receipts have the same number, in any order. Compares each with all before it.
+fn have_each_their_own(receipts: &[Receipt]) -> bool
     ensures { IsTrue result ↔ AreApart receipts.now }
 {
     for i in 0..receipts.len() {

@@ -11,11 +11,23 @@ use crate::naming::{Refusals, Tickets};
 use crate::served::Served;
 use crate::ticket::{Receipt, Ticket, Unacknowledged};
 use book_model::{Fault, Status};
+use std::mem::replace;
 
 impl<T: Tickets, R: Refusals> Served<T, R> {
     /// How many commands are accepted, durable and settled, and how many bytes of the journal are live.
     pub fn status(&self) -> Status {
         self.core.status()
+    }
+
+    /// The status that this answered last, or at first that of the open, and the status now.
+    ///
+    /// Looking for the settled prefix takes a time that grows with the slaves, so who compares the status before a call and behind it
+    /// asks once for both.
+    pub fn progress(&mut self) -> (Status, Status)
+        ensures same { self.new ≡ self.old }
+    {
+        let now = self.core.status();
+        (replace(&mut self.seen, now), now)
     }
 
     /// How many slaves the line has.

@@ -9,7 +9,7 @@ use crate::naming::{BlankLedger, Refusals, Tickets};
 use crate::pool::Pool;
 use crate::share::Share;
 use book_core::Core;
-use book_model::{DiskNext, RomNext, RomOutcome};
+use book_model::{DiskNext, RomNext, RomOutcome, Status};
 use lists::History;
 use site_core::DeviceFault;
 use station_jobs::{CycleNote, Notes};
@@ -32,6 +32,8 @@ pub struct Served<T: Tickets, R: Refusals> {
     pub(crate) disk: Notes<DiskNext, Result<(), DeviceFault>>,
     pub(crate) slaves: Vec<Notes<RomNext, RomOutcome>>,
     pub(crate) cycle: Vec<CycleNote>,
+    /// The status that `progress` answered last.
+    pub(crate) seen: Status,
 }
 
 impl<T: Tickets, R: Refusals> Model for Served<T, R> {
@@ -122,6 +124,7 @@ impl<T: Tickets, R: Refusals> Served<T, R> {
         } }
     {
         let (ticket_book, refusal_book, pool) = Pool::open(tickets, refusals);
+        let seen = core.status();
         Served {
             alloc,
             core,
@@ -134,6 +137,7 @@ impl<T: Tickets, R: Refusals> Served<T, R> {
             disk: Notes::new(alloc),
             slaves,
             cycle: Vec::new(alloc),
+            seen,
         }
     }
 

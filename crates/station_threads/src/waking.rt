@@ -78,7 +78,8 @@ impl Wakes {
         watchers: true,
     };
 
-    /// Those who wait for what differs between these two statuses of a book.
+    /// Those who wait for what differs between these two statuses of a book: behind the outcome before this one, and now. Only outcomes make
+    /// commands durable or settled, and who watches was woken for the commands that were accepted meanwhile.
     fn between(before: &Status, after: &Status) -> Wakes {
         Wakes {
             disk: false,
@@ -230,12 +231,11 @@ pub(crate) fn disk_told<T: Tickets, R: Refusals>(
     served: &mut Served<T, R>,
     outcome: Result<(), DeviceFault>,
 ) -> Wakes {
-    let before = served.status();
     served.disk_done(outcome);
     if served.fault().is_some() {
         return Wakes::EVERYBODY;
     }
-    let after = served.status();
+    let (before, after) = served.progress();
     Wakes {
         disk: true,
         slaves: bits_woken(served, before.durable, after.durable),
@@ -249,16 +249,15 @@ pub(crate) fn slave_told<T: Tickets, R: Refusals>(
     slave: u16,
     outcome: RomOutcome,
 ) -> Wakes {
+    served.slave_done(slave, outcome);
     if let RomOutcome::Issued(_) = outcome {
-        served.slave_done(slave, outcome);
         return Wakes::NOBODY;
     }
-    let before = served.status();
-    served.slave_done(slave, outcome);
     if served.fault().is_some() {
         return Wakes::EVERYBODY;
     }
-    let wakes = Wakes::between(&before, &served.status());
+    let (before, after) = served.progress();
+    let wakes = Wakes::between(&before, &after);
     Wakes {
         disk: before.settled == 0 || wakes.cycle,
         ..wakes
