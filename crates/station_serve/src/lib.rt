@@ -3,6 +3,7 @@
 
 mod arguments;
 mod explain;
+mod plan_arguments;
 mod serving;
 
 pub use arguments::{Task, read_arguments};
