@@ -1,6 +1,7 @@
 //! Reads the arguments of the program; also has the help texts.
 
 use crate::image_arguments::{alias_command, diff_command, image_task, show_command};
+use crate::plan_arguments::{journal_command, plan_command, planning_task};
 use clap::error::ErrorKind;
 use clap::{Arg, ArgMatches, Command, Error, value_parser};
 use station_listing::{Code, find_code};
@@ -58,6 +59,18 @@ pub enum Task<'a> {
     },
     /// Prints the process image of a line.
     Layout {
+        /// The name of the line file.
+        line: &'a str,
+    },
+    /// Prints what a script would do to a line.
+    Plan {
+        /// The name of the line file.
+        line: &'a str,
+        /// The name of the script file.
+        script: &'a str,
+    },
+    /// Prints what a journal holds.
+    Journal {
         /// The name of the line file.
         line: &'a str,
     },
@@ -201,6 +214,9 @@ fn task_of<'a>(command: &mut Command<'a>, matches: &ArgMatches<'a>) -> Result<Ta
     if let Some(explain) = matches.subcommand_matches("explain") {
         return explain_task(command, explain);
     }
+    if let Some(task) = planning_task(matches) {
+        return Ok(task);
+    }
     match plain_task(matches) {
         Some(task) => Ok(task),
         None => refused(
@@ -234,7 +250,9 @@ fn station<'a>(alloc: Global) -> Result<Command<'a>, AllocError> {
     let station = with_subcommand(station, diff_command(alloc))?;
     let station = with_subcommand(station, alias_command(alloc))?;
     let station = with_subcommand(station, init_command(alloc))?;
+    let station = with_subcommand(station, plan_command(alloc))?;
     let station = with_subcommand(station, run_command(alloc))?;
+    let station = with_subcommand(station, journal_command(alloc))?;
     let station = with_subcommand(station, recover_command(alloc))?;
     let station = with_subcommand(station, layout_command(alloc))?;
     with_subcommand(station, explain_command(alloc))
@@ -260,7 +278,7 @@ fn init_command<'a>(alloc: Global) -> Result<Command<'a>, AllocError> {
         .arg(line_argument(alloc))
 }
 
-fn script_argument<'a>(alloc: Global) -> Arg<'a> {
+pub(crate) fn script_argument<'a>(alloc: Global) -> Arg<'a> {
     Arg::new(alloc, "SCRIPT")
         .help("The script file: the commands, in order")
         .long_help(SCRIPT_FILE)
@@ -322,7 +340,7 @@ fn layout_command<'a>(alloc: Global) -> Result<Command<'a>, AllocError> {
         .arg(line_argument(alloc))
 }
 
-fn line_argument<'a>(alloc: Global) -> Arg<'a> {
+pub(crate) fn line_argument<'a>(alloc: Global) -> Arg<'a> {
     Arg::new(alloc, "LINE")
         .help("The line file: the slaves' image files and the journal's")
         .long_help(LINE_FILE)

@@ -4,6 +4,7 @@
 mod arguments;
 mod explain;
 mod image_arguments;
+mod plan_arguments;
 mod serving;
 
 pub use arguments::{Task, read_arguments};

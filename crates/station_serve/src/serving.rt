@@ -8,6 +8,7 @@ use station_files::{
     ExitStatus, Fault, Store, diff_images, report, report_fault, set_alias, show_image,
     show_layout, status_of,
 };
+use station_plan::{plan_script, show_journal};
 use station_session::{Fuse, init_line, recover_line, run_script};
 use std::alloc::Global;
 use std::io;
@@ -47,6 +48,8 @@ pub fn serve<H: Wait + Threads + Sync, R: Read, S: Store, W: Write, E: Write>(
         Ok(Task::Run { line, script, cut }) => {
             run_script(rt, alloc, line, script, cut, store, output, faults)
         }
+        Ok(Task::Plan { line, script }) => plan_script(alloc, line, script, store, output, faults),
+        Ok(Task::Journal { line }) => show_journal(alloc, line, store, output, faults),
         Ok(Task::Recover { line }) => recover_line(alloc, line, store, output, faults),
         Err(error) => show_usage(&error, output, faults),
     };

@@ -17,6 +17,6 @@ pub use faults::of_open;
 pub use init::init_line;
 pub use opening::open_files;
 pub use recovery::{recover_line, write_recovered};
-pub use run::{Fuse, open_station, run_script};
-pub use session::is_old;
+pub use run::{Fuse, Given, load, open_station, run_script};
+pub use session::{Session, is_old, load_session};
 pub use site::{save_site, site_of};

@@ -31,11 +31,13 @@ pub struct Fuse {
     pub left: u16,
 }
 
-/// What was read for a run: the line, and the commands of the script.
+/// What was read for a run.
 #[derive(Drop)]
-struct Given<L> {
-    session: Session<L>,
-    commands: Vec<Command>,
+pub struct Given<L> {
+    /// The line.
+    pub session: Session<L>,
+    /// The commands of the script, in order.
+    pub commands: Vec<Command>,
 }
 
 /// RunsScript the script file `script` on the line whose line file is `name`: submits its commands in order, serves them by threads on the line's
@@ -184,7 +186,7 @@ fn run_site<D: Device + Copy + Send, S: Store, W: Write, E: Write, R: Wait + Thr
 /// # Errors
 ///
 /// As for `load_session`, then as for `load_script`.
-fn load<S: Store>(
+pub fn load<S: Store>(
     alloc: Global,
     name: &str,
     script: &str,

@@ -21,7 +21,7 @@ use std::io::Write;
 
 /// A line that was read from its files.
 #[derive(Drop)]
-pub(crate) struct Session<L> {
+pub struct Session<L> {
     /// The line file.
     pub line: LineFile,
     /// The line in memory, just switched on.
@@ -39,7 +39,7 @@ pub(crate) struct Session<L> {
 ///
 /// As for `load_line`; `Busy` where another station has locked the journal, `File` where the system can't lock it; as for `load_slaves`;
 /// `File` where the journal is absent or can't be read. `Memory` may come at any point.
-pub(crate) fn load_session<S: Store>(
+pub fn load_session<S: Store>(
     alloc: Global,
     name: &str,
     store: &mut S,

@@ -3,11 +3,14 @@
 mod case;
 mod cuts;
 mod differences;
+mod foresight;
 mod images;
 mod journals;
 mod lines;
+mod listings;
 mod migrations;
 mod outputs;
+mod plans;
 mod scripts;
 mod statuses;
 mod stops;

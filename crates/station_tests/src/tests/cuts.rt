@@ -370,7 +370,12 @@ fn a_disk_that_fails_for_good(rt: HostRuntime) -> Result<(), Fail> {
 }
 
 /// Runs that meet another station on the journal.
-const BUSY: &[&str] = &[RUN, RECOVER];
+const BUSY: &[&str] = &[
+    RUN,
+    RECOVER,
+    "station plan line.toml script.toml",
+    "station journal line.toml",
+];
 
 /// Whether a run is refused while another station works on the journal, with all files unchanged.
 fn is_busy(

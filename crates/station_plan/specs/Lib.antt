@@ -1,0 +1,4 @@
+pub mod Changes
+pub mod Plan
+pub mod Reading
+pub mod Journal

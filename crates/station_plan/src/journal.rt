@@ -1,0 +1,144 @@
+//! The subcommand `journal`.
+ghost use Rattle.std.specs.Prelude.{◌≡◌, IfOk, IsTrue, OnOk};
+ghost use Rattle.esc_rom.specs.Owned.{OwnsAll};
+ghost use Rattle.station_files.specs.Faults.{IsFaultless};
+ghost use Rattle.station_plan.specs.Journal.{ListsJournal, ListsSite, Restores};
+
+use crate::changes::{ChangedWord, changed_words, write_changes};
+use crate::contents::contents_of;
+use crate::journal_listing::write_journal;
+use crate::reading::{Reading, read_readable};
+use jrn_format::JournalFault;
+use site_journal::ReadFault;
+use site_mem::{FaultPlan, Pattern};
+use site_shadow::ShadowSite;
+use station_alone::{OpenFault, Recovered, recover};
+use station_files::{ExitStatus, Fault, Store, report_fault, status_of};
+use station_session::{Session, load_session, of_open};
+use std::alloc::Global;
+use std::io::Write;
+
+/// What a recovery would do to a line.
+#[derive(Drop)]
+pub struct Restored {
+    /// What it would find, and how many words it would write.
+    pub recovered: Recovered,
+    /// The words of the slaves that it would change.
+    pub changes: Vec<ChangedWord>,
+}
+
+/// Prints what the journal of the line whose line file is `name` holds, and what a recovery would do. Returns the exit status. No file is
+/// written.
+///
+/// The files are read in this order: line file, images of the slaves, journal. The journal is locked before the images are read. Of a
+/// damaged journal it prints what can be read, and then the fault with which a recovery refuses it.
+pub fn show_journal<S: Store, W: Write, E: Write>(
+    alloc: Global,
+    name: &str,
+    store: &mut S,
+    output: &mut W,
+    faults: &mut E,
+) -> ExitStatus
+    ensures lists { IsFaultless result → ListsJournal (S.files store.old) name.now }
+    ensures same { S.files store.new ≡ S.files store.old }
+{
+    match load_session(alloc, name, store) {
+        Ok(session) => list_session(alloc, session, output, faults),
+        Err(fault) => report_fault(fault, faults),
+    }
+}
+
+fn list_session<L: Drop, W: Write, E: Write>(
+    alloc: Global,
+    session: Session<L>,
+    output: &mut W,
+    faults: &mut E,
+) -> ExitStatus
+    requires disk { IsTrue session.site.line.has_disk }
+    requires owned { OwnsAll session.site.line }
+    ensures { IsFaultless result → ListsSite session.site }
+{
+    let Session {
+        line: _,
+        site,
+        is_old: _,
+        lock: _lock,
+    } = session;
+    status_of(list_site(alloc, site, output), faults)
+}
+
+/// Prints what the journal of a line in memory holds, and what a recovery would do.
+fn list_site<W: Write>(
+    alloc: Global,
+    site: ShadowSite<FaultPlan>,
+    output: &mut W,
+) -> Result<(), Fault>
+    requires disk { IsTrue site.line.has_disk }
+    requires owned { OwnsAll site.line }
+    ensures { OnOk result (ListsSite site) }
+{
+    let reading = print_journal(alloc, &site, output)?;
+    if let Some(fault) = reading.fault {
+        drop(site);
+        return Err(fault_of(fault));
+    }
+    let restored = restore(alloc, site)?;
+    print_restored(&restored, output)
+}
+
+/// Reads and prints what the journal's file holds.
+fn print_journal<W: Write>(
+    alloc: Global,
+    site: &ShadowSite<FaultPlan>,
+    output: &mut W,
+) -> Result<Reading, Fault> {
+    let parts = site.snapshot(alloc, Pattern::Old)?;
+    let mut file = parts.disk.unwrap();
+    let reading = read_readable(alloc, &mut file, &parts.sizes)?;
+    write_journal(&file, &reading, output)?;
+    output.flush()?;
+    Ok(reading)
+}
+
+/// The program's fault for a journal that is refused.
+fn fault_of(fault: JournalFault) -> Fault {
+    of_open(OpenFault::Journal(ReadFault::Journal(fault)))
+}
+
+/// Recovers the line in memory, and compares the words of its slaves.
+fn restore(alloc: Global, site: ShadowSite<FaultPlan>) -> Result<Restored, Fault>
+    requires disk { IsTrue site.line.has_disk }
+    requires owned { OwnsAll site.line }
+    ensures { IfOk result (Restores site) }
+{
+    let before = contents_of(alloc, &site)?;
+    match recover(alloc, site) {
+        Ok((alone, recovered)) => {
+            let (core, left) = alone.into_parts();
+            drop(core);
+            let after = contents_of(alloc, &left)?;
+            let changes = changed_words(alloc, &before, &after)?;
+            Ok(Restored { recovered, changes })
+        }
+        Err((left, fault)) => {
+            drop(left);
+            Err(of_open(fault))
+        }
+    }
+}
+
+/// Prints what a recovery would do.
+fn print_restored<W: Write>(restored: &Restored, output: &mut W) -> Result<(), Fault> {
+    let Recovered {
+        batches,
+        commands,
+        words,
+    } = restored.recovered;
+    writeln!(
+        output,
+        "recovery batches {batches} commands {commands} words {words}"
+    )?;
+    write_changes(&restored.changes, output)?;
+    output.flush()?;
+    Ok(())
+}

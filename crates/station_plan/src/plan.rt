@@ -1,0 +1,140 @@
+//! The subcommand `plan`.
+ghost use Rattle.std.specs.Prelude.{◌≡◌, IfOk, IsTrue};
+ghost use Rattle.esc_rom.specs.Owned.{OwnsAll};
+ghost use Rattle.station_files.specs.Faults.{IsFaultless};
+ghost use Rattle.station_session.specs.Session.{is_old};
+ghost use Rattle.station_plan.specs.Plan.{IsPlanOf, PlansScript, PlansSite, ServesPlan};
+
+use crate::changes::{ChangedWord, changed_words};
+use crate::contents::contents_of;
+use crate::plan_listing::print_plan;
+use crate::tally::Tally;
+use script_session::serve_commands;
+use sii_edit::Command;
+use sii_words::Plant;
+use site_mem::FaultPlan;
+use site_shadow::ShadowSite;
+use station_alone::Alone;
+use station_files::{ExitStatus, Fault, Store, report_fault, status_of, worse};
+use station_session::{Given, Session, load, of_open, open_station};
+use std::alloc::Global;
+use std::io::Write;
+
+/// What a run would do to a line.
+#[derive(Drop)]
+pub struct Planned {
+    /// The words of the slaves before the run.
+    pub before: Plant,
+    /// Their words after it.
+    pub after: Plant,
+    /// The words in which the two differ.
+    pub changes: Vec<ChangedWord>,
+    /// What one thread writes on the way.
+    pub tally: Tally,
+}
+
+/// Prints what `run_script` would do with the script file `script` on the line whose line file is `name`: the answers to the commands and
+/// the totals as it prints them, the words that change, and the process image before and after if it changes. Returns the exit status that
+/// it would return. No file is written.
+///
+/// The files are read as `run_script` reads them, with the journal locked, and the first fault is printed and ends the plan.
+pub fn plan_script<S: Store, W: Write, E: Write>(
+    alloc: Global,
+    name: &str,
+    script: &str,
+    store: &mut S,
+    output: &mut W,
+    faults: &mut E,
+) -> ExitStatus
+    ensures plans { PlansScript (S.files store.old) name.now script.now result }
+    ensures same { S.files store.new ≡ S.files store.old }
+{
+    match load(alloc, name, script, store) {
+        Ok(given) => plan_given(alloc, given, output, faults),
+        Err(fault) => report_fault(fault, faults),
+    }
+}
+
+/// Plans a run of the commands on the line in memory, and prints the plan.
+fn plan_given<L: Drop, W: Write, E: Write>(
+    alloc: Global,
+    given: Given<L>,
+    output: &mut W,
+    faults: &mut E,
+) -> ExitStatus
+    requires disk { IsTrue given.session.site.line.has_disk }
+    requires owned { OwnsAll given.session.site.line }
+    requires old { given.session.is_old ≡ is_old given.session.site.seen.state.disk.bytes }
+    ensures { IsFaultless result → PlansSite given.session.site given.commands.items result }
+{
+    let Given { session, commands } = given;
+    let Session {
+        line: _,
+        site,
+        is_old,
+        lock: _lock,
+    } = session;
+    let mut status = ExitStatus::Done;
+    let ended = match plan_site(alloc, site, is_old, &commands, output, &mut status) {
+        Ok(planned) => status_of(print_plan(alloc, &planned, output), faults),
+        Err(fault) => report_fault(fault, faults),
+    };
+    worse(status, ended)
+}
+
+/// Opens the station on the line in memory, serves the commands on one thread, and compares the words before and after. Prints the
+/// answers and the totals as `run` does.
+///
+/// # Errors
+///
+/// As for `open_station`, then as for `serve_commands`; `Memory` at any point.
+fn plan_site<W: Write>(
+    alloc: Global,
+    site: ShadowSite<FaultPlan>,
+    was_old: bool,
+    commands: &[Command],
+    output: &mut W,
+    status: &mut ExitStatus,
+) -> Result<Planned, Fault>
+    requires disk { IsTrue site.line.has_disk }
+    requires owned { OwnsAll site.line }
+    requires old { was_old ≡ is_old site.seen.state.disk.bytes }
+    ensures { IfOk result (IsPlanOf site commands.now status.old status.new) }
+{
+    let before = contents_of(alloc, &site)?;
+    let site = site.with_device(Tally::new());
+    match open_station(alloc, site, was_old, None) {
+        Ok(alone) => serve_plan(alloc, before, alone, commands, output, status),
+        Err((left, fault)) => {
+            drop(left);
+            Err(of_open(fault))
+        }
+    }
+}
+
+/// Serves the commands on an open station, and compares the words of its slaves with `before`.
+fn serve_plan<W: Write>(
+    alloc: Global,
+    before: Plant,
+    mut alone: Alone<ShadowSite<Tally>>,
+    commands: &[Command],
+    output: &mut W,
+    status: &mut ExitStatus,
+) -> Result<Planned, Fault>
+    requires { OwnsAll alone.line }
+    ensures { IfOk result (ServesPlan alone commands.now status.old status.new before) }
+{
+    let slaves = before.len() as u16;
+    serve_commands(&mut alone, slaves, commands, output, status)?;
+    let (core, site) = alone.into_parts();
+    drop(core);
+    let after = contents_of(alloc, &site)?;
+    let changes = changed_words(alloc, &before, &after)?;
+    let tally = *site.device();
+    Ok(Planned {
+        before,
+        after,
+        changes,
+        tally,
+    })
+}

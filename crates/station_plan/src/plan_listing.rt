@@ -1,0 +1,46 @@
+//! Prints a plan.
+ghost use Rattle.std.specs.Prelude.{IfErr};
+
+use crate::changes::write_changes;
+use crate::plan::Planned;
+use sii_image::ImageFault;
+use sii_words::Plant;
+use station_files::Fault;
+use station_listing::{Code, list_layout};
+use std::alloc::{AllocError, Global};
+use std::io::Write;
+
+/// Prints the words that change, then how much is written on the way, and then the process image before and after if it changes.
+///
+/// # Errors
+///
+/// `Memory`; `File` where the output fails.
+pub(crate) fn print_plan<W: Write>(
+    alloc: Global,
+    planned: &Planned,
+    output: &mut W,
+) -> Result<(), Fault> {
+    write_changes(&planned.changes, output)?;
+    let tally = planned.tally;
+    let (words, bytes, syncs) = (tally.words, tally.bytes, tally.syncs);
+    writeln!(output, "writes words {words} bytes {bytes} syncs {syncs}")?;
+    let before = spell_layout(alloc, &planned.before)?;
+    let after = spell_layout(alloc, &planned.after)?;
+    if before.as_str() != after.as_str() {
+        write!(
+            output,
+            "process image before\n{before}process image after\n{after}"
+        )?;
+    }
+    output.flush()?;
+    Ok(())
+}
+
+/// The process image of a line with these contents, as `layout` prints it.
+fn spell_layout(alloc: Global, plant: &Plant) -> Result<String, AllocError> {
+    match list_layout(alloc, plant) {
+        Ok(listing) => format!(in alloc; "{listing}"),
+        Err(ImageFault::ImageOverLimit) => format!(in alloc; "none: {}\n", Code::ImageOverLimit),
+        Err(ImageFault::Memory) => Err(AllocError {}),
+    }
+}

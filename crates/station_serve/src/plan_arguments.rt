@@ -1,0 +1,105 @@
+//! The arguments of `plan` and `journal`.
+
+use crate::Task;
+use crate::arguments::{line_argument, script_argument};
+use clap::{ArgMatches, Command};
+use std::alloc::{AllocError, Global};
+
+/// The help text on what `plan` prints, and on its exit status.
+const PLAN_ANSWERS: &str = "Answers:
+  command I accepted N           as run would answer, see run --help
+  command I refused CODE NAME
+  accepted A durable D settled S
+  slave P word 0xW old 0xO new 0xN
+                   word W of slave P would get the value N in place of O
+  slave P words 0xV-0xW old .. new ..
+                   the same of neighbouring words
+  slave P words 0xV-0xW count C
+                   the same of more than 8 words
+  writes words W bytes B syncs S
+                   how many words would be written to the slaves, and how many
+                   bytes to the journal with how many syncs, by one thread. The
+                   threads of run may write more.
+  process image before
+  process image after
+                   if it changes, each with the lines that layout prints
+Faults go to standard error as: fault CODE NAME. The subcommand explain says what
+a code means.
+
+No file is written. The journal is locked while the files are read and planned:
+of a line on which another station is busy it says fault 95 Busy.
+
+Exit status, as of run: 0 done, 1 a command was refused, 2 wrong usage, 3 a file
+or its form, 5 no memory. The highest that applies wins.
+
+Example:
+  sii_station plan line.toml script.toml";
+
+/// The help text on what `journal` prints, and on its exit status.
+const JOURNAL_ANSWERS: &str = "Answers:
+  journal version V slaves N area A
+                   what the header says; the area has A bytes
+  half H batches B live L free F
+                   half H of the area has B batches that aren't done; they take L
+                   bytes of it. In version 1 there is one area and no half.
+  batch I half H generation G at P bytes B commands C
+                   batch I, in the order of a recovery; it begins at byte P of the
+                   file
+  command N slave P word 0xW new 0xX
+                   a command of the batch, and a word that it changes; several
+                   words and long runs as plan prints them
+  damaged at P     the batch that begins at byte P can't be read, nor can those
+                   behind it in its half
+  recovery batches B commands C words W
+                   what recover would find and write, then the words that change
+                   as plan prints them
+Of a journal that recover refuses the fault goes to standard error, as: fault
+CODE NAME. The subcommand explain says what a code means.
+
+No file is written.
+
+Exit status: 0 done, 2 wrong usage, 3 a file or its form, or recover refuses the
+journal, 5 no memory.
+
+Example:
+  sii_station journal line.toml";
+
+pub(crate) fn plan_command<'a>(alloc: Global) -> Result<Command<'a>, AllocError> {
+    Command::new(alloc, "plan")
+        .about("Says what a script would do to a line, and does nothing")
+        .long_about(
+            "Reads what run would read, and prints how run would answer each command, which words of which slaves would change, how much \
+            would be written, and the process image before and after if it would change. No file is written.",
+        )
+        .after_help("Example:\n  sii_station plan line.toml script.toml")
+        .after_long_help(PLAN_ANSWERS)
+        .arg(line_argument(alloc))?
+        .arg(script_argument(alloc))
+}
+
+pub(crate) fn journal_command<'a>(alloc: Global) -> Result<Command<'a>, AllocError> {
+    Command::new(alloc, "journal")
+        .about("Says what a journal holds, and what a recovery would do")
+        .long_about(
+            "Reads a line file, the EEPROM images and the journal that it names, and prints the journal's header, the batches that aren't \
+            done with their commands, and which words of which slaves a recovery would change. Of a damaged journal it prints what can be \
+            read, and where it is damaged. No file is written.",
+        )
+        .after_help("Example:\n  sii_station journal line.toml")
+        .after_long_help(JOURNAL_ANSWERS)
+        .arg(line_argument(alloc))
+}
+
+/// The task of `plan` or `journal`, if one of them was given. The names are required, so they are there.
+pub(crate) fn planning_task<'a>(matches: &ArgMatches<'a>) -> Option<Task<'a>> {
+    if let Some(plan) = matches.subcommand_matches("plan") {
+        return Some(Task::Plan {
+            line: plan.get_str("LINE").unwrap_or(""),
+            script: plan.get_str("SCRIPT").unwrap_or(""),
+        });
+    }
+    let journal = matches.subcommand_matches("journal")?;
+    Some(Task::Journal {
+        line: journal.get_str("LINE").unwrap_or(""),
+    })
+}
