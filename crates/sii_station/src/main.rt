@@ -6,6 +6,7 @@ use std::alloc::Global;
 use std::fs::{File, Files};
 use std::io::{BufWriter, Input, Print, Write};
 use std::process::ExitCode;
+use std::rt::Clock;
 use std::sync::Wait;
 use std::thread::Threads;
 use std::{env, io};
@@ -25,7 +26,7 @@ fn words(rt: &HostRuntime) -> io::Result<Vec<String>> {
 }
 
 /// Carries out the arguments, with the output buffered.
-fn serve_words<H: Files<File = File> + Input + Print + Wait + Threads + Sync, E: Write>(
+fn serve_words<H: Files<File = File> + Input + Print + Wait + Threads + Clock + Sync, E: Write>(
     rt: &H,
     alloc: Global,
     words: &[String],

@@ -25,6 +25,13 @@ pub trait RandomAccessFile {
     /// If they can't be written. Some of them may have been written then.
     fn write_all_at(&self, bytes: &[u8], at: u64) -> io::Result<()>;
 
+    /// Makes the file this long: it loses what is behind that, or grows by zeros.
+    ///
+    /// # Errors
+    ///
+    /// If its length can't be changed.
+    fn set_len(&self, length: u64) -> io::Result<()>;
+
     /// Makes all written bytes and the file's length durable, so that they survive a power cut.
     ///
     /// # Errors

@@ -104,20 +104,35 @@ impl<R: Files<File = File>> Store for FileStore<'_, R> {
         Ok(SystemFile { file })
     }
 
+    fn create(&mut self, name: &str) -> Result<SystemFile, LockFault> {
+        let file = OpenOptions::new()
+            .read(true)
+            .write(true)
+            .create(true)
+            .open(self.files, name)?;
+        take_lock(&file)?;
+        Ok(SystemFile { file })
+    }
+
     fn lock(&mut self, name: &str) -> Result<Option<SystemLock>, LockFault> {
         let Ok(file) = File::open(self.files, name) else {
             return Ok(None);
         };
-        match file.try_lock() {
-            Ok(()) => {}
-            Err(TryLockError::WouldBlock) => return Err(LockFault::Busy),
-            Err(TryLockError::Error(error)) => return Err(LockFault::Io(error)),
-        }
+        take_lock(&file)?;
         if !is_in_place(self.files, &file, name)? {
             return Err(LockFault::Busy);
         }
         sync_folder(self.files, name)?;
         Ok(Some(SystemLock { _file: file }))
+    }
+}
+
+/// Locks a file without waiting, until it is closed.
+fn take_lock(file: &File) -> Result<(), LockFault> {
+    match file.try_lock() {
+        Ok(()) => Ok(()),
+        Err(TryLockError::WouldBlock) => Err(LockFault::Busy),
+        Err(TryLockError::Error(error)) => Err(LockFault::Io(error)),
     }
 }
 
@@ -139,6 +154,10 @@ impl RandomAccessFile for SystemFile {
 
     fn write_all_at(&self, bytes: &[u8], at: u64) -> io::Result<()> {
         self.file.write_all_at(bytes, at)
+    }
+
+    fn set_len(&self, length: u64) -> io::Result<()> {
+        self.file.set_len(length)
     }
 
     fn sync_data(&self) -> io::Result<()> {

@@ -59,6 +59,15 @@ pub trait Store {
     fn open(&mut self, name: &str) -> io::Result<Self::File>
         ensures others { ChangesOnly (files self.old) (files self.new) name.now };
 
+    /// Opens a file for access at byte offsets, and locks it without waiting until it is closed. An absent file is created, empty. Any
+    /// other keeps what it holds.
+    ///
+    /// # Errors
+    ///
+    /// `Busy` where another station has the lock; `Io` where the file can't be created, opened for reading and writing, or locked.
+    fn create(&mut self, name: &str) -> Result<Self::File, LockFault>
+        ensures others { ChangesOnly (files self.old) (files self.new) name.now };
+
     /// Locks a journal's file without waiting. The lock lasts until it is dropped, or until the process ends. `None` where the file is
     /// absent or can't be opened; reading it then gives the error. Without the lock the file must not be written, even if it can be read.
     ///

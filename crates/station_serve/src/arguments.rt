@@ -2,6 +2,7 @@
 
 use crate::image_arguments::{alias_command, diff_command, image_task, show_command};
 use crate::plan_arguments::{journal_command, plan_command, planning_task};
+use crate::capture_arguments::{capture_argument, capture_of};
 use clap::error::ErrorKind;
 use clap::{Arg, ArgMatches, Command, Error, value_parser};
 use station_listing::{Code, find_code};
@@ -51,6 +52,8 @@ pub enum Task<'a> {
         script: &'a str,
         /// A planned power cut, if there is one.
         cut: Option<Fuse>,
+        /// The name of the file for a capture, if there is one.
+        capture: Option<&'a str>,
     },
     /// Recovers a line.
     Recover {
@@ -297,7 +300,8 @@ fn run_command<'a>(alloc: Global) -> Result<Command<'a>, AllocError> {
         .arg(line_argument(alloc))?
         .arg(script_argument(alloc))?
         .arg(fuse_argument(alloc))?
-        .arg(left_argument(alloc))
+        .arg(left_argument(alloc))?
+        .arg(capture_argument(alloc))
 }
 
 fn fuse_argument<'a>(alloc: Global) -> Arg<'a> {
@@ -385,6 +389,7 @@ fn run_task<'a>(command: &mut Command<'a>, matches: &ArgMatches<'a>) -> Result<T
         line: matches.get_str("LINE").unwrap_or(""),
         script: matches.get_str("SCRIPT").unwrap_or(""),
         cut,
+        capture: capture_of(matches),
     })
 }
 

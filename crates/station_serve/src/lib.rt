@@ -2,6 +2,7 @@
 #![tactic(auto)]
 
 mod arguments;
+mod capture_arguments;
 mod explain;
 mod image_arguments;
 mod plan_arguments;

@@ -13,12 +13,13 @@ use station_session::{Fuse, init_line, recover_line, run_script};
 use std::alloc::Global;
 use std::io;
 use std::io::{Read, Write};
+use std::rt::Clock;
 use std::sync::Wait;
 use std::thread::Threads;
 
 /// Carries out a command line and returns the exit status: 0 done, 1 a command was refused or two images differ, 2 wrong usage, 3 a file or its form, 4 a device
 /// or a power cut, 5 out of memory. The first argument is the program's name. Faults are printed to `faults`.
-pub fn serve<H: Wait + Threads + Sync, R: Read, S: Store, W: Write, E: Write>(
+pub fn serve<H: Wait + Threads + Clock + Sync, R: Read, S: Store, W: Write, E: Write>(
     rt: &H,
     alloc: Global,
     args: &[String],
@@ -45,9 +46,14 @@ pub fn serve<H: Wait + Threads + Sync, R: Read, S: Store, W: Write, E: Write>(
         Ok(Task::Layout { line }) => status_of(show_layout(alloc, line, store, output), faults),
         Ok(Task::Explain { code }) => status_of(explain(alloc, code, output), faults),
         Ok(Task::Init { line }) => status_of(init_line(alloc, line, store, output), faults),
-        Ok(Task::Run { line, script, cut }) => {
-            run_script(rt, alloc, line, script, cut, store, output, faults)
-        }
+        Ok(
+            Task::Run {
+                line,
+                script,
+                cut,
+                capture,
+            },
+        ) => run_script(rt, alloc, line, script, cut, capture, store, output, faults),
         Ok(Task::Plan { line, script }) => plan_script(alloc, line, script, store, output, faults),
         Ok(Task::Journal { line }) => show_journal(alloc, line, store, output, faults),
         Ok(Task::Recover { line }) => recover_line(alloc, line, store, output, faults),

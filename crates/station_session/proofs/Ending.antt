@@ -1,6 +1,6 @@
 -- What the files of a line hold after a run or a recovery.
-use Rattle.std.proofs.Common.{◌≡◌, ℕ, Bool, true, false, List, [], length, sym, ◌∙◌, ap, subst, inr, Result, Ok, Err}
-use Rattle.std.specs.Prelude.{IfErr, IfOk, IsTrue, MatchResult, OnErr, OnOk, string_bytes}
+use Rattle.std.proofs.Common.{◌≡◌, ℕ, Bool, true, false, List, [], length, refl, sym, ◌∙◌, ap, subst, inl, inr, Result, Ok, Err}
+use Rattle.std.specs.Prelude.{◌⊎◌, IfErr, IfOk, IsTrue, MatchResult, OnErr, OnOk, Option, string_bytes}
 use Rattle.std.proofs.lemmas.List.{length-map}
 use Rattle.sii_edit.specs.declared.command.Command.{Command}
 use Rattle.site_core.specs.Line.{Line}
@@ -20,7 +20,7 @@ use Rattle.station_files.specs.declared.faults.ExitStatus.{ExitStatus}
 use Rattle.station_files.specs.declared.faults.ExitStatus.TheVariants.{Done}
 use Rattle.station_session.specs.Site.{IsSiteOf, files_of, HoldsSite}
 use Rattle.script_session.specs.Rounds.{ServesSo}
-use Rattle.station_session.specs.Session.{is_old, EndsRecovery, EndsRun, EndsStation, IsOpened, Loads, Recovers, RunsScript, SavesRecovered, SavesRun, SavesServed, StartsFrom}
+use Rattle.station_session.specs.Session.{is_old, BeginsCapture, EndsCaptured, EndsRecovery, EndsRun, EndsStation, IsOpened, Loads, Recovers, RunsScript, SavesRecovered, SavesRun, SavesServed, StartsFrom}
 
 -- ---- what was read
 
@@ -102,6 +102,12 @@ ends-opened is_cut old new line site was_old opened commands status by_version s
   saved = λ good. record { opened = opened; starts = subst (λ (b : Bool). StartsFrom b site opened) by_version starts; serves = ends.saved good };
 }
 
+-- the same where the site got another device before it was opened
+pub ends-opened-as : (is_cut : Bool) (old new : Known) (line : LineFile) (site other : SiteValue) (was_old : Bool) (opened : Station) (commands : List Command) (status : ExitStatus) → other ≡ site → was_old ≡ is_old site.seen.state.disk.bytes
+    → StartsFrom was_old other opened → EndsStation is_cut old new line opened commands status → EndsRun is_cut old new line site commands status
+ends-opened-as is_cut old new line site other was_old opened commands status same by_version starts ends =
+    ends-opened is_cut old new line site was_old opened commands status by_version (subst (λ (s : SiteValue). StartsFrom was_old s opened) same starts) ends
+
 -- the station was opened after a recovery
 pub starts-behind : (was_old : Bool) (site : SiteValue) (its : Line) (left : Seen) (r s : Station) → was_old ≡ true → HasRecovered r → BeginsRecovered site.seen r → its ≡ r.line → left ≡ r.seen → IsOpened its left s → StartsFrom was_old site s
 starts-behind was_old site its left r s old is_recovered begins same is opens = subst (λ (b : Bool). StartsFrom b site s) (sym old) (record {
@@ -165,12 +171,31 @@ ends-recovered old new line before s saved state one other final is_recovered be
   };
 }
 
+-- ---- a capture
+
+-- a fault of the capture ends the run as a fault, or the status stays
+pub told-too : (is_cut : Bool) (old new : Known) (line : LineFile) (site : SiteValue) (commands : List Command) (status final : ExitStatus) → EndsRun is_cut old new line site commands status → (final ≡ status) ⊎ (¬ IsFaultless final)
+    → EndsRun is_cut old new line site commands final
+told-too is_cut old new line site commands status final ends (inl same) = subst (λ (s : ExitStatus). EndsRun is_cut old new line site commands s) (sym same) ends
+told-too is_cut old new line site commands status final ends (inr bad) = record { others = ends.others; saved = λ good. absurd (bad good) }
+
+pub ends-captured : (is_cut : Bool) (capture : Option (List ℕ)) (old begun new : Known) (line : LineFile) (site : SiteValue) (commands : List Command) (status final : ExitStatus) → BeginsCapture capture old begun
+    → EndsRun is_cut begun new line site commands status → (final ≡ status) ⊎ (¬ IsFaultless final) → EndsCaptured is_cut capture old new line site commands final
+ends-captured is_cut capture old begun new line site commands status final begins ends told =
+    record { begun = begun; captured = begins; ends = told-too is_cut begun new line site commands status final ends told }
+
+-- the capture couldn't be begun
+pub ends-uncaptured : (is_cut : Bool) (capture : Option (List ℕ)) (old new : Known) (line : LineFile) (site : SiteValue) (commands : List Command) (status : ExitStatus) → BeginsCapture capture old new → ¬ IsFaultless status
+    → EndsCaptured is_cut capture old new line site commands status
+ends-uncaptured is_cut capture old new line site commands status begins bad =
+    record { begun = new; captured = begins; ends = ends-unopened is_cut new new line site commands status (λ other out. refl) bad }
+
 -- ---- the whole
 
-pub runs : (is_cut : Bool) (old loaded new : Known) (name script : List ℕ) (line : LineFile) (site : SiteValue) (commands : List Command) (status : ExitStatus) → Loads old name line site → SpellsCommands old script commands → loaded ≡ old
-    → EndsRun is_cut loaded new line site commands status → RunsScript is_cut old new name script status
-runs is_cut old loaded new name script line site commands status given spelt same ends =
-    let P : Known → Type 0 = λ files. EndsRun is_cut files new line site commands status in
+pub runs : (is_cut : Bool) (capture : Option (List ℕ)) (old loaded new : Known) (name script : List ℕ) (line : LineFile) (site : SiteValue) (commands : List Command) (status : ExitStatus) → Loads old name line site → SpellsCommands old script commands → loaded ≡ old
+    → EndsCaptured is_cut capture loaded new line site commands status → RunsScript is_cut capture old new name script status
+runs is_cut capture old loaded new name script line site commands status given spelt same ends =
+    let P : Known → Type 0 = λ files. EndsCaptured is_cut capture files new line site commands status in
     inr (record { line = line; site = site; loaded = given; commands = commands; spelt = spelt; ends = subst P same ends })
 
 pub recovers : (old loaded new : Known) (name : List ℕ) (line : LineFile) (site : SiteValue) (status : ExitStatus) → Loads old name line site → loaded ≡ old → EndsRecovery loaded new line site.seen status → Recovers old new name status

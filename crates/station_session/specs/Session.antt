@@ -1,5 +1,5 @@
 -- `run` and `recover`: what is read from the files of a line, how the station starts, and what the files hold in the end.
-use Rattle.std.specs.Prelude.{◌≡◌, ◌⊎◌, Ok, ◌==◌, ◌&&◌, Bool, true, false, not, nat_le, List, length, slice_index, string_bytes, ℕ, ⊤}
+use Rattle.std.specs.Prelude.{◌≡◌, ◌⊎◌, Ok, ◌==◌, ◌&&◌, Bool, true, false, not, nat_le, List, Option, None, Some, length, slice_index, string_bytes, ℕ, ⊤}
 use Rattle.sii_edit.specs.declared.command.Command.{Command}
 use Rattle.site_core.specs.Line.{Line}
 use Rattle.site_core.specs.State.{Seen}
@@ -12,7 +12,7 @@ use Rattle.station_alone.specs.Opening.{Opens, BeginsSession}
 use Rattle.station_alone.specs.Recovery.{HasRecovered, BeginsRecovered}
 use Rattle.station_text.specs.declared.line_file.LineFile.{LineFile}
 use Rattle.station_files.specs.Faults.{IsFaultless}
-use Rattle.station_files.specs.Files.{Known, HasBytes, ChangesAmong}
+use Rattle.station_files.specs.Files.{Known, HasBytes, ChangesOnly, ChangesAmong}
 use Rattle.station_files.specs.LineFiles.{SpellsLine, SpellsSlaves}
 use Rattle.station_files.specs.ScriptFiles.{SpellsCommands}
 use Rattle.station_files.specs.declared.faults.ExitStatus.{ExitStatus}
@@ -158,15 +158,27 @@ pub record EndsRun (is_cut : Bool) (old new : Known) (line : LineFile) (site : S
   pub others : ChangesAmong old new (files_of line)
   pub saved : IsFaultless status → SavesRun is_cut new line site commands status
 
+-- what a capture may change as it begins: its file, if there is a capture
+abbrev pub BeginsCapture : (capture : Option (List ℕ)) → (old new : Known) → Type 0
+BeginsCapture None old new = new ≡ old
+BeginsCapture (Some name) old new = ChangesOnly old new name
+
+-- The capture was begun, if there is one, and then the run ended so.
+pub record EndsCaptured (is_cut : Bool) (capture : Option (List ℕ)) (old new : Known) (line : LineFile) (site : SiteValue)
+    (commands : List Command) (status : ExitStatus) : Type 0 where
+  pub begun : Known
+  pub captured : BeginsCapture capture old begun
+  pub ends : EndsRun is_cut begun new line site commands status
+
 -- The line and the script were read, and the commands were run as far as the status says.
-pub record RunsFiles (is_cut : Bool) (old new : Known) (name script : List ℕ) (status : ExitStatus) : Type 0 where
+pub record RunsFiles (is_cut : Bool) (capture : Option (List ℕ)) (old new : Known) (name script : List ℕ) (status : ExitStatus) : Type 0 where
   pub line : LineFile
   pub site : SiteValue
   pub loaded : Loads old name line site
   pub commands : List Command
   pub spelt : SpellsCommands old script commands
-  pub ends : EndsRun is_cut old new line site commands status
+  pub ends : EndsCaptured is_cut capture old new line site commands status
 
 -- what `run` does: it stops before it writes, or it runs the commands
-abbrev pub RunsScript : (is_cut : Bool) → Known → Known → List ℕ → List ℕ → ExitStatus → Type 0
-RunsScript is_cut old new name script status = Stops old new status ⊎ RunsFiles is_cut old new name script status
+abbrev pub RunsScript : (is_cut : Bool) → (capture : Option (List ℕ)) → Known → Known → List ℕ → List ℕ → ExitStatus → Type 0
+RunsScript is_cut capture old new name script status = Stops old new status ⊎ RunsFiles is_cut capture old new name script status

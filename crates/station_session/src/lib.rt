@@ -2,6 +2,7 @@
 //! journal.
 #![tactic(auto)]
 
+mod capture;
 mod device_faults;
 mod faults;
 mod init;

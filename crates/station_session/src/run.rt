@@ -1,9 +1,10 @@
 //! The subcommand `run`.
-ghost use Rattle.std.specs.Prelude.{◌≡◌, length, is_some, false, true, IfOk, IsTrue, MatchResult};
+ghost use Rattle.std.specs.Prelude.{◌≡◌, length, is_some, option_map, false, true, IfOk, IsTrue, MatchResult};
 ghost use Rattle.esc_rom.specs.Owned.{OwnsAll};
 ghost use Rattle.station_files.specs.ScriptFiles.{SpellsCommands};
-ghost use Rattle.station_session.specs.Session.{is_old, EndsRun, EndsStation, IsOpened, Loads, RunsScript, StartsFrom};
+ghost use Rattle.station_session.specs.Session.{is_old, EndsCaptured, EndsRun, EndsStation, IsOpened, Loads, RunsScript, StartsFrom};
 
+use crate::capture::{begin_capture, end_capture};
 use crate::faults::of_open;
 use crate::opening::open_files;
 use crate::session::{Session, give_up, load_session};
@@ -11,6 +12,7 @@ use crate::site::save_site;
 use crate::threads::run_threads;
 use script_session::serve_commands;
 use sii_edit::Command;
+use site_capture::{Capture, Captured};
 use site_file::FileDevice;
 use site_mem::{FaultPlan, Pattern};
 use site_shadow::{Device, ShadowSite};
@@ -19,6 +21,7 @@ use station_files::{ExitStatus, Fault, Store, load_script, report_fault, status_
 use station_text::LineFile;
 use std::alloc::Global;
 use std::io::Write;
+use std::rt::Clock;
 use std::sync::Wait;
 use std::thread::Threads;
 
@@ -48,30 +51,75 @@ pub struct Given<L> {
 /// hold what was written so far, and a recovery completes it.
 ///
 /// With a fuse, the commands are served on one thread on a copy of the line in memory, and what the power cut leaves is saved.
-pub fn run_script<S: Store, W: Write, E: Write, R: Wait + Threads + Sync>(
+///
+/// Each frame is written down in the file `capture`, if one is named. The capture begins once all files are read. Where it can't, no file of
+/// the line is written. If it can't be written further, the run goes on as without it, and the fault is printed behind all others.
+pub fn run_script<S: Store, W: Write, E: Write, R: Wait + Threads + Clock + Sync>(
     rt: &R,
     alloc: Global,
     name: &str,
     script: &str,
     fuse: Option<Fuse>,
+    capture: Option<&str>,
     store: &mut S,
     output: &mut W,
     faults: &mut E,
 ) -> ExitStatus
-    ensures { RunsScript (is_some fuse) (S.files store.old) (S.files store.new) name.now script.now result }
+    ensures { RunsScript (is_some fuse) (option_map (λ given. given.now) capture) (S.files store.old) (S.files store.new)
+        name.now script.now result }
 {
     match load(alloc, name, script, store) {
-        Ok(given) => run_given(rt, alloc, given, fuse, store, output, faults),
+        Ok(given) => run_captured(rt, alloc, given, fuse, capture, store, output, faults),
         Err(fault) => report_fault(fault, faults),
     }
 }
 
-/// Serves the commands on the line's files, or with a fuse in memory.
-fn run_given<S: Store, W: Write, E: Write, R: Wait + Threads + Sync>(
+/// Begins the capture, if a file is named for it, serves the commands, and ends the capture.
+fn run_captured<S: Store, W: Write, E: Write, R: Wait + Threads + Clock + Sync>(
     rt: &R,
     alloc: Global,
     given: Given<S::Lock>,
     fuse: Option<Fuse>,
+    capture: Option<&str>,
+    store: &mut S,
+    output: &mut W,
+    faults: &mut E,
+) -> ExitStatus
+    requires disk { IsTrue given.session.site.line.has_disk }
+    requires owned { OwnsAll given.session.site.line }
+    requires slaves { length given.session.site.line.sizes ≡ length given.session.line.images.items }
+    requires old { given.session.is_old ≡ is_old given.session.site.seen.state.disk.bytes }
+    ensures { EndsCaptured (is_some fuse) (option_map (λ given. given.now) capture) (S.files store.old) (S.files store.new)
+        given.session.line given.session.site given.commands.items result }
+{
+    match begin_capture(capture, store) {
+        Ok(begun) => {
+            let status = run_given(
+                rt,
+                alloc,
+                given,
+                fuse,
+                begun.as_ref(),
+                store,
+                output,
+                faults,
+            );
+            end_capture(begun, status, faults)
+        }
+        Err(fault) => {
+            drop(given);
+            report_fault(fault, faults)
+        }
+    }
+}
+
+/// Serves the commands on the line's files, or with a fuse in memory.
+fn run_given<S: Store, W: Write, E: Write, R: Wait + Threads + Clock + Sync>(
+    rt: &R,
+    alloc: Global,
+    given: Given<S::Lock>,
+    fuse: Option<Fuse>,
+    capture: Option<&Capture<S::File>>,
     store: &mut S,
     output: &mut W,
     faults: &mut E,
@@ -84,16 +132,22 @@ fn run_given<S: Store, W: Write, E: Write, R: Wait + Threads + Sync>(
 {
     let Given { session, commands } = given;
     match fuse {
-        Some(fuse) => run_fused(alloc, session, fuse, &commands, store, output, faults),
-        None => run_on_files(rt, alloc, session, &commands, store, output, faults),
+        Some(fuse) => run_fused(
+            rt, alloc, session, fuse, capture, &commands, store, output, faults,
+        ),
+        None => run_on_files(
+            rt, alloc, session, capture, &commands, store, output, faults,
+        ),
     }
 }
 
 /// Opens the station on the line in memory, serves the commands up to the power cut, and saves what the line holds.
-fn run_fused<S: Store, W: Write, E: Write>(
+fn run_fused<S: Store, W: Write, E: Write, R: Wait + Clock>(
+    rt: &R,
     alloc: Global,
     session: Session<S::Lock>,
     fuse: Fuse,
+    capture: Option<&Capture<S::File>>,
     commands: &[Command],
     store: &mut S,
     output: &mut W,
@@ -111,19 +165,22 @@ fn run_fused<S: Store, W: Write, E: Write>(
         is_old,
         lock: _lock,
     } = session;
+    let site = site.with_device(Captured::new(FaultPlan::none(), capture, rt));
     // The sync at the opening of the station counts as a write too.
     let plan = FaultPlan::fused(u64::from(fuse.writes) + 1, Pattern::Fill(fuse.left));
-    match open_station(alloc, site, is_old, Some(plan)) {
+    let device = Captured::new(plan, capture, rt);
+    match open_station(alloc, site, is_old, Some(device)) {
         Ok(alone) => run_station(alloc, &line, alone, commands, store, output, faults),
         Err((left, fault)) => give_up(alloc, &line, left, fault, store, faults),
     }
 }
 
 /// Opens the files of a line that was read, and serves the commands on them by threads.
-fn run_on_files<S: Store, W: Write, E: Write, R: Wait + Threads + Sync>(
+fn run_on_files<S: Store, W: Write, E: Write, R: Wait + Threads + Clock + Sync>(
     rt: &R,
     alloc: Global,
     session: Session<S::Lock>,
+    capture: Option<&Capture<S::File>>,
     commands: &[Command],
     store: &mut S,
     output: &mut W,
@@ -143,7 +200,8 @@ fn run_on_files<S: Store, W: Write, E: Write, R: Wait + Threads + Sync>(
     } = session;
     match open_files(alloc, &line, store) {
         Ok(files) => {
-            let site = site.with_device(FileDevice::new(&files));
+            let device = Captured::new(FileDevice::new(&files), capture, rt);
+            let site = site.with_device(device);
             run_site(
                 rt, alloc, &line, site, is_old, commands, store, output, faults,
             )
@@ -251,10 +309,10 @@ fn open_upon<D: Device + Drop>(
 }
 
 /// Serves the commands on a station in memory, and saves what its line holds, also after a fault.
-fn run_station<S: Store, W: Write, E: Write>(
+fn run_station<D: Device + Drop, S: Store, W: Write, E: Write>(
     alloc: Global,
     line: &LineFile,
-    mut alone: Alone<ShadowSite<FaultPlan>>,
+    mut alone: Alone<ShadowSite<D>>,
     commands: &[Command],
     store: &mut S,
     output: &mut W,

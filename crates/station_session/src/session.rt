@@ -10,7 +10,7 @@ use crate::site::{save_site, site_of};
 use jrn_format::version;
 use site_journal::ReadFault;
 use site_mem::FaultPlan;
-use site_shadow::ShadowSite;
+use site_shadow::{Device, ShadowSite};
 use station_alone::OpenFault;
 use station_files::{
     ExitStatus, Fault, Store, load_line, load_slaves, read_file, report_fault, status_of, worse,
@@ -81,10 +81,10 @@ fn is_refused(fault: &OpenFault) -> bool
 
 /// Prints why a line in memory can't be opened or recovered, and saves what the line holds. No file is written where the journal was
 /// refused.
-pub(crate) fn give_up<S: Store, E: Write>(
+pub(crate) fn give_up<D: Device + Drop, S: Store, E: Write>(
     alloc: Global,
     line: &LineFile,
-    site: ShadowSite<FaultPlan>,
+    site: ShadowSite<D>,
     fault: OpenFault,
     store: &mut S,
     faults: &mut E,

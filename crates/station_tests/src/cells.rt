@@ -6,7 +6,7 @@ use std::alloc::{AllocError, Global};
 use std::io;
 use std::sync::Arc;
 use std::sync::atomic::Ordering::SeqCst;
-use std::sync::atomic::{AtomicBool, AtomicU8};
+use std::sync::atomic::{AtomicBool, AtomicU8, AtomicU64};
 
 /// What a power cut leaves of bytes that were written and not synced.
 #[derive(Clone, Copy, PartialEq, Eq)]
@@ -30,10 +30,12 @@ struct Cell {
     is_written: AtomicBool,
 }
 
-/// The bytes of an open file.
+/// The bytes of an open file, and room behind them in which it grows.
 #[derive(Drop)]
 pub struct Cells {
     cells: Vec<Cell>,
+    /// How many bytes the file has.
+    len: AtomicU64,
 }
 
 impl Cell {
@@ -71,19 +73,32 @@ impl Cell {
 }
 
 impl Cells {
-    /// Cells of these bytes, all synced.
-    pub fn of_bytes(alloc: Global, bytes: &[u8]) -> Result<Cells, AllocError> {
+    /// Cells of these bytes, all synced, and room for so many more.
+    pub fn of_bytes(alloc: Global, bytes: &[u8], room: usize) -> Result<Cells, AllocError> {
         let mut cells = Vec::new(alloc);
         for byte in bytes {
             cells.push(Cell::new(*byte))?;
         }
-        Ok(Cells { cells })
+        for _byte in 0..room {
+            cells.push(Cell::new(0))?;
+        }
+        let len = AtomicU64::new(bytes.len() as u64);
+        Ok(Cells { cells, len })
+    }
+
+    fn len(&self) -> u64 {
+        self.len.load(SeqCst)
+    }
+
+    /// The cells that the file has.
+    fn held(&self) -> &[Cell] {
+        self.cells.get(..self.len() as usize).unwrap_or(&[])
     }
 
     /// The bytes that a reader sees.
     pub fn bytes(&self, alloc: Global) -> Result<Vec<u8>, AllocError> {
         let mut bytes = Vec::new(alloc);
-        for cell in self.cells.iter() {
+        for cell in self.held() {
             bytes.push(cell.now())?;
         }
         Ok(bytes)
@@ -92,7 +107,7 @@ impl Cells {
     /// What a power cut leaves of the bytes.
     pub fn left(&self, alloc: Global, pattern: Pattern) -> Result<Vec<u8>, AllocError> {
         let mut bytes = Vec::new(alloc);
-        for (place, cell) in self.cells.iter().enumerate() {
+        for (place, cell) in self.held().iter().enumerate() {
             bytes.push(cell.left(pattern, place % 2 == 0))?;
         }
         Ok(bytes)
@@ -107,6 +122,15 @@ impl Cells {
         for (cell, byte) in self.from(at).iter().zip(bytes) {
             cell.write(*byte);
         }
+        let end = at.wrapping_add(bytes.len() as u64);
+        if end > self.len() {
+            self.set_len(end);
+        }
+    }
+
+    /// The file has room for so many bytes at least.
+    fn set_len(&self, length: u64) {
+        self.len.store(length.min(self.cells.len() as u64), SeqCst);
     }
 
     pub fn sync(&self) {
@@ -116,7 +140,7 @@ impl Cells {
     }
 }
 
-/// An open file of a shelf. It doesn't grow.
+/// An open file of a shelf. It grows as far as its cells have room.
 #[derive(Drop)]
 pub struct OpenFile {
     pub cells: Arc<Cells>,
@@ -126,7 +150,7 @@ pub struct OpenFile {
 impl RandomAccessFile for OpenFile {
     fn len(&self) -> io::Result<u64> {
         self.troubles.read()?;
-        Ok(self.cells.cells.len() as u64)
+        Ok(self.cells.len())
     }
 
     fn read_exact_at(&self, bytes: &mut [u8], at: u64) -> io::Result<()> {
@@ -145,6 +169,14 @@ impl RandomAccessFile for OpenFile {
         let passing = self.troubles.write();
         if passing != Passing::Fails {
             self.cells.write(bytes, at);
+        }
+        passing.ended()
+    }
+
+    fn set_len(&self, length: u64) -> io::Result<()> {
+        let passing = self.troubles.write();
+        if passing != Passing::Fails {
+            self.cells.set_len(length);
         }
         passing.ended()
     }

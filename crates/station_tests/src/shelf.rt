@@ -9,6 +9,9 @@ use std::alloc::{AllocError, Global};
 use std::io;
 use std::sync::Arc;
 
+/// How many bytes a file that is created may grow by.
+const ROOM: usize = 65536;
+
 /// The content of a file.
 #[derive(Drop)]
 pub enum Content {
@@ -147,14 +150,14 @@ impl Shelf {
         }
     }
 
-    /// Opens a file and gives its cells; `None` where there is no such file.
-    fn cells(&mut self, name: &str) -> Result<Option<Arc<Cells>>, AllocError>
+    /// Opens a file, with room for so many more bytes, and gives its cells; `None` where there is no such file.
+    fn cells(&mut self, name: &str, room: usize) -> Result<Option<Arc<Cells>>, AllocError>
         ensures others { (other : List ℕ) → other ≢ name.now → known_at self.new.files.items other ≡ known_at self.old.files.items other }
     {
         let Some(bytes) = self.bytes(self.alloc, name)? else {
             return Ok(None);
         };
-        let cells = Arc::new(self.alloc, Cells::of_bytes(self.alloc, &bytes)?)?;
+        let cells = Arc::new(self.alloc, Cells::of_bytes(self.alloc, &bytes, room)?)?;
         let held = Held {
             name: String::from_str(self.alloc, name)?,
             content: Content::Open(Arc::try_clone(&cells)?),
@@ -165,6 +168,22 @@ impl Shelf {
 }
 
 impl Shelf {
+    /// Opens a file that may grow, and puts an empty one on the shelf before where there is none.
+    fn created(&mut self, name: &str) -> io::Result<OpenFile>
+        ensures others { (other : List ℕ) → other ≢ name.now → known_at self.new.files.items other ≡ known_at self.old.files.items other }
+    {
+        if self.find(name).is_none() {
+            self.put(name, &[])?;
+        }
+        let Some(cells) = self.cells(name, ROOM)? else {
+            return Err(io::Error::from(io::ErrorKind::NotFound));
+        };
+        Ok(OpenFile {
+            cells,
+            troubles: Arc::try_clone(&self.troubles)?,
+        })
+    }
+
     /// Cuts the power while a file is replaced as a whole: the pattern `New` leaves the new file, any other the old one.
     fn torn(&mut self, name: &str, bytes: &[u8]) -> io::Error
         ensures others { (other : List ℕ) → other ≢ name.now → known_at self.new.files.items other ≡ known_at self.old.files.items other }
@@ -216,13 +235,18 @@ impl Store for Shelf {
 
     fn open(&mut self, name: &str) -> io::Result<OpenFile> {
         self.troubles.write().ended()?;
-        let Some(cells) = self.cells(name)? else {
+        let Some(cells) = self.cells(name, 0)? else {
             return Err(io::Error::from(io::ErrorKind::NotFound));
         };
         Ok(OpenFile {
             cells,
             troubles: Arc::try_clone(&self.troubles)?,
         })
+    }
+
+    fn create(&mut self, name: &str) -> Result<OpenFile, LockFault> {
+        self.troubles.write().ended()?;
+        Ok(self.created(name)?)
     }
 
     fn lock(&mut self, name: &str) -> Result<Option<ShelfLock>, LockFault> {

@@ -1,5 +1,6 @@
 // Tests of what the program prints and of the files that it leaves.
 
+mod captures;
 mod case;
 mod cuts;
 mod differences;

@@ -33,6 +33,10 @@ impl RandomAccessFile for NoFile {
         Err(io::Error::other("no file"))
     }
 
+    fn set_len(&self, _length: u64) -> io::Result<()> {
+        Err(io::Error::other("no file"))
+    }
+
     fn sync_data(&self) -> io::Result<()> {
         Err(io::Error::other("no file"))
     }

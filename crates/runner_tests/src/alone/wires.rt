@@ -82,6 +82,10 @@ impl RandomAccessFile for JournalFile {
         Ok(())
     }
 
+    fn set_len(&self, _length: u64) -> io::Result<()> {
+        Err(io::Error::other("the file keeps its length"))
+    }
+
     fn sync_data(&self) -> io::Result<()> {
         Ok(())
     }

@@ -1,11 +1,12 @@
 use Rattle.std.proofs.Common.{false}
 use denote.Param.Send.{sendable}
 use Rattle.site_file.proofs.Sent.{device-send}
+use Rattle.site_capture.proofs.Sent.{captured-send}
 use Rattle.station_session.proofs.Ending.{ends-run-opened, ends-unopened}
 use Rattle.station_session.proofs.run.run_on_files.Goals as goal
 
 pub run_site-requires-send-D : goal.run_site-requires-send-D
-run_site-requires-send-D g c κs lives = search (device-send, sendable) depth 40
+run_site-requires-send-D g c κs lives = search (captured-send, device-send, sendable) depth 40
 
 pub returns-in-Ok : goal.returns-in-Ok
 returns-in-Ok g c =

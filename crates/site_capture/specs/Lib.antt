@@ -1,0 +1,2 @@
+pub mod Ethernet
+pub mod Pcap

@@ -1,0 +1,57 @@
+//! The capture of a run: a file with the frames of its line.
+ghost use Rattle.std.specs.Prelude.{◌≡◌, ◌⊎◌, option_map};
+ghost use Rattle.station_files.specs.Faults.{IsFaultless};
+ghost use Rattle.station_files.specs.Files.{ChangesOnly};
+ghost use Rattle.station_session.specs.Session.{BeginsCapture};
+
+use site_capture::{BeginFault, Capture};
+use site_file::RandomAccessFile;
+use station_files::{ExitStatus, Fault, Store, report_fault, worse};
+use std::io::Write;
+
+/// Begins a capture in the file of this name, if there is one.
+///
+/// # Errors
+///
+/// `Busy` where another station has the file; `Exists` where it holds something else than a capture of this program, and it stays as it is
+/// then; `File` where it can't be created or written; `Memory`.
+pub(crate) fn begin_capture<S: Store>(
+    name: Option<&str>,
+    store: &mut S,
+) -> Result<Option<Capture<S::File>>, Fault>
+    ensures { BeginsCapture (option_map (λ given. given.now) name) (S.files store.old) (S.files store.new) }
+{
+    match name {
+        Some(name) => begin_in(name, store),
+        None => Ok(None),
+    }
+}
+
+/// Begins a capture in the file of this name.
+fn begin_in<S: Store>(name: &str, store: &mut S) -> Result<Option<Capture<S::File>>, Fault>
+    ensures { ChangesOnly (S.files store.old) (S.files store.new) name.now }
+{
+    let file = store.create(name)?;
+    match Capture::begin(file) {
+        Ok(capture) => Ok(Some(capture)),
+        Err(BeginFault::Occupied) => Err(Fault::Exists),
+        Err(BeginFault::Io(error)) => Err(Fault::from(error)),
+    }
+}
+
+/// Ends the capture of a run that ends with this status, and returns the status of both. A fault of the capture is printed.
+pub(crate) fn end_capture<F: RandomAccessFile + Drop, E: Write>(
+    capture: Option<Capture<F>>,
+    status: ExitStatus,
+    faults: &mut E,
+) -> ExitStatus
+    ensures { (result ≡ status) ⊎ (¬ IsFaultless result) }
+{
+    let Some(capture) = capture else {
+        return status;
+    };
+    match capture.end() {
+        Ok(()) => status,
+        Err(error) => worse(status, report_fault(Fault::from(error), faults)),
+    }
+}
