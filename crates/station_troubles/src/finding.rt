@@ -1,6 +1,7 @@
 //! A bad file, in words.
 
 use crate::flaws::TextTrouble;
+use station_input::INPUT;
 use station_listing::Code;
 use std::alloc::{AllocError, AllocFailed, Global};
 use std::fmt;
@@ -23,7 +24,8 @@ pub(crate) enum Bad {
     Found(Finding),
 }
 
-/// The name of a file, as it is printed: between quotes, on one line whatever it has.
+/// The name of a file, as it is printed: between quotes, on one line whatever it has. `INPUT` is
+/// standard input.
 #[derive(Clone, Copy)]
 pub(crate) struct Shown<'a> {
     pub name: &'a str,
@@ -66,6 +68,9 @@ pub(crate) fn in_text(
 impl fmt::Display for Shown<'_> {
     fn fmt<W: fmt::Write>(&self, f: &mut fmt::Formatter<W>) -> fmt::Result {
         let name = self.name;
+        if name == INPUT {
+            return f.write_str("standard input");
+        }
         write!(f, "{name:?}")
     }
 }

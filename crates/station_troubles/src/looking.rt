@@ -55,7 +55,7 @@ pub fn look_again<S: Store>(
     ensures same { S.files store.new ≡ S.files store.old }
 {
     let looked = match files {
-        Files::Nothing => Ok(()),
+        Files::Nothing => look_at_output(alloc, code),
         Files::Input => look_at_input(alloc, code),
         Files::Line {
             line,
@@ -65,8 +65,18 @@ pub fn look_again<S: Store>(
     };
     match looked {
         Err(Bad::Found(finding)) => text_for(code, finding),
-        _ => None,
+        Err(Bad::Memory) => None,
+        Ok(()) => text_of_none(alloc, code),
     }
+}
+
+/// What is said where every file could be read again.
+fn text_of_none(alloc: Global, code: Code) -> Option<String> {
+    if !is_same(code, Code::File) {
+        return None;
+    }
+    let what = "every file can be read, so a file, its folder or standard output can't be written";
+    String::from_str(alloc, what).ok()
 }
 
 /// The words of a finding, if it is for this code.
@@ -75,6 +85,15 @@ fn text_for(code: Code, finding: Finding) -> Option<String> {
         return Some(finding.text);
     }
     None
+}
+
+/// What a fault of a subcommand that only prints is about.
+fn look_at_output(alloc: Global, code: Code) -> Result<(), Bad> {
+    if !is_same(code, Code::File) {
+        return Ok(());
+    }
+    let text = String::from_str(alloc, "standard output can't be written")?;
+    Err(Bad::Found(Finding { code, text }))
 }
 
 /// What a fault of an image on standard input is about.
