@@ -1,0 +1,97 @@
+//! The files of a store, and what standard input had among them.
+ghost use Rattle.std.specs.Prelude.{◌≡◌, IfOk, IfSome};
+ghost use Rattle.station_input.specs.InputScript.{with_input};
+
+use station_files::{LockFault, Store};
+use std::alloc::Global;
+use std::io;
+use std::io::Read;
+
+/// The name under which the script on standard input stands among the files. No file of a system has it.
+pub const INPUT: &str = "\0";
+
+/// The files of a store, and under `INPUT` what standard input had. Nothing is written there.
+#[derive(Drop)]
+pub struct InputScript<'s, S> {
+    store: &'s mut S,
+    script: io::Result<Vec<u8>>,
+}
+
+impl<'s, S: Store> InputScript<'s, S> {
+    /// Reads standard input to its end. An error of it comes where the script is read.
+    pub fn new<R: Read>(alloc: Global, input: &mut R, store: &'s mut S) -> InputScript<'s, S> {
+        InputScript {
+            store,
+            script: read_script(alloc, input),
+        }
+    }
+}
+
+/// Reads standard input to its end, as `read_to_end` of the files does: an interrupted read is tried again, and there are at most 1,048,576.
+fn read_script<R: Read>(alloc: Global, input: &mut R) -> io::Result<Vec<u8>>
+    ensures all { IfOk result (λ bytes. IfSome (R.remaining input.old) (λ rest. bytes.items ≡ rest)) }
+{
+    let mut bytes = Vec::new(alloc);
+    let mut buffer = [0u8; 4096];
+    for _read in 0..1_048_576u32 {
+        match input.read(&mut buffer) {
+            Ok(0) => return Ok(bytes),
+            Ok(count) => bytes.extend_from_slice(&buffer[..count])?,
+            Err(error) if error.kind() == io::ErrorKind::Interrupted => {}
+            Err(error) => return Err(error),
+        }
+    }
+    Err(io::Error::other("no end within 1048576 reads"))
+}
+
+/// The error for whatever would change standard input.
+fn refusal() -> io::Error {
+    io::Error::from(io::ErrorKind::InvalidInput)
+}
+
+impl<S: Store> Store for InputScript<'_, S> {
+    ghost files = { λ joined. with_input joined.script (S.files joined.store.now) };
+
+    type File = S::File;
+
+    type Lock = S::Lock;
+
+    fn read(&mut self, alloc: Global, name: &str) -> io::Result<Option<Vec<u8>>> {
+        if name != INPUT {
+            return self.store.read(alloc, name);
+        }
+        match &self.script {
+            Ok(bytes) => Ok(Some(bytes.to_vec(alloc)?)),
+            Err(error) => Err(*error),
+        }
+    }
+
+    fn prepare(&mut self, name: &str) -> io::Result<()> {
+        self.store.prepare(name)
+    }
+
+    fn write(&mut self, name: &str, bytes: &[u8]) -> io::Result<()> {
+        if name == INPUT {
+            return Err(refusal());
+        }
+        self.store.write(name, bytes)
+    }
+
+    fn open(&mut self, name: &str) -> io::Result<S::File> {
+        if name == INPUT {
+            return Err(refusal());
+        }
+        self.store.open(name)
+    }
+
+    fn create(&mut self, name: &str) -> Result<S::File, LockFault> {
+        if name == INPUT {
+            return Err(LockFault::Io(refusal()));
+        }
+        self.store.create(name)
+    }
+
+    fn lock(&mut self, name: &str) -> Result<Option<S::Lock>, LockFault> {
+        self.store.lock(name)
+    }
+}

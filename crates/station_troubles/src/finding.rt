@@ -1,0 +1,88 @@
+//! A bad file, in words.
+
+use crate::flaws::TextTrouble;
+use station_input::INPUT;
+use station_listing::Code;
+use std::alloc::{AllocError, AllocFailed, Global};
+use std::fmt;
+
+/// What a fault is about: the file, what is wrong in it and where, as part of a sentence.
+#[derive(Drop)]
+pub struct Finding {
+    /// The code of the fault that it gives.
+    pub code: Code,
+    /// The words.
+    pub text: String,
+}
+
+/// Why looking at a file goes no further.
+#[derive(Drop)]
+pub(crate) enum Bad {
+    /// Memory was refused.
+    Memory,
+    /// This gives a fault.
+    Found(Finding),
+}
+
+/// The name of a file, as it is printed: between quotes, on one line whatever it has. `INPUT` is
+/// standard input.
+#[derive(Clone, Copy)]
+pub(crate) struct Shown<'a> {
+    pub name: &'a str,
+}
+
+/// Whether two codes are the same.
+pub(crate) fn is_same(one: Code, other: Code) -> bool {
+    one.number() == other.number()
+}
+
+/// Passes on that memory was refused, and what gives a fault of this code. Whatever gives another fault is passed over.
+pub(crate) fn keep(code: Code, looked: Result<(), Bad>) -> Result<(), Bad> {
+    match looked {
+        Err(Bad::Found(finding)) => {
+            if is_same(finding.code, code) {
+                Err(Bad::Found(finding))
+            } else {
+                Ok(())
+            }
+        }
+        other => other,
+    }
+}
+
+/// What is wrong in the text of a file.
+pub(crate) fn in_text(
+    alloc: Global,
+    code: Code,
+    name: &str,
+    trouble: &TextTrouble,
+) -> Result<Finding, AllocError> {
+    let (name, what) = (Shown { name }, trouble.what.as_str());
+    let text = match trouble.line {
+        Some(line) => format!(in alloc; "{name}, line {line}: {what}")?,
+        None => format!(in alloc; "{name}: {what}")?,
+    };
+    Ok(Finding { code, text })
+}
+
+impl fmt::Display for Shown<'_> {
+    fn fmt<W: fmt::Write>(&self, f: &mut fmt::Formatter<W>) -> fmt::Result {
+        let name = self.name;
+        if name == INPUT {
+            return f.write_str("standard input");
+        }
+        write!(f, "{name:?}")
+    }
+}
+
+impl From<AllocError> for Bad {
+    fn from(_: AllocError) -> Self {
+        Bad::Memory
+    }
+}
+
+impl<T: Drop> From<AllocFailed<T>> for Bad {
+    fn from(_: AllocFailed<T>) -> Self {
+        Bad::Memory
+    }
+}

@@ -1,0 +1,22 @@
+//! What a fault was about: looks again at the files that a subcommand read, and says which one gives the fault, what is wrong in it and where.
+#![tactic(auto)]
+
+mod command_text;
+mod finding;
+mod flaws;
+mod forms;
+mod heard;
+mod journal;
+mod line_text;
+mod looking;
+mod names;
+mod places;
+mod script_text;
+mod telling;
+
+pub use flaws::TextTrouble;
+pub use heard::Heard;
+pub use line_text::line_trouble;
+pub use looking::{Files, Journal, look_again};
+pub use script_text::script_trouble;
+pub use telling::tell_more;

@@ -1,0 +1,438 @@
+//! Looks again at the files that a subcommand read.
+ghost use Rattle.std.specs.Prelude.{◌≡◌};
+
+use crate::finding::{Bad, Finding, Shown, in_text, is_same, keep};
+use crate::flaws::TextTrouble;
+use crate::journal::judge_journal;
+use crate::line_text::line_trouble;
+use crate::names::{names_in, names_of};
+use crate::places::line_at;
+use crate::script_text::script_trouble;
+use sii_words::{ImageFile, is_device_size, is_image_size};
+use station_files::{LockFault, Store, load_slaves};
+use station_listing::Code;
+use station_text::{HexFault, LineFile, ScriptCommand, read_hex, read_line, read_script};
+use std::alloc::{AllocError, Global};
+use std::io;
+
+/// The files that a subcommand reads, in the order in which it reads them.
+#[derive(Clone, Copy)]
+pub enum Files<'a> {
+    /// None.
+    Nothing,
+    /// An image on standard input, which can't be read again.
+    Input,
+    /// An image file, or its hexadecimal text.
+    Image {
+        /// The name of the file.
+        name: &'a str,
+        /// Whether it is hexadecimal text.
+        hex: bool,
+    },
+    /// Two images, or their hexadecimal texts.
+    Pair {
+        /// The name of the first file; `None` for standard input.
+        old: Option<&'a str>,
+        /// The name of the second file; `None` for standard input.
+        new: Option<&'a str>,
+        /// Whether they are hexadecimal text.
+        hex: bool,
+    },
+    /// A line file and the images that it names, then its journal, and then a script and the images that it names.
+    Line {
+        /// The name of the line file.
+        line: &'a str,
+        /// What is done with the journal's file.
+        journal: Journal,
+        /// The name of the script, if one is read.
+        script: Option<&'a str>,
+    },
+}
+
+/// What a subcommand does with a journal's file.
+#[derive(Clone, Copy, PartialEq, Eq)]
+pub enum Journal {
+    /// It isn't read.
+    Unread,
+    /// It must not be there yet.
+    New,
+    /// It is locked and read.
+    Kept,
+}
+
+/// Reads the files again, and says of the first thing that gives the fault of this code which file it is in, what is wrong there and where.
+/// `None` where nothing gives it, or where memory is refused. No file changes.
+pub fn look_again<S: Store>(
+    alloc: Global,
+    code: Code,
+    files: Files<'_>,
+    store: &mut S,
+) -> Option<String>
+    ensures same { S.files store.new ≡ S.files store.old }
+{
+    let looked = match files {
+        Files::Nothing => look_at_output(alloc, code),
+        Files::Input => look_at_input(alloc, code),
+        Files::Image { name, hex } => keep(code, look_at_image(alloc, name, hex, store)),
+        Files::Pair { old, new, hex } => look_at_pair(alloc, code, old, new, hex, store),
+        Files::Line {
+            line,
+            journal,
+            script,
+        } => look_at_line(alloc, code, line, journal, script, store),
+    };
+    match looked {
+        Err(Bad::Found(finding)) => text_for(code, finding),
+        Err(Bad::Memory) => None,
+        Ok(()) => text_of_none(alloc, code),
+    }
+}
+
+/// What is said where every file could be read again.
+fn text_of_none(alloc: Global, code: Code) -> Option<String> {
+    if !is_same(code, Code::File) {
+        return None;
+    }
+    let what = "every file can be read, so a file, its folder or standard output can't be written";
+    String::from_str(alloc, what).ok()
+}
+
+/// The words of a finding, if it is for this code.
+fn text_for(code: Code, finding: Finding) -> Option<String> {
+    if is_same(finding.code, code) {
+        return Some(finding.text);
+    }
+    None
+}
+
+/// What a fault of a subcommand that only prints is about.
+fn look_at_output(alloc: Global, code: Code) -> Result<(), Bad> {
+    if !is_same(code, Code::File) {
+        return Ok(());
+    }
+    let text = String::from_str(alloc, "standard output can't be written")?;
+    Err(Bad::Found(Finding { code, text }))
+}
+
+/// What a fault of an image on standard input is about.
+fn look_at_input(alloc: Global, code: Code) -> Result<(), Bad> {
+    let what = match code {
+        Code::OddLength => "standard input has an odd number of bytes, and a word has two",
+        Code::BadSize => "standard input has not the 64 to 4096 words of an image",
+        Code::BadHex => "standard input has not pairs of hexadecimal digits alone",
+        Code::BadCheck =>
+            "the check byte of the image on standard input, the low byte of word 7, is wrong",
+        Code::File => "standard input can't be read, or standard output can't be written",
+        _ => return Ok(()),
+    };
+    let text = String::from_str(alloc, what)?;
+    Err(Bad::Found(Finding { code, text }))
+}
+
+/// What is wrong with an image file: it can't be read, or has no image, or one with a wrong check byte.
+fn look_at_image<S: Store>(alloc: Global, name: &str, hex: bool, store: &mut S) -> Result<(), Bad>
+    ensures same { S.files store.new ≡ S.files store.old }
+{
+    let bytes = read_again(alloc, name, store)?;
+    judge_image(alloc, name, hex, &bytes)
+}
+
+/// Looks at those of two images that are files, and says of standard input what it can be about where none of these gives the fault.
+fn look_at_pair<S: Store>(
+    alloc: Global,
+    code: Code,
+    old: Option<&str>,
+    new: Option<&str>,
+    hex: bool,
+    store: &mut S,
+) -> Result<(), Bad>
+    ensures same { S.files store.new ≡ S.files store.old }
+{
+    if let Some(name) = old {
+        keep(code, look_at_image(alloc, name, hex, store))?;
+    }
+    if let Some(name) = new {
+        keep(code, look_at_image(alloc, name, hex, store))?;
+    }
+    if old.is_none() || new.is_none() {
+        return look_at_input(alloc, code);
+    }
+    Ok(())
+}
+
+/// Judges the bytes of an image file, or its hexadecimal text.
+fn judge_image(alloc: Global, name: &str, hex: bool, bytes: &[u8]) -> Result<(), Bad> {
+    if !hex {
+        return judge_words(alloc, name, bytes);
+    }
+    let text = match str::from_utf8(bytes) {
+        Ok(text) => text,
+        Err(_) => return Err(Bad::Found(no_hex(alloc, name)?)),
+    };
+    match read_hex(alloc, text) {
+        Ok(spelt) => judge_words(alloc, name, &spelt),
+        Err(HexFault::BadHex) => Err(Bad::Found(no_hex(alloc, name)?)),
+        Err(HexFault::Memory) => Err(Bad::Memory),
+    }
+}
+
+fn no_hex(alloc: Global, name: &str) -> Result<Finding, AllocError> {
+    let name = Shown { name };
+    Ok(Finding {
+        code: Code::BadHex,
+        text: format!(in alloc; "{name}: not pairs of hexadecimal digits alone")?,
+    })
+}
+
+/// Judges the bytes of an image: their number, and the check byte.
+fn judge_words(alloc: Global, name: &str, bytes: &[u8]) -> Result<(), Bad> {
+    judge_size(alloc, name, bytes.len(), false)?;
+    match ImageFile::from_bytes(alloc, bytes) {
+        Ok(image) if image.check_ok() => Ok(()),
+        Ok(image) => Err(Bad::Found(bad_check(alloc, name, image.check_byte())?)),
+        Err(_) => Err(Bad::Memory),
+    }
+}
+
+fn bad_check(alloc: Global, name: &str, expected: u8) -> Result<Finding, AllocError> {
+    let name = Shown { name };
+    Ok(Finding {
+        code: Code::BadCheck,
+        text: format!(in alloc;
+            "{name}: the check byte, the low byte of word 7, must be 0x{expected:02x}"
+        )?,
+    })
+}
+
+fn look_at_line<S: Store>(
+    alloc: Global,
+    code: Code,
+    name: &str,
+    journal: Journal,
+    script: Option<&str>,
+    store: &mut S,
+) -> Result<(), Bad>
+    ensures same { S.files store.new ≡ S.files store.old }
+{
+    let line = line_again(alloc, name, store)?;
+    if journal == Journal::Kept {
+        keep(code, lock_again(alloc, line.journal.as_str(), store))?;
+    }
+    let names = names_of(alloc, &line.images)?;
+    images_again(alloc, code, &names, true, store)?;
+    keep(code, journal_again(alloc, journal, &line, store))?;
+    match script {
+        Some(script) => look_at_script(alloc, code, script, store),
+        None => Ok(()),
+    }
+}
+
+fn look_at_script<S: Store>(alloc: Global, code: Code, name: &str, store: &mut S) -> Result<(), Bad>
+    ensures same { S.files store.new ≡ S.files store.old }
+{
+    let commands = script_again(alloc, name, store)?;
+    let names = names_in(alloc, &commands)?;
+    images_again(alloc, code, &names, false, store)
+}
+
+/// Reads a file that must be there.
+fn read_again<S: Store>(alloc: Global, name: &str, store: &mut S) -> Result<Vec<u8>, Bad>
+    ensures same { S.files store.new ≡ S.files store.old }
+{
+    match store.read(alloc, name) {
+        Ok(Some(bytes)) => Ok(bytes),
+        Ok(None) => Err(Bad::Found(absent(alloc, name)?)),
+        Err(error) => Err(unread(alloc, name, &error)?),
+    }
+}
+
+fn absent(alloc: Global, name: &str) -> Result<Finding, AllocError> {
+    let name = Shown { name };
+    Ok(Finding {
+        code: Code::File,
+        text: format!(in alloc; "{name}: there is no such file")?,
+    })
+}
+
+/// What an error of the system says of a file.
+fn unread(alloc: Global, name: &str, error: &io::Error) -> Result<Bad, AllocError> {
+    if error.kind() == io::ErrorKind::OutOfMemory {
+        return Ok(Bad::Memory);
+    }
+    let name = Shown { name };
+    Ok(Bad::Found(Finding {
+        code: Code::File,
+        text: format!(in alloc; "{name}: {error}")?,
+    }))
+}
+
+fn line_again<S: Store>(alloc: Global, name: &str, store: &mut S) -> Result<LineFile, Bad>
+    ensures same { S.files store.new ≡ S.files store.old }
+{
+    let bytes = read_again(alloc, name, store)?;
+    line_of(alloc, name, &bytes)
+}
+
+fn line_of(alloc: Global, name: &str, bytes: &[u8]) -> Result<LineFile, Bad> {
+    let text = text_of(alloc, Code::BadLine, name, bytes)?;
+    if let Some(trouble) = line_trouble(alloc, text)? {
+        return Err(Bad::Found(in_text(alloc, Code::BadLine, name, &trouble)?));
+    }
+    match read_line(alloc, text) {
+        Ok(line) => Ok(line),
+        Err(_) => Err(Bad::Memory),
+    }
+}
+
+fn script_again<S: Store>(
+    alloc: Global,
+    name: &str,
+    store: &mut S,
+) -> Result<Vec<ScriptCommand>, Bad>
+    ensures same { S.files store.new ≡ S.files store.old }
+{
+    let bytes = read_again(alloc, name, store)?;
+    script_of(alloc, name, &bytes)
+}
+
+fn script_of(alloc: Global, name: &str, bytes: &[u8]) -> Result<Vec<ScriptCommand>, Bad> {
+    let text = text_of(alloc, Code::BadScript, name, bytes)?;
+    if let Some(trouble) = script_trouble(alloc, text)? {
+        return Err(Bad::Found(in_text(alloc, Code::BadScript, name, &trouble)?));
+    }
+    match read_script(alloc, text) {
+        Ok(commands) => Ok(commands),
+        Err(_) => Err(Bad::Memory),
+    }
+}
+
+/// The text of a file with these bytes, which has to be UTF-8.
+fn text_of<'a>(alloc: Global, code: Code, name: &str, bytes: &'a [u8]) -> Result<&'a str, Bad> {
+    match str::from_utf8(bytes) {
+        Ok(text) => Ok(text),
+        Err(error) => {
+            let trouble = TextTrouble {
+                line: Some(line_at(bytes, error.valid_up_to())),
+                what: String::from_str(alloc, "no UTF-8")?,
+            };
+            Err(Bad::Found(in_text(alloc, code, name, &trouble)?))
+        }
+    }
+}
+
+/// Locks the journal, and unlocks it.
+fn lock_again<S: Store>(alloc: Global, name: &str, store: &mut S) -> Result<(), Bad>
+    ensures same { S.files store.new ≡ S.files store.old }
+{
+    match store.lock(name) {
+        Ok(_lock) => Ok(()),
+        Err(LockFault::Busy) => Err(Bad::Found(busy(alloc, name)?)),
+        Err(LockFault::Io(error)) => Err(unread(alloc, name, &error)?),
+    }
+}
+
+fn busy(alloc: Global, name: &str) -> Result<Finding, AllocError> {
+    let name = Shown { name };
+    Ok(Finding {
+        code: Code::Busy,
+        text: format!(in alloc; "{name}: another station has locked it")?,
+    })
+}
+
+/// Reads these image files, up to the first that gives the fault of this code. Images of slaves have whole blocks of 64 words.
+fn images_again<S: Store>(
+    alloc: Global,
+    code: Code,
+    names: &[&str],
+    is_slave: bool,
+    store: &mut S,
+) -> Result<(), Bad>
+    ensures same { S.files store.new ≡ S.files store.old }
+{
+    for name in names {
+        keep(code, image_again(alloc, name, is_slave, store))?;
+    }
+    Ok(())
+}
+
+fn image_again<S: Store>(
+    alloc: Global,
+    name: &str,
+    is_slave: bool,
+    store: &mut S,
+) -> Result<(), Bad>
+    ensures same { S.files store.new ≡ S.files store.old }
+{
+    let bytes = read_again(alloc, name, store)?;
+    judge_size(alloc, name, bytes.len(), is_slave)
+}
+
+/// Judges the length of an image file.
+fn judge_size(alloc: Global, name: &str, bytes: usize, is_slave: bool) -> Result<(), Bad> {
+    let name = Shown { name };
+    let words = bytes / 2;
+    if bytes % 2 != 0 {
+        return Err(Bad::Found(Finding {
+            code: Code::OddLength,
+            text: format!(in alloc; "{name}: {bytes} bytes, an odd number, and a word has two")?,
+        }));
+    }
+    let text = if is_slave {
+        if is_device_size(words) {
+            return Ok(());
+        }
+        format!(in alloc; "{name}: {words} words, and an EEPROM has 64 to 4096, a multiple of 64")?
+    } else {
+        if is_image_size(words) {
+            return Ok(());
+        }
+        format!(in alloc; "{name}: {words} words, and an image has 64 to 4096")?
+    };
+    let code = Code::BadSize;
+    Err(Bad::Found(Finding { code, text }))
+}
+
+/// Looks at the journal's file as a subcommand does.
+fn journal_again<S: Store>(
+    alloc: Global,
+    journal: Journal,
+    line: &LineFile,
+    store: &mut S,
+) -> Result<(), Bad>
+    ensures same { S.files store.new ≡ S.files store.old }
+{
+    match journal {
+        Journal::Unread => Ok(()),
+        Journal::New => new_journal(alloc, line.journal.as_str(), store),
+        Journal::Kept => kept_journal(alloc, line, store),
+    }
+}
+
+fn new_journal<S: Store>(alloc: Global, name: &str, store: &mut S) -> Result<(), Bad>
+    ensures same { S.files store.new ≡ S.files store.old }
+{
+    match store.read(alloc, name) {
+        Ok(None) => Ok(()),
+        Ok(Some(_)) => Err(Bad::Found(existing(alloc, name)?)),
+        Err(error) => Err(unread(alloc, name, &error)?),
+    }
+}
+
+fn existing(alloc: Global, name: &str) -> Result<Finding, AllocError> {
+    let name = Shown { name };
+    Ok(Finding {
+        code: Code::Exists,
+        text: format!(in alloc; "{name}: the file is there already")?,
+    })
+}
+
+fn kept_journal<S: Store>(alloc: Global, line: &LineFile, store: &mut S) -> Result<(), Bad>
+    ensures same { S.files store.new ≡ S.files store.old }
+{
+    let name = line.journal.as_str();
+    let bytes = read_again(alloc, name, store)?;
+    match load_slaves(alloc, line, store) {
+        Ok(slaves) => judge_journal(alloc, name, &bytes, &slaves),
+        Err(_) => Ok(()),
+    }
+}
