@@ -1,5 +1,7 @@
 //! Reads the arguments of the program; also has the help texts.
 
+use crate::completions::Shell;
+use crate::shell_arguments::{completions_command, man_command, shell_of};
 use clap::error::ErrorKind;
 use clap::{Arg, ArgAction, ArgMatches, Command, Error, value_parser};
 use station_listing::{Code, find_code};
@@ -45,11 +47,45 @@ pub enum Task<'a> {
         /// The name of the line file.
         line: &'a str,
     },
+    /// Prints a script that makes a shell complete arguments.
+    Completions {
+        /// The shell.
+        shell: Shell,
+    },
+    /// Prints the manual page.
+    Man,
     /// Explains one code, or all of them.
     Explain {
         /// The code; `None` for all codes.
         code: Option<Code>,
     },
+}
+
+impl<'a> Task<'a> {
+    /// The task with the script of this name, where its script is to come from standard input (`-`).
+    pub(crate) fn with_script(self, name: &'a str) -> Option<Task<'a>> {
+        match self {
+            Task::Run {
+                line,
+                script: "-",
+                cut,
+            } => Some(Task::Run {
+                line,
+                script: name,
+                cut,
+            }),
+            _ => None,
+        }
+    }
+}
+
+/// A command line that was read.
+#[derive(Clone, Copy)]
+pub struct Request<'a> {
+    /// The subcommand with its arguments.
+    pub task: Task<'a>,
+    /// Whether a second line is to follow the line of a fault.
+    pub is_verbose: bool,
 }
 
 /// The version, which `--version` prints after the program's name.
@@ -70,7 +106,9 @@ There are 1 to 64 slaves, numbered from 0. Each image is a whole EEPROM of
 64 to 4096 words, a multiple of 64. Names are relative to the current folder.";
 
 /// The help text on script files.
-const SCRIPT_FILE: &str = "The script file: the commands, in order, in TOML, here one of each kind:
+const SCRIPT_FILE: &str =
+    "The script file, or - for standard input: the commands, in order, in TOML, here one
+of each kind:
 
   [[command]]
   alias = { slave = 0, value = 1001 }
@@ -163,15 +201,18 @@ Example:
 ///
 /// The message for wrong arguments; or the text of the help or the version, where that is asked for; or, with kind `OutOfMemory`, memory was
 /// refused.
-pub fn read_arguments<'a>(alloc: Global, words: &'a [String]) -> Result<Task<'a>, Error> {
+pub fn read_arguments<'a>(alloc: Global, words: &'a [String]) -> Result<Request<'a>, Error> {
     let mut command = station(alloc)?;
     read_words(&mut command, words)
 }
 
 /// Reads a command line with this description of it.
-fn read_words<'a>(command: &mut Command<'a>, words: &'a [String]) -> Result<Task<'a>, Error> {
+fn read_words<'a>(command: &mut Command<'a>, words: &'a [String]) -> Result<Request<'a>, Error> {
     let matches = command.try_get_matches_from_mut(words)?;
-    task_of(command, &matches)
+    Ok(Request {
+        task: task_of(command, &matches)?,
+        is_verbose: matches.get_flag("verbose"),
+    })
 }
 
 /// The task of the subcommand that was given.
@@ -195,7 +236,7 @@ fn task_of<'a>(command: &mut Command<'a>, matches: &ArgMatches<'a>) -> Result<Ta
     }
 }
 
-/// The task of `show`, `init`, `recover` or `layout`, whose arguments need no further check.
+/// The task of a subcommand whose arguments need no further check.
 fn plain_task<'a>(matches: &ArgMatches<'a>) -> Option<Task<'a>> {
     if let Some(show) = matches.subcommand_matches("show") {
         return Some(Task::Show {
@@ -208,24 +249,46 @@ fn plain_task<'a>(matches: &ArgMatches<'a>) -> Option<Task<'a>> {
     if let Some(recover) = matches.subcommand_matches("recover") {
         return Some(recover_task(recover));
     }
+    if let Some(completions) = matches.subcommand_matches("completions") {
+        let shell = shell_of(completions);
+        return Some(Task::Completions { shell });
+    }
+    if matches.subcommand_matches("man").is_some() {
+        return Some(Task::Man);
+    }
     let layout = matches.subcommand_matches("layout")?;
     Some(layout_task(layout))
 }
 
 /// The description of the command line, with all subcommands.
-fn station<'a>(alloc: Global) -> Result<Command<'a>, AllocError> {
+pub(crate) fn station<'a>(alloc: Global) -> Result<Command<'a>, AllocError> {
     let station = Command::new(alloc, "sii_station")
         .about("Reprograms the SII EEPROMs of a line of EtherCAT slaves")
         .version(VERSION)
         .after_help("Example:\n  sii_station alias 1001 < slave.bin > renamed.bin")
-        .subcommand_required(true);
+        .subcommand_required(true)
+        .arg(verbose_argument(alloc))?;
     let station = with_subcommand(station, show_command(alloc))?;
     let station = with_subcommand(station, alias_command(alloc))?;
     let station = with_subcommand(station, init_command(alloc))?;
     let station = with_subcommand(station, run_command(alloc))?;
     let station = with_subcommand(station, recover_command(alloc))?;
     let station = with_subcommand(station, layout_command(alloc))?;
-    with_subcommand(station, explain_command(alloc))
+    let station = with_subcommand(station, explain_command(alloc))?;
+    let station = with_subcommand(station, completions_command(alloc))?;
+    station.subcommand(man_command(alloc))
+}
+
+fn verbose_argument<'a>(alloc: Global) -> Arg<'a> {
+    Arg::new(alloc, "verbose")
+        .long("verbose")
+        .help("Says of a fault which file it is about, and what is wrong there")
+        .long_help(
+            "Says of a fault which file it is about, what is wrong there and where, in a second line. Without this option the line comes \
+            where standard error is a terminal.",
+        )
+        .action(ArgAction::SetTrue)
+        .global(true)
 }
 
 /// The command with one more subcommand, if that one could be made.
@@ -289,7 +352,7 @@ fn init_command<'a>(alloc: Global) -> Result<Command<'a>, AllocError> {
 
 fn script_argument<'a>(alloc: Global) -> Arg<'a> {
     Arg::new(alloc, "SCRIPT")
-        .help("The script file: the commands, in order")
+        .help("The script file: the commands, in order; - for standard input")
         .long_help(SCRIPT_FILE)
         .required(true)
 }

@@ -2,10 +2,14 @@
 #![tactic(auto)]
 
 mod arguments;
+mod completions;
 mod explain;
+mod manual;
 mod serving;
+mod shell_arguments;
 
-pub use arguments::{Task, read_arguments};
-pub use serving::{refuse_words, serve};
+pub use arguments::{Request, Task, read_arguments};
+pub use completions::Shell;
+pub use serving::{refuse_words, serve, serve_on};
 pub use station_files::{FileStore, LockFault, Store};
 pub use station_text::{read_hex, read_line, read_script};

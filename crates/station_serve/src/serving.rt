@@ -1,13 +1,17 @@
 //! The program as a function of its arguments and streams.
 
+use crate::completions::print_completions;
 use crate::explain::explain;
-use crate::{Task, read_arguments};
+use crate::manual::print_manual;
+use crate::{Request, Task, read_arguments};
 use clap::Error;
 use clap::error::ErrorKind;
 use station_files::{
     ExitStatus, Fault, Store, report, report_fault, set_alias, show_image, show_layout, status_of,
 };
-use station_session::{Fuse, init_line, recover_line, run_script};
+use station_input::{INPUT, InputScript};
+use station_session::{init_line, recover_line, run_script};
+use station_troubles::{Files, Heard, Journal, tell_more};
 use std::alloc::Global;
 use std::io;
 use std::io::{Read, Write};
@@ -25,25 +29,108 @@ pub fn serve<H: Wait + Threads + Sync, R: Read, S: Store, W: Write, E: Write>(
     output: &mut W,
     faults: &mut E,
 ) -> u8 {
+    serve_on(rt, alloc, args, input, store, output, faults, false)
+}
+
+/// Does what `serve` does. Where `faults` is a terminal, a second line follows the line of a fault, as with `--verbose`.
+pub fn serve_on<H: Wait + Threads + Sync, R: Read, S: Store, W: Write, E: Write>(
+    rt: &H,
+    alloc: Global,
+    args: &[String],
+    input: &mut R,
+    store: &mut S,
+    output: &mut W,
+    faults: &mut E,
+    is_terminal: bool,
+) -> u8 {
     let status = match read_arguments(alloc, args) {
-        Ok(Task::Alias { value, hex }) => match set_alias(alloc, value, hex, input, output) {
-            Ok(()) => ExitStatus::Done,
-            Err(failure) => report(failure, faults),
-        },
-        Ok(Task::Show { hex }) => match show_image(alloc, hex, input, output) {
-            Ok(status) => status,
-            Err(fault) => report_fault(fault, faults),
-        },
-        Ok(Task::Layout { line }) => status_of(show_layout(alloc, line, store, output), faults),
-        Ok(Task::Explain { code }) => status_of(explain(alloc, code, output), faults),
-        Ok(Task::Init { line }) => status_of(init_line(alloc, line, store, output), faults),
-        Ok(Task::Run { line, script, cut }) => {
-            run_script(rt, alloc, line, script, cut, store, output, faults)
+        Ok(Request { task, is_verbose }) => {
+            let is_told = is_terminal || is_verbose;
+            match task.with_script(INPUT) {
+                None => serve_and_tell(rt, alloc, task, is_told, input, store, output, faults),
+                Some(task) => {
+                    let mut joined = InputScript::new(alloc, input, store);
+                    let rest = &mut io::empty();
+                    serve_and_tell(rt, alloc, task, is_told, rest, &mut joined, output, faults)
+                }
+            }
         }
-        Ok(Task::Recover { line }) => recover_line(alloc, line, store, output, faults),
         Err(error) => show_usage(&error, output, faults),
     };
     status as u8
+}
+
+/// Carries out a task. Where `is_told` and it ends with a fault or a refusal of its own, a line more says what that was about.
+fn serve_and_tell<H: Wait + Threads + Sync, R: Read, S: Store, W: Write, E: Write>(
+    rt: &H,
+    alloc: Global,
+    task: Task<'_>,
+    is_told: bool,
+    input: &mut R,
+    store: &mut S,
+    output: &mut W,
+    faults: &mut E,
+) -> ExitStatus {
+    if !is_told {
+        return serve_task(rt, alloc, task, input, store, output, faults);
+    }
+    let mut heard = Heard::new(&mut *faults);
+    let status = serve_task(rt, alloc, task, input, store, output, &mut heard);
+    if let Some(code) = heard.code() {
+        tell_more(alloc, "sii_station", code, files_of(task), store, faults);
+    }
+    status
+}
+
+/// The files that a task reads.
+fn files_of(task: Task<'_>) -> Files<'_> {
+    match task {
+        Task::Alias { .. } | Task::Show { .. } => Files::Input,
+        Task::Explain { .. } | Task::Completions { .. } | Task::Man => Files::Nothing,
+        Task::Layout { line } => line_files(line, Journal::Unread, None),
+        Task::Init { line } => line_files(line, Journal::New, None),
+        Task::Run { line, script, .. } => line_files(line, Journal::Kept, Some(script)),
+        Task::Recover { line } => line_files(line, Journal::Kept, None),
+    }
+}
+
+fn line_files<'a>(line: &'a str, journal: Journal, script: Option<&'a str>) -> Files<'a> {
+    Files::Line {
+        line,
+        journal,
+        script,
+    }
+}
+
+/// Carries out a task.
+fn serve_task<H: Wait + Threads + Sync, R: Read, S: Store, W: Write, E: Write>(
+    rt: &H,
+    alloc: Global,
+    task: Task<'_>,
+    input: &mut R,
+    store: &mut S,
+    output: &mut W,
+    faults: &mut E,
+) -> ExitStatus {
+    match task {
+        Task::Alias { value, hex } => match set_alias(alloc, value, hex, input, output) {
+            Ok(()) => ExitStatus::Done,
+            Err(failure) => report(failure, faults),
+        },
+        Task::Show { hex } => match show_image(alloc, hex, input, output) {
+            Ok(status) => status,
+            Err(fault) => report_fault(fault, faults),
+        },
+        Task::Layout { line } => status_of(show_layout(alloc, line, store, output), faults),
+        Task::Explain { code } => status_of(explain(alloc, code, output), faults),
+        Task::Completions { shell } => status_of(print_completions(alloc, shell, output), faults),
+        Task::Man => status_of(print_manual(alloc, output), faults),
+        Task::Init { line } => status_of(init_line(alloc, line, store, output), faults),
+        Task::Run { line, script, cut } => {
+            run_script(rt, alloc, line, script, cut, store, output, faults)
+        }
+        Task::Recover { line } => recover_line(alloc, line, store, output, faults),
+    }
 }
 
 /// Prints the help or the version that was asked for, or what is wrong with the arguments.
