@@ -1,10 +1,10 @@
 //! The program `sii_station`: passes its arguments and streams to the library, and exits with the status that the library returns.
 #![tactic(auto)]
 
-use station_serve::{FileStore, refuse_words, serve};
+use station_serve::{FileStore, refuse_words, serve_on};
 use std::alloc::Global;
 use std::fs::{File, Files};
-use std::io::{BufWriter, Input, Print, Write};
+use std::io::{BufWriter, Input, IsTerminal, Print, Write};
 use std::process::ExitCode;
 use std::sync::Wait;
 use std::thread::Threads;
@@ -25,15 +25,14 @@ fn words(rt: &HostRuntime) -> io::Result<Vec<String>> {
 }
 
 /// Carries out the arguments, with the output buffered.
-fn serve_words<H: Files<File = File> + Input + Print + Wait + Threads + Sync, E: Write>(
-    rt: &H,
-    alloc: Global,
-    words: &[String],
-    faults: &mut E,
-) -> u8 {
+fn serve_words<
+    H: Files<File = File> + Input + Print + Wait + Threads + Sync,
+    E: Write + IsTerminal,
+>(rt: &H, alloc: Global, words: &[String], faults: &mut E) -> u8 {
     let mut files = FileStore::new(alloc, rt);
+    let is_terminal = faults.is_terminal();
     match BufWriter::new(alloc, io::writer(rt)) {
-        Ok(mut output) => serve(
+        Ok(mut output) => serve_on(
             rt,
             alloc,
             words,
@@ -41,6 +40,7 @@ fn serve_words<H: Files<File = File> + Input + Print + Wait + Threads + Sync, E:
             &mut files,
             &mut output,
             faults,
+            is_terminal,
         ),
         Err(error) => refuse_words(&error, faults),
     }
