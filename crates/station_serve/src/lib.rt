@@ -8,6 +8,9 @@ mod explain;
 mod image_arguments;
 mod manual;
 mod plan_arguments;
+mod completions;
+mod explain;
+mod manual;
 mod serving;
 mod shell_arguments;
 
