@@ -5,7 +5,7 @@ ghost use Rattle.station_files.specs.Faults.{IsOfStream};
 ghost use Rattle.script_session.specs.Asking.{AreInOrder, Asks, AsksAll, GivesUp, Receives};
 
 use crate::answers::{print_accepted, print_refused, refused_as};
-use book_model::SubmitRefusal;
+use book_model::{Status, SubmitRefusal};
 use sii_edit::{Cause, Command, Refusal};
 use station_files::{ExitStatus, Fault};
 use station_threads::{Desk, Receipt, Refusals, Refused, Share, Ticket, Tickets};
@@ -21,6 +21,9 @@ const NO_MEMORY: SubmitRefusal = SubmitRefusal::Command(Refusal {
 
 /// Submits a command. While the book is full, it waits until the book has changed and submits the command again. It is refused with
 /// `Memory` where the desk has stopped for want of memory.
+///
+/// The desk is asked for its status only once the book was full, and then the command is submitted again before it waits, since the book
+/// may have changed in between.
 fn ask<T: Tickets, R: Refusals, W: Wait>(
     rt: &W,
     desk: &Desk<T, R>,
@@ -32,8 +35,8 @@ fn ask<T: Tickets, R: Refusals, W: Wait>(
     ensures uncounted { IfErr result (λ refusal. share.new.tickets ≡ share.old.tickets) }
 {
     let mut asked = command;
+    let mut seen = None;
     for _try in rt.forever() {
-        let seen = desk.status(rt);
         match desk.submit(rt, share, asked) {
             Ok(ticket) => return Ok(ticket),
             Err(refused) => {
@@ -41,7 +44,7 @@ fn ask<T: Tickets, R: Refusals, W: Wait>(
                 if refusal != SubmitRefusal::Full {
                     return Err(refusal);
                 }
-                let _now = desk.changed(rt, &seen);
+                seen = Some(status_behind(rt, desk, seen));
                 if desk.is_out_of_memory(rt) {
                     drop(command);
                     return Err(NO_MEMORY);
@@ -51,6 +54,18 @@ fn ask<T: Tickets, R: Refusals, W: Wait>(
         }
     }
     unreachable!()
+}
+
+/// The desk's status, once it differs from the one that was seen before, if one was.
+fn status_behind<T: Tickets, R: Refusals, W: Wait>(
+    rt: &W,
+    desk: &Desk<T, R>,
+    seen: Option<Status>,
+) -> Status {
+    match seen {
+        Some(seen) => desk.changed(rt, &seen),
+        None => desk.status(rt),
+    }
 }
 
 /// Submits a copy of the command.

@@ -1,6 +1,6 @@
 //! The files of the operating system as a store.
 
-use crate::reading::read_to_end;
+use crate::reading::read_about;
 use crate::replacing::{Place, holds, place_of, replace, sync_folder};
 use crate::store::{LockFault, Store};
 use site_file::RandomAccessFile;
@@ -8,6 +8,9 @@ use std::alloc::Global;
 use std::fs::{File, Files, OpenOptions, TryLockError};
 use std::os::unix::fs::{FileExt, MetadataExt};
 use std::{fs, io};
+
+/// How many bytes of a file can be read: 1,048,576 reads of 4,096 bytes.
+const MOST_BYTES: u64 = 1 << 32;
 
 /// The files of the operating system. A name without a leading slash is relative to the current folder.
 #[derive(Drop)]
@@ -68,7 +71,7 @@ impl<R: Files<File = File>> Store for FileStore<'_, R> {
 
     fn read(&mut self, alloc: Global, name: &str) -> io::Result<Option<Vec<u8>>> {
         match File::open(self.files, name) {
-            Ok(mut file) => read_to_end(alloc, &mut file).map(Some),
+            Ok(file) => read_whole(alloc, file).map(Some),
             Err(error) if error.kind() == io::ErrorKind::NotFound => Ok(None),
             Err(error) => Err(error),
         }
@@ -134,6 +137,12 @@ fn take_lock(file: &File) -> Result<(), LockFault> {
         Err(TryLockError::WouldBlock) => Err(LockFault::Busy),
         Err(TryLockError::Error(error)) => Err(LockFault::Io(error)),
     }
+}
+
+/// Reads a file to its end. Takes memory for as many bytes as the system says that it has, and no more than can be read.
+fn read_whole(alloc: Global, mut file: File) -> io::Result<Vec<u8>> {
+    let length = file.metadata()?.len();
+    read_about(alloc, length.min(MOST_BYTES) as usize, &mut file)
 }
 
 /// Whether `name` still names the open file: another station may have replaced it in the meantime.

@@ -6,16 +6,29 @@ use std::alloc::Global;
 use std::io;
 use std::io::Read;
 
-/// Reads all remaining bytes of a reader. An interrupted read is tried again.
+/// Reads all remaining bytes of a reader, as `read_about` does, of which nobody knows how many they are.
 ///
 /// # Errors
 ///
-/// The error of the reader; or memory was refused; or the reader reported no end within 1,048,576 reads. What was read is lost.
+/// As for `read_about`.
 pub fn read_to_end<R: Read>(alloc: Global, input: &mut R) -> io::Result<Vec<u8>>
     ensures all { IfOk result (λ bytes. IfSome (R.remaining input.old) (λ rest. bytes.items ≡ rest)) }
     ensures end { OnOk result (IsAtEnd (R.remaining input.new)) }
 {
-    let mut bytes = Vec::new(alloc);
+    read_about(alloc, 0, input)
+}
+
+/// Reads all remaining bytes of a reader. An interrupted read is tried again. Takes memory for `length` bytes first, so that it isn't taken
+/// piece by piece where these are all.
+///
+/// # Errors
+///
+/// The error of the reader; or memory was refused; or the reader reported no end within 1,048,576 reads. What was read is lost.
+pub fn read_about<R: Read>(alloc: Global, length: usize, input: &mut R) -> io::Result<Vec<u8>>
+    ensures all { IfOk result (λ bytes. IfSome (R.remaining input.old) (λ rest. bytes.items ≡ rest)) }
+    ensures end { OnOk result (IsAtEnd (R.remaining input.new)) }
+{
+    let mut bytes = Vec::with_capacity(alloc, length)?;
     let mut buffer = [0u8; 4096];
     for _read in 0..1_048_576u32 {
         match input.read(&mut buffer) {
