@@ -62,11 +62,11 @@ pub nothing_differs : (old new : List ℕ) (difference : Difference) → Compare
 nothing_differs old new difference compares = (forth, back)
   where
     forth : NothingDiffers difference → old ≡ new
-    forth none = (none_common old new).0 (sym compares.old.count ∙ none.0 ∙ compares.new.count, sym compares.words.new ∙ none.1)
+    forth none = (none_common old new).0 (sym compares.of_old.count ∙ none.0 ∙ compares.of_new.count, sym compares.words.of_new ∙ none.1)
 
     back : old ≡ new → NothingDiffers difference
-    back same = let none = (none_common old new).1 same in (compares.old.count ∙ none.0 ∙ sym compares.new.count, compares.words.new ∙ none.1)
+    back same = let none = (none_common old new).1 same in (compares.of_old.count ∙ none.0 ∙ sym compares.of_new.count, compares.words.of_new ∙ none.1)
 
 -- the words that are listed are those that differ
 pub differences_named : (old new : List ℕ) (difference : Difference) → Compares old new difference → NamesDifferences old new difference
-differences_named old new difference compares at within inside = rw compares.words.new (named_common old new at within inside)
+differences_named old new difference compares at within inside = rw compares.words.of_new (named_common old new at within inside)

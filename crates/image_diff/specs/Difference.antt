@@ -21,13 +21,13 @@ common old new = min (length old) (length new)
 
 -- these are the longest stretches in which the words that both lists have differ, with the words of each
 pub record AreChanges (old new : List ℕ) (changes : WordChanges) : Type 0 where
-  pub old : changes.old.items ≡ stretches 0 0 (take (common old new) new) (take (common old new) old)
-  pub new : changes.new.items ≡ stretches 0 0 (take (common old new) old) (take (common old new) new)
+  pub of_old : changes.old.items ≡ stretches 0 0 (take (common old new) new) (take (common old new) old)
+  pub of_new : changes.new.items ≡ stretches 0 0 (take (common old new) old) (take (common old new) new)
 
 -- this is what two images differ in
 pub record Compares (old new : List ℕ) (difference : Difference) : Type 0 where
-  pub old : IsHead old difference.old
-  pub new : IsHead new difference.new
+  pub of_old : IsHead old difference.old
+  pub of_new : IsHead new difference.new
   pub words : AreChanges old new difference.words
 
 -- nothing differs: the lengths are equal, and no stretch is listed

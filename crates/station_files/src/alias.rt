@@ -26,9 +26,9 @@ pub fn set_alias<R: Read, S: Store, W: Write>(
     store: &mut S,
     output: &mut W,
 ) -> Result<(), Failure>
-    ensures renamed { OnOk result (Renames hex value (text_of (option_map (λ name. name.now) file) (R.remaining input.old) (S.files store.old))
+    ensures renamed { OnOk result (Renames hex value (text_of (option_map (λ name. name.now) file.entry) (R.remaining input.old) (S.files store.old))
         (W.contents output.old) (W.contents output.new)) }
-    ensures refused { IfErr result (λ failure. IfSome (text_of (option_map (λ name. name.now) file) (R.remaining input.old) (S.files store.old))
+    ensures refused { IfErr result (λ failure. IfSome (text_of (option_map (λ name. name.now) file.entry) (R.remaining input.old) (S.files store.old))
         (λ text. RefusesAlias hex text failure)) }
     ensures same { S.files store.new ≡ S.files store.old }
 {

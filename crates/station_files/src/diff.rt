@@ -29,12 +29,12 @@ pub fn diff_images<R: Read, S: Store, W: Write>(
     output: &mut W,
 ) -> Result<ExitStatus, Fault>
     ensures status { IfOk result (λ status.
-        IfSome (text_of (option_map (λ name. name.now) old) (R.remaining input.old) (S.files store.old)) (λ first.
-        IfSome (second_text (option_map (λ name. name.now) old) (option_map (λ name. name.now) new) (R.remaining input.old) (S.files store.old)) (λ second.
+        IfSome (text_of (option_map (λ name. name.now) old.entry) (R.remaining input.old) (S.files store.old)) (λ first.
+        IfSome (second_text (option_map (λ name. name.now) old.entry) (option_map (λ name. name.now) new.entry) (R.remaining input.old) (S.files store.old)) (λ second.
         TellsDifference hex first second status))) }
     ensures refused { IfErr result (λ fault.
-        IfSome (text_of (option_map (λ name. name.now) old) (R.remaining input.old) (S.files store.old)) (λ first.
-        IfSome (second_text (option_map (λ name. name.now) old) (option_map (λ name. name.now) new) (R.remaining input.old) (S.files store.old)) (λ second.
+        IfSome (text_of (option_map (λ name. name.now) old.entry) (R.remaining input.old) (S.files store.old)) (λ first.
+        IfSome (second_text (option_map (λ name. name.now) old.entry) (option_map (λ name. name.now) new.entry) (R.remaining input.old) (S.files store.old)) (λ second.
         RefusesPair hex first second fault))) }
     ensures same { S.files store.new ≡ S.files store.old }
 {

@@ -28,12 +28,12 @@ pub fn read_image<R: Read, S: Store>(
     input: &mut R,
     store: &mut S,
 ) -> Result<ImageFile, Fault>
-    ensures read { IfOk result (λ image. IfSome (text_of (option_map (λ name. name.now) file) (R.remaining input.old) (S.files store.old))
+    ensures read { IfOk result (λ image. IfSome (text_of (option_map (λ name. name.now) file.entry) (R.remaining input.old) (S.files store.old))
         (λ text. Spells hex text (bytes_of image))) }
-    ensures refused { IfErr result (λ fault. IfSome (text_of (option_map (λ name. name.now) file) (R.remaining input.old) (S.files store.old))
+    ensures refused { IfErr result (λ fault. IfSome (text_of (option_map (λ name. name.now) file.entry) (R.remaining input.old) (S.files store.old))
         (λ text. RefusesInput hex text fault)) }
     ensures same { S.files store.new ≡ S.files store.old }
-    ensures unread { IsSome file → R.remaining input.new ≡ R.remaining input.old }
+    ensures unread { IsSome file.entry → R.remaining input.new ≡ R.remaining input.old }
 {
     let bytes = read_text(alloc, file, input, store)?;
     spelt_image(alloc, hex, &bytes)
@@ -46,11 +46,11 @@ fn read_text<R: Read, S: Store>(
     input: &mut R,
     store: &mut S,
 ) -> Result<Vec<u8>, Fault>
-    ensures read { IfOk result (λ bytes. IfSome (text_of (option_map (λ name. name.now) file) (R.remaining input.old) (S.files store.old))
+    ensures read { IfOk result (λ bytes. IfSome (text_of (option_map (λ name. name.now) file.entry) (R.remaining input.old) (S.files store.old))
         (λ text. bytes.items ≡ text)) }
     ensures failed { IfErr result IsOfStream }
     ensures same { S.files store.new ≡ S.files store.old }
-    ensures unread { IsSome file → R.remaining input.new ≡ R.remaining input.old }
+    ensures unread { IsSome file.entry → R.remaining input.new ≡ R.remaining input.old }
 {
     match file {
         Some(name) => read_file(alloc, name, store),

@@ -30,8 +30,8 @@ pub fn show_image<R: Read, S: Store, W: Write>(
     store: &mut S,
     output: &mut W,
 ) -> Result<ExitStatus, Fault>
-    ensures status { IfOk result (ShowsStatus hex (text_of (option_map (λ name. name.now) file) (R.remaining input.old) (S.files store.old))) }
-    ensures refused { IfErr result (λ fault. IfSome (text_of (option_map (λ name. name.now) file) (R.remaining input.old) (S.files store.old))
+    ensures status { IfOk result (ShowsStatus hex (text_of (option_map (λ name. name.now) file.entry) (R.remaining input.old) (S.files store.old))) }
+    ensures refused { IfErr result (λ fault. IfSome (text_of (option_map (λ name. name.now) file.entry) (R.remaining input.old) (S.files store.old))
         (λ text. RefusesInput hex text fault)) }
     ensures same { S.files store.new ≡ S.files store.old }
 {
