@@ -1,5 +1,5 @@
 -- What `journal` tells: what a journal holds, and what a recovery would write.
-use Rattle.std.specs.Prelude.{◌≡◌, ◌×◌, ℕ, List}
+use Rattle.std.specs.Prelude.{◌≡◌, ℕ, List}
 use Rattle.jrn_format.specs.declared.journal.Journal.{Journal}
 use Rattle.jrn_format.specs.Journal.{IsJournal}
 use Rattle.book_laws.specs.Opening.{words_in}

@@ -18,11 +18,11 @@ use Rattle.station_plan.specs.declared.plan.Planned.{Planned}
 
 -- The commands were submitted to this station in order and served, without a fault. These are the words of its slaves before and after,
 -- and their differences.
-pub record ServesPlan (opened : Station) (commands : List Command) (status_before status_after : ExitStatus) (before : List (List ℕ))
+pub record ServesPlan (opened : Station) (commands : List Command) (status_before status_after : ExitStatus) (words : List (List ℕ))
     (planned : Planned) : Type 0 where
   pub s : Station
   pub serves : ServesSo {E = Fault} commands (Ok tt) status_before status_after opened s
-  pub before : planned.before ≡ before
+  pub before : planned.before ≡ words
   pub after : planned.after ≡ words_in s.seen.state.halves
   pub changes : planned.changes.items ≡ changes_between planned.before planned.after
 

@@ -13,9 +13,9 @@ with_closed (at ∷ places) file = with_closed places (slice_set file at 0)
 
 -- The file is refused with this fault. With the gates at the damaged places closed it is this journal, if any.
 pub record FindsRest (old new sizes : List ℕ) (fault : JournalFault) (reading : Reading) : Type 0 where
-  pub fault : reading.fault ≡ Some fault
+  pub refused : reading.fault ≡ Some fault
   pub closed : new ≡ with_closed reading.damaged.items old
-  pub journal : IfSome reading.journal (IsJournal new sizes)
+  pub found : IfSome reading.journal (IsJournal new sizes)
 
 -- The file is this journal, and unchanged; or it is refused, and this is what can be read of it.
 abbrev pub Reads : Option JournalFault → (old new sizes : List ℕ) → Reading → Type 0
