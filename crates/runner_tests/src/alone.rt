@@ -12,4 +12,5 @@ mod stations;
 mod stops;
 mod story;
 mod wire_runs;
+mod wire_threads;
 mod wires;

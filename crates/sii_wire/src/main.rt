@@ -4,16 +4,26 @@
 
 use site_wire::EthernetWire;
 use std::alloc::Global;
-use std::fs::{File, OpenOptions};
-use std::io::Write;
+use std::fs::{File, Files, OpenOptions};
+use std::io::{Read, Write};
 use std::process::ExitCode;
+use std::sync::Wait;
+use std::thread::Threads;
 use std::time::SystemTime;
 use std::{env, io};
-use wire_session::{FileStore, Task, read_arguments, refuse_text, refuse_words, serve, show_usage};
+use wire_serve::{FileStore, Task, read_arguments, refuse_text, refuse_words, serve, show_usage};
 
 fn main(rt: HostRuntime) -> ExitCode {
     let status = match words(&rt) {
-        Ok(words) => serve_words(&rt, &words),
+        Ok(words) => serve_words(
+            &rt,
+            rt.alloc(),
+            &words,
+            EthernetWire::new(rt.stdin(), rt.stdout()),
+            first_number(&rt),
+            &mut rt.stderr(),
+            &mut rt.stderr(),
+        ),
         Err(error) => refuse_words(&error, &mut rt.stderr()),
     };
     ExitCode::from(status)
@@ -25,39 +35,59 @@ fn words(rt: &HostRuntime) -> io::Result<Vec<String>> {
     Ok(words)
 }
 
-/// Carries out the arguments.
-fn serve_words(rt: &HostRuntime, words: &[String]) -> u8 {
-    match read_arguments(rt.alloc(), words) {
+/// Carries out the arguments on this wire, whose frames are numbered from the one behind `number` on. The text goes to the file that they
+/// name, or to this stream.
+fn serve_words<
+    H: Files<File = File> + Wait + Threads + Sync,
+    R: Read + Send + Drop,
+    W: Write + Send + Drop,
+    E: Write,
+>(
+    rt: &H,
+    alloc: Global,
+    words: &[String],
+    wire: EthernetWire<R, W>,
+    number: u32,
+    text: &mut E,
+    faults: &mut E,
+) -> u8 {
+    match read_arguments(alloc, words) {
         Ok(arguments) => match arguments.text {
             Some(name) => match open_text(rt, name) {
-                Ok(mut text) => serve_task(rt, arguments.task, &mut text),
-                Err(error) => refuse_text(error, &mut rt.stderr()),
+                Ok(mut text) => {
+                    serve_task(rt, alloc, arguments.task, wire, number, &mut text, faults)
+                }
+                Err(error) => refuse_text(error, faults),
             },
-            None => serve_task(rt, arguments.task, &mut rt.stderr()),
+            None => serve_task(rt, alloc, arguments.task, wire, number, text, faults),
         },
-        Err(error) => show_usage(&error, &mut rt.stderr()),
+        Err(error) => show_usage(&error, faults),
     }
 }
 
 /// Opens a file that is there, to add text to it.
-fn open_text(rt: &HostRuntime, name: &str) -> io::Result<File> {
+fn open_text<H: Files<File = File>>(rt: &H, name: &str) -> io::Result<File> {
     OpenOptions::new().append(true).open(rt, name)
 }
 
 /// Carries out a task, with its text in this stream.
-fn serve_task<O: Write>(rt: &HostRuntime, task: Task<'_>, text: &mut O) -> u8 {
-    let alloc: Global = rt.alloc();
-    let wire = EthernetWire::new(rt.stdin(), rt.stdout());
+fn serve_task<
+    H: Files<File = File> + Wait + Threads + Sync,
+    R: Read + Send + Drop,
+    W: Write + Send + Drop,
+    O: Write,
+    E: Write,
+>(
+    rt: &H,
+    alloc: Global,
+    task: Task<'_>,
+    wire: EthernetWire<R, W>,
+    number: u32,
+    text: &mut O,
+    faults: &mut E,
+) -> u8 {
     let mut files = FileStore::new(alloc, rt);
-    serve(
-        alloc,
-        task,
-        wire,
-        first_number(rt),
-        &mut files,
-        text,
-        &mut rt.stderr(),
-    )
+    serve(rt, alloc, task, wire, number, &mut files, text, faults)
 }
 
 /// The nanoseconds of the time, which no earlier program on this wire has likely numbered its frames from.

@@ -1,13 +1,20 @@
 //! The slaves on a wire and the journal's file, as the device behind a shadow.
+ghost use Rattle.std.specs.Prelude.{◌≡◌, ◌∷◌, [], IsTrue, IfSome};
+ghost use Rattle.ecat_frame.specs.Frame.{pdu};
 
-use crate::answers::{Shown, is_answer, read_difference, state_shown, waits_for_rest};
+use crate::answers::{
+    Answer, LONGEST, Shown, is_answer, read_difference, state_shown, waits_for_rest,
+};
 use crate::faults::{Difference, StopReason};
-use crate::numbered::{NumberedWire, Returned};
+use crate::numbered::NumberedWire;
+use crate::reach::{LiveLine, Reach, SharedLine};
 use crate::wire::Wire;
 use ecat_frame::{Datagram, Frame};
 use esc_model::RomHalf;
 use site_file::{FileDevice, RandomAccessFile};
 use site_shadow::{Device, Passing, Pattern, Resting, ShadowSite};
+use std::alloc::AllocError;
+use std::sync::Wait;
 
 /// What the shadow holds of unsynced bytes and of a word in flight once the site has stopped. It could be anything: nobody reads it.
 const LEFT: Pattern = Pattern::New;
@@ -17,63 +24,98 @@ const LEFT: Pattern = Pattern::New;
 ///
 /// Each frame is sent until it comes back, three times at most, and what a slave shows of itself is compared with the shadow: the
 /// working counter, who has access, busy, the error bits, and the two words that were read. Where they agree the shadow's answer is
-/// given. Else the site stops for good, and the device keeps the reason.
+/// given. Else the site stops for good, and the line keeps the reason.
+///
+/// Over a `SharedLine` each part of a line can have a copy. Once one of them has stopped, no other sends a frame.
 #[derive(Drop)]
-pub struct WireDevice<'f, W, F> {
-    wire: NumberedWire<W>,
+pub struct WireDevice<'f, L, F> {
+    line: L,
     journal: FileDevice<'f, F>,
     /// What came back of the last frame. None where it wasn't sent, or didn't come back.
-    returned: Option<Returned>,
-    /// By slave, whether a command was sent again and not counted, and the slave wasn't seen busy since.
+    returned: Option<Answer>,
+    /// By slave, whether a command was sent again and not counted, and the slave wasn't seen busy since. Of each command that is at an end
+    /// the slave was seen idle, and so this is settled.
     is_unconfirmed: [bool; 64],
-    reason: Option<StopReason>,
+    /// Whether this device has stopped its site.
+    is_over: bool,
 }
 
 /// A line on a wire, and a disk in a file.
-pub type WireSite<'f, W, F> = ShadowSite<WireDevice<'f, W, F>>;
+pub type WireSite<'f, W, F> = ShadowSite<WireDevice<'f, LiveLine<W>, F>>;
 
-impl<'f, W: Wire, F: RandomAccessFile> WireDevice<'f, W, F> {
+/// A line on a wire that threads share, and a disk in a file.
+pub type SharedSite<'f, R, W, F> = ShadowSite<WireDevice<'f, SharedLine<'f, R, W>, F>>;
+
+impl<'f, L: Copy, F> Copy for WireDevice<'f, L, F> {}
+
+impl<'f, L: Copy, F> Clone for WireDevice<'f, L, F> {
+    ghost use Rattle.std.specs.Prelude.{⊤};
+
+    ghost is_infallible = { λ _. ⊤ };
+
+    fn clone(&self) -> Result<Self, AllocError> {
+        Ok(WireDevice {
+            line: self.line,
+            journal: self.journal,
+            returned: self.returned,
+            is_unconfirmed: self.is_unconfirmed,
+            is_over: self.is_over,
+        })
+    }
+}
+
+impl<'f, W: Wire, F: RandomAccessFile> WireDevice<'f, LiveLine<W>, F> {
     /// The slaves on this wire, and this journal, of whose device only the file of the journal is used.
-    pub fn new(wire: NumberedWire<W>, journal: FileDevice<'f, F>) -> WireDevice<'f, W, F> {
+    pub fn new(
+        wire: NumberedWire<W>,
+        journal: FileDevice<'f, F>,
+    ) -> WireDevice<'f, LiveLine<W>, F> {
+        WireDevice::on(LiveLine::new(wire), journal)
+    }
+
+    /// The wire, as work on it ends.
+    pub fn into_wire(self) -> NumberedWire<W> {
+        let WireDevice { line, .. } = self;
+        line.into_wire()
+    }
+
+    /// How many frames were sent, and how many of them had been sent before.
+    pub fn frames(&self) -> (u64, u64) {
+        self.line.frames()
+    }
+}
+
+impl<'f, R: Wait, W: Wire, F: RandomAccessFile> WireDevice<'f, SharedLine<'f, R, W>, F> {
+    /// The slaves of a line that threads share, and this journal, as for `new`.
+    pub fn shared(
+        line: SharedLine<'f, R, W>,
+        journal: FileDevice<'f, F>,
+    ) -> WireDevice<'f, SharedLine<'f, R, W>, F> {
+        WireDevice::on(line, journal)
+    }
+}
+
+impl<'f, L: Reach, F: RandomAccessFile> WireDevice<'f, L, F> {
+    /// The slaves on this line, and this journal.
+    fn on(line: L, journal: FileDevice<'f, F>) -> WireDevice<'f, L, F> {
         WireDevice {
-            wire,
+            line,
             journal,
             returned: None,
             is_unconfirmed: [false; 64],
-            reason: None,
+            is_over: false,
         }
     }
 
     /// Why the site has stopped, if it has.
     pub fn reason(&self) -> Option<StopReason> {
-        self.reason
+        self.line.reason()
     }
 
-    /// The wire, as work on it ends.
-    pub fn into_wire(self) -> NumberedWire<W> {
-        let WireDevice { wire, .. } = self;
-        wire
-    }
-
-    /// How many frames were sent, and how many of them had been sent before.
-    pub fn frames(&self) -> (u64, u64) {
-        (self.wire.sent(), self.wire.resent())
-    }
-
-    /// The site stops with this reason, unless it has one already.
+    /// The site stops with this reason, unless the line has one already.
     fn stop(&mut self, reason: StopReason) {
-        if self.reason.is_none() {
-            self.reason = Some(reason);
-        }
-    }
-
-    /// A call on the journal that ended so.
-    fn end_call(&mut self, passing: Passing) -> Passing {
-        match passing {
-            Passing::Passes => {}
-            Passing::Fails | Passing::Stops(_) => self.stop(StopReason::Journal),
-        }
-        passing
+        self.is_over = true;
+        self.line.stop(reason);
     }
 
     /// Whether the slave has yet to be seen busy with a command.
@@ -85,6 +127,15 @@ impl<'f, W: Wire, F: RandomAccessFile> WireDevice<'f, W, F> {
         if slave < 64 {
             self.is_unconfirmed[slave] = is_unconfirmed;
         }
+    }
+
+    /// A call on the journal that ended so.
+    fn end_call(&mut self, passing: Passing) -> Passing {
+        match passing {
+            Passing::Passes => {}
+            Passing::Fails | Passing::Stops(_) => self.stop(StopReason::Journal),
+        }
+        passing
     }
 
     /// How a busy half comes to rest, where the slave shows this.
@@ -114,40 +165,51 @@ impl<'f, W: Wire, F: RandomAccessFile> WireDevice<'f, W, F> {
     /// In what the slave's answer is another than the one that the shadow gives. A command that was sent again need not be counted
     /// the second time, if the slave is busy with it: that is found out by the next polls.
     fn compare(&mut self, slave: usize, half: &RomHalf, answer: &Frame) -> Option<Difference> {
-        let returned = self.returned.as_ref()?;
-        let (Some(given), Some(found)) = (first_of(answer), first_of(&returned.frame)) else {
+        let found = self.returned?;
+        let Some(given) = answer.datagrams().next() else {
             return Some(Difference::Datagram);
         };
-        if !is_answer(given, found) {
+        if !is_answer(given, &found) {
             return Some(Difference::Datagram);
         }
         if found.counter == given.counter {
-            return read_difference(given, found);
+            return read_difference(given, &found);
         }
-        let may_be_busy = returned.again && half.is_at_work() && waits_for_rest(given);
+        let may_be_busy = found.again && half.is_at_work() && waits_for_rest(given);
         if may_be_busy && given.counter == 1 && found.counter == 0 {
             self.set_unconfirmed(slave, true);
             return None;
         }
         Some(Difference::Counter)
     }
-}
 
-/// The first datagram of a frame.
-fn first_of(frame: &Frame) -> Option<Datagram<'_>> {
-    frame.datagrams().next()
-}
-
-/// The datagram of a frame that has just one.
-fn only_datagram(frame: &Frame) -> Option<Datagram<'_>> {
-    if frame.count() == 1 {
-        first_of(frame)
-    } else {
-        None
+    /// Sends a frame of one short datagram, unless the half is busy and takes nothing of it.
+    fn send(&mut self, half: &RomHalf, sent: Datagram<'_>, frame: &Frame)
+        requires { frame.now ≡ pdu sent ∷ [] }
+    {
+        if half.is_at_work() && waits_for_rest(sent) {
+            return;
+        }
+        self.returned = self.line.pass(half, frame);
+        self.is_over = self.returned.is_none();
     }
 }
 
-impl<'f, W: Wire, F: RandomAccessFile> Device for WireDevice<'f, W, F> {
+/// The datagram of a frame that has just one, of 16 bytes at most.
+fn only_datagram(frame: &Frame) -> Option<Datagram<'_>>
+    ensures { IfSome result (λ datagram. frame.now ≡ pdu datagram ∷ []) }
+{
+    if frame.count() != 1 {
+        return None;
+    }
+    let datagram = frame.datagram(0);
+    if datagram.content.len() > LONGEST {
+        return None;
+    }
+    Some(datagram)
+}
+
+impl<'f, L: Reach, F: RandomAccessFile> Device for WireDevice<'f, L, F> {
     fn len(&mut self, length: usize) -> Passing {
         let passing = self.journal.len(length);
         self.end_call(passing)
@@ -172,26 +234,19 @@ impl<'f, W: Wire, F: RandomAccessFile> Device for WireDevice<'f, W, F> {
     /// takes it before the site stops.
     fn exchange(&mut self, slave: usize, half: &RomHalf, frame: &Frame) -> Passing {
         self.returned = None;
-        match only_datagram(frame) {
-            Some(sent) if half.is_at_work() && waits_for_rest(sent) => return Passing::Passes,
-            Some(_) => {}
-            None => self.stop(StopReason::NotOneDatagram { slave }),
-        }
-        if self.reason.is_some() {
+        let Some(sent) = only_datagram(frame) else {
+            self.stop(StopReason::NotOneDatagram { slave });
+            return Passing::Stops(LEFT);
+        };
+        if self.is_over {
             return Passing::Stops(LEFT);
         }
-        self.returned = self.wire.pass(frame);
-        if self.returned.is_none() {
-            self.stop(StopReason::Silent);
-        }
+        self.send(half, sent, frame);
         Passing::Passes
     }
 
     fn rest(&mut self, slave: usize, half: &RomHalf, _k: usize) -> Resting {
-        let Some(returned) = &self.returned else {
-            return Resting::Stays;
-        };
-        match first_of(&returned.frame) {
+        match &self.returned {
             Some(answer) if half.is_at_work() => {
                 let shown = state_shown(answer);
                 self.rest_as(slave, half, shown)
@@ -208,20 +263,19 @@ impl<'f, W: Wire, F: RandomAccessFile> Device for WireDevice<'f, W, F> {
         _k: usize,
         _added: u16,
     ) -> Option<Pattern> {
-        if self.reason.is_none() {
+        if !self.is_over {
             if let Some(what) = self.compare(slave, half, answer) {
                 self.stop(StopReason::Differs { slave, what });
             }
         }
-        if self.reason.is_some() {
+        if self.is_over {
             return Some(LEFT);
         }
         None
     }
 
-    /// The device has no process data: its site is to be made without process halves.
+    /// Process data don't go over the wire: each frame for them is lost, and reaches no slave.
     fn cycle(&mut self, _frame: &Frame) -> Passing {
-        self.stop(StopReason::ProcessData);
-        Passing::Stops(LEFT)
+        Passing::Fails
     }
 }

@@ -82,13 +82,10 @@ pub enum StopReason {
     /// A command was sent again and not counted, and the slave wasn't seen busy with it then: it may never have taken it.
     #[error("slave {slave} may not have taken a command")]
     Unconfirmed { slave: usize },
-    /// A frame for one slave hasn't just one datagram. It wasn't sent.
-    #[error("a frame for slave {slave} hasn't just one datagram")]
+    /// A frame for one slave hasn't just one datagram, of 16 bytes at most. It wasn't sent.
+    #[error("a frame for slave {slave} hasn't just one short datagram")]
     NotOneDatagram { slave: usize },
     /// The journal's file can't be read, written or synced, or has other bytes.
     #[error("the journal can't be used")]
     Journal,
-    /// Process data were to be exchanged, which this device doesn't do.
-    #[error("process data don't go over this wire")]
-    ProcessData,
 }

@@ -109,7 +109,7 @@ impl<W: Wire> NumberedWire<W> {
 }
 
 /// The number behind a frame.
-fn number_of(frame: &Frame) -> Option<u32> {
+pub(crate) fn number_of(frame: &Frame) -> Option<u32> {
     let count = frame.count();
     if count == 0 {
         return None;

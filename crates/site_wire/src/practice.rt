@@ -1,8 +1,9 @@
 //! A line to practise on.
 
 use crate::bringing_up::{APWR, BRD, STATION};
-use ecat_frame::{Command, Frame, fp};
+use ecat_frame::{Command, Datagram, Frame, fp};
 use esc_model::{FIRST_STATION, Rest, RomHalf, WordWrite};
+use esc_rom::CONTROL;
 use sii_words::Words;
 use site_shadow::Pattern;
 use std::alloc::{AllocError, Global};
@@ -66,6 +67,17 @@ impl PracticeSlave {
             }
             _ => 0,
         }
+    }
+
+    /// Whether the datagram writes to control and status or behind them, while the slave is busy.
+    fn is_disturbed(&self, datagram: Datagram<'_>) -> bool {
+        let station = (datagram.address % 65536) as u16;
+        let end = (datagram.address / 65536) as usize + datagram.content.len();
+        datagram.command == Command::Fpwr
+            && station != 0
+            && station == self.station
+            && end > usize::from(CONTROL)
+            && self.half.is_at_work()
     }
 
     /// Takes the station address that a datagram writes.
@@ -146,6 +158,25 @@ impl PracticeLine {
             place = place.wrapping_add(1);
         }
         counter
+    }
+
+    /// Whether the frame writes to control and status of a slave, or behind them, while that slave is busy.
+    pub fn is_disturbed_by(&self, frame: &Frame) -> bool {
+        for datagram in frame.datagrams() {
+            if self.has_disturbed(datagram) {
+                return true;
+            }
+        }
+        false
+    }
+
+    fn has_disturbed(&self, datagram: Datagram<'_>) -> bool {
+        for slave in &self.slaves {
+            if slave.is_disturbed(datagram) {
+                return true;
+            }
+        }
+        false
     }
 
     /// The words of a slave. None where there is no such slave.

@@ -1,5 +1,6 @@
 //! A wire in memory with slaves to practise on, on which frames have mishaps, for tests.
 
+use crate::numbered::number_of;
 use crate::practice::PracticeLine;
 use crate::wire::Wire;
 use ecat_frame::Frame;
@@ -62,6 +63,10 @@ pub struct PracticeWire {
     answers: [Option<Packet>; 4],
     /// The frame that comes back before the next one.
     late: Option<Packet>,
+    /// The number of the last frame.
+    number: Option<u32>,
+    /// How many frames were sent that write to control and status of a busy slave.
+    disturbing: u32,
 }
 
 fn packet_of(bytes: &[u8]) -> Packet {
@@ -90,6 +95,8 @@ impl PracticeWire {
             cut: None,
             answers: [None; 4],
             late: None,
+            number: None,
+            disturbing: 0,
         }
     }
 
@@ -113,6 +120,21 @@ impl PracticeWire {
     /// Plans no power cut.
     pub fn keep_power(&mut self) {
         self.cut = None;
+    }
+
+    /// How many frames were sent that write to control and status of a slave, or behind them, while it was busy. A frame that is sent
+    /// again doesn't count: the slave may be busy with what it says.
+    pub fn disturbing(&self) -> u32 {
+        self.disturbing
+    }
+
+    /// Counts a frame that is sent for the first time, if it disturbs a slave.
+    fn note(&mut self, frame: &Frame) {
+        let number = number_of(frame);
+        if number != self.number && self.line.is_disturbed_by(frame) {
+            self.disturbing = self.disturbing.saturating_add(1);
+        }
+        self.number = number;
     }
 
     /// The fate of the next frame.
@@ -185,12 +207,13 @@ impl PracticeWire {
 impl Wire for PracticeWire {
     fn send(&mut self, bytes: &[u8]) -> io::Result<()> {
         let fate = self.next_fate();
-        if let Fate::LostBefore = fate {
-            return Ok(());
-        }
         let Ok(mut frame) = Frame::parse(bytes) else {
             return Err(io::Error::other("no frame"));
         };
+        self.note(&frame);
+        if let Fate::LostBefore = fate {
+            return Ok(());
+        }
         self.pass(&mut frame)?;
         if let (Fate::SentTwice, Ok(mut copy)) = (fate, Frame::parse(bytes)) {
             self.pass(&mut copy)?;

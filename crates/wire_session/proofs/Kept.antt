@@ -62,12 +62,12 @@ pub went_well : (old mid new : Known) → mid ≡ old → KeepsAll mid new → B
 went_well old mid new same kept = backs_behind (Ok tt) old mid new same (record { kept = kept; unwritten = tt })
 
 -- what is absent stays so while nothing is written
-pub absent_text : (old mid : Known) (name : List ℕ) (text : Option (String Global)) → mid ≡ old → IfSome text (λ _. IsAbsent old name) → IfSome text (λ _. IsAbsent mid name)
-absent_text old mid name text same absent =
+pub no_text : (old mid : Known) (name : List ℕ) (text : Option (String Global)) → mid ≡ old → IfSome text (λ _. IsAbsent old name) → IfSome text (λ _. IsAbsent mid name)
+no_text old mid name text same absent =
     let P : Known → Type 0 = λ files. IfSome text (λ _. IsAbsent files name) in subst P (sym same) absent
 
-pub absent_names : (old mid : Known) (names : List (String Global)) → mid ≡ old → All (λ name. IsAbsent old (string_bytes name)) names → All (λ name. IsAbsent mid (string_bytes name)) names
-absent_names old mid names same absent =
+pub no_names : (old mid : Known) (names : List (String Global)) → mid ≡ old → All (λ name. IsAbsent old (string_bytes name)) names → All (λ name. IsAbsent mid (string_bytes name)) names
+no_names old mid names same absent =
     let P : Known → Type 0 = λ files. All (λ name. IsAbsent files (string_bytes name)) names in subst P (sym same) absent
 
 -- one more file is absent

@@ -1,5 +1,5 @@
 -- What the files hold after a recovery on a wire.
-use Rattle.std.proofs.Common.{◌≡◌, ℕ, List, [], ◌∷◌, Result, Ok, Err, inl, inr, sym, subst, ◌∙◌, arith}
+use Rattle.std.proofs.Common.{◌≡◌, ℕ, List, [], ◌∷◌, Result, Ok, Err, IsErrAnd, inl, inr, sym, subst, ◌∙◌, arith}
 use Rattle.std.specs.Prelude.{⊤, IfErr, OnOk, string_bytes}
 use Rattle.std.proofs.lemmas.List.Elements.{Contains-append_left}
 use Rattle.site_core.specs.State.{State, Seen}
@@ -36,6 +36,11 @@ ends_opened result old mid new line plant bytes site only made ends = record {
   unsaved = only_both result old mid new line only ends.unsaved;
   saved = subst (λ (seen : Seen). OnOk result (SavesRecovered new line seen)) made.seen ends.saved;
 }
+
+-- memory was refused behind it
+pub ends_unmade : (result : Result (Unit {0}) WireFault) (old new : Known) (line : LineFile) (before : Seen) → ChangesOnly old new (string_bytes line.journal) → IsErrAnd result IsOfStream → EndsRecovery result old new line before
+ends_unmade (Ok done) old new line before only failed = absurd failed
+ends_unmade (Err fault) old new line before only failed = record { others = among_only old new line only; unsaved = λ apart. absurd (apart failed); saved = tt }
 
 -- ---- the line is recovered
 

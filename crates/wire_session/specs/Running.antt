@@ -1,5 +1,5 @@
--- `run` on a wire: how the line that was found is served on one thread, and what the files hold in the end.
-use Rattle.std.specs.Prelude.{◌≡◌, ◌⊎◌, ℕ, true, List, Result, IfOk, IsErr}
+-- `run` on a wire: how the line that was found is served by threads, and what the files hold in the end.
+use Rattle.std.specs.Prelude.{◌≡◌, ◌⊎◌, ℕ, Bool, false, List, Result, IfOk, IsErr}
 use Rattle.sii_edit.specs.declared.command.Command.{Command}
 use Rattle.site_shadow.specs.Site.{SiteValue}
 use Rattle.station_text.specs.declared.line_file.LineFile.{LineFile}
@@ -8,39 +8,38 @@ use Rattle.station_files.specs.ScriptFiles.{SpellsCommands}
 use Rattle.station_files.specs.declared.faults.ExitStatus.{ExitStatus}
 use Rattle.station_alone.specs.Station.{Station}
 use Rattle.station_session.specs.Site.{IsSiteOf, files_of}
-use Rattle.station_session.specs.Session.{SavesRun, SavesServed}
+use Rattle.station_session.specs.Session.{SavesRun, Serves}
 use Rattle.wire_session.specs.declared.faults.WireFault.{WireFault}
 use Rattle.wire_session.specs.Opening.{IsFound, LeavesImages}
 
 -- No other files than the line's changed. After a fault of the line or the journal no image file has changed. If the result is `Ok`, the
--- commands were served on this station, and the files hold its state.
-pub record EndsServing (result : Result ExitStatus WireFault) (old new : Known) (line : LineFile) (opened : Station)
-    (commands : List Command) : Type 0 where
+-- files hold what is said of its status.
+pub record Ends (saves : ExitStatus → Type 0) (result : Result ExitStatus WireFault) (old new : Known) (line : LineFile) : Type 0 where
   pub others : ChangesAmong old new (files_of line)
   pub unsaved : LeavesImages result old new line
-  pub saved : IfOk result (λ status. SavesServed new line opened commands status)
+  pub saved : IfOk result saves
 
--- The same of a station that was opened on this site, after a recovery if the journal wasn't of version 2. It is served on one thread, as in
--- a run with a planned power cut.
-pub record EndsSite (result : Result ExitStatus WireFault) (old new : Known) (line : LineFile) (site : SiteValue)
-    (commands : List Command) : Type 0 where
-  pub others : ChangesAmong old new (files_of line)
-  pub unsaved : LeavesImages result old new line
-  pub saved : IfOk result (λ status. SavesRun true new line site commands status)
+-- If the result is `Ok`, the commands were served on this station, by threads or on one, and the files hold its state.
+abbrev pub EndsServing : (is_alone : Bool) → Result ExitStatus WireFault → Known → Known → LineFile → Station → List Command → Type 0
+EndsServing is_alone result old new line opened commands =
+    Ends (λ status. Serves is_alone new line opened commands status) result old new line
+
+-- The same of a station that was opened on this site, after a recovery if the journal wasn't of version 2. It is served by threads, as
+-- in a run on files.
+abbrev pub EndsSite : Result ExitStatus WireFault → Known → Known → LineFile → SiteValue → List Command → Type 0
+EndsSite result old new line site commands = Ends (λ status. SavesRun false new line site commands status) result old new line
 
 -- The files hold the state of a station that was served on a site of slaves with these words and a journal with these bytes.
 pub record SavesFound (files : Known) (line : LineFile) (plant : List (List ℕ)) (bytes : List ℕ) (commands : List Command)
     (status : ExitStatus) : Type 0 where
   pub site : SiteValue
   pub made : IsSiteOf plant bytes site
-  pub saves : SavesRun true files line site commands status
+  pub saves : SavesRun false files line site commands status
 
 -- The same of the words that were found on the wire and the bytes of the journal.
-pub record EndsFound (result : Result ExitStatus WireFault) (old new : Known) (line : LineFile) (plant : List (List ℕ))
-    (bytes : List ℕ) (commands : List Command) : Type 0 where
-  pub others : ChangesAmong old new (files_of line)
-  pub unsaved : LeavesImages result old new line
-  pub saved : IfOk result (λ status. SavesFound new line plant bytes commands status)
+abbrev pub EndsFound : Result ExitStatus WireFault → Known → Known → LineFile → List (List ℕ) → List ℕ → List Command → Type 0
+EndsFound result old new line plant bytes commands =
+    Ends (λ status. SavesFound new line plant bytes commands status) result old new line
 
 -- The line was found and the script read, and its commands were run as far as the result says.
 pub record RunsFound (result : Result ExitStatus WireFault) (old new : Known) (name script : List ℕ) : Type 0 where

@@ -38,7 +38,7 @@ pub fn backup_line<W: Wire, S: Store>(
 }
 
 /// Writes the files of a backup.
-#[tactic(auto, using(crate::proofs::Kept::unchanged, crate::proofs::Kept::backs_behind, crate::proofs::Kept::absent_text))]
+#[tactic(auto, using(crate::proofs::Kept::unchanged, crate::proofs::Kept::backs_behind, crate::proofs::Kept::no_text))]
 fn save_backup<S: Store>(
     alloc: Global,
     name: &str,
@@ -54,7 +54,7 @@ fn save_backup<S: Store>(
 }
 
 /// Writes the files of a plan, if none of the image files is there.
-#[tactic(auto, using(crate::proofs::Kept::unchanged, crate::proofs::Kept::failed_late, crate::proofs::Kept::went_well, crate::proofs::Kept::absent_text, crate::proofs::Kept::absent_names))]
+#[tactic(auto, using(crate::proofs::Kept::unchanged, crate::proofs::Kept::backs_behind, crate::proofs::Kept::no_text, crate::proofs::Kept::no_names))]
 fn save_plan<S: Store>(
     alloc: Global,
     name: &str,
@@ -67,10 +67,27 @@ fn save_plan<S: Store>(
     ensures { Backs result (S.files store.old) (S.files store.new) }
 {
     match require_absent(alloc, &plan.line.images, store) {
-        Ok(()) => match write_plan(alloc, name, plan, plant, store) {
-            Ok(()) => Ok(()),
-            Err(fault) => Err(WireFault::Station(fault)),
-        },
+        Ok(()) => save_absent(alloc, name, plan, plant, store),
+        Err(fault) => Err(WireFault::Station(fault)),
+    }
+}
+
+/// Writes the files of a plan, none of which is there.
+#[tactic(auto, using(crate::proofs::Kept::failed_late, crate::proofs::Kept::went_well))]
+fn save_absent<S: Store>(
+    alloc: Global,
+    name: &str,
+    plan: &Plan,
+    plant: &Plant,
+    store: &mut S,
+) -> Result<(), WireFault>
+    requires count { vec_len plan.now.line.images ≡ length plant.now }
+    requires absent { IfSome plan.now.text (λ _. IsAbsent (S.files store.old) name.now) }
+    requires images { All (λ image. IsAbsent (S.files store.old) (string_bytes image)) plan.now.line.images.items }
+    ensures { Backs result (S.files store.old) (S.files store.new) }
+{
+    match write_plan(alloc, name, plan, plant, store) {
+        Ok(()) => Ok(()),
         Err(fault) => Err(WireFault::Station(fault)),
     }
 }

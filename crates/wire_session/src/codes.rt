@@ -126,6 +126,6 @@ const UNCONFIRMED: CodeEntry = CodeEntry {
 const NOT_FOR_WIRE: CodeEntry = CodeEntry {
     name: "NotForWire",
     meaning: "A frame was to be sent that this program doesn't send over a wire.",
-    reason: "It has process data, or several datagrams for one slave. The station asks for none of them, so this is an error of the program.",
+    reason: "It has several datagrams for one slave, or a long one. The station asks for none of them, so this is an error of the program.",
     remedy: "Report it, with the script and the line file. Recovering the line is safe.",
 };

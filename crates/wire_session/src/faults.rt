@@ -1,5 +1,6 @@
 //! Why a subcommand on a wire failed, as it is printed, and the exit status.
 ghost use Rattle.std.specs.Prelude.{◌≡◌};
+ghost use Rattle.wire_session.specs.Backup.{IsOfStream};
 ghost use Rattle.wire_session.specs.declared.faults.WireFault.TheVariants as wire;
 
 use crate::codes::WireCode;
@@ -48,15 +49,19 @@ fn code_of_stop(reason: StopReason) -> (WireCode, Option<usize>) {
         StopReason::WordFailed { slave } => (WireCode::WordFailed, Some(slave)),
         StopReason::Unconfirmed { slave } => (WireCode::Unconfirmed, Some(slave)),
         StopReason::NotOneDatagram { slave } => (WireCode::NotForWire, Some(slave)),
-        StopReason::ProcessData => (WireCode::NotForWire, None),
     }
 }
 
-/// Why a station on a wire ended early: the reason for which its site has stopped, or else the station's fault.
-pub(crate) fn why_ended(reason: Option<StopReason>, fault: Fault) -> WireFault {
-    match reason {
-        Some(reason) => WireFault::Stopped(reason),
-        None => WireFault::Station(fault),
+/// Why work on a wire ended early: the fault of a file or stream, or want of memory; or else the reason for which its site has stopped, if
+/// it has; or else the fault.
+pub(crate) fn why_ended(reason: Option<StopReason>, fault: WireFault) -> WireFault
+    ensures { IsOfStream fault → IsOfStream result }
+{
+    match (fault, reason) {
+        (WireFault::Station(Fault::File), _) => fault,
+        (WireFault::Station(Fault::Memory), _) => fault,
+        (_, Some(reason)) => WireFault::Stopped(reason),
+        (_, None) => fault,
     }
 }
 

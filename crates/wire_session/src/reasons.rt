@@ -2,7 +2,7 @@
 
 use site_file::RandomAccessFile;
 use site_shadow::Device;
-use site_wire::{StopReason, Wire, WireDevice};
+use site_wire::{Reach, StopReason, WireDevice};
 
 /// A device that keeps the reason for which its site has stopped.
 pub(crate) trait KeepsReason: Device {
@@ -10,7 +10,7 @@ pub(crate) trait KeepsReason: Device {
     fn reason(&self) -> Option<StopReason>;
 }
 
-impl<'f, W: Wire, F: RandomAccessFile> KeepsReason for WireDevice<'f, W, F> {
+impl<'f, L: Reach, F: RandomAccessFile> KeepsReason for WireDevice<'f, L, F> {
     fn reason(&self) -> Option<StopReason> {
         WireDevice::reason(self)
     }

@@ -97,7 +97,7 @@ fn recover_site<D: KeepsReason + Drop, S: Store, O: Write>(
         Err((left, fault)) => {
             let reason = left.device().reason();
             drop(left);
-            Err(why_ended(reason, of_open(fault)))
+            Err(why_ended(reason, WireFault::Station(of_open(fault))))
         }
     }
 }

@@ -1,28 +1,25 @@
 //! The subcommand `run`.
-ghost use Rattle.std.specs.Prelude.{◌≡◌, ◌≤◌, length, IfErr, IfOk, IsTrue, OnOk};
+ghost use Rattle.std.specs.Prelude.{◌≡◌, ◌≤◌, length, IfOk, IsTrue};
 ghost use Rattle.esc_rom.specs.Owned.{OwnsAll};
-ghost use Rattle.station_files.specs.Files.{ChangesAmong};
 ghost use Rattle.station_files.specs.ScriptFiles.{SpellsCommands};
-ghost use Rattle.station_session.specs.Site.{files_of, HoldsSite};
 ghost use Rattle.station_session.specs.Session.{is_old};
-ghost use Rattle.wire_session.specs.Backup.{IsOfStream};
 ghost use Rattle.wire_session.specs.Opening.{IsFound};
-ghost use Rattle.wire_session.specs.Running.{EndsFound, EndsServing, EndsSite, RunsScript};
+ghost use Rattle.wire_session.specs.Running.{EndsFound, EndsSite, RunsScript};
 
 use crate::faults::{WireFault, why_ended};
 use crate::opening::{Found, find_line, open_journal};
-use crate::reasons::KeepsReason;
-use script_session::serve_commands;
+use crate::threads::run_threads;
 use sii_edit::Command;
 use site_file::FileDevice;
-use site_shadow::ShadowSite;
-use site_wire::{NumberedWire, Wire, WireDevice};
-use station_alone::Alone;
+use site_shadow::{Device, ShadowSite};
+use site_wire::{LiveLine, LockedLine, NumberedWire, Wire, WireDevice};
 use station_files::{ExitStatus, Store, load_script};
-use station_session::{is_old, of_open, open_station, save_site, site_of};
+use station_session::{is_old, of_open, open_station, site_of};
 use station_text::LineFile;
 use std::alloc::Global;
 use std::io::Write;
+use std::sync::Wait;
+use std::thread::Threads;
 
 /// What was found for a run: the line, and the commands of the script.
 #[derive(Drop)]
@@ -31,16 +28,18 @@ struct Given<L> {
     commands: Vec<Command>,
 }
 
-/// Runs the script file `script` on the line on this wire, whose line file is `name`: submits its commands in order, serves them on one
-/// thread, prints the answer to each and the totals, and writes the words of each slave to its image file, which is replaced as a whole. A
-/// journal that isn't of version 2 is recovered and migrated first. Returns the exit status: `Done`, or that of the worst refusal.
+/// Runs the script file `script` on the line on this wire, whose line file is `name`: submits its commands in order, serves them by
+/// threads, one for each slave, prints the answer to each and the totals, and writes the words of each slave to its image file, which is
+/// replaced as a whole. The threads share the wire under a lock, frame by frame. A journal that isn't of version 2 is recovered and migrated
+/// first. Where no thread can be made, one serves all. Returns the exit status: `Done`, or that of the worst refusal.
 ///
 /// # Errors
 ///
 /// As for `load_script`; then as for `find_line`. Nothing is written up to there. Then as for `open_journal`, `open_station` and
-/// `serve_commands`, or why the site on the wire has stopped. No image file is written up to there, and a recovery completes what was begun.
+/// `serve_by_threads`, or why the line on the wire has stopped. No image file is written up to there, and a recovery completes what was begun.
 /// Then `File` or `Memory`, as the store answers.
-pub fn run_script<W: Wire + Drop, S: Store, O: Write>(
+pub fn run_script<W: Wire + Send + Drop, S: Store, O: Write, R: Wait + Threads + Sync>(
+    rt: &R,
     alloc: Global,
     wire: NumberedWire<W>,
     name: &str,
@@ -54,7 +53,7 @@ pub fn run_script<W: Wire + Drop, S: Store, O: Write>(
     match find_all(alloc, &mut wire, name, script, store) {
         Ok(given) => {
             let Given { found, commands } = given;
-            run_found(alloc, found, &commands, wire, store, output)
+            run_found(rt, alloc, found, &commands, wire, store, output)
         }
         Err(fault) => {
             drop(wire);
@@ -88,7 +87,8 @@ fn find_all<W: Wire, S: Store>(
 }
 
 /// Opens the journal of a line that was found, and runs the commands.
-fn run_found<W: Wire + Drop, S: Store, O: Write>(
+fn run_found<W: Wire + Send + Drop, S: Store, O: Write, R: Wait + Threads + Sync>(
+    rt: &R,
     alloc: Global,
     found: Found<S::Lock>,
     commands: &[Command],
@@ -109,13 +109,40 @@ fn run_found<W: Wire + Drop, S: Store, O: Write>(
     } = found;
     let files = open_journal(alloc, &line, store)?;
     let was_old = is_old(&journal);
-    let device = WireDevice::new(wire, FileDevice::new(&files));
+    let locked = LockedLine::new(LiveLine::new(wire));
+    let device = WireDevice::shared(locked.shared(rt), FileDevice::new(&files));
     let site = site_of(alloc, &slaves, journal, device)?;
-    run_site(alloc, &line, site, was_old, commands, store, output)
+    run_on_wire(
+        rt, alloc, &line, &locked, site, was_old, commands, store, output,
+    )
 }
 
-/// Opens the station on this line, and serves the commands.
-fn run_site<D: KeepsReason + Drop, S: Store, O: Write>(
+/// Runs the commands on this site, and tells of a fault why the line on the wire has stopped, if it has.
+fn run_on_wire<D: Device + Copy + Send, W: Wire, S: Store, O: Write, R: Wait + Threads + Sync>(
+    rt: &R,
+    alloc: Global,
+    line: &LineFile,
+    locked: &LockedLine<W>,
+    site: ShadowSite<D>,
+    was_old: bool,
+    commands: &[Command],
+    store: &mut S,
+    output: &mut O,
+) -> Result<ExitStatus, WireFault>
+    requires disk { IsTrue site.line.has_disk }
+    requires owned { OwnsAll site.line }
+    requires old { was_old ≡ is_old site.seen.state.disk.bytes }
+    ensures { EndsSite result (S.files store.old) (S.files store.new) line.now site commands.now }
+{
+    match run_site(rt, alloc, line, site, was_old, commands, store, output) {
+        Ok(status) => Ok(status),
+        Err(fault) => Err(why_ended(locked.reason(rt), fault)),
+    }
+}
+
+/// Opens the station on this line, and serves the commands by threads.
+fn run_site<D: Device + Copy + Send, S: Store, O: Write, R: Wait + Threads + Sync>(
+    rt: &R,
     alloc: Global,
     line: &LineFile,
     site: ShadowSite<D>,
@@ -126,63 +153,14 @@ fn run_site<D: KeepsReason + Drop, S: Store, O: Write>(
 ) -> Result<ExitStatus, WireFault>
     requires disk { IsTrue site.line.has_disk }
     requires owned { OwnsAll site.line }
-    requires slaves { length site.line.sizes ≡ length line.now.images.items }
     requires old { was_old ≡ is_old site.seen.state.disk.bytes }
     ensures { EndsSite result (S.files store.old) (S.files store.new) line.now site commands.now }
 {
     match open_station(alloc, site, was_old, None) {
-        Ok(alone) => run_station(alloc, line, alone, commands, store, output),
+        Ok(alone) => run_threads(rt, alloc, line, alone, commands, store, output),
         Err((left, fault)) => {
-            let reason = left.device().reason();
             drop(left);
-            Err(why_ended(reason, of_open(fault)))
+            Err(WireFault::Station(of_open(fault)))
         }
     }
-}
-
-/// Serves the commands on this station, and saves what the slaves hold unless a fault came.
-fn run_station<D: KeepsReason + Drop, S: Store, O: Write>(
-    alloc: Global,
-    line: &LineFile,
-    mut alone: Alone<ShadowSite<D>>,
-    commands: &[Command],
-    store: &mut S,
-    output: &mut O,
-) -> Result<ExitStatus, WireFault>
-    requires disk { IsTrue alone.line.has_disk }
-    requires slaves { length alone.line.sizes ≡ length line.now.images.items }
-    ensures { EndsServing result (S.files store.old) (S.files store.new) line.now alone commands.now }
-{
-    let mut status = ExitStatus::Done;
-    let slaves = line.images.len() as u16;
-    let served = serve_commands(&mut alone, slaves, commands, output, &mut status);
-    let (core, site) = alone.into_parts();
-    drop(core);
-    match served {
-        Ok(()) => save_served(alloc, line, site, status, store),
-        Err(fault) => {
-            let reason = site.device().reason();
-            drop(site);
-            Err(why_ended(reason, fault))
-        }
-    }
-}
-
-/// Saves what the slaves hold, and gives the status of the answers.
-fn save_served<D: KeepsReason + Drop, S: Store>(
-    alloc: Global,
-    line: &LineFile,
-    site: ShadowSite<D>,
-    status: ExitStatus,
-    store: &mut S,
-) -> Result<ExitStatus, WireFault>
-    requires disk { IsTrue site.line.has_disk }
-    requires slaves { length site.line.sizes ≡ length line.now.images.items }
-    ensures saved { OnOk result (HoldsSite (S.files store.new) line.now site.seen.state) }
-    ensures status { IfOk result (λ given. given ≡ status) }
-    ensures others { ChangesAmong (S.files store.old) (S.files store.new) (files_of line.now) }
-    ensures failed { IfErr result IsOfStream }
-{
-    save_site(alloc, line, site, store)?;
-    Ok(status)
 }

@@ -1,7 +1,7 @@
 //! A run of three commands on a line on a wire in memory, on which frames have mishaps or the slaves lose their power.
 
-use crate::alone::line::THREE;
-use crate::alone::runs::{End, SERVED, Way, ended_on, kept_by};
+use crate::alone::line::{Line, THREE};
+use crate::alone::runs::{End, SERVED, UNOPENED, Way, ended_on, kept_by};
 use crate::alone::sites::recovered;
 use crate::alone::stops::PATTERNS;
 use crate::alone::wires::{
@@ -14,7 +14,7 @@ use std::alloc::Global;
 
 /// Why a site may stop.
 #[derive(Clone, Copy, PartialEq)]
-enum Why {
+pub(crate) enum Why {
     Never,
     Silent,
     Differs,
@@ -33,7 +33,7 @@ struct Outcome {
 }
 
 /// What frames meet, how many in a row, and why a site may stop then. What isn't compared never stops it.
-const MISHAPS: &[(Fate, u32, Why)] = &[
+pub(crate) const MISHAPS: &[(Fate, u32, Why)] = &[
     (Fate::LostBefore, 2, Why::Never),
     (Fate::LostBefore, 3, Why::Silent),
     (Fate::LostBehind, 1, Why::Never),
@@ -54,7 +54,7 @@ const MISHAPS: &[(Fate, u32, Why)] = &[
 ];
 
 /// Whether a site may stop for this reason.
-fn may_stop(why: Why, reason: StopReason) -> bool {
+pub(crate) fn may_stop(why: Why, reason: StopReason) -> bool {
     match reason {
         StopReason::Silent => why == Why::Silent,
         StopReason::Differs { .. } => why == Why::Differs || why == Why::DiffersOrFailed,
@@ -99,7 +99,7 @@ fn recovers(
 }
 
 /// Whether a recovery without trouble completes, and then the slaves have aliases of one of these rows, and nothing is live.
-fn is_mended(
+pub(crate) fn is_mended(
     alloc: Global,
     files: &OpenFiles<JournalFile>,
     wire: NumberedWire<PracticeWire>,
@@ -115,16 +115,20 @@ fn is_mended(
     }
 }
 
-/// Whether a site stops in a run with this trouble. None if it stops for a reason for which it may not, or isn't served otherwise, or a
-/// recovery doesn't find the slaves as a prefix of the commands leaves them, with each acknowledged one in it.
+/// Whether a site stops in a run with this trouble. None if it stops for a reason for which it may not, or isn't served otherwise, or sends a
+/// command to a busy slave, or a recovery doesn't find the slaves as a prefix of the commands leaves them, with each acknowledged one in it.
 fn is_stopped(alloc: Global, way: Way, trouble: &Trouble, why: Why) -> Option<bool> {
     let files = files_of(alloc, &THREE)?;
     let Outcome {
-        wire,
+        mut wire,
         end,
         reason,
         ..
     } = ended(alloc, &files, way, trouble)?;
+    if wire.wire().disturbing() > 0 {
+        drop(wire);
+        return None;
+    }
     if !is_mended(alloc, &files, wire, kept_by(way, end.status[1])) {
         return None;
     }
@@ -136,7 +140,7 @@ fn is_stopped(alloc: Global, way: Way, trouble: &Trouble, why: Why) -> Option<bo
 }
 
 /// How many frames a run without trouble sends.
-fn frames_of(alloc: Global, way: Way) -> Option<u64> {
+pub(crate) fn frames_of(alloc: Global, way: Way) -> Option<u64> {
     let files = files_of(alloc, &THREE)?;
     let ended = ended(alloc, &files, way, &NO_TROUBLE)?;
     if ended.end == SERVED {
@@ -181,7 +185,7 @@ fn mishaps_of_a_run_end_well_or_stop(rt: HostRuntime) {
 }
 
 /// A power cut of the slaves in the midst of the word behind so many.
-fn cut(words: u32, left: Pattern) -> Trouble {
+pub(crate) fn cut(words: u32, left: Pattern) -> Trouble {
     Trouble {
         cut: Some((words, left)),
         ..NO_TROUBLE
@@ -223,6 +227,44 @@ fn words_survived(alloc: Global, way: Way, left: Pattern) -> Option<u32> {
         words_mended(alloc, way, &trouble, left)?;
     }
     None
+}
+
+/// Lines of three slaves whose journal is refused: it is none, of a version that isn't known, or of another number of slaves.
+const REFUSED: &[Line] = &[
+    Line {
+        header: [0x00, 0x02, 0x03, 0x00, 0x00, 0x10, 0x00, 0x00],
+        ..THREE
+    },
+    Line {
+        header: [0xa5, 0x03, 0x03, 0x00, 0x00, 0x10, 0x00, 0x00],
+        ..THREE
+    },
+    Line {
+        header: [0xa5, 0x02, 0x02, 0x00, 0x00, 0x10, 0x00, 0x00],
+        ..THREE
+    },
+];
+
+/// How many words the slaves of a line have begun to write once it was neither recovered nor opened. None: it was.
+fn words_of_a_refused(alloc: Global, line: &Line) -> Option<u32> {
+    let files = files_of(alloc, line)?;
+    let site = site_on(alloc, &files, wire_of(alloc, line)?, &NO_TROUBLE)?;
+    let (site, came) = recovered(alloc, site);
+    let (site, end) = ended_on(alloc, site, Way::Queued);
+    let (mut wire, reason, _frames) = taken_off(site);
+    let begun = wire.wire().line().begun();
+    drop(wire);
+    if came.is_ok() || end != UNOPENED || reason.is_some() {
+        return None;
+    }
+    Some(begun)
+}
+
+#[test]
+fn a_journal_that_is_refused_writes_no_word(rt: HostRuntime) {
+    for line in REFUSED {
+        assert!(rt; words_of_a_refused(rt.alloc(), line) == Some(0));
+    }
 }
 
 #[test]

@@ -3,14 +3,15 @@
 use crate::alone::line::{Line, disk, parts_with, plant_of};
 use crate::alone::runs::is_found;
 use site_file::{FileDevice, OpenFiles, RandomAccessFile};
-use site_mem::Pattern;
+use site_mem::{Parts, Pattern};
 use site_shadow::ShadowSite;
 use site_wire::{
-    Fate, Mishap, NumberedWire, PracticeLine, PracticeWire, StopReason, WireDevice, WireSite,
-    bring_up,
+    Fate, LiveLine, LockedLine, Mishap, NumberedWire, PracticeLine, PracticeWire, SharedSite,
+    StopReason, WireDevice, WireSite, bring_up,
 };
 use std::alloc::Global;
 use std::io;
+use std::sync::Wait;
 use std::sync::atomic::AtomicU8;
 use std::sync::atomic::Ordering::SeqCst;
 
@@ -25,6 +26,9 @@ pub(crate) struct JournalFile {
 
 /// A line on a wire, and its journal.
 pub(crate) type Wired<'f> = WireSite<'f, PracticeWire, JournalFile>;
+
+/// A line on a wire that threads share, and its journal.
+pub(crate) type Shared<'f, R> = SharedSite<'f, R, PracticeWire, JournalFile>;
 
 /// What goes wrong on a wire, from the moment on at which its line is brought up.
 #[derive(Clone, Copy)]
@@ -130,12 +134,51 @@ pub(crate) fn site_on<'f>(
     trouble: &Trouble,
 ) -> Option<Wired<'f>> {
     let mut wire = troubled(wire, &NO_TROUBLE);
-    let plant = bring_up(alloc, &mut wire).ok()?;
-    let parts = parts_with(alloc, &plant, files.journal.bytes(alloc)?)?;
+    let parts = parts_on(alloc, files, &mut wire)?;
     if !parts.is_whole() {
         return None;
     }
     let device = WireDevice::new(troubled(wire, trouble), FileDevice::new(files));
+    Some(ShadowSite::of_parts(alloc, parts, device))
+}
+
+/// Brings up the line on this wire. Gives its parts, with the bytes of the journal's file.
+fn parts_on(
+    alloc: Global,
+    files: &OpenFiles<JournalFile>,
+    wire: &mut NumberedWire<PracticeWire>,
+) -> Option<Parts> {
+    let plant = bring_up(alloc, wire).ok()?;
+    parts_with(alloc, &plant, files.journal.bytes(alloc)?)
+}
+
+/// Brings up the line on this wire without trouble. Gives its parts, and the line under a lock, with this trouble from then on.
+pub(crate) fn locked_on(
+    alloc: Global,
+    files: &OpenFiles<JournalFile>,
+    wire: NumberedWire<PracticeWire>,
+    trouble: &Trouble,
+) -> Option<(Parts, LockedLine<PracticeWire>)> {
+    let mut wire = troubled(wire, &NO_TROUBLE);
+    let parts = parts_on(alloc, files, &mut wire)?;
+    Some((
+        parts,
+        LockedLine::new(LiveLine::new(troubled(wire, trouble))),
+    ))
+}
+
+/// The site of these parts on this line, for threads.
+pub(crate) fn shared_on<'f, R: Wait>(
+    rt: &'f R,
+    alloc: Global,
+    files: &'f OpenFiles<JournalFile>,
+    parts: Parts,
+    locked: &'f LockedLine<PracticeWire>,
+) -> Option<Shared<'f, R>> {
+    if !parts.is_whole() {
+        return None;
+    }
+    let device = WireDevice::shared(locked.shared(rt), FileDevice::new(files));
     Some(ShadowSite::of_parts(alloc, parts, device))
 }
 

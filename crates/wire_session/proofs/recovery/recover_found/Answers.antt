@@ -1,5 +1,11 @@
-use Rattle.wire_session.proofs.Recovering.{ends_opened}
+use Rattle.station_session.specs.Site.{switched_on}
+use Rattle.wire_session.proofs.Recovering.{ends_opened, ends_unmade}
 use Rattle.wire_session.proofs.recovery.recover_found.Goals as goal
+
+pub returns-in_err-site : goal.returns-in_err-site
+returns-in_err-site g c =
+    ends_unmade c.from_residual-in_err-site.result (g.S.Store.files c.args.store.now) (g.S.Store.files c.open_journal.new.store) c.args.found.line
+    (switched_on c.args.found.slaves.items c.args.found.journal.items) c.open_journal.ensures.others c.from_residual-in_err-site.ensures.1
 
 pub returns : goal.returns
 returns g c =

@@ -2,8 +2,8 @@ use Rattle.station_session.proofs.Ending.{old-by}
 use Rattle.wire_session.proofs.RunEnds.{ends_found, ends_unmade}
 use Rattle.wire_session.proofs.running.run_found.Goals as goal
 
-pub run_site-requires-clause-old : goal.run_site-requires-clause-old
-run_site-requires-clause-old g c κs lives =
+pub run_on_wire-requires-clause-old : goal.run_on_wire-requires-clause-old
+run_on_wire-requires-clause-old g c κs lives =
     old-by c.args.found.slaves.items c.args.found.journal.items c.in_ok-site.site c.is_old-was_old.result
     (rw c.deref-2.ensures.value at c.in_ok-site.ensures) (rw c.deref.ensures.value at c.is_old-was_old.ensures)
 
@@ -15,6 +15,6 @@ returns-in_err-site g c =
 
 pub returns : goal.returns
 returns g c =
-    ends_found c.run_site.result (g.S.Store.files c.args.store.now) (g.S.Store.files c.open_journal.new.store)
-    (g.S.Store.files c.run_site.new.store) c.args.found.line c.args.found.slaves.items c.args.found.journal.items c.in_ok-site.site
-    c.args.commands.now c.open_journal.ensures.others (rw c.deref-2.ensures.value at c.in_ok-site.ensures) c.run_site.ensures
+    ends_found c.run_on_wire.result (g.S.Store.files c.args.store.now) (g.S.Store.files c.open_journal.new.store)
+    (g.S.Store.files c.run_on_wire.new.store) c.args.found.line c.args.found.slaves.items c.args.found.journal.items c.in_ok-site.site
+    c.args.commands.now c.open_journal.ensures.others (rw c.deref-2.ensures.value at c.in_ok-site.ensures) c.run_on_wire.ensures

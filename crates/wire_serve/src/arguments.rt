@@ -88,6 +88,11 @@ The line file has to name an image file for each slave, and these have to be the
 as backup leaves them. A journal that is there already is never written over:
 fault 94 Exists.";
 
+/// The help text on what `run` does.
+const RUN_TASK: &str =
+    "Brings up the line, submits the commands of the script in order, carries them out,
+all slaves at the same time, and writes the words of each slave to its image file.";
+
 /// The help text on what `run` prints and writes.
 const RUN_ANSWERS: &str = "Answers:
   command I accepted N           command I of the script has number N, from 0
@@ -306,9 +311,7 @@ fn script_argument<'a>(alloc: Global) -> Arg<'a> {
 fn run_command<'a>(alloc: Global) -> Result<Command<'a>, AllocError> {
     Command::new(alloc, "run")
         .about("Runs the commands of a script on the line")
-        .long_about(
-            "Brings up the line, submits the commands of the script in order, carries them out, and writes the words of each slave to its image file.",
-        )
+        .long_about(RUN_TASK)
         .after_help("Example:\n  launch eth0 2000 sii_wire run line.toml script.toml")
         .after_long_help(RUN_ANSWERS)
         .arg(line_argument(alloc))?

@@ -1,11 +1,11 @@
 //! The subcommand `explain`.
 
-use crate::codes::WIRE_CODES;
 use station_files::Fault;
 use station_listing::{CODES, CodeEntry};
 use std::alloc::{AllocError, Global};
 use std::fmt::Display;
 use std::io::Write;
+use wire_session::WIRE_CODES;
 
 /// Prints what each code means, why it comes and what to do about it: first those of files and slaves, then those of a wire.
 ///

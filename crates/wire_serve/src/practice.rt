@@ -1,6 +1,5 @@
 //! The subcommand `slaves`: a line to practise on, whose slaves hold the words of image files.
 
-use crate::faults::WireFault;
 use ecat_frame::{Frame, MAX_LEN};
 use site_file::RandomAccessFile;
 use site_shadow::Pattern;
@@ -10,6 +9,7 @@ use station_text::LineFile;
 use std::alloc::Global;
 use std::io;
 use std::io::Write;
+use wire_session::WireFault;
 
 /// For how many datagrams a slave stays busy with a command.
 const DELAY: u32 = 2;

@@ -1,14 +1,8 @@
 //! The program as a function of its arguments and streams.
 
 use crate::arguments::Task;
-use crate::backup::backup_line;
 use crate::explain::explain;
-use crate::faults::WireFault;
-use crate::init::init_on_wire;
 use crate::practice::serve_slaves;
-use crate::recovery::recover_line;
-use crate::running::run_script;
-use crate::scan::scan_line;
 use clap::Error;
 use clap::error::ErrorKind;
 use site_wire::{EthernetWire, NumberedWire};
@@ -16,10 +10,21 @@ use station_files::{ExitStatus, Fault, Store, report_fault};
 use std::alloc::Global;
 use std::io;
 use std::io::{Read, Write};
+use std::sync::Wait;
+use std::thread::Threads;
+use wire_session::{WireFault, backup_line, init_on_wire, recover_line, run_script, scan_line};
 
 /// Carries out a task on the wire that is read and written by these two, and returns the exit status: 0 done, 1 a command was refused, 3 a
 /// file or its form, 4 the line, 5 out of memory. The frames are numbered from the one behind `number` on. Faults are printed to `faults`.
-pub fn serve<R: Read + Drop, W: Write + Drop, S: Store, O: Write, E: Write>(
+pub fn serve<
+    H: Wait + Threads + Sync,
+    R: Read + Send + Drop,
+    W: Write + Send + Drop,
+    S: Store,
+    O: Write,
+    E: Write,
+>(
+    rt: &H,
     alloc: Global,
     task: Task<'_>,
     wire: EthernetWire<R, W>,
@@ -29,10 +34,17 @@ pub fn serve<R: Read + Drop, W: Write + Drop, S: Store, O: Write, E: Write>(
     faults: &mut E,
 ) -> u8 {
     let wire = NumberedWire::new(wire, number);
-    status_of(do_task(alloc, task, wire, store, output), faults) as u8
+    status_of(do_task(rt, alloc, task, wire, store, output), faults) as u8
 }
 
-fn do_task<R: Read + Drop, W: Write + Drop, S: Store, O: Write>(
+fn do_task<
+    H: Wait + Threads + Sync,
+    R: Read + Send + Drop,
+    W: Write + Send + Drop,
+    S: Store,
+    O: Write,
+>(
+    rt: &H,
     alloc: Global,
     task: Task<'_>,
     mut wire: NumberedWire<EthernetWire<R, W>>,
@@ -43,7 +55,7 @@ fn do_task<R: Read + Drop, W: Write + Drop, S: Store, O: Write>(
         Task::Scan => all_done(scan_line(alloc, &mut wire, output)),
         Task::Backup { line } => all_done(backup_line(alloc, &mut wire, line, store)),
         Task::Init { line } => all_done(init_on_wire(alloc, &mut wire, line, store, output)),
-        Task::Run { line, script } => run_script(alloc, wire, line, script, store, output),
+        Task::Run { line, script } => run_script(rt, alloc, wire, line, script, store, output),
         Task::Recover { line } => all_done(recover_line(alloc, wire, line, store, output)),
         Task::Slaves { line, cut } => all_done(serve_slaves(
             alloc,

@@ -1,7 +1,7 @@
 use Rattle.std.proofs.Common.{ap}
 use Rattle.site_core.specs.State.{Seen}
 use Rattle.wire_session.proofs.RunEnds.{ends_served}
-use Rattle.wire_session.proofs.running.run_station.Goals as goal
+use Rattle.wire_session.proofs.threads.run_alone.Goals as goal
 
 pub returns-in-Ok : goal.returns-in-Ok
 returns-in-Ok g c =

@@ -1,0 +1,12 @@
+//! The program on a wire as a library: its command line, and a task for each subcommand, over any wire, files and streams.
+#![tactic(auto)]
+
+mod arguments;
+mod explain;
+mod practice;
+mod serving;
+
+pub use arguments::{Arguments, Task, read_arguments};
+pub use practice::{PowerCut, serve_slaves};
+pub use serving::{refuse_text, refuse_words, serve, show_usage};
+pub use station_files::FileStore;

@@ -1,0 +1,17 @@
+use Rattle.std.proofs.Common.{length, arith}
+use Rattle.station_session.proofs.ThreadsEnd.{line-of}
+use Rattle.wire_session.proofs.RunEnds.{ends_at_desk}
+use Rattle.wire_session.proofs.threads.run_threads.Goals as goal
+
+pub end_threads-requires-clause-line : goal.end_threads-requires-clause-line
+end_threads-requires-clause-line g c κs lives =
+    line-of c.in-Ok.left.site.line c.len.result (length c.args.line.now.images.items)
+    (omega (arith, c.len.ensures, c.args.line.now.images.ok.0)) c.in-Ok.ensures.line
+
+pub end_threads-requires-clause-told : goal.end_threads-requires-clause-told
+end_threads-requires-clause-told g c κs lives = c.in-Ok.ensures.left.told
+
+pub returns-in-Ok : goal.returns-in-Ok
+returns-in-Ok g c =
+    ends_at_desk c.end_threads.result (g.S.Store.files c.args.store.now) (g.S.Store.files c.end_threads.new.store) c.args.line.now
+    c.args.alone c.args.commands.now c.in-Ok.left c.in-Ok.ensures.left c.end_threads.ensures
