@@ -4,13 +4,13 @@
 mod arguments;
 mod capture_arguments;
 mod completions;
+mod completions;
+mod explain;
 mod explain;
 mod image_arguments;
 mod manual;
-mod plan_arguments;
-mod completions;
-mod explain;
 mod manual;
+mod plan_arguments;
 mod serving;
 mod shell_arguments;
 
