@@ -4,7 +4,6 @@ use crate::capture_arguments::{capture_argument, capture_of};
 use crate::completions::Shell;
 use crate::image_arguments::{alias_command, diff_command, image_task, show_command};
 use crate::plan_arguments::{journal_command, plan_command, planning_task};
-use crate::completions::Shell;
 use crate::shell_arguments::{completions_command, man_command, shell_of};
 use clap::error::ErrorKind;
 use clap::{Arg, ArgAction, ArgMatches, Command, Error, value_parser};
@@ -110,7 +109,6 @@ impl<'a> Task<'a> {
                 capture,
             }),
             Task::Plan { line, script: "-" } => Some(Task::Plan { line, script: name }),
-            }),
             _ => None,
         }
     }

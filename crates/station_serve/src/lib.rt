@@ -4,11 +4,8 @@
 mod arguments;
 mod capture_arguments;
 mod completions;
-mod completions;
-mod explain;
 mod explain;
 mod image_arguments;
-mod manual;
 mod manual;
 mod plan_arguments;
 mod serving;
