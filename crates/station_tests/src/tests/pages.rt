@@ -11,9 +11,12 @@ use std::thread::Threads;
 /// The subcommands.
 const NAMES: &[&str] = &[
     "show",
+    "diff",
     "alias",
     "init",
+    "plan",
     "run",
+    "journal",
     "recover",
     "layout",
     "explain",
