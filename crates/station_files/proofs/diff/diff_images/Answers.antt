@@ -10,5 +10,5 @@ returns-clause-status g c =
     (second_text (option_map (λ name. name.now) c.args.old) (option_map (λ name. name.now) c.args.new) (g.R.Read.remaining c.args.input.now) (g.S.Store.files c.args.store.now))
     (tells c.args.hex c.in_ok-first.first c.in_ok-second.second c.in_ok-difference.difference c.status_of.result c.in_ok-difference.ensures.same c.status_of.ensures)
     c.in_ok-first.ensures.read
-    (second_known (λ name. name.now) c.args.old c.args.new (g.R.Read.remaining c.args.input.now) (g.R.Read.remaining c.read_image-first.new.input)
-    (g.S.Store.files c.args.store.now) (g.S.Store.files c.read_image-first.new.store) _ c.read_image-first.ensures.unread c.read_image-first.ensures.same c.in_ok-second.ensures.read)
+    (second_known (λ name. name.now) c.args.old c.args.new (g.R.Read.remaining c.args.input.now) (g.R.Read.remaining c.read_image.new.input)
+    (g.S.Store.files c.args.store.now) (g.S.Store.files c.read_image.new.store) _ c.read_image.ensures.unread c.read_image.ensures.same c.in_ok-second.ensures.read)
