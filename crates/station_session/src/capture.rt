@@ -19,7 +19,7 @@ pub(crate) fn begin_capture<S: Store>(
     name: Option<&str>,
     store: &mut S,
 ) -> Result<Option<Capture<S::File>>, Fault>
-    ensures { BeginsCapture (option_map (λ given. given.now) name) (S.files store.old) (S.files store.new) }
+    ensures { BeginsCapture (option_map (λ given. given.now) name.entry) (S.files store.old) (S.files store.new) }
 {
     match name {
         Some(name) => begin_in(name, store),

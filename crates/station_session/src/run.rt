@@ -65,7 +65,7 @@ pub fn run_script<S: Store, W: Write, E: Write, R: Wait + Threads + Clock + Sync
     output: &mut W,
     faults: &mut E,
 ) -> ExitStatus
-    ensures { RunsScript (is_some fuse) (option_map (λ given. given.now) capture) (S.files store.old) (S.files store.new)
+    ensures { RunsScript (is_some fuse) (option_map (λ given. given.now) capture.entry) (S.files store.old) (S.files store.new)
         name.now script.now result }
 {
     match load(alloc, name, script, store) {
@@ -89,7 +89,7 @@ fn run_captured<S: Store, W: Write, E: Write, R: Wait + Threads + Clock + Sync>(
     requires owned { OwnsAll given.session.site.line }
     requires slaves { length given.session.site.line.sizes ≡ length given.session.line.images.items }
     requires old { given.session.is_old ≡ is_old given.session.site.seen.state.disk.bytes }
-    ensures { EndsCaptured (is_some fuse) (option_map (λ given. given.now) capture) (S.files store.old) (S.files store.new)
+    ensures { EndsCaptured (is_some fuse) (option_map (λ given. given.now) capture.entry) (S.files store.old) (S.files store.new)
         given.session.line given.session.site given.commands.items result }
 {
     match begin_capture(capture, store) {
