@@ -1,3 +1,4 @@
+use Rattle.std.proofs.Common.{Bor, List, ℕ}
 use Rattle.std.specs.Prelude.{is_some, option_map}
 use Rattle.station_session.proofs.Ending.{ends-captured, ends-uncaptured}
 use Rattle.station_session.proofs.run.run_captured.Goals as goal
@@ -5,11 +6,11 @@ use Rattle.station_session.proofs.run.run_captured.Goals as goal
 pub returns-in-Ok : goal.returns-in-Ok
 returns-in-Ok g c =
     let given = c.args.given in
-    ends-captured (is_some c.args.fuse) (option_map (λ name. name.now) c.args.capture) (g.S.Store.files c.args.store.now) (g.S.Store.files c.begin_capture.new.store) (g.S.Store.files c.run_given.new.store) given.session.line given.session.site given.commands.items
+    ends-captured (is_some c.args.fuse) (option_map (λ (name : Bor (List ℕ)). name.now) c.args.capture) (g.S.Store.files c.args.store.now) (g.S.Store.files c.begin_capture.new.store) (g.S.Store.files c.run_given-status.new.store) given.session.line given.session.site given.commands.items
     c.run_given-status.result c.end_capture.result c.begin_capture.ensures c.run_given-status.ensures c.end_capture.ensures
 
 pub returns-in-Err : goal.returns-in-Err
 returns-in-Err g c =
     let given = c.args.given in
-    ends-uncaptured (is_some c.args.fuse) (option_map (λ name. name.now) c.args.capture) (g.S.Store.files c.args.store.now) (g.S.Store.files c.begin_capture.new.store) given.session.line given.session.site given.commands.items c.report_fault.result
+    ends-uncaptured (is_some c.args.fuse) (option_map (λ (name : Bor (List ℕ)). name.now) c.args.capture) (g.S.Store.files c.args.store.now) (g.S.Store.files c.begin_capture.new.store) given.session.line given.session.site given.commands.items c.report_fault.result
     c.begin_capture.ensures c.report_fault.ensures.fault
