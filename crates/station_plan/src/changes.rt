@@ -1,5 +1,5 @@
 //! The words in which two contents of a line differ.
-ghost use Rattle.std.specs.Prelude.{◌≡◌, ◌≤◌, ◌++◌, length, IfOk, OnOk};
+ghost use Rattle.std.specs.Prelude.{◌≡◌, ◌<◌, ◌≤◌, ◌++◌, length, IfOk, OnOk};
 ghost use Rattle.sii_words.specs.Plant.{words_of};
 ghost use Rattle.station_plan.specs.Changes.{changes_between, changes_of};
 
@@ -87,7 +87,9 @@ pub fn write_changes<W: Write>(changes: &[ChangedWord], output: &mut W) -> io::R
 }
 
 /// Whether the change at this position is the last one of its run.
-fn ends_run(changes: &[ChangedWord], at: usize) -> bool {
+fn ends_run(changes: &[ChangedWord], at: usize) -> bool
+    requires { at < length changes.now }
+{
     match (changes.get(at), changes.get(at + 1)) {
         (Some(one), Some(next)) => {
             one.slave != next.slave || one.at.checked_add(1) != Some(next.at)
