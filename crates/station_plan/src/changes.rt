@@ -1,7 +1,7 @@
 //! The words in which two contents of a line differ.
 ghost use Rattle.std.specs.Prelude.{◌≡◌, ◌<◌, ◌≤◌, ◌++◌, length, IfOk, OnOk};
 ghost use Rattle.sii_words.specs.Plant.{words_of};
-ghost use Rattle.station_plan.specs.Changes.{changes_between, changes_of};
+ghost use Rattle.station_plan.specs.Changes.{change_at, changes_between, changes_of};
 
 use sii_words::Plant;
 use std::alloc::{AllocError, Global};
@@ -57,15 +57,30 @@ fn note_slave(
     ensures { OnOk result (changes.new.items ≡ changes.old.items ++ changes_of slave old.now new.now) }
 {
     for at in 0..old.len().min(new.len()) {
-        if old[at] != new[at] {
-            changes.push(ChangedWord {
-                slave,
-                at: at as u16,
-                old: old[at],
-                new: new[at],
-            })?;
-        }
+        note_word(changes, slave, at as u16, old[at], new[at])?;
     }
+    Ok(())
+}
+
+/// Notes a word if its values differ.
+fn note_word(
+    changes: &mut Vec<ChangedWord>,
+    slave: u16,
+    at: u16,
+    old: u16,
+    new: u16,
+) -> Result<(), AllocError>
+    ensures { OnOk result (changes.new.items ≡ changes.old.items ++ change_at slave at old new) }
+{
+    if old == new {
+        return Ok(());
+    }
+    changes.push(ChangedWord {
+        slave,
+        at,
+        old,
+        new,
+    })?;
     Ok(())
 }
 
