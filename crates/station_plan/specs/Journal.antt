@@ -1,7 +1,5 @@
 -- What `journal` tells: what a journal holds, and what a recovery would write.
 use Rattle.std.specs.Prelude.{◌≡◌, ℕ, List}
-use Rattle.jrn_format.specs.declared.journal.Journal.{Journal}
-use Rattle.jrn_format.specs.Journal.{IsJournal}
 use Rattle.book_laws.specs.Opening.{words_in}
 use Rattle.site_shadow.specs.Site.{SiteValue}
 use Rattle.station_alone.specs.Station.{Station}
@@ -20,10 +18,8 @@ pub record Restores (site : SiteValue) (restored : Restored) : Type 0 where
   pub counts : CountsRecovered site.line.sizes site.seen restored.recovered s
   pub changes : restored.changes.items ≡ changes_between (words_in site.seen.state.halves) (words_in s.seen.state.halves)
 
--- The disk of this site is this journal, and a recovery would do this.
+-- A recovery of this site would do this. Its disk is the journal of `restores.counts`.
 pub record ListsSite (site : SiteValue) : Type 0 where
-  pub journal : Journal
-  pub read : IsJournal site.seen.state.disk.bytes site.line.sizes journal
   pub restored : Restored
   pub restores : Restores site restored
 

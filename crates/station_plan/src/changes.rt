@@ -1,7 +1,7 @@
 //! The words in which two contents of a line differ.
-ghost use Rattle.std.specs.Prelude.{◌≡◌, ◌≤◌, ◌++◌, length, IfOk, OnOk};
+ghost use Rattle.std.specs.Prelude.{◌≡◌, ◌<◌, ◌≤◌, ◌++◌, length, IfOk, OnOk};
 ghost use Rattle.sii_words.specs.Plant.{words_of};
-ghost use Rattle.station_plan.specs.Changes.{changes_between, changes_of};
+ghost use Rattle.station_plan.specs.Changes.{change_at, changes_between, changes_of};
 
 use sii_words::Plant;
 use std::alloc::{AllocError, Global};
@@ -57,15 +57,30 @@ fn note_slave(
     ensures { OnOk result (changes.new.items ≡ changes.old.items ++ changes_of slave old.now new.now) }
 {
     for at in 0..old.len().min(new.len()) {
-        if old[at] != new[at] {
-            changes.push(ChangedWord {
-                slave,
-                at: at as u16,
-                old: old[at],
-                new: new[at],
-            })?;
-        }
+        note_word(changes, slave, at as u16, old[at], new[at])?;
     }
+    Ok(())
+}
+
+/// Notes a word if its values differ.
+fn note_word(
+    changes: &mut Vec<ChangedWord>,
+    slave: u16,
+    at: u16,
+    old: u16,
+    new: u16,
+) -> Result<(), AllocError>
+    ensures { OnOk result (changes.new.items ≡ changes.old.items ++ change_at slave at old new) }
+{
+    if old == new {
+        return Ok(());
+    }
+    changes.push(ChangedWord {
+        slave,
+        at,
+        old,
+        new,
+    })?;
     Ok(())
 }
 
@@ -87,7 +102,9 @@ pub fn write_changes<W: Write>(changes: &[ChangedWord], output: &mut W) -> io::R
 }
 
 /// Whether the change at this position is the last one of its run.
-fn ends_run(changes: &[ChangedWord], at: usize) -> bool {
+fn ends_run(changes: &[ChangedWord], at: usize) -> bool
+    requires { at < length changes.now }
+{
     match (changes.get(at), changes.get(at + 1)) {
         (Some(one), Some(next)) => {
             one.slave != next.slave || one.at.checked_add(1) != Some(next.at)

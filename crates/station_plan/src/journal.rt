@@ -91,7 +91,9 @@ fn print_journal<W: Write>(
     alloc: Global,
     site: &ShadowSite<FaultPlan>,
     output: &mut W,
-) -> Result<Reading, Fault> {
+) -> Result<Reading, Fault>
+    requires { IsTrue site.now.line.has_disk }
+{
     let parts = site.snapshot(alloc, Pattern::Old)?;
     let mut file = parts.disk.unwrap();
     let reading = read_readable(alloc, &mut file, &parts.sizes)?;

@@ -149,9 +149,8 @@ fn write_command<W: Write>(entry: &Entry, output: &mut W) -> io::Result<()> {
 
 fn write_run<W: Write>(run: &Run, output: &mut W) -> io::Result<()> {
     let words = run.words.as_slice();
-    let last = run
-        .first
-        .saturating_add((words.len() as u16).saturating_sub(1));
+    let count = words.len().min(65535) as u16;
+    let last = run.first.saturating_add(count.saturating_sub(1));
     write_range(run.slave, run.first, last, output)?;
     if words.len() > MOST_PRINTED {
         return writeln!(output, " count {}", words.len());

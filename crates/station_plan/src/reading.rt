@@ -1,7 +1,5 @@
 //! Reads what can be read of a journal's file, also of a damaged one.
-ghost use Rattle.std.specs.Prelude.{◌≡◌, false, length, slice_set, true, IfErr, IfOk, MatchBool};
-ghost use Rattle.jrn_format.specs.Fault.{IsFaultOf};
-ghost use Rattle.jrn_format.specs.Journal.{IsJournal};
+ghost use Rattle.std.specs.Prelude.{◌≡◌, slice_set, IfOk, IsTrue};
 ghost use Rattle.station_plan.specs.Reading.{FindsRest, ReadsFile};
 
 use jrn_format::{CLOSED, Journal, JournalFault, OPEN, scan};
@@ -43,6 +41,7 @@ pub fn read_readable(alloc: Global, file: &mut [u8], sizes: &[u16]) -> Result<Re
 }
 
 /// Reads what can be read of a file that is refused with this fault.
+#[tactic(auto, using(crate::proofs::Gates::closed_more))]
 fn read_damaged(
     alloc: Global,
     file: &mut [u8],
@@ -70,7 +69,8 @@ fn read_damaged(
 
 /// Closes the gate at this offset. Returns whether there is one that was open.
 fn close_gate(file: &mut [u8], at: usize) -> bool
-    ensures { MatchBool result (file.new ≡ slice_set file.old at 0) (file.new ≡ file.old) }
+    ensures closed { IsTrue result → file.new ≡ slice_set file.old at 0 }
+    ensures same { ¬ IsTrue result → file.new ≡ file.old }
 {
     if at < file.len() && file[at] == OPEN {
         file[at] = CLOSED;
