@@ -22,9 +22,11 @@ more (h ∷ halves) zero half is inside = ap (λ (x : Option SlaveHalf). (half_o
 more (h ∷ halves) (suc slave) half is inside = ap (λ (rest : List (List ℕ)). (half_of h).words ∷ rest) (more halves slave half is (omega arith))
 
 -- one more slave behind the others
-pub words_more : (halves : List (Option SlaveHalf)) (all : List SlaveHalf) (slave : ℕ) (half : Option SlaveHalf) (words : List ℕ) (items : List (List ℕ)) → halves_of halves ≡ all
-    → half ≡ get_or halves slave half → slave < length halves → items ≡ words_in (take slave all) → words ≡ (half_of half).words → items ++ words ∷ [] ≡ words_in (take (slave + 1) all)
-words_more halves all slave half words items same is inside before here =
+pub words_more : (halves : List (Option SlaveHalf)) (all : List SlaveHalf) (slave count : ℕ) (half : Option SlaveHalf) (words : List ℕ) (items : List (List ℕ)) → halves_of halves ≡ all
+    → half ≡ get_or halves slave half → slave < count → count ≡ length all → items ≡ words_in (take slave all) → words ≡ (half_of half).words → items ++ words ∷ [] ≡ words_in (take (slave + 1) all)
+words_more halves all slave count half words items same is below many before here =
+    let long : length (halves_of halves) ≡ length all = ap length same in
+    let inside : slave < length halves = omega (arith, below, many, long, length-map halves half_of) in
     ap (λ (xs : List (List ℕ)). xs ++ words ∷ []) before ∙ ap (λ (w : List ℕ). words_in (take slave all) ++ w ∷ []) here
     ∙ subst (λ (hs : List SlaveHalf). words_in (take slave hs) ++ (half_of half).words ∷ [] ≡ words_in (take (suc slave) hs)) same (sym (more halves slave half is inside))
     ∙ ap (λ (n : ℕ). words_in (take n all)) (sym (add-one slave))

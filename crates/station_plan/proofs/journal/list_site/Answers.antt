@@ -1,0 +1,6 @@
+use Rattle.station_plan.specs.Journal.{ListsSite}
+use Rattle.station_plan.proofs.Plans.{on_ok}
+use Rattle.station_plan.proofs.journal.list_site.Goals as goal
+
+pub returns : goal.returns
+returns g c = on_ok c.print_restored.result (ListsSite c.args.site) (record { restored = c.in_ok-restored.restored; restores = c.in_ok-restored.ensures })
