@@ -1,5 +1,5 @@
 -- The words in which two contents of a line differ.
-use Rattle.std.specs.Prelude.{◌≡◌, ◌==◌, ℕ, List, [], ◌∷◌, length, min, slice_index, if◌then◌else◌}
+use Rattle.std.specs.Prelude.{◌==◌, ℕ, List, [], ◌∷◌, length, min, slice_index, if◌then◌else◌}
 use Rattle.std.specs.List.{flat_map, range_with_len}
 use Rattle.sii_words.specs.Plant.{words_of}
 use Rattle.station_plan.specs.declared.changes.ChangedWord.{ChangedWord}
