@@ -34,7 +34,10 @@ const OUT: &[u8] = &[0x00, 0x10, 0x20, 0x30, 0x40, 0x50, 0x88, 0xa4];
 
 const BACK: &[u8] = &[0x02, 0x10, 0x20, 0x30, 0x40, 0x50, 0x88, 0xa4];
 
-/// Second 3, nanosecond 5, and twice the length of a padded frame.
+/// Second 3, nanosecond 5.
+const TIME: &[u8] = &[3, 0, 0, 0, 5, 0, 0, 0];
+
+/// The time, and twice the length of a padded frame.
 const SHORT: &[u8] = &[3, 0, 0, 0, 5, 0, 0, 0, 60, 0, 0, 0, 60, 0, 0, 0];
 
 /// The header of a capture, and its first four records: the station takes the EEPROM from the slave's own processor, by a 2 and then by a
@@ -122,42 +125,60 @@ fn captured(
     })
 }
 
-/// How many of these frames of 60 bytes go out and come back; None where the bytes are something else.
+/// A record: whether its frame comes back, whether it is one for the EEPROM (its first register is one of 0x0500 to 0x05FF), and how many
+/// bytes it has. None where the bytes are no record.
+fn way_of(record: &[u8]) -> Option<(bool, bool, usize)> {
+    let length = usize::from(*record.get(8)?) + 256 * usize::from(*record.get(9)?);
+    let is_timed = record.get(..8)? == TIME && record.get(8..12)? == record.get(12..16)?;
+    let way = record.get(22..30)?;
+    let has_way = record.get(16..22)? == TO_ALL && (way == OUT || way == BACK);
+    if !is_timed || !has_way || length < 60 {
+        return None;
+    }
+    Some((
+        way == BACK,
+        *record.get(37)? == 5,
+        length.saturating_add(16),
+    ))
+}
+
+/// How many frames for the EEPROM go out, and how many come back. None where the bytes are no records, or a frame of another kind comes
+/// back: of one for the process halves a capture has only that it goes out.
 fn ways(records: &[u8]) -> Option<(usize, usize)> {
     let mut out = 0usize;
     let mut back = 0usize;
-    for record in records.chunks(76) {
-        if record.get(..16)? != SHORT || record.get(16..22)? != TO_ALL || record.len() != 76 {
-            return None;
+    let mut rest = records;
+    for _record in 0..4096usize {
+        if rest.is_empty() {
+            return Some((out, back));
         }
-        let way = record.get(22..30)?;
-        if way == OUT {
-            out = out.saturating_add(1);
-        } else if way == BACK {
-            back = back.saturating_add(1);
-        } else {
-            return None;
+        let (comes_back, is_for_rom, length) = way_of(rest)?;
+        match (comes_back, is_for_rom) {
+            (false, true) => out = out.saturating_add(1),
+            (true, true) => back = back.saturating_add(1),
+            (true, false) => return None,
+            (false, false) => {}
         }
+        rest = rest.get(length..)?;
     }
-    Some((out, back))
+    None
 }
 
-/// Whether a run is done, and leaves a capture that is longer than `FIRST`, of frames that all come back; but not those for the process
-/// halves, of which a capture has only that they go out, and of which there are some where the line has its own thread for them.
-fn is_whole(given: &Captured, has_cycle: bool) -> bool {
+/// Whether a run is done, and leaves a capture that is longer than `FIRST`, in which each frame for the EEPROM comes back.
+fn is_whole(given: &Captured) -> bool {
     let is_told = given.run.status == 0 && given.run.output.as_slice() == DONE.as_bytes();
     let records = given.bytes.get(24..).unwrap_or(&[]);
-    let come_back = match ways(records) {
-        Some((out, back)) => out >= back && (out > back) == has_cycle,
+    let all_come_back = match ways(records) {
+        Some((out, back)) => out == back,
         None => false,
     };
-    is_told && given.has_words && come_back && given.bytes.len() > 328
+    is_told && given.has_words && all_come_back && given.bytes.len() > 328
 }
 
 #[test]
 fn frames_of_one_thread(rt: HostRuntime) -> Result<(), Fail> {
     let given = captured(&rt, rt.alloc(), FUSED, Trouble::Nothing)?;
-    assert!(rt; is_whole(&given, false));
+    assert!(rt; is_whole(&given));
     let first = spell(rt.alloc(), FIRST)?;
     assert!(rt; given.bytes.starts_with(first.as_slice()));
     Ok(())
@@ -166,7 +187,7 @@ fn frames_of_one_thread(rt: HostRuntime) -> Result<(), Fail> {
 #[test]
 fn frames_of_threads(rt: HostRuntime) -> Result<(), Fail> {
     let given = captured(&rt, rt.alloc(), THREADED, Trouble::Nothing)?;
-    assert!(rt; is_whole(&given, true));
+    assert!(rt; is_whole(&given));
     Ok(())
 }
 
