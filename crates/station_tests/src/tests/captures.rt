@@ -103,7 +103,7 @@ struct Captured {
 }
 
 /// Runs the program on the files, of which a capture of this length is one, with this trouble.
-fn captured(
+fn capture_run(
     rt: &(impl Wait + Threads + Sync),
     alloc: Global,
     words: &str,
@@ -177,7 +177,7 @@ fn is_whole(given: &Captured) -> bool {
 
 #[test]
 fn frames_of_one_thread(rt: HostRuntime) -> Result<(), Fail> {
-    let given = captured(&rt, rt.alloc(), FUSED, Trouble::Nothing)?;
+    let given = capture_run(&rt, rt.alloc(), FUSED, Trouble::Nothing)?;
     assert!(rt; is_whole(&given));
     let first = spell(rt.alloc(), FIRST)?;
     assert!(rt; given.bytes.starts_with(first.as_slice()));
@@ -186,7 +186,7 @@ fn frames_of_one_thread(rt: HostRuntime) -> Result<(), Fail> {
 
 #[test]
 fn frames_of_threads(rt: HostRuntime) -> Result<(), Fail> {
-    let given = captured(&rt, rt.alloc(), THREADED, Trouble::Nothing)?;
+    let given = capture_run(&rt, rt.alloc(), THREADED, Trouble::Nothing)?;
     assert!(rt; is_whole(&given));
     Ok(())
 }
@@ -194,7 +194,7 @@ fn frames_of_threads(rt: HostRuntime) -> Result<(), Fail> {
 /// The sixth call that writes is that of the third record, behind the file's opening, its emptying and its header.
 #[test]
 fn a_record_that_cannot_be_written(rt: HostRuntime) -> Result<(), Fail> {
-    let given = captured(&rt, rt.alloc(), FUSED, Trouble::Error(5))?;
+    let given = capture_run(&rt, rt.alloc(), FUSED, Trouble::Error(5))?;
     let run = &given.run;
     assert!(rt; run.status == 3 && run.faults.as_slice() == "fault 90 File\n".as_bytes());
     assert!(rt; run.output.as_slice() == DONE.as_bytes() && given.has_words);
