@@ -156,7 +156,7 @@ fn stops<R: Wait + Threads + Sync>(
     let mut stops = 0u32;
     for turn in 0..LAST / 2 {
         let mishap = Mishap {
-            passing: first.saturating_add(2 * turn).min(u32::MAX as usize) as u32,
+            passing: u32::try_from(first.saturating_add(2 * turn)).unwrap_or(u32::MAX),
             failing,
             fate,
         };
