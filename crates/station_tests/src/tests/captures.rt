@@ -199,7 +199,7 @@ fn a_record_that_cannot_be_written(rt: HostRuntime) -> Result<(), Fail> {
     assert!(rt; run.status == 3 && run.faults.as_slice() == "fault 90 File\n".as_bytes());
     assert!(rt; run.output.as_slice() == DONE.as_bytes() && given.has_words);
     let first = spell(rt.alloc(), FIRST)?;
-    assert!(rt; given.bytes.as_slice() == &first[..176]);
+    assert!(rt; given.bytes.len() == 176 && first.starts_with(given.bytes.as_slice()));
     Ok(())
 }
 

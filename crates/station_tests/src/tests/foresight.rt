@@ -51,7 +51,7 @@ impl Dice {
 /// A script of one to six commands.
 fn random_script(alloc: Global, dice: &mut Dice) -> Result<String, AllocError> {
     let mut text = String::new(alloc);
-    for _command in 0..dice.roll(6) + 1 {
+    for _command in 0..dice.roll(6).saturating_add(1) {
         let command = random_command(alloc, dice)?;
         text.push_str("[[command]]\n")?;
         text.push_str(command.as_str())?;
@@ -78,7 +78,7 @@ fn random_edit(alloc: Global, dice: &mut Dice) -> Result<String, AllocError> {
         0 => format!(in alloc; "image = {{ slave = {slave}, file = 'new.bin' }}"),
         1 => format!(in alloc; "alias = {{ slave = {slave}, value = {} }}", dice.roll(9)),
         _ => {
-            let kind = dice.roll(3) + 60;
+            let kind = dice.roll(3).saturating_add(60);
             let content = random_content(alloc, dice)?;
             format!(in alloc;
                 "category = {{ slave = {slave}, kind = {kind}, content = '{content}' }}"
