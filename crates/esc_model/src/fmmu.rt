@@ -3,6 +3,7 @@ ghost use Rattle.std.specs.List.{list_any};
 ghost use Rattle.esc_model.specs.Fmmu.{fmmu_at, fmmus, acts, reads, writes, counter_of, all_read, all_written};
 
 use crate::bytes::copy_part;
+use ecat_frame::MAX_LEN;
 
 /// A fieldbus memory management unit (ETG.1000.4), which maps bytes of a slave's memory into the logical address space.
 #[derive(Clone, Copy)]
@@ -79,21 +80,51 @@ impl Fmmu {
     }
 }
 
-/// Exchanges the content of a logical datagram with a slave's memory through its FMMUs. Reads use `memory`; `next` becomes the memory
-/// after all writes. Returns what that adds to the working counter: 1 if an FMMU reads, plus 2 if one writes.
-pub(crate) fn exchange(memory: &[u8], next: &mut [u8], start: u32, content: &mut [u8]) -> u16
-    requires memory { length memory.now ≡ 65536 }
-    requires next { length next.old ≡ 65536 }
-    ensures next { next.new ≡ all_written content.old (fmmus memory.now) start memory.now }
-    ensures content { content.new ≡ all_read memory.now (fmmus memory.now) start content.old }
-    ensures counter { result ≡ counter_of (fmmus memory.now) start (length content.old) }
+/// Exchanges the content of a logical datagram with a slave's memory through its FMMUs. All reads come before all writes. Returns what
+/// that adds to the working counter: 1 if an FMMU reads, plus 2 if one writes.
+pub(crate) fn exchange(memory: &mut [u8], start: u32, content: &mut [u8]) -> u16
+    requires memory { length memory.old ≡ 65536 }
+    ensures memory { memory.new ≡ all_written content.old (fmmus memory.old) start memory.old }
+    ensures content { content.new ≡ all_read memory.old (fmmus memory.old) start content.old }
+    ensures counter { result ≡ counter_of (fmmus memory.old) start (length content.old) }
 {
     let units = Fmmu::all(memory);
     let counter = counter_of(&units, start, content.len());
-    next.copy_from_slice(memory);
-    write_mapped(content, &units, start, next);
-    read_mapped(memory, &units, start, content);
+    if content.len() <= MAX_LEN {
+        exchange_short(&units, memory, start, content);
+    } else {
+        exchange_long(&units, memory, start, content);
+    }
     counter
+}
+
+/// Exchanges a content that fits into a frame. The writes use a copy of the content as it came in.
+#[inline(never)]
+fn exchange_short(units: &[Fmmu], memory: &mut [u8], start: u32, content: &mut [u8])
+    requires memory { length memory.old ≡ 65536 }
+    requires short { length content.old ≤ 1500 }
+    ensures memory { memory.new ≡ all_written content.old units.now start memory.old }
+    ensures content { content.new ≡ all_read memory.old units.now start content.old }
+{
+    let mut room = [0u8; MAX_LEN];
+    let came = &mut room[..content.len()];
+    came.copy_from_slice(content);
+    read_mapped(memory, units, start, content);
+    write_mapped(came, units, start, memory);
+}
+
+/// Exchanges any content. The reads use a copy of the memory before the writes.
+// Not inlined: a function clears its arrays as it is entered, and no frame has such a content.
+#[inline(never)]
+fn exchange_long(units: &[Fmmu], memory: &mut [u8], start: u32, content: &mut [u8])
+    requires memory { length memory.old ≡ 65536 }
+    ensures memory { memory.new ≡ all_written content.old units.now start memory.old }
+    ensures content { content.new ≡ all_read memory.old units.now start content.old }
+{
+    let mut before = [0u8; 0x10000];
+    before.copy_from_slice(memory);
+    write_mapped(content, units, start, memory);
+    read_mapped(&before, units, start, content);
 }
 
 /// What these FMMUs add to the working counter of a logical datagram of `count` bytes from `start` on.

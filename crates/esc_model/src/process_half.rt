@@ -10,7 +10,6 @@ use ecat_frame::Command;
 use sii_words::Words;
 use std::alloc::{AllocError, Global};
 use std::marker::Model;
-use std::mem;
 
 /// The process half of a slave (ETG.1000.4): 0x10000 bytes, registers below 0x1000 and process data memory from there on. A master
 /// reads and writes them by address, or through the eight FMMUs at 0x0600.
@@ -18,8 +17,6 @@ use std::mem;
 pub struct ProcessHalf {
     station: u16,
     memory: Vec<u8>,
-    /// Where an exchange builds the memory after its writes, while its reads still use the memory before them.
-    next: Vec<u8>,
 }
 
 impl Model for ProcessHalf {
@@ -31,7 +28,7 @@ impl Model for ProcessHalf {
 
     ghost view = { λ half. record { station = half.station; bytes = half.memory.items } };
 
-    ghost invariant = { λ half. (length half.memory.items ≡ 65536) × (length half.next.items ≡ 65536) };
+    ghost invariant = { λ half. length half.memory.items ≡ 65536 };
 }
 
 impl ProcessHalf {
@@ -45,13 +42,8 @@ impl ProcessHalf {
         ensures { IfOk result (λ half. half ≡ powered_up words.now station) }
     {
         let mut memory = zero_bytes(alloc, 0x10000)?;
-        let next = zero_bytes(alloc, 0x10000)?;
         write_part(&mut memory, 0x0010, &identification(words, station));
-        Ok(ProcessHalf {
-            station,
-            memory,
-            next,
-        })
+        Ok(ProcessHalf { station, memory })
     }
 
     /// Makes a copy with the same station address and memory.
@@ -65,7 +57,6 @@ impl ProcessHalf {
         Ok(ProcessHalf {
             station: self.station,
             memory: self.memory.clone()?,
-            next: self.next.clone()?,
         })
     }
 
@@ -133,9 +124,7 @@ impl ProcessHalf {
         ensures content { content.new ≡ all_read self.old.bytes (fmmus self.old.bytes) start content.old }
         ensures counter { result ≡ counter_of (fmmus self.old.bytes) start (length content.old) }
     {
-        let counter = exchange(&self.memory, &mut self.next, start, content);
-        mem::swap(&mut self.memory, &mut self.next);
-        counter
+        exchange(&mut self.memory, start, content)
     }
 }
 

@@ -1,10 +1,10 @@
--- The old bytes that are remembered of unsynced places.
-use Rattle.std.proofs.Common.{◌≡◌, ℕ, zero, suc, ◌+◌, ◌<◌, ◌≤◌, ◌⊎◌, List, [], ◌∷◌, ◌++◌, length, take, drop, Option, None, Result, Ok, Err, OnOk, OnErr, slice_get, refl, sym, subst, ◌∙◌, inl, inr, arith, length-append, length-take, length-drop}
-use Rattle.site_core.specs.Disk.{Disk, IsOutside, StopImage, overlaid, write_begun}
+-- What is remembered of the writes to unsynced places.
+use Rattle.std.proofs.Common.{◌≡◌, ℕ, zero, suc, ◌+◌, ◌<◌, ◌≤◌, ◌⊎◌, List, [], ◌∷◌, ◌++◌, length, take, drop, None, Result, Ok, Err, OnOk, OnErr, slice_get, refl, sym, subst, ◌∙◌, inl, inr, arith, length-append, length-take, length-drop}
+use Rattle.site_core.specs.Disk.{Disk, Range, IsOutside, StopImage, overlaid, write_begun}
 use Rattle.site_shadow.specs.Unsynced.{Covers, Remembers, MarksOnly, DiffersAtMarks}
 
 -- a write that has begun
-pub Remembers-begun : (old new : List (Option ℕ)) (disk : Disk) (at count : ℕ) → Remembers old disk → MarksOnly old at (at + count) new
+pub Remembers-begun : (old new : List Range) (disk : Disk) (at count : ℕ) → Remembers old disk → MarksOnly old (record { start = at; count = count }) new
     → Remembers new (write_begun disk at count)
 Remembers-begun old new disk at count keeps marks = record {
   unmarked = λ place synced. marks place synced.0 (keeps.unmarked place synced.1);
@@ -18,7 +18,7 @@ behind_laid disk at place over within (inr behind) inside =
     omega (arith, length-append (take at disk.bytes ++ over) (drop (at + length over) disk.bytes), length-append (take at disk.bytes) over, length-take at disk.bytes, length-drop (at + length over) disk.bytes)
 
 -- bytes that were laid over an unsynced range, or weren't
-pub Remembers-laid : {E : Type 0} (before : List (Option ℕ)) (disk : Disk) (at : ℕ) (over new : List ℕ) (result : Result (Unit {0}) E) → at ≤ length disk.bytes
+pub Remembers-laid : {E : Type 0} (before : List Range) (disk : Disk) (at : ℕ) (over new : List ℕ) (result : Result (Unit {0}) E) → at ≤ length disk.bytes
     → Covers disk at (length over) → Remembers before disk → OnOk result (new ≡ overlaid disk.bytes at over) → OnErr result (new ≡ disk.bytes)
     → Remembers before (record disk { bytes = new })
 Remembers-laid before disk at over new (Ok done) within covers keeps ok err = record {
@@ -33,7 +33,7 @@ Remembers-laid before disk at over new (Err fault) within covers keeps ok err = 
 -- A STOP
 
 -- bytes that differ from the disk's only in marked places
-pub StopImage-torn : (before : List (Option ℕ)) (disk : Disk) (image : List ℕ) → Remembers before disk → DiffersAtMarks before disk.bytes image → StopImage disk image
+pub StopImage-torn : (before : List Range) (disk : Disk) (image : List ℕ) → Remembers before disk → DiffersAtMarks before disk.bytes image → StopImage disk image
 StopImage-torn before disk image keeps torn = record {
   bytes = λ place synced. torn.same place (keeps.unmarked place synced);
   no_shorter = let long : length image ≡ length disk.bytes = torn.long in omega arith;
@@ -57,7 +57,7 @@ below_or zero (suc b) = inl (omega arith)
 below_or (suc a) (suc b) = elim (below_or a b) [ inl below ↦ inl (omega arith) | inr past ↦ inr (omega arith) ]
 
 -- and those, cut where the synced bytes end
-pub StopImage-cut : (before : List (Option ℕ)) (disk : Disk) (image : List ℕ) → Remembers before disk → DiffersAtMarks before disk.bytes image → StopImage disk (take disk.synced_length image)
+pub StopImage-cut : (before : List Range) (disk : Disk) (image : List ℕ) → Remembers before disk → DiffersAtMarks before disk.bytes image → StopImage disk (take disk.synced_length image)
 StopImage-cut before disk image keeps torn = record {
   bytes = λ place synced. elim (below_or place disk.synced_length) [
     | inl below ↦ slice_get-take image disk.synced_length place below ∙ torn.same place (keeps.unmarked place synced)

@@ -1,8 +1,8 @@
 ghost use Rattle.std.specs.Prelude.{◌≡◌, ℕ, ◌+◌, ◌<◌, ◌≤◌, ◌^◌, List, length, slice_get, OnOk, OnErr, IfOk, take};
 ghost use Rattle.site_core.specs.Disk.{Disk, IsSynced, overlaid, write_begun, synced, DiskStopped, StopImage};
-ghost use Rattle.site_shadow.specs.Unsynced.{Covers, IsUnmarked, Remembers, of_bytes};
+ghost use Rattle.site_shadow.specs.Unsynced.{Covers, Remembers, of_bytes};
 
-use crate::marks::{hold, lay_over, leave};
+use crate::marks::{Replaced, hold, lay_over, leave};
 use crate::pattern::Pattern;
 use lists::History;
 use std::alloc::{AllocError, Global};
@@ -23,12 +23,12 @@ impl Model for Stretch {
     ghost view = { λ s. record { start = s.start; count = s.count } };
 }
 
-/// A disk in memory. For each byte that was written since the last sync, it remembers the byte at that sync.
+/// A disk in memory. It remembers what each write since the last sync replaced.
 #[derive(Drop)]
 pub struct MemDisk {
     bytes: Vec<u8>,
-    /// By place, the byte at the last sync, if it was written since.
-    before: Vec<Option<u8>>,
+    /// What the writes since the last sync replaced, the earliest first.
+    before: Vec<Replaced>,
     synced_length: usize,
     unsynced: History<Stretch>,
 }

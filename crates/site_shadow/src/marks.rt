@@ -1,39 +1,53 @@
-// The bytes of a disk, and the old bytes that are remembered until a sync.
-ghost use Rattle.std.specs.Prelude.{◌≡◌, ℕ, ◌+◌, ◌<◌, ◌≤◌, ◌^◌, length, slice_get, OnOk, OnErr};
+// The bytes of a disk, and what the writes since the last sync replaced.
+ghost use Rattle.std.specs.Prelude.{◌≡◌, ℕ, ◌<◌, ◌≤◌, ◌^◌, length, OnOk, OnErr};
 ghost use Rattle.site_core.specs.Disk.{Disk, StopImage, overlaid};
-ghost use Rattle.site_shadow.specs.Unsynced.{DiffersAtMarks, Remembers, MarksOnly};
+ghost use Rattle.site_shadow.specs.Unsynced.{DiffersAtMarks, DiffersWithin, MarksOnly, Remembers};
 
 use crate::pattern::Pattern;
 use std::alloc::AllocError;
+use std::marker::Model;
 
-/// Remembers the bytes of a range, unless older ones are remembered already. A byte past the end is remembered as 0.
+/// What a write replaced. Contracts see the range that it wrote.
+#[derive(Drop)]
+pub(crate) struct Replaced {
+    start: usize,
+    count: usize,
+    /// The bytes that were there, up to the end of the disk.
+    bytes: Vec<u8>,
+}
+
+impl Model for Replaced {
+    ghost use Rattle.site_core.specs.Disk.{Range};
+
+    ghost Value = { Range };
+
+    ghost view = { λ r. record { start = r.start; count = r.count } };
+}
+
+/// Remembers the bytes of a range, behind what is remembered already.
+///
+/// # Errors
+///
+/// `AllocError` if memory is refused.
 pub(crate) fn hold(
-    before: &mut Vec<Option<u8>>,
+    before: &mut Vec<Replaced>,
     bytes: &[u8],
     at: usize,
     count: usize,
 ) -> Result<(), AllocError>
     requires inside { at ≤ length bytes.now }
     requires count { count < 2 ^ 63 }
-    ensures { MarksOnly before.old.items at (at + count) before.new.items }
+    ensures { MarksOnly before.old.items (record { start = at; count = count }) before.new.items }
 {
-    let end = at + count;
-    if before.len() < end {
-        before.resize(end, None)?;
-    }
-    mark(before, bytes, at, end);
+    let end = bytes.len().min(at + count);
+    let mut held = Vec::new(*before.allocator());
+    held.extend_from_slice(&bytes[at..end])?;
+    before.push(Replaced {
+        start: at,
+        count,
+        bytes: held,
+    })?;
     Ok(())
-}
-
-fn mark(before: &mut [Option<u8>], bytes: &[u8], at: usize, end: usize)
-    requires { end ≤ length before.old }
-    ensures { MarksOnly before.old at end before.new }
-{
-    for place in at..end {
-        if before[place].is_none() {
-            before[place] = Some(bytes.get(place).copied().unwrap_or(0));
-        }
-    }
 }
 
 /// Overwrites the bytes from `at` on with `over`. They grow if it reaches past their end.
@@ -53,11 +67,11 @@ pub fn lay_over(bytes: &mut Vec<u8>, at: usize, over: &[u8]) -> Result<(), Alloc
     Ok(())
 }
 
-/// Makes of the bytes what a power cut leaves: the pattern's bytes where a byte is remembered. By the pattern `Old` a disk that has grown
+/// Makes of the bytes what a power cut leaves: the pattern's bytes where something was written. By the pattern `Old` a disk that has grown
 /// gets its old length.
 pub(crate) fn leave(
     bytes: &mut Vec<u8>,
-    before: &[Option<u8>],
+    before: &[Replaced],
     synced_length: usize,
     pattern: Pattern,
 )
@@ -78,13 +92,30 @@ pub(crate) fn leave(
     }
 }
 
-/// Replaces each byte of which an old one is remembered: by that old byte, or by the fill.
-fn tear(bytes: &mut Vec<u8>, before: &[Option<u8>], fill: Option<u8>)
+/// Undoes the writes, the last one first, so that the bytes at the last sync come back; or puts the fill into each range.
+fn tear(bytes: &mut Vec<u8>, before: &[Replaced], fill: Option<u8>)
     ensures { DiffersAtMarks before.now bytes.old.items bytes.new.items }
 {
-    for place in 0..bytes.len().min(before.len()) {
-        if let Some(byte) = before[place] {
-            bytes[place] = fill.unwrap_or(byte);
-        }
+    let count = before.len();
+    for undone in 0..count {
+        undo(bytes, &before[count - 1 - undone], fill);
+    }
+}
+
+/// Puts into the range that was written what was there before, or the fill.
+fn undo(bytes: &mut [u8], replaced: &Replaced, fill: Option<u8>)
+    ensures { DiffersWithin replaced.now bytes.old bytes.new }
+{
+    put_back(bytes, replaced.start, replaced.count, &replaced.bytes, fill);
+}
+
+/// Puts `old`, or the fill, into the `count` bytes from `start` on, as far as there are such bytes.
+fn put_back(bytes: &mut [u8], start: usize, count: usize, old: &[u8], fill: Option<u8>)
+    ensures { DiffersWithin (record { start = start; count = count }) bytes.old bytes.new }
+{
+    let end = start.saturating_add(count).min(bytes.len());
+    for place in start..end {
+        let byte = old.get(place - start).copied().unwrap_or(0);
+        bytes[place] = fill.unwrap_or(byte);
     }
 }
