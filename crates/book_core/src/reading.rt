@@ -1,4 +1,4 @@
-ghost use Rattle.std.specs.Prelude.{◌≡◌};
+ghost use Rattle.std.specs.Prelude.{◌≡◌, length};
 
 use crate::book::Core;
 use book_model::Status;
@@ -36,6 +36,20 @@ impl Core {
         ensures { result ≡ self.now.capacity }
     {
         self.area.capacity()
+    }
+
+    /// How many commands are accepted.
+    pub fn accepted_count(&self) -> u64
+        ensures { result ≡ length self.now.accepted }
+    {
+        self.ledger.len()
+    }
+
+    /// How many commands are durable. Unlike `status`, this looks at no slave.
+    pub fn durable(&self) -> u64
+        ensures { result ≡ self.now.durable }
+    {
+        self.ledger.durable()
     }
 
     /// How many commands are accepted, durable and settled, and how many bytes are live.

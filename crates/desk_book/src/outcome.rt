@@ -43,8 +43,8 @@ impl<T: Tickets, R: Refusals> Served<T, R> {
         ensures served { result ≡ is_served (replayed T.opened self.now.calls) }
         ensures answered { AreAnswered T.opened self.now.calls }
     {
-        let status = self.core.status();
-        self.core.fault().is_none() && status.durable == status.accepted && self.core.is_settled()
+        let is_durable = self.core.durable() == self.core.accepted_count();
+        self.core.fault().is_none() && is_durable && self.core.is_settled()
     }
 
     /// Shows that all shares that were given out together count all tickets and refusals. Nothing changes.
@@ -61,7 +61,7 @@ impl<T: Tickets, R: Refusals> Served<T, R> {
     pub fn shares_match(&self, shares: &[Share<T, R>]) -> bool
         ensures { IsTrue result ↔ CountAll (replayed T.opened self.now.calls) self.now.calls shares.now }
     {
-        let accepted = self.core.status().accepted;
+        let accepted = self.core.accepted_count();
         let refused = self.refused;
         let Some(tickets) = all_tickets(shares) else {
             return false;
@@ -76,7 +76,7 @@ impl<T: Tickets, R: Refusals> Served<T, R> {
     pub fn receipts_match(&self, receipts: &[Receipt]) -> bool
         ensures { IsTrue result ↔ AreReceiptsOf (replayed T.opened self.now.calls) receipts.now }
     {
-        let durable = self.core.status().durable;
+        let durable = self.core.durable();
         stand_at_their_numbers(receipts, self.core.accepted(), durable) && are_apart(receipts)
     }
 

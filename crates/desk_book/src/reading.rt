@@ -55,9 +55,8 @@ impl<T: Tickets, R: Refusals> Served<T, R> {
     pub fn is_pending(&self, number: u64) -> bool
         ensures { result ≡ is_pending (replayed T.opened self.now.calls) number }
     {
-        let status = self.core.status();
         let fault = self.core.fault();
-        fault.is_none() && status.durable <= number && number < status.accepted
+        fault.is_none() && self.core.durable() <= number && number < self.core.accepted_count()
     }
 
     /// Notes that memory stays refused, so that the jobs stop. The book isn't told.
@@ -80,7 +79,7 @@ impl<T: Tickets, R: Refusals> Served<T, R> {
         ensures stands { IsTrue result
             → StandsAt (replayed T.opened self.now.calls).accepted (replayed T.opened self.now.calls).durable ticket.now }
     {
-        let durable = self.core.status().durable;
+        let durable = self.core.durable();
         stands_at(
             ticket.number(),
             ticket.command(),
