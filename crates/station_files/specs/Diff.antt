@@ -1,5 +1,5 @@
 -- The exit status of `diff`.
-use Rattle.std.specs.Prelude.{◌≡◌, ◌≢◌, ◌⊎◌, ℕ, Bool, List, Option, Some, None}
+use Rattle.std.specs.Prelude.{◌≡◌, ◌≢◌, ◌⊎◌, ℕ, Bool, List, Option, Some, None, IfSome}
 use Rattle.sii_words.specs.Words.{bytes_of}
 use Rattle.image_diff.specs.Difference.{NothingDiffers}
 use Rattle.image_diff.specs.declared.difference.Difference.{Difference}
@@ -13,6 +13,11 @@ use Rattle.station_files.specs.declared.faults.ExitStatus.TheVariants.{Done, Ref
 abbrev pub second_text : Option (List ℕ) → Option (List ℕ) → Option (List ℕ) → Known → Option (List ℕ)
 second_text None None input files = None
 second_text first second input files = text_of second input files
+
+-- Where the texts that two images are read from are known, this holds of them.
+abbrev pub IfKnown : Option (List ℕ) → Option (List ℕ) → Option (List ℕ) → Known → (List ℕ → List ℕ → Type 0) → Type 0
+IfKnown old new input files Holds =
+    IfSome (text_of old input files) (λ first. IfSome (second_text old new input files) (λ second. Holds first second))
 
 -- `Done` where nothing differs, `Refused` where something does
 abbrev pub IsStatusOf : Difference → ExitStatus → Type 0

@@ -1,7 +1,6 @@
 //! The subcommand `diff`.
-ghost use Rattle.std.specs.Prelude.{◌≡◌, IfOk, IfErr, IfSome, option_map};
-ghost use Rattle.station_files.specs.Diff.{IsStatusOf, RefusesPair, TellsDifference, second_text};
-ghost use Rattle.station_files.specs.ImageText.{text_of};
+ghost use Rattle.std.specs.Prelude.{◌≡◌, IfOk, IfErr, option_map};
+ghost use Rattle.station_files.specs.Diff.{IfKnown, IsStatusOf, RefusesPair, TellsDifference};
 
 use crate::faults::{ExitStatus, Fault};
 use crate::image::read_image;
@@ -28,14 +27,10 @@ pub fn diff_images<R: Read, S: Store, W: Write>(
     store: &mut S,
     output: &mut W,
 ) -> Result<ExitStatus, Fault>
-    ensures status { IfOk result (λ status.
-        IfSome (text_of (option_map (λ name. name.now) old.entry) (R.remaining input.old) (S.files store.old)) (λ first.
-        IfSome (second_text (option_map (λ name. name.now) old.entry) (option_map (λ name. name.now) new.entry) (R.remaining input.old) (S.files store.old)) (λ second.
-        TellsDifference hex first second status))) }
-    ensures refused { IfErr result (λ fault.
-        IfSome (text_of (option_map (λ name. name.now) old.entry) (R.remaining input.old) (S.files store.old)) (λ first.
-        IfSome (second_text (option_map (λ name. name.now) old.entry) (option_map (λ name. name.now) new.entry) (R.remaining input.old) (S.files store.old)) (λ second.
-        RefusesPair hex first second fault))) }
+    ensures status { IfOk result (λ status. IfKnown (option_map (λ name. name.now) old.entry) (option_map (λ name. name.now) new.entry)
+        (R.remaining input.old) (S.files store.old) (λ first second. TellsDifference hex first second status)) }
+    ensures refused { IfErr result (λ fault. IfKnown (option_map (λ name. name.now) old.entry) (option_map (λ name. name.now) new.entry)
+        (R.remaining input.old) (S.files store.old) (λ first second. RefusesPair hex first second fault)) }
     ensures same { S.files store.new ≡ S.files store.old }
 {
     let first = read_image(alloc, hex, old, input, store)?;

@@ -375,7 +375,7 @@ const STOPPED: CodeEntry = CodeEntry {
     name: "Stopped",
     meaning: "The station has stopped.",
     reason: "The power was cut. What was journaled before is kept.",
-    remedy: "Recover the line: it ends each command of the journal, or leaves it undone as a whole.",
+    remedy: "Recover the line: each command that the journal holds in whole is completed. Of any other no word was written.",
 };
 
 const SLAVE_DEAD: CodeEntry = CodeEntry {

@@ -152,6 +152,6 @@ pub(crate) fn write_range<W: Write>(
     if first == last {
         write!(output, "slave {slave} word 0x{first:04x}")
     } else {
-        write!(output, "slave {slave} words 0x{first:04x}-0x{last:04x}")
+        write!(output, "slave {slave} words 0x{first:04x} to 0x{last:04x}")
     }
 }

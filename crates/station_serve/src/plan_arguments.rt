@@ -12,9 +12,9 @@ const PLAN_ANSWERS: &str = "Answers:
   accepted A durable D settled S
   slave P word 0xW old 0xO new 0xN
                    word W of slave P would get the value N in place of O
-  slave P words 0xV-0xW old .. new ..
+  slave P words 0xV to 0xW old .. new ..
                    the same of neighbouring words
-  slave P words 0xV-0xW count C
+  slave P words 0xV to 0xW count C
                    the same of more than 8 words
   writes words W bytes B syncs S
                    how many words would be written to the slaves, and how many

@@ -142,14 +142,14 @@ fn told_run(
     let count = run_at(old, new, at);
     let last = at.saturating_add(count).saturating_sub(1);
     if count > 8 {
-        return format!(in alloc; "slave {slave} words 0x{at:04x}-0x{last:04x} count {count}\n");
+        return format!(in alloc; "slave {slave} words 0x{at:04x} to 0x{last:04x} count {count}\n");
     }
     let before = values(alloc, old, at, count)?;
     let after = values(alloc, new, at, count)?;
     if count == 1 {
         return format!(in alloc; "slave {slave} word 0x{at:04x} old{before} new{after}\n");
     }
-    format!(in alloc; "slave {slave} words 0x{at:04x}-0x{last:04x} old{before} new{after}\n")
+    format!(in alloc; "slave {slave} words 0x{at:04x} to 0x{last:04x} old{before} new{after}\n")
 }
 
 /// The lines for the words of a slave that change.

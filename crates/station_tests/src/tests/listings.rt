@@ -95,9 +95,9 @@ slave 0 word 0x000a old 0x0000 new 0x0002\n",
         output: "journal version 1 slaves 1 area 4096
 area batches 1 live 27 free 4069
 batch 0 at 8 bytes 27 commands 1
-command 3 slave 0 words 0x0009-0x000a new 0x0001 0x0002
+command 3 slave 0 words 0x0009 to 0x000a new 0x0001 0x0002
 recovery batches 1 commands 1 words 2
-slave 0 words 0x0009-0x000a old 0x0000 0x0000 new 0x0001 0x0002\n",
+slave 0 words 0x0009 to 0x000a old 0x0000 0x0000 new 0x0001 0x0002\n",
         ..ALONE
     },
     // A migration from version 1 was interrupted while the version byte was written.

@@ -72,8 +72,8 @@ writes words 4 bytes 78 syncs 4\n",
         ],
         output: "command 0 accepted 0
 accepted 1 durable 1 settled 1
-slave 0 words 0x0008-0x000a old 0x0000 0x0000 0x0000 new 0x0101 0x0101 0x0101
-slave 0 words 0x0010-0x0019 count 10
+slave 0 words 0x0008 to 0x000a old 0x0000 0x0000 0x0000 new 0x0101 0x0101 0x0101
+slave 0 words 0x0010 to 0x0019 count 10
 writes words 13 bytes 58 syncs 4\n",
         ..ALONE
     },

@@ -295,6 +295,13 @@ const FILES: &[Case] = &[
         ..BAD
     },
     Case {
+        words: "station alias 1 s0.bin --verbose",
+        files: &[("s0.bin", Bytes::Image(128, &[(14, &[0x31])]))],
+        status: 1,
+        faults: "refused 15 BadCheck\n\"s0.bin\": the check byte, the low byte of word 7, must be 0x30; see sii_station explain 15\n",
+        ..ALONE
+    },
+    Case {
         words: "station alias 1 --verbose",
         input: Bytes::Image(128, &[(14, &[0x31])]),
         status: 1,

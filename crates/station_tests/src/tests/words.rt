@@ -118,7 +118,8 @@ fn usage_and_help(rt: HostRuntime) -> Result<(), Fail> {
 
 pub const CHECK: &str =
     "15 BadCheck: The check byte is wrong. The low byte of word 7 doesn't go with words 0 to 6. Blank EEPROMs and damaged images are like \
-    that, and an alias or a swap would make them look right. Look at the image with show. Write a whole image, whose check byte is right, before the alias.\n";
+    that, and an alias or a swap would make them look right. Look at the image with show. Write a whole image, whose check byte is right, \
+    before the alias.\n";
 
 const EXPLAINED: &[Case] = &[
     Case {
