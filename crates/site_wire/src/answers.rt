@@ -1,14 +1,27 @@
 //! What an answer shows of a slave, and whether it is the one that the shadow gives.
-ghost use Rattle.std.specs.Prelude.{◌≡◌, ◌<◌, ◌/◌, ◌↔◌, IsTrue};
+ghost use Rattle.std.specs.Prelude.{◌≡◌, ◌<◌, ◌/◌, ◌↔◌, length, IsTrue, IfSome, None, Some};
 ghost use Rattle.ecat_frame.specs.Frame.{pdu};
-ghost use Rattle.site_wire.specs.Due.{WritesControl};
+ghost use Rattle.wire_laws.specs.Due.{WritesControl};
+ghost use Rattle.wire_laws.specs.Answers.{compared, ReadAlike, shown_status};
+ghost use Rattle.site_wire.specs.Answering.{found_of, shown_by, IsAnswer, difference_at, FirstDiffers, IsAlike, IsUnconfirmed};
+ghost use Rattle.site_wire.specs.declared.answers.Comparison.TheVariants.{Alike, Unconfirmed};
 
 use crate::faults::Difference;
 use ecat_frame::{Command, Datagram, Frame};
-use esc_rom::{ACCESS, CONTENT, CONTROL};
+use esc_model::RomHalf;
+use esc_rom::CONTROL;
 
-/// The byte of control and status with the busy bit and the error bits (ETG.1000.4, slave information interface).
-const STATUS: usize = CONTROL as usize + 1;
+/// The byte that says who has access to the EEPROM (ETG.1000.4, slave information interface).
+const ACCESS: usize = 0x0500;
+
+/// The byte of control and status with the busy bit and the error bits.
+const STATUS: usize = 0x0503;
+
+/// The two words that were read, four bytes.
+const WORDS: usize = 0x0508;
+
+/// The code of FPRD (ETG.1000.4).
+const FPRD: u8 = 4;
 
 /// The code of FPWR (ETG.1000.4).
 const FPWR: u8 = 5;
@@ -51,7 +64,9 @@ impl Answer {
     }
 
     /// The content, up to the bytes that are looked at.
-    fn content(&self) -> &[u8] {
+    fn content(&self) -> &[u8]
+        ensures { result.now ≡ (found_of self.now).content }
+    {
         &self.front[..self.length.min(LONGEST)]
     }
 }
@@ -66,6 +81,16 @@ pub(crate) enum Shown {
     Well,
     /// Idle, with bit 13 or 14.
     Failed,
+}
+
+/// An answer, beside the one that the shadow gives.
+#[derive(Clone, Copy)]
+pub(crate) enum Comparison {
+    /// They are the same in what is compared.
+    Alike,
+    /// It is to a command that was sent again: the shadow is busy with it and counts it, and the slave doesn't.
+    Unconfirmed,
+    Differs(Difference),
 }
 
 /// The register of an FP command.
@@ -84,55 +109,138 @@ pub(crate) fn waits_for_rest(datagram: Datagram<'_>) -> bool
     datagram.command.code() == FPWR && end > usize::from(CONTROL)
 }
 
-/// What an answer shows of the slave.
-pub(crate) fn state_shown(answer: &Answer) -> Shown {
+/// The byte of control and status with the busy bit and the error bits, if the answer is to a read that one slave counted, and has it.
+fn status_of(answer: &Answer) -> Option<u8>
+    ensures { result ≡ shown_status (found_of answer.now) }
+{
     let register = register_of(answer.address);
-    if answer.command != Command::Fprd || answer.counter != 1 || register > STATUS {
-        return Shown::Nothing;
+    let content = answer.content();
+    if answer.command.code() != FPRD || answer.counter != 1 {
+        return None;
     }
-    match answer.content().get(STATUS - register) {
-        Some(0x80..) => Shown::Busy,
-        Some(0x20..) => Shown::Failed,
-        Some(_) => Shown::Well,
+    if register > STATUS || register + content.len() <= STATUS {
+        return None;
+    }
+    Some(content[STATUS - register])
+}
+
+/// What an answer shows of the slave.
+pub(crate) fn state_shown(answer: &Answer) -> Shown
+    ensures { result ≡ shown_by (shown_status (found_of answer.now)) }
+{
+    match status_of(answer) {
+        Some(status) => shown_of(status),
         None => Shown::Nothing,
     }
 }
 
+/// What the byte of control and status shows of the slave.
+fn shown_of(status: u8) -> Shown
+    ensures { result ≡ shown_by (Some status) }
+{
+    if status >= 0x80 {
+        Shown::Busy
+    } else if status >= 0x20 {
+        Shown::Failed
+    } else {
+        Shown::Well
+    }
+}
+
 /// Whether the answer is to the datagram that was sent, of which the shadow gives `given`.
-pub(crate) fn is_answer(given: Datagram<'_>, answer: &Answer) -> bool {
-    let is_written = given.command != Command::Fpwr || given.content == answer.content();
-    given.command == answer.command
+fn is_answer(given: Datagram<'_>, answer: &Answer) -> bool
+    ensures { IsTrue result ↔ IsAnswer (pdu given.entry) answer.now }
+{
+    let is_written = given.command.code() != FPWR || given.content == answer.content();
+    given.command.code() == answer.command.code()
         && given.index == answer.index
         && given.address == answer.address
         && given.content.len() == answer.length
+        && answer.length <= LONGEST
         && is_written
 }
 
-/// In what a byte that was read at a register is another than the shadow's, as far as the station goes by it: who has access, busy,
-/// the error bits, and the two words.
-fn byte_difference(register: usize, differing: u8) -> Option<Difference> {
-    const CONTENT_START: usize = CONTENT as usize;
-    const CONTENT_END: usize = CONTENT_START + 4;
-    match register {
-        STATUS if differing & 0x80 != 0 => Some(Difference::Busy),
-        STATUS if differing & 0x60 != 0 => Some(Difference::Errors),
-        CONTENT_START..CONTENT_END if differing != 0 => Some(Difference::Words),
-        _ if register == usize::from(ACCESS) && differing & 0x03 != 0 => Some(Difference::Access),
-        _ => None,
+/// What is compared of a byte that was read at a register, as far as the station goes by it: who has access, busy and the error bits, and
+/// the two words.
+fn compared_part(register: usize, byte: u8) -> u8
+    ensures { result ≡ compared register byte }
+{
+    if register == ACCESS {
+        byte % 4
+    } else if register == STATUS {
+        byte / 0x20
+    } else if register >= WORDS && register < WORDS + 4 {
+        byte
+    } else {
+        0
     }
 }
 
-/// In what the registers that were read are others than the shadow's. None where they agree.
-pub(crate) fn read_difference(given: Datagram<'_>, answer: &Answer) -> Option<Difference> {
-    if given.command != Command::Fprd {
+/// In what a byte that was read at a register is another than the shadow's.
+fn byte_difference(register: usize, given: u8, found: u8) -> Option<Difference>
+    ensures { result ≡ difference_at register given found }
+{
+    if compared_part(register, given) == compared_part(register, found) {
         return None;
     }
-    let first = register_of(given.address);
-    for (place, (one, other)) in given.content.iter().zip(answer.content()).enumerate() {
-        let difference = byte_difference(first + place, *one ^ *other);
+    Some(if register == ACCESS {
+        Difference::Access
+    } else if register != STATUS {
+        Difference::Words
+    } else if given / 0x80 == found / 0x80 {
+        Difference::Errors
+    } else {
+        Difference::Busy
+    })
+}
+
+/// In what the registers that were read from one on are others than the shadow's. None where they agree.
+fn read_difference(register: usize, given: &[u8], found: &[u8]) -> Option<Difference>
+    requires register { register < 65536 }
+    requires equal { length found.now ≡ length given.now }
+    ensures agree { result ≡ None → ReadAlike register given.now found.now }
+    ensures differ { IfSome result (λ what. FirstDiffers register given.now found.now what) }
+{
+    for place in 0..given.len() {
+        let difference = byte_difference(register + place, given[place], found[place]);
         if difference.is_some() {
             return difference;
         }
     }
     None
+}
+
+/// What came back, beside the datagram that the shadow gives. A command that was sent again need not be counted the second time, if the
+/// slave is busy with it: that is found out by the next polls.
+pub(crate) fn compared_with(half: &RomHalf, given: Datagram<'_>, answer: &Answer) -> Comparison
+    ensures alike { (result ≡ Alike) ↔ IsAlike (pdu given.entry) answer.now }
+    ensures unconfirmed { (result ≡ Unconfirmed) ↔ IsUnconfirmed half.now (pdu given.entry) answer.now }
+{
+    if !is_answer(given, answer) {
+        return Comparison::Differs(Difference::Datagram);
+    }
+    if answer.counter == given.counter {
+        return read_comparison(given, answer);
+    }
+    let may_be_busy = answer.again && half.is_at_work() && waits_for_rest(given);
+    if may_be_busy && given.counter == 1 && answer.counter == 0 {
+        return Comparison::Unconfirmed;
+    }
+    Comparison::Differs(Difference::Counter)
+}
+
+/// The same of an answer that was counted as the shadow counts it.
+fn read_comparison(given: Datagram<'_>, answer: &Answer) -> Comparison
+    requires answer { IsAnswer (pdu given) answer.now }
+    requires counter { answer.now.counter ≡ given.counter }
+    ensures alike { (result ≡ Alike) ↔ IsAlike (pdu given.entry) answer.now }
+    ensures unconfirmed { ¬ (result ≡ Unconfirmed) }
+{
+    if given.command.code() != FPRD {
+        return Comparison::Alike;
+    }
+    match read_difference(register_of(given.address), given.content, answer.content()) {
+        Some(what) => Comparison::Differs(what),
+        None => Comparison::Alike,
+    }
 }

@@ -1,9 +1,13 @@
 //! The slaves on a wire and the journal's file, as the device behind a shadow.
-ghost use Rattle.std.specs.Prelude.{◌≡◌, ◌∷◌, [], IsTrue, IfSome};
+ghost use Rattle.std.specs.Prelude.{◌≡◌, ◌∷◌, [], true, false, None, IsTrue, IfSome, IsSome};
 ghost use Rattle.ecat_frame.specs.Frame.{pdu};
+ghost use Rattle.esc_model.specs.SlaveHalf.{in_flight};
+ghost use Rattle.site_shadow.specs.declared.device.Resting.TheVariants as resting;
+ghost use Rattle.site_wire.specs.declared.answers.Shown.TheVariants as shown_as;
+ghost use Rattle.site_wire.specs.Answering.{resting_by, AgreesWith};
 
 use crate::answers::{
-    Answer, LONGEST, Shown, is_answer, read_difference, state_shown, waits_for_rest,
+    Answer, Comparison, LONGEST, Shown, compared_with, state_shown, waits_for_rest,
 };
 use crate::faults::{Difference, StopReason};
 use crate::numbered::NumberedWire;
@@ -113,7 +117,9 @@ impl<'f, L: Reach, F: RandomAccessFile> WireDevice<'f, L, F> {
     }
 
     /// The site stops with this reason, unless the line has one already.
-    fn stop(&mut self, reason: StopReason) {
+    fn stop(&mut self, reason: StopReason)
+        ensures { self.new.is_over ≡ true }
+    {
         self.is_over = true;
         self.line.stop(reason);
     }
@@ -123,7 +129,9 @@ impl<'f, L: Reach, F: RandomAccessFile> WireDevice<'f, L, F> {
         self.is_unconfirmed.get(slave).copied().unwrap_or(false)
     }
 
-    fn set_unconfirmed(&mut self, slave: usize, is_unconfirmed: bool) {
+    fn set_unconfirmed(&mut self, slave: usize, is_unconfirmed: bool)
+        ensures { self.new.is_over ≡ self.old.is_over }
+    {
         if slave < 64 {
             self.is_unconfirmed[slave] = is_unconfirmed;
         }
@@ -139,7 +147,11 @@ impl<'f, L: Reach, F: RandomAccessFile> WireDevice<'f, L, F> {
     }
 
     /// How a busy half comes to rest, where the slave shows this.
-    fn rest_as(&mut self, slave: usize, half: &RomHalf, shown: Shown) -> Resting {
+    fn rest_as(&mut self, slave: usize, half: &RomHalf, shown: Shown) -> Resting
+        ensures goes { self.new.is_over ≡ false → result ≡ resting_by shown }
+        ensures stops { self.old.is_over ≡ false → self.new.is_over ≡ true → result ≡ resting.Stays }
+        ensures word { shown ≡ shown_as.Failed → IsSome (in_flight half.now.activity) → self.new.is_over ≡ true }
+    {
         match shown {
             Shown::Nothing => return Resting::Stays,
             Shown::Busy => {
@@ -162,25 +174,23 @@ impl<'f, L: Reach, F: RandomAccessFile> WireDevice<'f, L, F> {
         }
     }
 
-    /// In what the slave's answer is another than the one that the shadow gives. A command that was sent again need not be counted
-    /// the second time, if the slave is busy with it: that is found out by the next polls.
-    fn compare(&mut self, slave: usize, half: &RomHalf, answer: &Frame) -> Option<Difference> {
+    /// In what the slave's answer is another than the one that the shadow gives. Where nothing came back there is nothing to compare.
+    fn compare(&mut self, slave: usize, half: &RomHalf, answer: &Frame) -> Option<Difference>
+        ensures agrees { result ≡ None → IfSome self.old.returned (λ found. AgreesWith half.now answer.now found) }
+        ensures over { self.new.is_over ≡ self.old.is_over }
+    {
         let found = self.returned?;
-        let Some(given) = answer.datagrams().next() else {
-            return Some(Difference::Datagram);
-        };
-        if !is_answer(given, &found) {
+        if answer.count() == 0 {
             return Some(Difference::Datagram);
         }
-        if found.counter == given.counter {
-            return read_difference(given, &found);
+        match compared_with(half, answer.datagram(0), &found) {
+            Comparison::Alike => None,
+            Comparison::Unconfirmed => {
+                self.set_unconfirmed(slave, true);
+                None
+            }
+            Comparison::Differs(what) => Some(what),
         }
-        let may_be_busy = found.again && half.is_at_work() && waits_for_rest(given);
-        if may_be_busy && given.counter == 1 && found.counter == 0 {
-            self.set_unconfirmed(slave, true);
-            return None;
-        }
-        Some(Difference::Counter)
     }
 
     /// Sends a frame of one short datagram, unless the half is busy and takes nothing of it.

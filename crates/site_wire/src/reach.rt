@@ -1,5 +1,5 @@
 //! How a device reaches the slaves of a wire.
-ghost use Rattle.site_wire.specs.Due.{IsDue};
+ghost use Rattle.wire_laws.specs.Due.{IsDue};
 
 use crate::answers::Answer;
 use crate::faults::StopReason;

@@ -1,0 +1,6 @@
+use Rattle.std.proofs.Common.{◌≡◌, ℕ, ◌+◌, ◌<◌, slice_index}
+use Rattle.wire_laws.specs.Answers.{compared}
+use Rattle.site_wire.proofs.answers.read_difference.Given as goal
+
+abbrev pub invariant-loop-place : goal.invariant-loop-place
+invariant-loop-place l = (k : ℕ) → k < l.place → compared (l.register + k) (slice_index l.given k) ≡ compared (l.register + k) (slice_index l.found k)

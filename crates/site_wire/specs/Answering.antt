@@ -1,0 +1,83 @@
+-- What came back of a datagram, beside the answer of the shadow (ETG.1000.4, slave information interface).
+use Rattle.std.specs.Prelude.{◌≡◌, ℕ, ◌+◌, ◌/◌, ◌<◌, ◌≤◌, ◌==◌, nat_le, true, List, length, take, min, slice_index, slice_get, Option, Some, None, IsTrue, if◌then◌else◌}
+use Rattle.ecat_frame.specs.Frame.{Pdu}
+use Rattle.ecat_frame.specs.Command.{code_of}
+use Rattle.esc_model.specs.Bytes.{register_of}
+use Rattle.esc_model.specs.SlaveHalf.{SlaveHalf, is_busy}
+use Rattle.site_shadow.specs.declared.device.Resting.{Resting}
+use Rattle.site_shadow.specs.declared.device.Resting.TheVariants as resting
+use Rattle.wire_laws.specs.Due.{WritesControl}
+use Rattle.wire_laws.specs.Answers.{compared, ReadAlike}
+use Rattle.wire_laws.specs.Exchanges.{Agrees}
+use Rattle.site_wire.specs.declared.answers.Answer.{Answer}
+use Rattle.site_wire.specs.declared.answers.Shown.{Shown}
+use Rattle.site_wire.specs.declared.answers.Shown.TheVariants as shown
+use Rattle.site_wire.specs.declared.faults.Difference.{Difference}
+use Rattle.site_wire.specs.declared.faults.Difference.TheVariants as difference
+
+-- what came back, as a datagram, of which the first 16 bytes are kept
+abbrev pub found_of : Answer → Pdu
+found_of answer = record {
+  command = code_of answer.command;
+  index = answer.index;
+  address = answer.address;
+  content = take (min answer.length 16) answer.front;
+  counter = answer.counter;
+}
+
+-- what the byte at 0x0503 shows of a slave: bit 7 is busy, bits 5 and 6 are the errors
+abbrev pub shown_by : Option ℕ → Shown
+shown_by None = shown.Nothing
+shown_by (Some status) = if nat_le 0x80 status then shown.Busy else if nat_le 0x20 status then shown.Failed else shown.Well
+
+-- how a busy shadow rests, where the slave shows this
+abbrev pub resting_by : Shown → Resting
+resting_by shown.Nothing = resting.Stays
+resting_by shown.Busy = resting.Stays
+resting_by shown.Well = resting.Well
+resting_by shown.Failed = resting.Failed
+
+-- It is the answer to this datagram, of 16 bytes at most; what was written comes back as it was.
+pub record IsAnswer (given : Pdu) (answer : Answer) : Type 0 where
+  pub command : code_of answer.command ≡ given.command
+  pub index : answer.index ≡ given.index
+  pub address : answer.address ≡ given.address
+  pub length : answer.length ≡ length given.content
+  pub short : answer.length ≤ 16
+  pub written : given.command ≡ 5 → (found_of answer).content ≡ given.content
+
+-- in what a byte that was read at this register is another
+abbrev pub difference_at : (register given found : ℕ) → Option Difference
+difference_at register given found =
+    if compared register given == compared register found then None
+    else Some (if register == 0x0500 then difference.Access
+    else if register == 0x0503 then (if given / 0x80 == found / 0x80 then difference.Errors else difference.Busy)
+    else difference.Words)
+
+-- This is in what the first byte differs that was read from this register on.
+pub record FirstDiffers (register : ℕ) (given found : List ℕ) (what : Difference) : Type 0 where
+  pub place : ℕ
+  pub inside : place < length given
+  pub before : (k : ℕ) → k < place → compared (register + k) (slice_index given k) ≡ compared (register + k) (slice_index found k)
+  pub differs : difference_at (register + place) (slice_index given place) (slice_index found place) ≡ Some what
+
+-- It is the answer, counted as the shadow counts it, and what was read is the same in what is compared.
+pub record IsAlike (given : Pdu) (answer : Answer) : Type 0 where
+  pub is_answer : IsAnswer given answer
+  pub counter : answer.counter ≡ given.counter
+  pub read : given.command ≡ 4 → ReadAlike (register_of given.address) given.content (found_of answer).content
+
+-- It is the answer to a command that was sent again. The shadow is busy with it and counts it; the slave doesn't.
+pub record IsUnconfirmed (half : SlaveHalf) (given : Pdu) (answer : Answer) : Type 0 where
+  pub is_answer : IsAnswer given answer
+  pub again : answer.again ≡ true
+  pub busy : IsTrue (is_busy half.activity)
+  pub writes : WritesControl given
+  pub given_counter : given.counter ≡ 1
+  pub found_counter : answer.counter ≡ 0
+
+-- What came back agrees with the first datagram of the shadow's answer.
+pub record AgreesWith (half : SlaveHalf) (frame : List Pdu) (answer : Answer) : Type 0 where
+  pub given : Pdu
+  pub first : slice_get frame 0 ≡ Some given
+  pub agrees : Agrees half given (found_of answer)

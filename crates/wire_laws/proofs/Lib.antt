@@ -1,0 +1,9 @@
+mod Liking
+mod Storing
+mod Stored
+mod Judged
+mod Taking
+mod Again
+mod Chain
+mod Showing
+mod Agreeing

@@ -1,0 +1,32 @@
+-- Laws that hold for a real slave and its shadow.
+use Rattle.std.specs.Prelude.{ℕ, List}
+use Rattle.esc_model.specs.SlaveHalf.{SlaveHalf, MayLeave}
+use Rattle.wire_laws.specs.Likeness.{IsLike, MayBe}
+use Rattle.wire_laws.specs.Exchanges.{Exchange, Exchanges, Stop}
+
+-- A half that is like the shadow is one that the shadow may be.
+abbrev pub LikeIsPossible : Type 0
+LikeIsPossible = (shadow real : SlaveHalf) → IsLike shadow real → MayBe shadow real
+
+-- The shadow is like itself.
+abbrev pub IsLikeItself : Type 0
+IsLikeItself = (half : SlaveHalf) → IsLike half half
+
+-- What a power cut leaves of a half that the shadow may be, it may leave of the shadow.
+abbrev pub PossibleLeavesNoMore : Type 0
+PossibleLeavesNoMore = (shadow real : SlaveHalf) (left : List ℕ) → MayBe shadow real → MayLeave real left → MayLeave shadow left
+
+-- If the real slave is one that the shadow may be, it is so too after each answer that agrees.
+abbrev pub AgreedIsPossible : Type 0
+AgreedIsPossible = (shadow real shadow_after real_after : SlaveHalf) → MayBe shadow real
+    → Exchange shadow real shadow_after real_after → MayBe shadow_after real_after
+
+-- Where the site stops, a power cut leaves of the real slave what it may leave of the shadow.
+abbrev pub StopLeavesNoMore : Type 0
+StopLeavesNoMore = (shadow real shadow_after real_after : SlaveHalf) (left : List ℕ) → MayBe shadow real
+    → Stop shadow real shadow_after real_after → MayLeave real_after left → MayLeave shadow_after left
+
+-- From a real slave that is like its shadow on, after any number of answers that agree: it is one that the shadow may be.
+abbrev pub RunIsPossible : Type 0
+RunIsPossible = (shadow real shadow_after real_after : SlaveHalf) → IsLike shadow real
+    → Exchanges shadow real shadow_after real_after → MayBe shadow_after real_after

@@ -1,0 +1,5 @@
+pub mod Due
+pub mod Likeness
+pub mod Answers
+pub mod Exchanges
+pub mod Laws

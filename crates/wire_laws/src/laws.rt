@@ -1,0 +1,24 @@
+//! Laws that hold for a real slave and its shadow. The functions here do nothing: the contract of each is the law.
+
+ghost use Rattle.wire_laws.specs.Laws.{LikeIsPossible, IsLikeItself, PossibleLeavesNoMore, AgreedIsPossible, RunIsPossible, StopLeavesNoMore};
+
+/// A slave that is like its shadow, but for what is the controller's own, is one that the shadow may be. What a power cut leaves of any
+/// slave that the shadow may be is among what it may leave of the shadow.
+pub fn possible_leaves_no_more()
+    ensures itself { IsLikeItself }
+    ensures like { LikeIsPossible }
+    ensures leaves { PossibleLeavesNoMore }
+{}
+
+/// After each answer that agrees with the shadow's the real slave is one that the shadow may be, if it was so before. The slave took the
+/// datagram once or more, as the definition of a slave says (ETG.1000.4, slave information interface), up to what is the controller's own.
+pub fn agreed_is_possible()
+    ensures agreed { AgreedIsPossible }
+    ensures run { RunIsPossible }
+{}
+
+/// Where the site stops, since no answer came back or one that doesn't agree, a power cut leaves of the real slave what it may leave of
+/// the shadow.
+pub fn stop_leaves_no_more()
+    ensures { StopLeavesNoMore }
+{}
