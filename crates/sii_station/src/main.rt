@@ -28,10 +28,14 @@ fn words(rt: &HostRuntime) -> io::Result<Vec<String>> {
 /// Carries out the arguments, with the output buffered.
 fn serve_words<
     H: Files<File = File> + Input + Print + Wait + Threads + Clock + Sync,
-    E: Write + IsTerminal,
+    E: Write + IsTerminal + Copy + Send + Drop,
 >(rt: &H, alloc: Global, words: &[String], faults: &mut E) -> u8 {
     let mut files = FileStore::new(alloc, rt);
-    let is_terminal = faults.is_terminal();
+    let terminal = if faults.is_terminal() {
+        Some(*faults)
+    } else {
+        None
+    };
     match BufWriter::new(alloc, io::writer(rt)) {
         Ok(mut output) => serve_on(
             rt,
@@ -41,7 +45,7 @@ fn serve_words<
             &mut files,
             &mut output,
             faults,
-            is_terminal,
+            terminal,
         ),
         Err(error) => refuse_words(&error, faults),
     }

@@ -4,6 +4,7 @@ use crate::capture_arguments::{capture_argument, capture_of};
 use crate::completions::Shell;
 use crate::image_arguments::{alias_command, diff_command, image_task, show_command};
 use crate::plan_arguments::{journal_command, plan_command, planning_task};
+use crate::progress_arguments::{is_quiet, quiet_argument};
 use crate::shell_arguments::{completions_command, man_command, shell_of};
 use clap::error::ErrorKind;
 use clap::{Arg, ArgAction, ArgMatches, Command, Error, value_parser};
@@ -121,6 +122,8 @@ pub struct Request<'a> {
     pub task: Task<'a>,
     /// Whether a second line is to follow the line of a fault.
     pub is_verbose: bool,
+    /// Whether no line is to be drawn with the progress.
+    pub is_quiet: bool,
 }
 
 /// The version, which `--version` prints after the program's name.
@@ -203,8 +206,9 @@ const RECOVER_ANSWERS: &str = "Answers:
   recovered batches B commands C words W
                    the journal held B batches that weren't done, with C commands,
                    and W words of them were written to the slaves
-Each command of the journal is then done as a whole, or undone as a whole. A line
-can be recovered again at any time; of a line that is in order it says 0, 0, 0.
+Each command that the journal holds in whole is then done; of any other no word was
+written. A line can be recovered again at any time; of a line that is in order it
+says 0, 0, 0.
 Faults go to standard error as: fault CODE NAME. The subcommand explain says what
 a code means.
 
@@ -247,6 +251,7 @@ fn read_words<'a>(command: &mut Command<'a>, words: &'a [String]) -> Result<Requ
     Ok(Request {
         task: task_of(command, &matches)?,
         is_verbose: matches.get_flag("verbose"),
+        is_quiet: is_quiet(&matches),
     })
 }
 
@@ -367,7 +372,8 @@ fn run_command<'a>(alloc: Global) -> Result<Command<'a>, AllocError> {
         .arg(script_argument(alloc))?
         .arg(fuse_argument(alloc))?
         .arg(left_argument(alloc))?
-        .arg(capture_argument(alloc))
+        .arg(capture_argument(alloc))?
+        .arg(quiet_argument(alloc))
 }
 
 fn fuse_argument<'a>(alloc: Global) -> Arg<'a> {
@@ -395,7 +401,8 @@ fn recover_command<'a>(alloc: Global) -> Result<Command<'a>, AllocError> {
         )
         .after_help("Example:\n  sii_station recover line.toml")
         .after_long_help(RECOVER_ANSWERS)
-        .arg(line_argument(alloc))
+        .arg(line_argument(alloc))?
+        .arg(quiet_argument(alloc))
 }
 
 fn layout_command<'a>(alloc: Global) -> Result<Command<'a>, AllocError> {

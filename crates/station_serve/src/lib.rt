@@ -8,6 +8,7 @@ mod explain;
 mod image_arguments;
 mod manual;
 mod plan_arguments;
+mod progress_arguments;
 mod serving;
 mod shell_arguments;
 

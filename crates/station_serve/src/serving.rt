@@ -6,6 +6,7 @@ use crate::manual::print_manual;
 use crate::{Request, Task, read_arguments};
 use clap::Error;
 use clap::error::ErrorKind;
+use site_progress::Progress;
 use station_files::{
     ExitStatus, Fault, Store, diff_images, report, report_fault, set_alias, show_image,
     show_layout, status_of,
@@ -32,11 +33,20 @@ pub fn serve<H: Wait + Threads + Clock + Sync, R: Read, S: Store, W: Write, E: W
     output: &mut W,
     faults: &mut E,
 ) -> u8 {
-    serve_on(rt, alloc, args, input, store, output, faults, false)
+    let no_terminal: Option<io::Sink> = None;
+    serve_on(rt, alloc, args, input, store, output, faults, no_terminal)
 }
 
-/// Does what `serve` does. Where `faults` is a terminal, a second line follows the line of a fault, as with `--verbose`.
-pub fn serve_on<H: Wait + Threads + Clock + Sync, R: Read, S: Store, W: Write, E: Write>(
+/// Does what `serve` does. Where `faults` is a terminal, `terminal` writes to it too. Then a second line follows the line of a fault, as with
+/// `--verbose`, and without `--quiet` a line is drawn with the progress of `run` and `recover`.
+pub fn serve_on<
+    H: Wait + Threads + Clock + Sync,
+    R: Read,
+    S: Store,
+    W: Write,
+    E: Write,
+    T: Write + Send + Drop,
+>(
     rt: &H,
     alloc: Global,
     args: &[String],
@@ -44,41 +54,102 @@ pub fn serve_on<H: Wait + Threads + Clock + Sync, R: Read, S: Store, W: Write, E
     store: &mut S,
     output: &mut W,
     faults: &mut E,
-    is_terminal: bool,
+    terminal: Option<T>,
 ) -> u8 {
     let status = match read_arguments(alloc, args) {
-        Ok(Request { task, is_verbose }) => {
-            let is_told = is_terminal || is_verbose;
-            match task.with_script(INPUT) {
-                None => serve_and_tell(rt, alloc, task, is_told, input, store, output, faults),
-                Some(task) => {
-                    let mut joined = InputScript::new(alloc, input, store);
-                    let rest = &mut io::empty();
-                    serve_and_tell(rt, alloc, task, is_told, rest, &mut joined, output, faults)
-                }
-            }
-        }
+        Ok(request) => serve_request(rt, alloc, request, input, store, output, faults, terminal),
         Err(error) => show_usage(&error, output, faults),
     };
     status as u8
 }
 
+/// Carries out a command line that was read.
+fn serve_request<
+    H: Wait + Threads + Clock + Sync,
+    R: Read,
+    S: Store,
+    W: Write,
+    E: Write,
+    T: Write + Send + Drop,
+>(
+    rt: &H,
+    alloc: Global,
+    request: Request<'_>,
+    input: &mut R,
+    store: &mut S,
+    output: &mut W,
+    faults: &mut E,
+    terminal: Option<T>,
+) -> ExitStatus {
+    let is_told = terminal.is_some() || request.is_verbose;
+    let begun = begin_progress(rt, request, terminal);
+    let progress = begun.as_ref();
+    match request.task.with_script(INPUT) {
+        None => serve_and_tell(
+            rt,
+            alloc,
+            request.task,
+            is_told,
+            progress,
+            input,
+            store,
+            output,
+            faults,
+        ),
+        Some(task) => {
+            let mut joined = InputScript::new(alloc, input, store);
+            let rest = &mut io::empty();
+            serve_and_tell(
+                rt,
+                alloc,
+                task,
+                is_told,
+                progress,
+                rest,
+                &mut joined,
+                output,
+                faults,
+            )
+        }
+    }
+}
+
+/// Begins to count the progress, if there is a terminal for its line.
+fn begin_progress<H: Clock, T: Write + Drop>(
+    rt: &H,
+    request: Request<'_>,
+    terminal: Option<T>,
+) -> Option<Progress<T>> {
+    match terminal {
+        Some(terminal) if !request.is_quiet => Progress::begin(rt, terminal),
+        _ => None,
+    }
+}
+
 /// Carries out a task. Where `is_told` and it ends with a fault or a refusal of its own, a line more says what that was about.
-fn serve_and_tell<H: Wait + Threads + Clock + Sync, R: Read, S: Store, W: Write, E: Write>(
+fn serve_and_tell<
+    H: Wait + Threads + Clock + Sync,
+    R: Read,
+    S: Store,
+    W: Write,
+    E: Write,
+    T: Write + Send,
+>(
     rt: &H,
     alloc: Global,
     task: Task<'_>,
     is_told: bool,
+    progress: Option<&Progress<T>>,
     input: &mut R,
     store: &mut S,
     output: &mut W,
     faults: &mut E,
 ) -> ExitStatus {
     if !is_told {
-        return serve_task(rt, alloc, task, input, store, output, faults);
+        return serve_task(rt, alloc, task, progress, input, store, output, faults);
     }
     let mut heard = Heard::new(&mut *faults);
-    let status = serve_task(rt, alloc, task, input, store, output, &mut heard);
+    let status = serve_task(rt, alloc, task, progress, input, store, output, &mut heard);
     if let Some(code) = heard.code() {
         tell_more(alloc, "sii_station", code, files_of(task), store, faults);
     }
@@ -116,10 +187,18 @@ fn line_files<'a>(line: &'a str, journal: Journal, script: Option<&'a str>) -> F
 }
 
 /// Carries out a task.
-fn serve_task<H: Wait + Threads + Clock + Sync, R: Read, S: Store, W: Write, E: Write>(
+fn serve_task<
+    H: Wait + Threads + Clock + Sync,
+    R: Read,
+    S: Store,
+    W: Write,
+    E: Write,
+    T: Write + Send,
+>(
     rt: &H,
     alloc: Global,
     task: Task<'_>,
+    progress: Option<&Progress<T>>,
     input: &mut R,
     store: &mut S,
     output: &mut W,
@@ -151,9 +230,11 @@ fn serve_task<H: Wait + Threads + Clock + Sync, R: Read, S: Store, W: Write, E: 
             script,
             cut,
             capture,
-        } => run_script(rt, alloc, line, script, cut, capture, store, output, faults),
+        } => run_script(
+            rt, alloc, line, script, cut, capture, progress, store, output, faults,
+        ),
         Task::Journal { line } => show_journal(alloc, line, store, output, faults),
-        Task::Recover { line } => recover_line(alloc, line, store, output, faults),
+        Task::Recover { line } => recover_line(rt, alloc, line, progress, store, output, faults),
     }
 }
 

@@ -1,4 +1,4 @@
-//! The capture of a run: a file with the frames of its line.
+//! The capture of a run: a file with the frames of its line. A run on a wire begins and ends its own with these too.
 ghost use Rattle.std.specs.Prelude.{◌≡◌, ◌⊎◌, option_map};
 ghost use Rattle.station_files.specs.Faults.{IsFaultless};
 ghost use Rattle.station_files.specs.Files.{ChangesOnly};
@@ -15,7 +15,7 @@ use std::io::Write;
 ///
 /// `Busy` where another station has the file; `Exists` where it holds something else than a capture of this program, and it stays as it is
 /// then; `File` where it can't be created or written; `Memory`.
-pub(crate) fn begin_capture<S: Store>(
+pub fn begin_capture<S: Store>(
     name: Option<&str>,
     store: &mut S,
 ) -> Result<Option<Capture<S::File>>, Fault>
@@ -40,7 +40,7 @@ fn begin_in<S: Store>(name: &str, store: &mut S) -> Result<Option<Capture<S::Fil
 }
 
 /// Ends the capture of a run that ends with this status, and returns the status of both. A fault of the capture is printed.
-pub(crate) fn end_capture<F: RandomAccessFile + Drop, E: Write>(
+pub fn end_capture<F: RandomAccessFile + Drop, E: Write>(
     capture: Option<Capture<F>>,
     status: ExitStatus,
     faults: &mut E,

@@ -13,6 +13,7 @@ mod session;
 mod site;
 mod threads;
 
+pub use capture::{begin_capture, end_capture};
 pub use device_faults::of_device;
 pub use faults::of_open;
 pub use init::init_line;

@@ -13,6 +13,7 @@ use crate::opening::open_files;
 use crate::session::{Session, load_session};
 use crate::site::save_site;
 use site_file::FileDevice;
+use site_progress::{Cleared, Progress, Watched};
 use site_shadow::{Device, ShadowSite};
 use station_alone::{Recovered, recover};
 use station_files::{ExitStatus, Fault, Store, report_fault, status_of, worse};
@@ -20,15 +21,21 @@ use station_text::LineFile;
 use std::alloc::Global;
 use std::io;
 use std::io::Write;
+use std::rt::Clock;
+use std::sync::Wait;
 
 /// Recovers the line whose line file is `name`, on its files, and prints what was recovered. Returns the exit status.
 ///
 /// The files are read in this order: line file, images of the slaves, journal. The first fault is printed and ends the recovery. No file is
 /// written where one can't be read, or where the journal is refused. After any later fault the files hold what was written so far, and
 /// another recovery completes it.
-pub fn recover_line<S: Store, W: Write, E: Write>(
+///
+/// `progress` counts what is done, if there is one. Its line is erased before anything is printed, and at the end.
+pub fn recover_line<S: Store, W: Write, E: Write, T: Write, R: Wait + Clock>(
+    rt: &R,
     alloc: Global,
     name: &str,
+    progress: Option<&Progress<T>>,
     store: &mut S,
     output: &mut W,
     faults: &mut E,
@@ -36,15 +43,17 @@ pub fn recover_line<S: Store, W: Write, E: Write>(
     ensures { Recovers (S.files store.old) (S.files store.new) name.now result }
 {
     match load_session(alloc, name, store) {
-        Ok(session) => recover_session(alloc, session, store, output, faults),
+        Ok(session) => recover_session(rt, alloc, session, progress, store, output, faults),
         Err(fault) => report_fault(fault, faults),
     }
 }
 
 /// Opens the files of a line that was read, and recovers the line on them.
-fn recover_session<S: Store, W: Write, E: Write>(
+fn recover_session<S: Store, W: Write, E: Write, T: Write, R: Wait + Clock>(
+    rt: &R,
     alloc: Global,
     session: Session<S::Lock>,
+    progress: Option<&Progress<T>>,
     store: &mut S,
     output: &mut W,
     faults: &mut E,
@@ -62,14 +71,45 @@ fn recover_session<S: Store, W: Write, E: Write>(
     } = session;
     match open_files(alloc, &line, store) {
         Ok(files) => {
-            let site = site.with_device(FileDevice::new(&files));
-            recover_site(alloc, &line, site, store, output, faults)
+            let device = Watched::new(FileDevice::new(&files), progress, rt);
+            let site = site.with_device(device);
+            recover_watched(rt, alloc, &line, site, progress, store, output, faults)
         }
         Err(fault) => {
             drop(site);
             report_fault(fault, faults)
         }
     }
+}
+
+/// Recovers a line, and saves what it holds to its files. The line of `progress` gives way to what is printed.
+fn recover_watched<D: Device + Drop, S: Store, W: Write, E: Write, T: Write, R: Wait + Clock>(
+    rt: &R,
+    alloc: Global,
+    line: &LineFile,
+    site: ShadowSite<D>,
+    progress: Option<&Progress<T>>,
+    store: &mut S,
+    output: &mut W,
+    faults: &mut E,
+) -> ExitStatus
+    requires disk { IsTrue site.line.has_disk }
+    requires owned { OwnsAll site.line }
+    requires slaves { length site.line.sizes ≡ length line.now.images.items }
+    ensures { EndsRecovery (S.files store.old) (S.files store.new) line.now site.seen result }
+{
+    let status = recover_site(
+        alloc,
+        line,
+        site,
+        store,
+        &mut Cleared::new(output, progress, rt),
+        &mut Cleared::new(faults, progress, rt),
+    );
+    if let Some(progress) = progress {
+        progress.erase(rt);
+    }
+    status
 }
 
 /// Recovers a line, and saves what it holds to its files.

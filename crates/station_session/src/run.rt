@@ -15,6 +15,7 @@ use sii_edit::Command;
 use site_capture::{Capture, Captured};
 use site_file::FileDevice;
 use site_mem::{FaultPlan, Pattern};
+use site_progress::{Cleared, Progress, Watched};
 use site_shadow::{Device, ShadowSite};
 use station_alone::{Alone, OpenFault, recover};
 use station_files::{ExitStatus, Fault, Store, load_script, report_fault, status_of, worse};
@@ -54,13 +55,16 @@ pub struct Given<L> {
 ///
 /// Each frame is written down in the file `capture`, if one is named. The capture begins once all files are read. Where it can't, no file of
 /// the line is written. If it can't be written further, the run goes on as without it, and the fault is printed behind all others.
-pub fn run_script<S: Store, W: Write, E: Write, R: Wait + Threads + Clock + Sync>(
+///
+/// Without a fuse, `progress` counts what is done, if there is one. Its line is erased before anything is printed, and at the end.
+pub fn run_script<S: Store, W: Write, E: Write, T: Write + Send, R: Wait + Threads + Clock + Sync>(
     rt: &R,
     alloc: Global,
     name: &str,
     script: &str,
     fuse: Option<Fuse>,
     capture: Option<&str>,
+    progress: Option<&Progress<T>>,
     store: &mut S,
     output: &mut W,
     faults: &mut E,
@@ -69,18 +73,21 @@ pub fn run_script<S: Store, W: Write, E: Write, R: Wait + Threads + Clock + Sync
         name.now script.now result }
 {
     match load(alloc, name, script, store) {
-        Ok(given) => run_captured(rt, alloc, given, fuse, capture, store, output, faults),
+        Ok(given) => run_captured(
+            rt, alloc, given, fuse, capture, progress, store, output, faults,
+        ),
         Err(fault) => report_fault(fault, faults),
     }
 }
 
 /// Begins the capture, if a file is named for it, serves the commands, and ends the capture.
-fn run_captured<S: Store, W: Write, E: Write, R: Wait + Threads + Clock + Sync>(
+fn run_captured<S: Store, W: Write, E: Write, T: Write + Send, R: Wait + Threads + Clock + Sync>(
     rt: &R,
     alloc: Global,
     given: Given<S::Lock>,
     fuse: Option<Fuse>,
     capture: Option<&str>,
+    progress: Option<&Progress<T>>,
     store: &mut S,
     output: &mut W,
     faults: &mut E,
@@ -100,6 +107,7 @@ fn run_captured<S: Store, W: Write, E: Write, R: Wait + Threads + Clock + Sync>(
                 given,
                 fuse,
                 begun.as_ref(),
+                progress,
                 store,
                 output,
                 faults,
@@ -114,12 +122,13 @@ fn run_captured<S: Store, W: Write, E: Write, R: Wait + Threads + Clock + Sync>(
 }
 
 /// Serves the commands on the line's files, or with a fuse in memory.
-fn run_given<S: Store, W: Write, E: Write, R: Wait + Threads + Clock + Sync>(
+fn run_given<S: Store, W: Write, E: Write, T: Write + Send, R: Wait + Threads + Clock + Sync>(
     rt: &R,
     alloc: Global,
     given: Given<S::Lock>,
     fuse: Option<Fuse>,
     capture: Option<&Capture<S::File>>,
+    progress: Option<&Progress<T>>,
     store: &mut S,
     output: &mut W,
     faults: &mut E,
@@ -136,7 +145,7 @@ fn run_given<S: Store, W: Write, E: Write, R: Wait + Threads + Clock + Sync>(
             rt, alloc, session, fuse, capture, &commands, store, output, faults,
         ),
         None => run_on_files(
-            rt, alloc, session, capture, &commands, store, output, faults,
+            rt, alloc, session, capture, progress, &commands, store, output, faults,
         ),
     }
 }
@@ -176,11 +185,12 @@ fn run_fused<S: Store, W: Write, E: Write, R: Wait + Clock>(
 }
 
 /// Opens the files of a line that was read, and serves the commands on them by threads.
-fn run_on_files<S: Store, W: Write, E: Write, R: Wait + Threads + Clock + Sync>(
+fn run_on_files<S: Store, W: Write, E: Write, T: Write + Send, R: Wait + Threads + Clock + Sync>(
     rt: &R,
     alloc: Global,
     session: Session<S::Lock>,
     capture: Option<&Capture<S::File>>,
+    progress: Option<&Progress<T>>,
     commands: &[Command],
     store: &mut S,
     output: &mut W,
@@ -200,10 +210,10 @@ fn run_on_files<S: Store, W: Write, E: Write, R: Wait + Threads + Clock + Sync>(
     } = session;
     match open_files(alloc, &line, store) {
         Ok(files) => {
-            let device = Captured::new(FileDevice::new(&files), capture, rt);
-            let site = site.with_device(device);
-            run_site(
-                rt, alloc, &line, site, is_old, commands, store, output, faults,
+            let device = Watched::new(FileDevice::new(&files), progress, rt);
+            let site = site.with_device(Captured::new(device, capture, rt));
+            run_watched(
+                rt, alloc, &line, site, is_old, commands, progress, store, output, faults,
             )
         }
         Err(fault) => {
@@ -211,6 +221,51 @@ fn run_on_files<S: Store, W: Write, E: Write, R: Wait + Threads + Clock + Sync>(
             report_fault(fault, faults)
         }
     }
+}
+
+/// Opens the station on this line, and serves the commands by threads. The line of `progress` gives way to what is printed.
+fn run_watched<
+    D: Device + Copy + Send,
+    S: Store,
+    W: Write,
+    E: Write,
+    T: Write,
+    R: Wait + Threads + Clock + Sync,
+>(
+    rt: &R,
+    alloc: Global,
+    line: &LineFile,
+    site: ShadowSite<D>,
+    was_old: bool,
+    commands: &[Command],
+    progress: Option<&Progress<T>>,
+    store: &mut S,
+    output: &mut W,
+    faults: &mut E,
+) -> ExitStatus
+    requires disk { IsTrue site.line.has_disk }
+    requires owned { OwnsAll site.line }
+    requires old { was_old ≡ is_old site.seen.state.disk.bytes }
+    ensures { EndsRun false (S.files store.old) (S.files store.new) line.now site commands.now result }
+{
+    if let Some(progress) = progress {
+        progress.expect(commands.len());
+    }
+    let status = run_site(
+        rt,
+        alloc,
+        line,
+        site,
+        was_old,
+        commands,
+        store,
+        &mut Cleared::new(output, progress, rt),
+        &mut Cleared::new(faults, progress, rt),
+    );
+    if let Some(progress) = progress {
+        progress.erase(rt);
+    }
+    status
 }
 
 /// Opens the station on this line, and serves the commands by threads.

@@ -13,6 +13,7 @@ mod migrations;
 mod outputs;
 mod pages;
 mod plans;
+mod progress;
 mod scripts;
 mod statuses;
 mod stops;

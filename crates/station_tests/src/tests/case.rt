@@ -163,7 +163,8 @@ pub fn served<R: Read, W: Write>(
     Ok(serve(&still, alloc, &args, input, shelf, output, faults))
 }
 
-fn parted(alloc: Global, words: &str) -> Result<Vec<String>, AllocError> {
+/// The arguments of a run, which are separated by spaces.
+pub fn parted(alloc: Global, words: &str) -> Result<Vec<String>, AllocError> {
     let mut args = Vec::new(alloc);
     for word in words.split_ascii_whitespace() {
         args.push(String::from_str(alloc, word)?)?;

@@ -1,0 +1,147 @@
+//! A device whose work is counted.
+ghost use Rattle.std.specs.Prelude.{◌≡◌, ◌++◌, ℕ, List, length, Some};
+ghost use Rattle.jrn_format.specs.Batch.{PayloadFits, spelt_behind};
+ghost use Rattle.jrn_format.specs.declared.journal.Entry.{Entry};
+
+use crate::progress::Progress;
+use ecat_frame::Frame;
+use esc_model::RomHalf;
+use jrn_format::{AREA_START, OPEN, Spelling};
+use site_shadow::{Device, Passing, Pattern, Resting};
+use std::alloc::AllocError;
+use std::io::Write;
+use std::rt::Clock;
+
+/// A device, and the progress for which its work counts, if there is one. It answers each call as the device does.
+///
+/// A command is durable once the gate of its batch is opened and synced. A slave is busy from the datagram that starts a write to the moment
+/// its word is written. The line is drawn behind a word or a sync, and never behind a frame of process data, which is to wait for no terminal.
+#[derive(Drop)]
+pub struct Watched<'p, D, T, R> {
+    device: D,
+    progress: Option<&'p Progress<T>>,
+    rt: &'p R,
+    /// How many commands the batch has that was written last and isn't live yet.
+    appended: u16,
+    /// Whether its gate was opened, and the journal wasn't synced since.
+    is_open: bool,
+}
+
+impl<'p, D: Copy, T, R> Copy for Watched<'p, D, T, R> {}
+
+impl<'p, D: Clone, T, R> Clone for Watched<'p, D, T, R> {
+    fn clone(&self) -> Result<Self, AllocError> {
+        Ok(Watched {
+            device: self.device.clone()?,
+            progress: self.progress,
+            rt: self.rt,
+            appended: self.appended,
+            is_open: self.is_open,
+        })
+    }
+}
+
+/// How many commands a batch has, whose bytes behind its gate begin so: bytes 5 and 6, behind the generation and the payload's length. None
+/// where there are fewer bytes.
+fn commands_in(bytes: &[u8]) -> Option<u16>
+    ensures { (generation : ℕ) (entries : List Entry) (rest : List ℕ) → PayloadFits entries
+        → bytes.now ≡ spelt_behind Spelling.WithGeneration generation entries ++ rest → result ≡ Some (length entries) }
+{
+    match bytes {
+        [_, _, _, _, _, low, high, ..] => Some(u16::from_le_bytes([*low, *high])),
+        _ => None,
+    }
+}
+
+impl<'p, D, T: Write, R: Clock> Watched<'p, D, T, R> {
+    /// Makes the device whose work counts for this progress.
+    pub fn new(device: D, progress: Option<&'p Progress<T>>, rt: &'p R) -> Watched<'p, D, T, R> {
+        Watched {
+            device,
+            progress,
+            rt,
+            appended: 0,
+            is_open: false,
+        }
+    }
+
+    /// Something was written to the journal from `at` on: a gate, a batch or a header.
+    fn note_write(&mut self, at: usize, bytes: &[u8]) {
+        if at < AREA_START {
+            return;
+        }
+        match commands_in(bytes) {
+            Some(commands) => self.appended = commands,
+            None => self.is_open = bytes == [OPEN].as_slice(),
+        }
+    }
+
+    /// The journal was synced.
+    fn note_sync(&mut self, progress: &Progress<T>) {
+        if self.is_open {
+            progress.add_durable(u64::from(self.appended));
+            self.appended = 0;
+            self.is_open = false;
+        }
+        progress.look(self.rt);
+    }
+}
+
+impl<'p, D: Device, T: Write, R: Clock> Device for Watched<'p, D, T, R> {
+    fn len(&mut self, length: usize) -> Passing {
+        self.device.len(length)
+    }
+
+    fn read(&mut self, at: usize, held: &[u8]) -> Passing {
+        self.device.read(at, held)
+    }
+
+    fn write(&mut self, at: usize, bytes: &[u8]) -> Passing {
+        self.note_write(at, bytes);
+        self.device.write(at, bytes)
+    }
+
+    fn sync(&mut self) -> Passing {
+        let passing = self.device.sync();
+        if let (Some(progress), Passing::Passes) = (self.progress, passing) {
+            self.note_sync(progress);
+        }
+        passing
+    }
+
+    fn exchange(&mut self, slave: usize, half: &RomHalf, frame: &Frame) -> Passing {
+        self.device.exchange(slave, half, frame)
+    }
+
+    fn rest(&mut self, slave: usize, half: &RomHalf, k: usize) -> Resting {
+        let resting = self.device.rest(slave, half, k);
+        if let (Some(progress), Some(_), Resting::Well) = (
+            self.progress,
+            half.in_flight(),
+            resting,
+        ) {
+            progress.add_word();
+            progress.set_busy(slave, false);
+            progress.look(self.rt);
+        }
+        resting
+    }
+
+    fn taken(
+        &mut self,
+        slave: usize,
+        half: &RomHalf,
+        answer: &Frame,
+        k: usize,
+        added: u16,
+    ) -> Option<Pattern> {
+        if let Some(progress) = self.progress {
+            progress.set_busy(slave, half.in_flight().is_some());
+        }
+        self.device.taken(slave, half, answer, k, added)
+    }
+
+    fn cycle(&mut self, frame: &Frame) -> Passing {
+        self.device.cycle(frame)
+    }
+}
