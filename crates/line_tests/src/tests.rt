@@ -1,4 +1,5 @@
 mod access;
+mod captured_wire;
 mod cycle;
 mod frames;
 pub(crate) mod process_data;

@@ -7,11 +7,14 @@ use std::alloc::Global;
 use std::fs::{File, Files, OpenOptions};
 use std::io::{Read, Write};
 use std::process::ExitCode;
+use std::rt::Clock;
 use std::sync::Wait;
 use std::thread::Threads;
 use std::time::SystemTime;
 use std::{env, io};
-use wire_serve::{FileStore, Task, read_arguments, refuse_text, refuse_words, serve, show_usage};
+use wire_serve::{
+    Arguments, FileStore, read_arguments, refuse_text, refuse_words, serve, show_usage,
+};
 
 fn main(rt: HostRuntime) -> ExitCode {
     let status = match words(&rt) {
@@ -38,7 +41,7 @@ fn words(rt: &HostRuntime) -> io::Result<Vec<String>> {
 /// Carries out the arguments on this wire, whose frames are numbered from the one behind `number` on. The text goes to the file that they
 /// name, or to this stream.
 fn serve_words<
-    H: Files<File = File> + Wait + Threads + Sync,
+    H: Files<File = File> + Wait + Threads + Clock + Sync,
     R: Read + Send + Drop,
     W: Write + Send + Drop,
     E: Write,
@@ -55,11 +58,11 @@ fn serve_words<
         Ok(arguments) => match arguments.text {
             Some(name) => match open_text(rt, name) {
                 Ok(mut text) => {
-                    serve_task(rt, alloc, arguments.task, wire, number, &mut text, faults)
+                    serve_task(rt, alloc, arguments, wire, number, &mut text, faults)
                 }
                 Err(error) => refuse_text(error, faults),
             },
-            None => serve_task(rt, alloc, arguments.task, wire, number, text, faults),
+            None => serve_task(rt, alloc, arguments, wire, number, text, faults),
         },
         Err(error) => show_usage(&error, faults),
     }
@@ -70,9 +73,9 @@ fn open_text<H: Files<File = File>>(rt: &H, name: &str) -> io::Result<File> {
     OpenOptions::new().append(true).open(rt, name)
 }
 
-/// Carries out a task, with its text in this stream.
+/// Carries out what the arguments ask for, with its text in this stream.
 fn serve_task<
-    H: Files<File = File> + Wait + Threads + Sync,
+    H: Files<File = File> + Wait + Threads + Clock + Sync,
     R: Read + Send + Drop,
     W: Write + Send + Drop,
     O: Write,
@@ -80,14 +83,18 @@ fn serve_task<
 >(
     rt: &H,
     alloc: Global,
-    task: Task<'_>,
+    arguments: Arguments<'_>,
     wire: EthernetWire<R, W>,
     number: u32,
     text: &mut O,
     faults: &mut E,
 ) -> u8 {
     let mut files = FileStore::new(alloc, rt);
-    serve(rt, alloc, task, wire, number, &mut files, text, faults)
+    let Arguments { task, capture, .. } = arguments;
+    let status = serve(
+        rt, alloc, task, capture, wire, number, &mut files, text, faults,
+    );
+    status as u8
 }
 
 /// The nanoseconds of the time, which no earlier program on this wire has likely numbered its frames from.

@@ -1,9 +1,11 @@
 //! A capture file that is being written.
+ghost use Rattle.std.specs.Prelude.{◌≤◌, length, IfOk};
+ghost use Rattle.site_capture.specs.Pcap.{IsRecord};
 
 use crate::ethernet::Way;
 use crate::pcap::{BEGIN, Record, file_header};
 use crate::time::Time;
-use ecat_frame::Frame;
+use ecat_frame::{Frame, MAX_LEN};
 use site_file::RandomAccessFile;
 use std::io;
 use std::rt::Clock;
@@ -65,6 +67,14 @@ impl<F: RandomAccessFile + Drop> Capture<F> {
 
     /// Writes down a frame that goes this way now.
     pub fn note<R: Wait + Clock>(&self, rt: &R, way: Way, frame: &Frame) {
+        self.note_bytes(rt, way, frame.as_bytes());
+    }
+
+    /// Writes down a frame with these bytes, 1,500 at most, that goes this way now. They may be any, as those of a frame that was falsified
+    /// on a wire.
+    pub fn note_bytes<R: Wait + Clock>(&self, rt: &R, way: Way, frame: &[u8])
+        requires { length frame.now ≤ MAX_LEN }
+    {
         let mut end = self.end.lock(rt);
         if end.has_failed {
             return;
@@ -105,15 +115,26 @@ fn is_free<F: RandomAccessFile>(file: &F) -> io::Result<bool> {
     Ok(start == file_header())
 }
 
+/// The record of a frame with these bytes, that goes this way now.
+fn record_now<R: Clock>(rt: &R, way: Way, frame: &[u8]) -> io::Result<Record>
+    requires { length frame.now ≤ MAX_LEN }
+    ensures { IfOk result (λ noted. IsRecord way frame.now noted.bytes.items) }
+{
+    let time = Time::now(rt)?;
+    Ok(Record::of(time, way, frame))
+}
+
 /// Writes the record of a frame at this byte of the file. Returns where it ends.
 fn append<F: RandomAccessFile, R: Clock>(
     file: &F,
     at: u64,
     rt: &R,
     way: Way,
-    frame: &Frame,
-) -> io::Result<u64> {
-    let record = Record::of(Time::now(rt)?, way, frame.as_bytes());
+    frame: &[u8],
+) -> io::Result<u64>
+    requires { length frame.now ≤ MAX_LEN }
+{
+    let record = record_now(rt, way, frame)?;
     let bytes = record.as_slice();
     file.write_all_at(bytes, at)?;
     Ok(at.wrapping_add(bytes.len() as u64))

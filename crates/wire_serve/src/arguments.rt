@@ -1,15 +1,18 @@
 //! Reads the arguments of the program; also has the help texts.
 
+use crate::capture_argument::{capture_argument, capture_of};
 use crate::practice::PowerCut;
 use clap::error::ErrorKind;
 use clap::{Arg, ArgMatches, Command, Error, value_parser};
 use std::alloc::{AllocError, Global};
 
-/// A command line: what it asks for, and where its text goes.
+/// A command line: what it asks for, and where its text and its frames go.
 #[derive(Clone, Copy)]
 pub struct Arguments<'a> {
     /// The name of the file that the text goes to; `None` for standard error.
     pub text: Option<&'a str>,
+    /// The name of the file that each frame is written to, if there is one.
+    pub capture: Option<&'a str>,
     /// What is asked for.
     pub task: Task<'a>,
 }
@@ -148,8 +151,13 @@ fn arguments_of<'a>(
     matches: &ArgMatches<'a>,
 ) -> Result<Arguments<'a>, Error> {
     let text = matches.get_str("text");
+    let capture = capture_of(matches);
     match task_of(command, matches) {
-        Ok(task) => Ok(Arguments { text, task }),
+        Ok(task) => Ok(Arguments {
+            text,
+            capture,
+            task,
+        }),
         Err(error) => Err(error),
     }
 }
@@ -263,15 +271,14 @@ fn text_argument<'a>(alloc: Global) -> Arg<'a> {
 }
 
 fn scan_command<'a>(alloc: Global) -> Result<Command<'a>, AllocError> {
-    Ok(
-        Command::new(alloc, "scan")
-            .about("Prints what the slaves of the line are")
-            .long_about(
-                "Brings up the line and reads the EEPROM of each slave. No word and no file is written.",
-            )
-            .after_help("Example:\n  launch eth0 2000 sii_wire scan")
-            .after_long_help(SCAN_ANSWERS),
-    )
+    Command::new(alloc, "scan")
+        .about("Prints what the slaves of the line are")
+        .long_about(
+            "Brings up the line and reads the EEPROM of each slave. No word and no file is written, but for that of --capture.",
+        )
+        .after_help("Example:\n  launch eth0 2000 sii_wire scan")
+        .after_long_help(SCAN_ANSWERS)
+        .arg(capture_argument(alloc))
 }
 
 fn line_argument<'a>(alloc: Global) -> Arg<'a> {
@@ -288,7 +295,8 @@ fn backup_command<'a>(alloc: Global) -> Result<Command<'a>, AllocError> {
         )
         .after_help("Example:\n  launch eth0 2000 sii_wire backup line.toml")
         .after_long_help(BACKUP_FILES)
-        .arg(line_argument(alloc))
+        .arg(line_argument(alloc))?
+        .arg(capture_argument(alloc))
 }
 
 fn init_command<'a>(alloc: Global) -> Result<Command<'a>, AllocError> {
@@ -299,7 +307,8 @@ fn init_command<'a>(alloc: Global) -> Result<Command<'a>, AllocError> {
         )
         .after_help("Example:\n  launch eth0 2000 sii_wire init line.toml")
         .after_long_help(INIT_ANSWERS)
-        .arg(line_argument(alloc))
+        .arg(line_argument(alloc))?
+        .arg(capture_argument(alloc))
 }
 
 fn script_argument<'a>(alloc: Global) -> Arg<'a> {
@@ -315,7 +324,8 @@ fn run_command<'a>(alloc: Global) -> Result<Command<'a>, AllocError> {
         .after_help("Example:\n  launch eth0 2000 sii_wire run line.toml script.toml")
         .after_long_help(RUN_ANSWERS)
         .arg(line_argument(alloc))?
-        .arg(script_argument(alloc))
+        .arg(script_argument(alloc))?
+        .arg(capture_argument(alloc))
 }
 
 fn recover_command<'a>(alloc: Global) -> Result<Command<'a>, AllocError> {
@@ -326,7 +336,8 @@ fn recover_command<'a>(alloc: Global) -> Result<Command<'a>, AllocError> {
         )
         .after_help("Example:\n  launch eth0 2000 sii_wire recover line.toml")
         .after_long_help(RECOVER_ANSWERS)
-        .arg(line_argument(alloc))
+        .arg(line_argument(alloc))?
+        .arg(capture_argument(alloc))
 }
 
 fn cut_argument<'a>(alloc: Global) -> Arg<'a> {

@@ -2,6 +2,7 @@
 #![tactic(auto)]
 
 mod arguments;
+mod capture_argument;
 mod explain;
 mod practice;
 mod serving;

@@ -5,19 +5,27 @@ use crate::explain::explain;
 use crate::practice::serve_slaves;
 use clap::Error;
 use clap::error::ErrorKind;
-use site_wire::{EthernetWire, NumberedWire};
+use site_wire::{EthernetWire, NumberedWire, Wire};
 use station_files::{ExitStatus, Fault, Store, report_fault};
+use station_session::{begin_capture, end_capture};
 use std::alloc::Global;
 use std::io;
 use std::io::{Read, Write};
+use std::rt::Clock;
 use std::sync::Wait;
 use std::thread::Threads;
+use wire_capture::CapturedWire;
 use wire_session::{WireFault, backup_line, init_on_wire, recover_line, run_script, scan_line};
 
-/// Carries out a task on the wire that is read and written by these two, and returns the exit status: 0 done, 1 a command was refused, 3 a
-/// file or its form, 4 the line, 5 out of memory. The frames are numbered from the one behind `number` on. Faults are printed to `faults`.
+/// Carries out a task on the wire that is read and written by these two, and returns the exit status: `Done`; `Refused` where a command was
+/// refused; `File` for a file or its form; `Device` for the line; or `Memory`. The frames are numbered from the one behind `number` on.
+/// Faults are printed to `faults`.
+///
+/// Each frame is written down in the file `capture`, if one is named, once it is sent or received. Where the capture can't begin, no frame
+/// is sent and nothing is read or written. If it can't be written further, the work goes on as without it, and the fault is printed behind
+/// all others.
 pub fn serve<
-    H: Wait + Threads + Sync,
+    H: Wait + Threads + Clock + Sync,
     R: Read + Send + Drop,
     W: Write + Send + Drop,
     S: Store,
@@ -27,27 +35,33 @@ pub fn serve<
     rt: &H,
     alloc: Global,
     task: Task<'_>,
+    capture: Option<&str>,
     wire: EthernetWire<R, W>,
     number: u32,
     store: &mut S,
     output: &mut O,
     faults: &mut E,
-) -> u8 {
-    let wire = NumberedWire::new(wire, number);
-    status_of(do_task(rt, alloc, task, wire, store, output), faults) as u8
+) -> ExitStatus {
+    match begin_capture(capture, store) {
+        Ok(begun) => {
+            let captured = CapturedWire::new(wire, begun.as_ref(), rt);
+            let numbered = NumberedWire::new(captured, number);
+            let status = status_of(do_task(rt, alloc, task, numbered, store, output), faults);
+            end_capture(begun, status, faults)
+        }
+        Err(fault) => {
+            drop(wire);
+            report_fault(fault, faults)
+        }
+    }
 }
 
-fn do_task<
-    H: Wait + Threads + Sync,
-    R: Read + Send + Drop,
-    W: Write + Send + Drop,
-    S: Store,
-    O: Write,
->(
+/// Carries out a task on this wire.
+fn do_task<H: Wait + Threads + Sync, W: Wire + Send + Drop, S: Store, O: Write>(
     rt: &H,
     alloc: Global,
     task: Task<'_>,
-    mut wire: NumberedWire<EthernetWire<R, W>>,
+    mut wire: NumberedWire<W>,
     store: &mut S,
     output: &mut O,
 ) -> Result<ExitStatus, WireFault> {

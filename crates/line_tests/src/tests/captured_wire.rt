@@ -1,0 +1,206 @@
+//! What a capture of a wire holds, on which frames are lost, doubled and falsified.
+
+use super::zero_words;
+use crate::devices::put;
+use site_capture::Capture;
+use site_file::RandomAccessFile;
+use site_wire::{Fate, Mishap, NumberedWire, PracticeLine, PracticeWire, bring_up};
+use std::alloc::Global;
+use std::io;
+use std::rt::Clock;
+use std::sync::Wait;
+use std::sync::atomic::AtomicU8;
+use std::sync::atomic::Ordering::SeqCst;
+use std::time::Duration;
+use wire_capture::CapturedWire;
+
+// A file that is empty at first, and keeps what is written to its first bytes.
+#[derive(Drop)]
+struct Front<'b> {
+    bytes: &'b [AtomicU8],
+}
+
+impl RandomAccessFile for Front<'_> {
+    fn len(&self) -> io::Result<u64> {
+        Ok(0)
+    }
+
+    fn read_exact_at(&self, _bytes: &mut [u8], _at: u64) -> io::Result<()> {
+        Err(io::Error::other("the file isn't read"))
+    }
+
+    fn write_all_at(&self, bytes: &[u8], at: u64) -> io::Result<()> {
+        let held = self.bytes.get(at as usize..).unwrap_or(&[]);
+        for (byte, held) in bytes.iter().zip(held) {
+            held.store(*byte, SeqCst);
+        }
+        Ok(())
+    }
+
+    fn set_len(&self, _length: u64) -> io::Result<()> {
+        Ok(())
+    }
+
+    fn sync_data(&self) -> io::Result<()> {
+        Ok(())
+    }
+}
+
+// A handle whose clock stands still, at 5 nanoseconds behind second 3.
+#[derive(Drop)]
+struct Still<'r, H> {
+    _handle: &'r H,
+}
+
+impl<H: Wait> Wait for Still<'_, H> {}
+
+impl<H> Clock for Still<'_, H> {
+    fn monotonic(&self) -> io::Result<Duration> {
+        Ok(Duration::ZERO)
+    }
+
+    fn since_1970(&self) -> io::Result<Duration> {
+        Ok(Duration::new(3, 5))
+    }
+}
+
+// How many bytes of a capture are looked at: its header of 24 bytes, and four records of 16 bytes and an Ethernet frame of 60.
+const LOOKED_AT: usize = 328;
+
+// Magic number, version 2.4, two reserved words, 1,514 bytes at most, Ethernet.
+const HEADER: &[u8] = &[
+    0x4d, 0x3c, 0xb2, 0xa1, 2, 0, 4, 0, 0, 0, 0, 0, 0, 0, 0, 0, 0xea, 0x05, 0, 0, 1, 0, 0, 0,
+];
+
+// Second 3, nanosecond 5, twice the length of the Ethernet frame, and the destination: to all.
+const BEFORE: &[u8] = &[
+    3, 0, 0, 0, 5, 0, 0, 0, 60, 0, 0, 0, 60, 0, 0, 0, 0xff, 0xff, 0xff, 0xff, 0xff, 0xff,
+];
+
+// The source and the EtherType of a frame that goes out.
+const OUT: &[u8] = &[0x00, 0x10, 0x20, 0x30, 0x40, 0x50, 0x88, 0xa4];
+
+// Those of one that comes back.
+const BACK: &[u8] = &[0x02, 0x10, 0x20, 0x30, 0x40, 0x50, 0x88, 0xa4];
+
+// How the slaves of a line are counted (ETG.1000.4): BRD of one byte of register 0, and a NOP with address 8, the number of the frame.
+const COUNT: &[u8] = &[
+    0x19, 0x10, 7, 0, 0, 0, 0, 0, 1, 0x80, 0, 0, 0, 0, 0, 0, 0, 8, 0, 0, 0, 0, 0, 0, 0, 0, 0,
+];
+
+// One slave has counted up the working counter.
+const COUNTED: &[u8] = &[
+    0x19, 0x10, 7, 0, 0, 0, 0, 0, 1, 0x80, 0, 0, 0, 1, 0, 0, 0, 8, 0, 0, 0, 0, 0, 0, 0, 0, 0,
+];
+
+// Its length is falsified.
+const SHORTER: &[u8] = &[
+    0x18, 0x10, 7, 0, 0, 0, 0, 0, 1, 0x80, 0, 0, 0, 1, 0, 0, 0, 8, 0, 0, 0, 0, 0, 0, 0, 0, 0,
+];
+
+// The first slave gets its station address: APWR of 0x1001 to register 0x0010 at position 0, and the number 9.
+const ADDRESS: &[u8] = &[
+    0x1a, 0x10, 2, 0, 0, 0, 0x10, 0, 2, 0x80, 0, 0, 1, 0x10, 0, 0, 0, 0, 9, 0, 0, 0, 0, 0, 0, 0, 0,
+    0,
+];
+
+const ADDRESSED: &[u8] = &[
+    0x1a, 0x10, 2, 0, 0, 0, 0x10, 0, 2, 0x80, 0, 0, 1, 0x10, 1, 0, 0, 0, 9, 0, 0, 0, 0, 0, 0, 0, 0,
+    0,
+];
+
+// Which way a frame goes, and its bytes.
+type Noted = (&'static [u8], &'static [u8]);
+
+// What becomes of the first frame, and what the capture begins with. The last line ends there: no slave is counted.
+const CASES: &[(Fate, &[Noted])] = &[
+    (
+        Fate::Passes,
+        &[
+            (OUT, COUNT),
+            (BACK, COUNTED),
+            (OUT, ADDRESS),
+            (BACK, ADDRESSED),
+        ],
+    ),
+    (
+        Fate::LostBefore,
+        &[(OUT, COUNT), (OUT, COUNT), (BACK, COUNTED), (OUT, ADDRESS)],
+    ),
+    (
+        Fate::LostBehind,
+        &[(OUT, COUNT), (OUT, COUNT), (BACK, COUNTED), (OUT, ADDRESS)],
+    ),
+    (
+        Fate::Doubled,
+        &[
+            (OUT, COUNT),
+            (BACK, COUNTED),
+            (OUT, ADDRESS),
+            (BACK, COUNTED),
+        ],
+    ),
+    (
+        Fate::Turned(0, 1),
+        &[(OUT, COUNT), (BACK, SHORTER), (OUT, COUNT), (BACK, COUNTED)],
+    ),
+    (Fate::Turned(13, 1), &[(OUT, COUNT), (BACK, COUNT)]),
+];
+
+// A wire with one slave, whose first frame has this fate.
+fn wire_with(alloc: Global, fate: Fate) -> Option<PracticeWire> {
+    let plant = Vec::from_array(alloc, [zero_words(alloc)?]).ok()?;
+    let line = PracticeLine::power_up(alloc, &plant, 1).ok()?;
+    let mut wire = PracticeWire::new(line);
+    wire.plan(Mishap {
+        passing: 0,
+        failing: 1,
+        fate,
+    });
+    Some(wire)
+}
+
+// Brings up a line on the wire, and writes its frames to these bytes. Tells whether all were written.
+fn capture_in(rt: &impl Wait, alloc: Global, fate: Fate, bytes: &[AtomicU8]) -> Option<bool> {
+    let capture = Capture::begin(Front { bytes }).ok()?;
+    let still = Still { _handle: rt };
+    let wire = CapturedWire::new(wire_with(alloc, fate)?, Some(&capture), &still);
+    let _found = bring_up(alloc, &mut NumberedWire::new(wire, 7)).is_ok();
+    Some(capture.end().is_ok())
+}
+
+// The first bytes of a capture with these records.
+fn spelt(records: &[Noted]) -> [u8; LOOKED_AT] {
+    let mut bytes = [0u8; LOOKED_AT];
+    put(&mut bytes, 0, HEADER);
+    let mut at = HEADER.len();
+    for (way, frame) in records {
+        put(&mut bytes, at, BEFORE);
+        put(&mut bytes, at.saturating_add(22), *way);
+        put(&mut bytes, at.saturating_add(30), *frame);
+        at = at.saturating_add(76);
+    }
+    bytes
+}
+
+// Whether a capture begins with these records, where the first frame has this fate.
+fn is_captured(rt: &impl Wait, alloc: Global, fate: Fate, records: &[Noted]) -> Option<bool> {
+    let mut bytes = Vec::new(alloc);
+    for _byte in 0..LOOKED_AT {
+        bytes.push(AtomicU8::new(0)).ok()?;
+    }
+    let is_whole = capture_in(rt, alloc, fate, &bytes)?;
+    let wanted = spelt(records);
+    let is_so = bytes
+        .iter()
+        .zip(&wanted)
+        .all(|(byte, wanted)| byte.load(SeqCst) == *wanted);
+    Some(is_whole && is_so)
+}
+
+#[test]
+fn frames_are_captured_as_they_go(rt: HostRuntime) {
+    for (fate, records) in CASES {
+        assert!(rt; is_captured(&rt, rt.alloc(), *fate, *records) == Some(true));
+    }
+}
