@@ -2,6 +2,7 @@ pub mod EndLaws
 pub mod TodoLaws
 pub mod QueueLaws
 pub mod WrittenLaws
+pub mod RoomLaws
 pub mod NameLaws
 pub mod DownLaws
 pub mod SettledLaws

@@ -1,5 +1,5 @@
 -- How the queue's running data, namings and words, represents the book's cells. A place is an index into the namings.
-use Rattle.std.specs.Prelude.{◌≡◌, ◌≢◌, ℕ, zero, suc, ◌+◌, ◌-◌, ◌<◌, ◌≤◌, ◌==◌, nat_le, List, [], ◌∷◌, length, map, take, drop, slice_index_or, if◌then◌else◌}
+use Rattle.std.specs.Prelude.{◌≡◌, ◌≢◌, ℕ, zero, suc, ◌+◌, ◌-◌, ◌<◌, ◌≤◌, ◌==◌, nat_le, min, List, [], ◌∷◌, length, map, take, drop, slice_index_or, if◌then◌else◌}
 use Rattle.book_model.specs.declared.due.Naming.{Naming}
 use Rattle.book_model.specs.declared.due.Word.{Word}
 use Rattle.book_model.specs.declared.due.Held.{Held}
@@ -9,7 +9,7 @@ use Rattle.book_model.specs.Pending.{Pending, values_of}
 
 -- The default for a place with no naming.
 abbrev pub no_naming : Naming
-no_naming = record { word = 0; value = 0; entry = 0; before = 0 }
+no_naming = record { word = 0; value = 0; before = 0; entry = 0 }
 
 -- The default for a word that the slave doesn't have.
 abbrev pub no_word : Word
@@ -50,6 +50,14 @@ shifted (suc k) = suc (suc k)
 abbrev pub end_of : ℕ → List (ℕ × ℕ) → ℕ
 end_of at [] = 0
 end_of at (n ∷ ns) = if n.0 == at then suc (end_of at ns) else shifted (end_of at ns)
+
+-- A place has 32 bits.
+abbrev pub most_namings : ℕ
+most_namings = 4294967295
+
+-- For how many more namings there is room, where memory is reserved for `capacity` in all and so many are there.
+abbrev pub room_in : (capacity named : ℕ) → ℕ
+room_in capacity named = min capacity most_namings - named
 
 -- The abstract state that namings and words represent.
 abbrev pub pending_of : List Naming → List Word → ℕ → Pending
@@ -100,6 +108,10 @@ pub record SettledTo (settled : ℕ) (namings : List Naming) (words : List Word)
   pub before : IsSettled settled namings words
   pub first : settled < length namings → (word_at words (naming_at namings settled).word).mark ≤ settled
 
+-- The places of all namings have 32 bits.
+abbrev pub IsInReach : List Naming → Type 0
+IsInReach namings = length namings ≤ most_namings
+
 -- The naming at the place is to be issued: its word's last one, and not settled.
 pub record IsDue (namings : List Naming) (words : List Word) (place : ℕ) : Type 0 where
   pub last : (word_at words (naming_at namings place).word).end ≡ place + 1
@@ -115,7 +127,7 @@ word_read value = record { held = Value value; end = 0; mark = 0 }
 
 -- A naming after the first `count` namings are removed.
 abbrev pub naming_down : ℕ → Naming → Naming
-naming_down count n = record { word = n.word; value = n.value; entry = n.entry; before = n.before - count }
+naming_down count n = record { word = n.word; value = n.value; before = n.before - count; entry = n.entry }
 
 -- A word after the first `count` namings are removed.
 abbrev pub word_down : ℕ → Word → Word

@@ -3,6 +3,13 @@ ghost use Rattle.book_model.specs.Queue.{Stands, naming_down, word_down};
 
 use crate::due::{Naming, Word};
 
+/// A place after the first `count` namings are removed; 0 if it isn't behind them.
+fn lowered(place: u32, count: usize) -> u32
+    ensures { result ≡ place - count }
+{
+    (place as usize).saturating_sub(count) as u32
+}
+
 /// Moves the namings from place `count` on to the front, and lowers their places by `count`.
 pub(crate) fn namings_down(namings: &mut [Naming], count: usize)
     requires { count ≤ length namings.old }
@@ -11,7 +18,7 @@ pub(crate) fn namings_down(namings: &mut [Naming], count: usize)
     for place in 0..namings.len() - count {
         let naming = namings[count + place];
         namings[place] = Naming {
-            before: naming.before.saturating_sub(count),
+            before: lowered(naming.before, count),
             ..naming
         };
     }
@@ -25,11 +32,11 @@ pub(crate) fn words_down(namings: &[Naming], words: &mut [Word], count: usize)
     for place in 0..namings.len() {
         let at = namings[place].word as usize;
         let word = words[at];
-        if word.end == place + 1 {
+        if word.end as usize == place + 1 {
             words[at] = Word {
                 held: word.held,
-                end: word.end.saturating_sub(count),
-                mark: word.mark.saturating_sub(count),
+                end: lowered(word.end, count),
+                mark: lowered(word.mark, count),
             };
         }
     }

@@ -10,10 +10,10 @@ ghost use Rattle.book_model.specs.Queue.{Stands, Cursor, IsDue, IsSettled, Settl
 pub(crate) struct Naming {
     pub(crate) word: u16,
     pub(crate) value: u16,
+    /// One more than the place of the word's previous naming, or 0 if there is none.
+    pub(crate) before: u32,
     /// The number of the entry that it comes from.
     pub(crate) entry: u64,
-    /// One more than the place of the word's previous naming, or 0 if there is none.
-    pub(crate) before: usize,
 }
 
 /// The value that a word is known to hold, or the number of issues since it was known.
@@ -28,9 +28,9 @@ pub(crate) enum Held {
 pub(crate) struct Word {
     pub(crate) held: Held,
     /// One more than the place of its last naming, or 0 if there is none.
-    pub(crate) end: usize,
+    pub(crate) end: u32,
     /// All its namings before this place are settled.
-    pub(crate) mark: usize,
+    pub(crate) mark: u32,
 }
 
 /// Whether the naming at `place` is to be issued: its word's last one, and not settled.
@@ -41,7 +41,7 @@ fn is_due(namings: &[Naming], words: &[Word], place: usize) -> bool
     ensures not { IsDue namings.now words.now place → IsTrue result }
 {
     let word = words[namings[place].word as usize];
-    word.end == place + 1 && word.mark <= place
+    word.end as usize == place + 1 && word.mark as usize <= place
 }
 
 /// The first place at or after `from` whose naming is to be issued, or the number of namings if there is none.
@@ -60,7 +60,7 @@ pub(crate) fn first_due(namings: &[Naming], words: &[Word], from: usize) -> usiz
 
 /// The mark of word `at` once it holds `value`: one more than the place of its last naming with this value that isn't settled,
 /// or the old mark if there is none.
-pub(crate) fn mark_after(namings: &[Naming], words: &[Word], at: usize, value: u16) -> usize
+pub(crate) fn mark_after(namings: &[Naming], words: &[Word], at: usize, value: u16) -> u32
     requires stands { Stands namings.now words.now }
     requires inside { at < length words.now }
     ensures inside { result ≤ (word_at words.now at).end }
@@ -70,8 +70,8 @@ pub(crate) fn mark_after(namings: &[Naming], words: &[Word], at: usize, value: u
 {
     let word = words[at];
     let mut place = word.end;
-    while word.mark < place && namings[place - 1].value != value {
-        place = namings[place - 1].before;
+    while word.mark < place && namings[place as usize - 1].value != value {
+        place = namings[place as usize - 1].before;
     }
     if word.mark < place { place } else { word.mark }
 }
@@ -83,7 +83,7 @@ pub(crate) fn settled_from(namings: &[Naming], words: &[Word], from: usize) -> u
     ensures { SettledTo result namings.now words.now }
 {
     let mut place = from;
-    while place < namings.len() && place < words[namings[place].word as usize].mark {
+    while place < namings.len() && place < words[namings[place].word as usize].mark as usize {
         place += 1;
     }
     place

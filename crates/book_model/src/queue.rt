@@ -9,6 +9,9 @@ use crate::due::{Held, Naming, Word, first_due, mark_after, settled_from};
 use std::alloc::{AllocError, Global};
 use std::marker::Model;
 
+/// The most namings that are live at once, so that a place takes 32 bits.
+const MOST_NAMINGS: usize = u32::MAX as usize;
+
 /// The live namings of a slave's words, and the values that each word is still owed.
 #[derive(Drop)]
 pub struct SlaveQueue {
@@ -19,17 +22,17 @@ pub struct SlaveQueue {
 }
 
 impl Model for SlaveQueue {
-    ghost use Rattle.std.specs.Prelude.{length, ◌-◌};
+    ghost use Rattle.std.specs.Prelude.{length};
     ghost use Rattle.std.specs.Vec.{vec_capacity};
     ghost use Rattle.book_model.specs.Pending.{Pending};
-    ghost use Rattle.book_model.specs.Queue.{pending_of, Stands, Cursor, SettledTo};
+    ghost use Rattle.book_model.specs.Queue.{pending_of, room_in, Stands, Cursor, SettledTo, IsInReach};
 
     ghost Value = { Pending };
 
-    ghost view = { λ q. pending_of q.namings.items q.words.items (vec_capacity q.namings - length q.namings.items) };
+    ghost view = { λ q. pending_of q.namings.items q.words.items (room_in (vec_capacity q.namings) (length q.namings.items)) };
 
     ghost invariant = { λ q. Stands q.namings.items q.words.items × Cursor q.cursor q.namings.items q.words.items
-        × SettledTo q.settled q.namings.items q.words.items };
+        × SettledTo q.settled q.namings.items q.words.items × IsInReach q.namings.items };
 }
 
 /// One more issue since the word's value was known.
@@ -44,7 +47,7 @@ fn one_more(held: Held) -> Held
 }
 
 /// The mark of a word after one more naming: if it is known to hold the value, all its namings are settled.
-fn mark_named(word: Word, value: u16, end: usize) -> usize
+fn mark_named(word: Word, value: u16, end: u32) -> u32
     ensures { result ≡ (if is_held (known_of word.held) value then end else word.mark) }
 {
     match word.held {
@@ -127,14 +130,17 @@ impl SlaveQueue {
     ///
     /// # Errors
     ///
-    /// `AllocError` if memory was refused; namings and words stay as they are.
+    /// `AllocError` if memory was refused, or with them there were more than 4,294,967,295; namings and words stay as they are.
     pub fn reserve(&mut self, count: usize) -> Result<(), AllocError>
         ensures cells { self.new.cells ≡ self.old.cells }
         ensures live { self.new.live ≡ self.old.live }
         ensures numbers { self.new.numbers ≡ self.old.numbers }
         ensures room { OnOk result (count ≤ self.new.room) }
     {
-        self.namings.reserve(count)
+        match self.namings.len().checked_add(count) {
+            Some(end) if end <= MOST_NAMINGS => self.namings.reserve(count),
+            _ => Err(AllocError),
+        }
     }
 
     /// Adds a live naming of a word, from the entry with this number.
@@ -152,7 +158,7 @@ impl SlaveQueue {
             entry: number,
             before: old.end,
         });
-        let end = self.namings.len();
+        let end = self.namings.len() as u32;
         self.words[word as usize] = Word {
             held: old.held,
             end,

@@ -11,7 +11,7 @@ loop-place-preserved c =
     let i = c.loop-place.place in
     let n : Naming = naming_at now (c.args.count + i) in
     let d = down-more (naming_down c.args.count) old now c.args.count i no_naming (omega arith) (omega arith) c.loop-place.invariant.done c.loop-place.invariant.rest in
-    let is : c.saturating_sub.result ≡ n.before - c.args.count = c.saturating_sub.ensures in
-    let all = subst (λ (b : ℕ). (take (i + 1) (set now i (record { word = n.word; value = n.value; entry = n.entry; before = b })) ≡ map (naming_down c.args.count) (take (i + 1) (drop c.args.count old)))
-    × (drop (c.args.count + (i + 1)) (set now i (record { word = n.word; value = n.value; entry = n.entry; before = b })) ≡ drop (c.args.count + (i + 1)) old)) (sym is) d in
+    let is : c.lowered.result ≡ n.before - c.args.count = c.lowered.ensures in
+    let all = subst (λ (b : ℕ). (take (i + 1) (set now i (record { word = n.word; value = n.value; before = b; entry = n.entry })) ≡ map (naming_down c.args.count) (take (i + 1) (drop c.args.count old)))
+    × (drop (c.args.count + (i + 1)) (set now i (record { word = n.word; value = n.value; before = b; entry = n.entry })) ≡ drop (c.args.count + (i + 1)) old)) (sym is) d in
     record { done = all.0; rest = all.1 }

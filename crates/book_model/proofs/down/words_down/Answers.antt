@@ -16,8 +16,8 @@ loop-place-preserved c = elim c.if-word-place.branch [
       let here = pass-set c.args.namings.now c.args.words.now c.loop-place.words c.args.count c.loop-place.place c.requires c.loop-place.invariant.same c.loop-place-test.true c.loop-place.invariant.each w.if-word-place.true in
       let is : c.if-word-place.words ≡ set c.loop-place.words at (word_down c.args.count word) =
       w.words-is
-      ∙ ap (λ (n : ℕ). let v : Word = record { held = word.held; end = n; mark = w.saturating_sub-then-word-place.result } in set c.loop-place.words at v) w.saturating_sub.ensures
-      ∙ ap (λ (n : ℕ). let v : Word = record { held = word.held; end = word.end - c.args.count; mark = n } in set c.loop-place.words at v) w.saturating_sub-then-word-place.ensures in
+      ∙ ap (λ (n : ℕ). let v : Word = record { held = word.held; end = n; mark = w.lowered-then-word-place.result } in set c.loop-place.words at v) w.lowered.ensures
+      ∙ ap (λ (n : ℕ). let v : Word = record { held = word.held; end = word.end - c.args.count; mark = n } in set c.loop-place.words at v) w.lowered-then-word-place.ensures in
       record {
         same = omega arith;
         each = subst (λ (l : List Word). (k : ℕ) → k < length c.args.words.now → word_at l k ≡ word_passed c.args.count (c.loop-place.place + 1) (word_at c.args.words.now k)) (sym is) here;

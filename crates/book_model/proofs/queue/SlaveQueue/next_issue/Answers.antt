@@ -1,7 +1,8 @@
-use Rattle.std.proofs.Common.{◌≡◌, ◌<◌, ◌-◌, ◌∙◌, ℕ, sym, ap, subst, arith, length, Some, None}
+use Rattle.std.proofs.Common.{◌≡◌, ◌<◌, ◌∙◌, ℕ, sym, ap, subst, arith, length, Some, None}
 use Rattle.std.specs.Vec.{vec_capacity}
 use Rattle.book_model.specs.Pending.{Pending, to_do, first, issued}
 use Rattle.book_model.specs.Cells.{cell_of, since}
+use Rattle.book_model.specs.Queue.{room_in}
 use Rattle.book_model.proofs.QueueLaws.{next-none, next-here, asks-here, may-ask}
 use Rattle.book_model.proofs.queue.SlaveQueue.next_issue.Goals as goal
 
@@ -30,7 +31,7 @@ returns-clause-asked c =
     let past = rw (c.deref.ensures.value, c.deref-2.ensures.value) at c.first_due-self-inside.ensures.cursor in
     let due = rw (c.deref.ensures.value, c.deref-2.ensures.value) at c.first_due-self-inside.ensures.due in
     let within : c.first_due-self-inside.result < length c.self.inside.namings.items = omega (arith, ap length c.deref.ensures.value, past.inside) in
-    let room = vec_capacity c.self.inside.namings - length c.self.inside.namings.items in
+    let room = room_in (vec_capacity c.self.inside.namings) (length c.self.inside.namings.items) in
     let is = asks-here c.self.inside.namings.items c.self.inside.words.items room c.first_due-self-inside.result c.index-naming.result.now c.index-word.result.now c.one_more.result c.self.invariant.0 past within (due within) c.index-naming.ensures c.index-word.ensures c.one_more.ensures in
     is ∙ ap (λ (p : Pending). issued p (first (to_do p.cells p.live))) c.self.view_is
 
