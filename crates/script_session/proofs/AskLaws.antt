@@ -1,6 +1,6 @@
 -- Commands that are submitted one by one.
-use Rattle.std.proofs.Common.{◌≡◌, ℕ, zero, suc, ◌+◌, ◌<◌, ◌≤◌, List, [], ◌∷◌, ◌++◌, length, take, get_or, refl, sym, ◌∙◌, ap, subst, arith, inl, inr, false, Option, Some, None, option_to_list, Result, Ok, Err}
-use Rattle.std.proofs.lemmas.List.{append-nil, length-append, map-append, take_all, take_more}
+use Rattle.std.proofs.Common.{◌≡◌, ℕ, zero, suc, ◌<◌, ◌≤◌, List, [], ◌∷◌, ◌++◌, length, refl, sym, ◌∙◌, ap, subst, arith, inl, inr, false, Option, Some, None, option_to_list, Result, Ok, Err}
+use Rattle.std.proofs.lemmas.List.{append-nil, length-append, map-append}
 use Rattle.std.proofs.lemmas.Bool.{cases_lt}
 use Rattle.std.proofs.lemmas.Option.{slice_get_within, get_or_from_slice_get}
 use Rattle.std.specs.Prelude.{slice_get, is_some, All, IfErr, IfOk}
@@ -45,16 +45,10 @@ asks-one first command before status after had mid has tickets None all one =
     subst (λ (l : List Numbered). AsksAll (first ++ command ∷ []) before after had has l) (sym (append-nil tickets)) (asks-refused first command before status after had mid has tickets all one)
 
 -- the next of the commands was submitted
-pub asks-next : (commands : List Command) (place : ℕ) (command : Command) (before status after : ExitStatus) (had mid has : ShareCounts) (tickets kept : List Numbered) (asked : Option Numbered) → place < length commands → command ≡ get_or commands place command
-    → AsksAll (take place commands) before status had mid tickets → Asks command status after mid has asked → kept ≡ tickets ++ option_to_list asked → AsksAll (take (place + 1) commands) before after had has kept
-asks-next commands place command before status after had mid has tickets kept asked inside is all one keeps =
-    let more : take (place + 1) commands ≡ take place commands ++ command ∷ [] = take_more commands place command inside ∙ ap (λ (x : Command). take place commands ++ x ∷ []) (sym is) in
-    subst (λ (l : List Command). AsksAll l before after had has kept) (sym more)
-    (subst (λ (l : List Numbered). AsksAll (take place commands ++ command ∷ []) before after had has l) (sym keeps) (asks-one (take place commands) command before status after had mid has tickets asked all one))
-
--- all of the commands were submitted
-pub asks-whole : (commands : List Command) (count : ℕ) (before after : ExitStatus) (had has : ShareCounts) (tickets : List Numbered) → length commands ≤ count → AsksAll (take count commands) before after had has tickets → AsksAll commands before after had has tickets
-asks-whole commands count before after had has tickets all one = subst (λ (l : List Command). AsksAll l before after had has tickets) (take_all count commands all) one
+pub asks-next : (first : List Command) (command : Command) (before status after : ExitStatus) (had mid has : ShareCounts) (tickets kept : List Numbered) (asked : Option Numbered)
+    → AsksAll first before status had mid tickets → Asks command status after mid has asked → kept ≡ tickets ++ option_to_list asked → AsksAll (first ++ command ∷ []) before after had has kept
+asks-next first command before status after had mid has tickets kept asked all one keeps =
+    subst (λ (l : List Numbered). AsksAll (first ++ command ∷ []) before after had has l) (sym keeps) (asks-one first command before status after had mid has tickets asked all one)
 
 -- ---- each number is its place
 

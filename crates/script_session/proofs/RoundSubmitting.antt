@@ -1,7 +1,7 @@
 -- Commands that are submitted one by one, of which some are accepted.
-use Rattle.std.proofs.Common.{◌≡◌, ℕ, ◌+◌, ◌<◌, ◌≤◌, List, [], ◌∷◌, ◌++◌, length, take, drop, get_or, refl, sym, ◌∙◌, ap, subst, inl, inr, Result, Ok, Err}
+use Rattle.std.proofs.Common.{◌≡◌, ℕ, List, [], ◌∷◌, ◌++◌, refl, sym, ◌∙◌, ap, subst, inl, inr, Result, Ok, Err}
 use Rattle.std.specs.Prelude.{IsErrAnd, OnOk}
-use Rattle.std.proofs.lemmas.List.{append-nil, take_all, take_more, take-append-drop}
+use Rattle.std.proofs.lemmas.List.{append-nil}
 use Rattle.sii_edit.specs.declared.command.Command.{Command}
 use Rattle.sii_edit.specs.declared.refusal.Cause.{Cause}
 use Rattle.sii_edit.specs.declared.refusal.Cause.TheVariants as causes
@@ -144,26 +144,12 @@ module _ {E : Type 0} where
   submits-cut first second fault other before after a b one =
       record { accepted = one.accepted; goes = one.goes; among = among-more one.accepted first second one.among; all = tt }
 
-  -- the next of the commands was submitted
-  pub submits-next : (commands : List Command) (place : ℕ) (command : Command) (before status after : ExitStatus) (a b c : Station) → place < length commands → command ≡ get_or commands place command
-      → SubmitsSo {E = E} (take place commands) (Ok tt) before status a b → SubmitsSo {E = E} (command ∷ []) (Ok tt) status after b c → SubmitsSo {E = E} (take (place + 1) commands) (Ok tt) before after a c
-  submits-next commands place command before status after a b c inside is one two =
-      let more : take (place + 1) commands ≡ take place commands ++ command ∷ [] = take_more commands place command inside ∙ ap (λ (x : Command). take place commands ++ x ∷ []) (sym is) in
-      subst (λ (l : List Command). SubmitsSo {E = E} l (Ok tt) before after a c) (sym more) (submits-then (take place commands) (command ∷ []) (Ok tt) before status after a b c one two)
-
-  -- and a fault came
-  pub submits-stopped : (commands : List Command) (place : ℕ) (command : Command) (fault other : E) (before status after : ExitStatus) (a b c : Station) → place < length commands → command ≡ get_or commands place command
-      → SubmitsSo {E = E} (take place commands) (Ok tt) before status a b → SubmitsSo {E = E} (command ∷ []) (Err fault) status after b c → SubmitsSo {E = E} commands (Err other) before after a c
-  submits-stopped commands place command fault other before status after a b c inside is one two =
-      let more : take (place + 1) commands ≡ take place commands ++ command ∷ [] = take_more commands place command inside ∙ ap (λ (x : Command). take place commands ++ x ∷ []) (sym is) in
-      let first : SubmitsSo {E = E} (take (place + 1) commands) (Err fault) before after a c =
-      subst (λ (l : List Command). SubmitsSo {E = E} l (Err fault) before after a c) (sym more) (submits-then (take place commands) (command ∷ []) (Err fault) before status after a b c one two) in
-      subst (λ (l : List Command). SubmitsSo {E = E} l (Err other) before after a c) (take-append-drop (place + 1) commands)
-      (submits-cut (take (place + 1) commands) (drop (place + 1) commands) fault other before after a c first)
-
-  -- all of the commands were submitted
-  pub submits-whole : (commands : List Command) (count : ℕ) (before after : ExitStatus) (a b : Station) → length commands ≤ count → SubmitsSo {E = E} (take count commands) (Ok tt) before after a b → SubmitsSo {E = E} commands (Ok tt) before after a b
-  submits-whole commands count before after a b all one = subst (λ (l : List Command). SubmitsSo {E = E} l (Ok tt) before after a b) (take_all count commands all) one
+  -- the next of the commands was submitted, and a fault came
+  pub submits-stopped : (first : List Command) (command : Command) (rest all : List Command) (fault other : E) (before status after : ExitStatus) (a b c : Station) → (first ++ command ∷ []) ++ rest ≡ all
+      → SubmitsSo {E = E} first (Ok tt) before status a b → SubmitsSo {E = E} (command ∷ []) (Err fault) status after b c → SubmitsSo {E = E} all (Err other) before after a c
+  submits-stopped first command rest all fault other before status after a b c is one two =
+      subst (λ (l : List Command). SubmitsSo {E = E} l (Err other) before after a c) is
+      (submits-cut (first ++ command ∷ []) rest fault other before after a c (submits-then first (command ∷ []) (Err fault) before status after a b c one two))
 
 -- ---- a fault that is handed on
 

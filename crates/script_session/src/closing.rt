@@ -1,6 +1,6 @@
 //! Closes a desk with the share and the receipts of the submitter and the ends of the threads.
 
-ghost use Rattle.std.specs.Prelude.{◌≡◌, ◌≤◌, ◌⊎◌, [], vec_capacity, IfErr, MatchResult, Ok, Err, OnOk};
+ghost use Rattle.std.specs.Prelude.{◌≡◌, ◌≤◌, ◌⊎◌, [], vec_capacity, false, IfErr, MatchResult, Ok, Err, OnOk};
 ghost use Rattle.desk_book.specs.Calls.{replayed, AreAnswered};
 ghost use Rattle.station_files.specs.Faults.{IsOfStream};
 ghost use Rattle.script_session.specs.Asking.{fault_of, receipts_of};
@@ -9,6 +9,7 @@ ghost use Rattle.script_session.specs.AtDesk.{Closes, EndsSo, IsStopped, TellsWh
 use crate::answers::{fault_of_book, print_totals};
 use crate::asked::Asked;
 use crate::submitter::Submitter;
+use sii_edit::Command;
 use site_core::Site;
 use site_shadow::{Device, ShadowSite};
 use station_files::{ExitStatus, Fault};
@@ -32,27 +33,31 @@ pub struct Ending {
     pub told: Result<(), Fault>,
 }
 
-/// What a closed desk leaves: the ends of its threads, and how the work ended.
+/// What a closed desk leaves: the ends of its threads, how the work ended, and the commands where they were not submitted.
 #[derive(Drop)]
 pub(crate) struct AtDesk<S: Site> {
     pub(crate) ends: Ends<S>,
     pub(crate) ending: Ending,
+    /// The commands where they were not submitted.
+    pub(crate) unserved: Vec<Command>,
 }
 
 /// Closes the desk with the submitter's share and receipts and the ends of the threads. Prints the totals if the submitter got its receipts.
 /// `room` is an empty list with room for the share.
 pub(crate) fn hand_in<T: Tickets, R: Refusals, C: Asked, O: Write, D: Device + Copy>(
     desk: Desk<T, R>,
-    submitter: Submitter<'_, '_, T, R, C, O>,
+    submitter: Submitter<'_, T, R, C, O>,
     room: Vec<Share<T, R>>,
     ends: Ends<ShadowSite<D>>,
 ) -> AtDesk<ShadowSite<D>>
     requires { (room.items ≡ []) × (1 ≤ vec_capacity room) }
     ensures ends { result.ends ≡ ends }
     ensures ending { EndsSo T.opened C.commands ends result.ending }
+    ensures unserved { result.ending.is_driven ≡ false → result.unserved.items ≡ C.commands }
 {
     let Submitter {
         alloc,
+        commands: unserved,
         output,
         share,
         status,
@@ -71,7 +76,11 @@ pub(crate) fn hand_in<T: Tickets, R: Refusals, C: Asked, O: Write, D: Device + C
         closed,
         told: told_of(asked, ended),
     };
-    AtDesk { ends, ending }
+    AtDesk {
+        ends,
+        ending,
+        unserved,
+    }
 }
 
 /// Whether the submitter got its receipts.

@@ -14,7 +14,7 @@ use station_listing::Code;
 use std::io::Write;
 
 /// Submits the commands in order to a station of `slaves` slaves, prints the answer to each, serves them in rounds, and prints the totals.
-/// A refusal raises the status.
+/// A refusal raises the status. A command is dropped once it is answered.
 ///
 /// # Errors
 ///
@@ -23,11 +23,11 @@ use std::io::Write;
 pub fn serve_commands<S: Site, W: Write>(
     alone: &mut Alone<S>,
     slaves: u16,
-    commands: &[Command],
+    commands: Vec<Command>,
     output: &mut W,
     status: &mut ExitStatus,
 ) -> Result<(), Fault>
-    ensures { ServesSo commands.now result status.old status.new alone.old alone.new }
+    ensures { ServesSo commands.items result status.old status.new alone.old alone.new }
 {
     submit_all(alone, slaves, commands, output, status)?;
     serve_all(alone, slaves)?;
@@ -55,16 +55,32 @@ fn end_session<W: Write>(core: &Core, output: &mut W) -> Result<(), Fault>
 fn submit_all<S: Site, W: Write>(
     alone: &mut Alone<S>,
     slaves: u16,
-    commands: &[Command],
+    commands: Vec<Command>,
     output: &mut W,
     status: &mut ExitStatus,
 ) -> Result<(), Fault>
-    ensures { SubmitsSo commands.now result status.old status.new alone.old alone.new }
+    ensures { SubmitsSo commands.items result status.old status.new alone.old alone.new }
 {
-    for (place, command) in commands.iter().enumerate() {
-        submit_one(alone, slaves, place, command, output, status)?;
+    let mut place = 0usize;
+    for command in commands {
+        submit_next(alone, slaves, place, command, output, status)?;
+        place = place.saturating_add(1);
     }
     Ok(())
+}
+
+/// Submits the command at position `place` of the script, from 0, prints the answer, and drops the command.
+fn submit_next<S: Site, W: Write>(
+    alone: &mut Alone<S>,
+    slaves: u16,
+    place: usize,
+    command: Command,
+    output: &mut W,
+    status: &mut ExitStatus,
+) -> Result<(), Fault>
+    ensures { SubmitsSo (command ∷ []) result status.old status.new alone.old alone.new }
+{
+    submit_one(alone, slaves, place, &command, output, status)
 }
 
 /// Submits the command at position `place` of the script, from 0, and prints the answer. While the book is full, it makes a round and

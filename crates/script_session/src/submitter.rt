@@ -10,15 +10,17 @@ use station_threads::{Client, Desk, Receipt, Refusals, Share, Tickets};
 use std::alloc::Global;
 use std::io::Write;
 use std::marker::{Model, PhantomData};
+use std::mem::replace;
 use std::sync::Wait;
 use std::thread::Threads;
 
 /// A client that submits the commands of the type `C` once. Contracts see the counts of its share, the highest status of the answers, and
 /// its result, once it has submitted.
 #[derive(Drop)]
-pub(crate) struct Submitter<'c, 'o, T: Tickets, R: Refusals, C: Asked, O: Write> {
+pub(crate) struct Submitter<'o, T: Tickets, R: Refusals, C: Asked, O: Write> {
     pub(crate) alloc: Global,
-    pub(crate) commands: &'c [Command],
+    /// The commands; none once they are submitted.
+    pub(crate) commands: Vec<Command>,
     pub(crate) output: &'o mut O,
     pub(crate) share: Share<T, R>,
     pub(crate) status: ExitStatus,
@@ -26,29 +28,29 @@ pub(crate) struct Submitter<'c, 'o, T: Tickets, R: Refusals, C: Asked, O: Write>
     pub(crate) of: PhantomData<C>,
 }
 
-impl<'c, 'o, T: Tickets, R: Refusals, C: Asked, O: Write> Model for Submitter<'c, 'o, T, R, C, O> {
-    ghost use Rattle.std.specs.Prelude.{◌≡◌};
+impl<'o, T: Tickets, R: Refusals, C: Asked, O: Write> Model for Submitter<'o, T, R, C, O> {
+    ghost use Rattle.std.specs.Prelude.{◌≡◌, false, is_some};
     ghost use Rattle.script_session.specs.Asking.{ComesTo, Submission};
 
     ghost Value = { Submission };
 
     ghost view = { λ s. record { counts = s.share; status = s.status; came = s.came } };
 
-    ghost invariant = { λ s. (s.commands.now ≡ C.commands) × ComesTo C.commands s.status s.share s.came };
+    ghost invariant = { λ s. (is_some s.came ≡ false → s.commands.items ≡ C.commands) × ComesTo C.commands s.status s.share s.came };
 }
 
-impl<'c, 'o, T: Tickets, R: Refusals, C: Asked, O: Write> Client<T, R>
-    for Submitter<'c, 'o, T, R, C, O> {
+impl<'o, T: Tickets, R: Refusals, C: Asked, O: Write> Client<T, R> for Submitter<'o, T, R, C, O> {
     fn drive<W: Wait + Threads + Sync>(&mut self, rt: &W, desk: &Desk<T, R>) {
         if self.came.is_some() {
             return;
         }
+        let commands = replace(&mut self.commands, Vec::new(self.alloc));
         let came = submit_and_wait(
             rt,
             self.alloc,
             desk,
             &mut self.share,
-            self.commands,
+            commands,
             self.output,
             &mut self.status,
         );

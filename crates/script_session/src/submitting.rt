@@ -68,37 +68,20 @@ fn status_behind<T: Tickets, R: Refusals, W: Wait>(
     }
 }
 
-/// Submits a copy of the command.
-fn ask_copy<T: Tickets, R: Refusals, W: Wait>(
-    rt: &W,
-    desk: &Desk<T, R>,
-    share: &mut Share<T, R>,
-    command: &Command,
-) -> Result<Ticket, SubmitRefusal>
-    ensures command { IfOk result (λ ticket. ticket.command ≡ command.now) }
-    ensures counted { IfOk result (λ ticket. share.new.tickets ≡ share.old.tickets + 1) }
-    ensures uncounted { IfErr result (λ refusal. share.new.tickets ≡ share.old.tickets) }
-{
-    match command.try_copy() {
-        Ok(copy) => ask(rt, desk, share, copy),
-        Err(_) => Err(NO_MEMORY),
-    }
-}
-
 /// Submits the command at position `place` of the script, and prints the answer. A refusal raises the status.
 fn ask_one<T: Tickets, R: Refusals, O: Write, W: Wait>(
     rt: &W,
     desk: &Desk<T, R>,
     share: &mut Share<T, R>,
     place: usize,
-    command: &Command,
+    command: Command,
     output: &mut O,
     status: &mut ExitStatus,
 ) -> Result<Option<Ticket>, Fault>
-    ensures asked { IfOk result (λ ticket. Asks command.now status.old status.new share.old share.new ticket) }
+    ensures asked { IfOk result (λ ticket. Asks command status.old status.new share.old share.new ticket) }
     ensures failed { IfErr result IsOfStream }
 {
-    match ask_copy(rt, desk, share, command) {
+    match ask(rt, desk, share, command) {
         Ok(ticket) => {
             print_accepted(place, ticket.number(), output)?;
             Ok(Some(ticket))
@@ -130,17 +113,19 @@ fn ask_all<T: Tickets, R: Refusals, O: Write, W: Wait>(
     alloc: Global,
     desk: &Desk<T, R>,
     share: &mut Share<T, R>,
-    commands: &[Command],
+    commands: Vec<Command>,
     output: &mut O,
     status: &mut ExitStatus,
 ) -> Result<Vec<Ticket>, Fault>
-    ensures asked { IfOk result (λ tickets. AsksAll commands.now status.old status.new share.old share.new tickets.items) }
+    ensures asked { IfOk result (λ tickets. AsksAll commands.items status.old status.new share.old share.new tickets.items) }
     ensures failed { IfErr result IsOfStream }
 {
     let mut tickets = Vec::with_capacity(alloc, commands.len())?;
-    for (place, command) in commands.iter().enumerate() {
+    let mut place = 0usize;
+    for command in commands {
         let asked = ask_one(rt, desk, share, place, command, output, status)?;
         keep(&mut tickets, asked)?;
+        place = place.saturating_add(1);
     }
     Ok(tickets)
 }
@@ -195,11 +180,11 @@ pub(crate) fn submit_and_wait<T: Tickets, R: Refusals, O: Write, W: Wait>(
     alloc: Global,
     desk: &Desk<T, R>,
     share: &mut Share<T, R>,
-    commands: &[Command],
+    commands: Vec<Command>,
     output: &mut O,
     status: &mut ExitStatus,
 ) -> Result<Vec<Receipt>, Fault>
-    ensures received { IfOk result (λ receipts. Receives commands.now status.old status.new share.old share.new receipts.items) }
+    ensures received { IfOk result (λ receipts. Receives commands.items status.old status.new share.old share.new receipts.items) }
     ensures failed { IfErr result GivesUp }
 {
     let tickets = ask_all(rt, alloc, desk, share, commands, output, status)?;

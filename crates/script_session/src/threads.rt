@@ -1,6 +1,6 @@
 //! Serves a line by threads.
 
-ghost use Rattle.std.specs.Prelude.{◌≡◌, ◌+◌, ◌≤◌, [], length, vec_capacity, IfOk};
+ghost use Rattle.std.specs.Prelude.{◌≡◌, ◌+◌, ◌≤◌, [], false, length, vec_capacity, IfOk};
 ghost use Rattle.site_shadow.specs.Site.{SiteValue};
 ghost use Rattle.station_threads.specs.Sites.{OwnParts};
 ghost use Rattle.script_session.specs.Asking.{no_counts};
@@ -33,6 +33,8 @@ use std::thread::Threads;
 pub struct Left<S> {
     /// The line, put together again.
     pub site: S,
+    /// The commands where they were not submitted, and otherwise none.
+    pub unserved: Vec<Command>,
     /// How the work ended.
     pub ending: Ending,
 }
@@ -50,18 +52,20 @@ pub fn serve_by_threads<D: Device + Copy + Send, O: Write, W: Wait + Threads + S
     alloc: Global,
     alone: Alone<ShadowSite<D>>,
     slaves: usize,
-    commands: &[Command],
+    commands: Vec<Command>,
     output: &mut O,
 ) -> Result<Left<ShadowSite<D>>, Fault>
     requires { alone.book.accepted ≡ [] }
     ensures line { IfOk result (λ left. IsLineOf slaves left.site.line) }
-    ensures left { IfOk result (λ left. LeavesSo alone commands.now left.ending left.site) }
+    ensures left { IfOk result (λ left. LeavesSo alone commands.items left.ending left.site) }
+    ensures unserved { IfOk result (λ left. left.ending.is_driven ≡ false → left.unserved.items ≡ commands.items) }
 {
     let (core, site) = alone.into_parts();
     let (sites, room) = match prepare(alloc, site, core.capacity(), slaves) {
         Ok(prepared) => prepared,
         Err(fault) => {
             drop(core);
+            drop(commands);
             return Err(fault);
         }
     };
@@ -108,15 +112,28 @@ fn put_back<D: Device + Copy>(
     requires { room.items ≡ [] }
     ensures line { IfOk result (λ left. IsLineOf slaves left.site.line) }
     ensures left { IfOk result (λ left. IsTogether at.ends left.site × (left.ending ≡ at.ending)) }
+    ensures unserved { IfOk result (λ left. left.unserved ≡ at.unserved) }
 {
-    let AtDesk { ends, ending } = at;
-    let site = put_together(alloc, room, slaves, ends)?;
-    Ok(Left { site, ending })
+    let AtDesk {
+        ends,
+        ending,
+        unserved,
+    } = at;
+    match put_together(alloc, room, slaves, ends) {
+        Ok(site) => Ok(Left {
+            site,
+            unserved,
+            ending,
+        }),
+        Err(fault) => {
+            drop(unserved);
+            Err(fault)
+        }
+    }
 }
 
 /// Makes a desk of the book, serves the sites there while the commands are submitted, and closes the desk.
 fn serve_at_desk<
-    'c,
     'o,
     T: Tickets + Send + Sync,
     R: Refusals + Send + Sync,
@@ -131,23 +148,25 @@ fn serve_at_desk<
     tickets: BlankLedger,
     refusals: BlankLedger,
     sites: Sites<ShadowSite<D>>,
-    commands: &'c [Command],
+    commands: Vec<Command>,
     output: &'o mut O,
 ) -> Result<AtDesk<ShadowSite<D>>, Fault>
     requires core { core ≡ T.opened }
     requires none { core.accepted ≡ [] }
     requires tickets { (tickets.name ≡ T.name) × (tickets.count ≡ T.parts) }
     requires refusals { (refusals.name ≡ R.name) × (refusals.count ≡ R.parts) }
-    requires commands { commands.now ≡ C.commands }
+    requires commands { commands.items ≡ C.commands }
     requires owned { OwnParts (λ (s : SiteValue). s.line) sites.disk sites.slaves.items sites.cycle }
     requires long { 8 + core.capacity ≤ length sites.disk.seen.state.disk.bytes }
     ensures of_sites { IfOk result (λ at. AreEndsOfParts sites at.ends) }
     ensures ending { IfOk result (λ at. EndsSo T.opened C.commands at.ends at.ending) }
+    ensures unserved { IfOk result (λ at. at.ending.is_driven ≡ false → at.unserved.items ≡ C.commands) }
 {
     match open_desk::<T, R, W>(rt, alloc, core, tickets, refusals) {
         Ok(opened) => serve_opened::<T, R, C, D, O, W>(rt, alloc, opened, sites, commands, output),
         Err(fault) => {
             drop(sites);
+            drop(commands);
             Err(fault)
         }
     }
@@ -155,7 +174,6 @@ fn serve_at_desk<
 
 /// Serves the sites at a new desk while the commands are submitted, and closes the desk.
 fn serve_opened<
-    'c,
     'o,
     T: Tickets + Send + Sync,
     R: Refusals + Send + Sync,
@@ -168,19 +186,20 @@ fn serve_opened<
     alloc: Global,
     opened: Opened<T, R>,
     sites: Sites<ShadowSite<D>>,
-    commands: &'c [Command],
+    commands: Vec<Command>,
     output: &'o mut O,
 ) -> Result<AtDesk<ShadowSite<D>>, Fault>
     requires room { (opened.room.items ≡ []) × (1 ≤ vec_capacity opened.room) }
     requires share { opened.share ≡ no_counts }
-    requires commands { commands.now ≡ C.commands }
+    requires commands { commands.items ≡ C.commands }
     requires owned { OwnParts (λ (s : SiteValue). s.line) sites.disk sites.slaves.items sites.cycle }
     requires long { opened.desk.limit ≤ length sites.disk.seen.state.disk.bytes }
     ensures of_sites { IfOk result (λ at. AreEndsOfParts sites at.ends) }
     ensures ending { IfOk result (λ at. EndsSo T.opened C.commands at.ends at.ending) }
+    ensures unserved { IfOk result (λ at. at.ending.is_driven ≡ false → at.unserved.items ≡ C.commands) }
 {
     let Opened { desk, share, room } = opened;
-    let submitter = Submitter::<'c, 'o, T, R, C, O> {
+    let submitter = Submitter::<'o, T, R, C, O> {
         alloc,
         commands,
         output,
@@ -204,7 +223,7 @@ fn serve_submitter<
     rt: &W,
     alloc: Global,
     desk: Desk<T, R>,
-    submitter: Submitter<'_, '_, T, R, C, O>,
+    submitter: Submitter<'_, T, R, C, O>,
     room: Vec<Share<T, R>>,
     sites: Sites<ShadowSite<D>>,
 ) -> Result<AtDesk<ShadowSite<D>>, Fault>
@@ -213,6 +232,7 @@ fn serve_submitter<
     requires long { desk.limit ≤ length sites.disk.seen.state.disk.bytes }
     ensures of_sites { IfOk result (λ at. AreEndsOfParts sites at.ends) }
     ensures ending { IfOk result (λ at. EndsSo T.opened C.commands at.ends at.ending) }
+    ensures unserved { IfOk result (λ at. at.ending.is_driven ≡ false → at.unserved.items ≡ C.commands) }
 {
     let mut submitter = submitter;
     match serve_sites(rt, alloc, &desk, sites, &NoHook, &mut submitter) {

@@ -75,7 +75,7 @@ fn plan_given<L: Drop, W: Write, E: Write>(
         lock: _lock,
     } = session;
     let mut status = ExitStatus::Done;
-    let ended = match plan_site(alloc, site, is_old, &commands, output, &mut status) {
+    let ended = match plan_site(alloc, site, is_old, commands, output, &mut status) {
         Ok(planned) => status_of(print_plan(alloc, &planned, output), faults),
         Err(fault) => report_fault(fault, faults),
     };
@@ -92,14 +92,14 @@ fn plan_site<W: Write>(
     alloc: Global,
     site: ShadowSite<FaultPlan>,
     was_old: bool,
-    commands: &[Command],
+    commands: Vec<Command>,
     output: &mut W,
     status: &mut ExitStatus,
 ) -> Result<Planned, Fault>
     requires disk { IsTrue site.line.has_disk }
     requires owned { OwnsAll site.line }
     requires old { was_old ≡ is_old site.seen.state.disk.bytes }
-    ensures { IfOk result (IsPlanOf site commands.now status.old status.new) }
+    ensures { IfOk result (IsPlanOf site commands.items status.old status.new) }
 {
     let before = contents_of(alloc, &site)?;
     let site = site.with_device(Tally::new());
@@ -107,6 +107,7 @@ fn plan_site<W: Write>(
         Ok(alone) => serve_plan(alloc, before, alone, commands, output, status),
         Err((left, fault)) => {
             drop(left);
+            drop(commands);
             Err(of_open(fault))
         }
     }
@@ -117,12 +118,12 @@ fn serve_plan<W: Write>(
     alloc: Global,
     before: Plant,
     mut alone: Alone<ShadowSite<Tally>>,
-    commands: &[Command],
+    commands: Vec<Command>,
     output: &mut W,
     status: &mut ExitStatus,
 ) -> Result<Planned, Fault>
     requires { OwnsAll alone.line }
-    ensures { IfOk result (ServesPlan alone commands.now status.old status.new before) }
+    ensures { IfOk result (ServesPlan alone commands.items status.old status.new before) }
 {
     let slaves = before.len() as u16;
     serve_commands(&mut alone, slaves, commands, output, status)?;

@@ -28,9 +28,21 @@ line-of line slaves count same is = subst (λ (n : ℕ). IsLineOf n line) same i
 pub ends-unserved : (is_cut : Bool) (files : Known) (line : LineFile) (opened : Station) (commands : List Command) (status : ExitStatus) → ¬ IsFaultless status → EndsStation is_cut files files line opened commands status
 ends-unserved is_cut files line opened commands status bad = record { others = λ other out. refl; saved = λ good. absurd (bad good) }
 
-pub ends-left : (old new : Known) (line : LineFile) (opened : Station) (commands : List Command) (left : Left SiteValue) (status : ExitStatus) → LeavesSo opened commands left.ending left.site → ChangesAmong old new (files_of line)
-    → (IsFaultless status → SavesLeft new line left commands status) → EndsStation false old new line opened commands status
-ends-left old new line opened commands left status served others saved = record {
+holds-unserved : (is_driven : Bool) (files : Known) (line : LineFile) (r : Station) (unserved commands : List Command) (status : ExitStatus) → (is_driven ≡ false → unserved ≡ commands)
+    → HoldsBehind is_driven files line r unserved status → HoldsBehind is_driven files line r commands status
+holds-unserved true files line r unserved commands status same holds = holds
+holds-unserved false files line r unserved commands status same holds = subst (λ (l : List Command). SavesServed files line r l status) (same refl) holds
+
+-- what wasn't submitted are all commands, or they don't matter
+pub behind-unserved : (is_driven : Bool) (files : Known) (line : LineFile) (before : Seen) (unserved commands : List Command) (status : ExitStatus) → (is_driven ≡ false → unserved ≡ commands)
+    → SavesBehind files line before is_driven unserved status → SavesBehind files line before is_driven commands status
+behind-unserved is_driven files line before unserved commands status same saves =
+    record { r = saves.r; recovered = saves.recovered; begins = saves.begins; holds = holds-unserved is_driven files line saves.r unserved commands status same saves.holds }
+
+pub ends-left : (old new : Known) (line : LineFile) (opened : Station) (commands : List Command) (left : Left SiteValue) (status : ExitStatus) → LeavesSo opened commands left.ending left.site
+    → (left.ending.is_driven ≡ false → left.unserved.items ≡ commands) → ChangesAmong old new (files_of line)
+    → (IsFaultless status → SavesLeft new line left status) → EndsStation false old new line opened commands status
+ends-left old new line opened commands left status served same others saved = record {
   others = others;
   saved = λ good.
       let s = saved good in
@@ -40,7 +52,7 @@ ends-left old new line opened commands left status served others saved = record 
         worst = s.worst;
         site = left.site;
         served = served-told opened commands left.ending left.site s.told served;
-        behind = s.behind;
+        behind = behind-unserved left.ending.is_driven new line left.site.seen left.unserved.items commands status same s.behind;
       };
 }
 
@@ -62,17 +74,17 @@ saved-closed (Ok done) told P good closes saved = saved
 saved-closed (Err why) told P good closes saved = let is : Err why ≡ Ok tt = subst (λ (r : Result (Unit {0}) Fault). OnOk r (Err why ≡ Ok tt)) good closes in absurd cc
 
 -- The status of the answers, that of what is told and that of saving are at most that of the run.
-pub saves-left : (files : Known) (line : LineFile) (left : Left SiteValue) (commands : List Command) (one saved both final : ExitStatus) → OnOk left.ending.told (left.ending.closed ≡ Ok tt) → OnErr left.ending.told (¬ IsFaultless one)
-    → (IsFaultless saved → OnOk left.ending.closed (SavesBehind files line left.site.seen left.ending.is_driven commands saved)) → (both ≡ Done → (one ≡ Done) × (saved ≡ Done)) → (IsFaultless both → IsFaultless one × IsFaultless saved)
-    → (final ≡ Done → (left.ending.status ≡ Done) × (both ≡ Done)) → (IsFaultless final → IsFaultless left.ending.status × IsFaultless both) → IsFaultless final → SavesLeft files line left commands final
-saves-left files line left commands one saved both final closes bad keeps both_done both_good final_done final_good good =
+pub saves-left : (files : Known) (line : LineFile) (left : Left SiteValue) (one saved both final : ExitStatus) → OnOk left.ending.told (left.ending.closed ≡ Ok tt) → OnErr left.ending.told (¬ IsFaultless one)
+    → (IsFaultless saved → OnOk left.ending.closed (SavesBehind files line left.site.seen left.ending.is_driven left.unserved.items saved)) → (both ≡ Done → (one ≡ Done) × (saved ≡ Done)) → (IsFaultless both → IsFaultless one × IsFaultless saved)
+    → (final ≡ Done → (left.ending.status ≡ Done) × (both ≡ Done)) → (IsFaultless final → IsFaultless left.ending.status × IsFaultless both) → IsFaultless final → SavesLeft files line left final
+saves-left files line left one saved both final closes bad keeps both_done both_good final_done final_good good =
     let each = both_good (final_good good).1 in
     let told = well-told left.ending.told one bad each.0 in
-    let behind = saved-closed left.ending.closed left.ending.told (SavesBehind files line left.site.seen left.ending.is_driven commands saved) told closes (keeps each.1) in
+    let behind = saved-closed left.ending.closed left.ending.told (SavesBehind files line left.site.seen left.ending.is_driven left.unserved.items saved) told closes (keeps each.1) in
     record {
       worst = λ done. (final_done done).0;
       told = told;
-      behind = record { r = behind.r; recovered = behind.recovered; begins = behind.begins; holds = holds-worse left.ending.is_driven files line behind.r commands saved final (λ done. (both_done (final_done done).1).1) behind.holds };
+      behind = record { r = behind.r; recovered = behind.recovered; begins = behind.begins; holds = holds-worse left.ending.is_driven files line behind.r left.unserved.items saved final (λ done. (both_done (final_done done).1).1) behind.holds };
     }
 
 -- the files hold the line after its recovery

@@ -118,11 +118,12 @@ pub record SavesBehind (files : Known) (line : LineFile) (before : Seen) (is_dri
   pub begins : BeginsRecovered before r
   pub holds : HoldsBehind is_driven files line r commands status
 
--- No fault was told of the work at the desk, which was closed, and the files hold the line after it.
-pub record SavesLeft (files : Known) (line : LineFile) (left : Left SiteValue) (commands : List Command) (status : ExitStatus) : Type 0 where
+-- No fault was told of the work at the desk, which was closed, and the files hold the line after it, with the commands that were not
+-- submitted there.
+pub record SavesLeft (files : Known) (line : LineFile) (left : Left SiteValue) (status : ExitStatus) : Type 0 where
   pub worst : status ≡ Done → left.ending.status ≡ Done
   pub told : left.ending.told ≡ Ok tt
-  pub behind : SavesBehind files line left.site.seen left.ending.is_driven commands status
+  pub behind : SavesBehind files line left.site.seen left.ending.is_driven left.unserved.items status
 
 -- The line of this station was taken apart, served by threads at a desk, put together again and recovered, and the files hold the result.
 -- The desk was closed with some of the commands accepted: all of them if the status is `Done`.

@@ -142,10 +142,10 @@ fn run_given<S: Store, W: Write, E: Write, T: Write + Send, R: Wait + Threads + 
     let Given { session, commands } = given;
     match fuse {
         Some(fuse) => run_fused(
-            rt, alloc, session, fuse, capture, &commands, store, output, faults,
+            rt, alloc, session, fuse, capture, commands, store, output, faults,
         ),
         None => run_on_files(
-            rt, alloc, session, capture, progress, &commands, store, output, faults,
+            rt, alloc, session, capture, progress, commands, store, output, faults,
         ),
     }
 }
@@ -157,7 +157,7 @@ fn run_fused<S: Store, W: Write, E: Write, R: Wait + Clock>(
     session: Session<S::Lock>,
     fuse: Fuse,
     capture: Option<&Capture<S::File>>,
-    commands: &[Command],
+    commands: Vec<Command>,
     store: &mut S,
     output: &mut W,
     faults: &mut E,
@@ -166,7 +166,7 @@ fn run_fused<S: Store, W: Write, E: Write, R: Wait + Clock>(
     requires owned { OwnsAll session.site.line }
     requires slaves { length session.site.line.sizes ≡ length session.line.images.items }
     requires old { session.is_old ≡ is_old session.site.seen.state.disk.bytes }
-    ensures { EndsRun true (S.files store.old) (S.files store.new) session.line session.site commands.now result }
+    ensures { EndsRun true (S.files store.old) (S.files store.new) session.line session.site commands.items result }
 {
     let Session {
         line,
@@ -180,7 +180,10 @@ fn run_fused<S: Store, W: Write, E: Write, R: Wait + Clock>(
     let device = Captured::new(plan, capture, rt);
     match open_station(alloc, site, is_old, Some(device)) {
         Ok(alone) => run_station(alloc, &line, alone, commands, store, output, faults),
-        Err((left, fault)) => give_up(alloc, &line, left, fault, store, faults),
+        Err((left, fault)) => {
+            drop(commands);
+            give_up(alloc, &line, left, fault, store, faults)
+        }
     }
 }
 
@@ -191,7 +194,7 @@ fn run_on_files<S: Store, W: Write, E: Write, T: Write + Send, R: Wait + Threads
     session: Session<S::Lock>,
     capture: Option<&Capture<S::File>>,
     progress: Option<&Progress<T>>,
-    commands: &[Command],
+    commands: Vec<Command>,
     store: &mut S,
     output: &mut W,
     faults: &mut E,
@@ -200,7 +203,7 @@ fn run_on_files<S: Store, W: Write, E: Write, T: Write + Send, R: Wait + Threads
     requires owned { OwnsAll session.site.line }
     requires slaves { length session.site.line.sizes ≡ length session.line.images.items }
     requires old { session.is_old ≡ is_old session.site.seen.state.disk.bytes }
-    ensures { EndsRun false (S.files store.old) (S.files store.new) session.line session.site commands.now result }
+    ensures { EndsRun false (S.files store.old) (S.files store.new) session.line session.site commands.items result }
 {
     let Session {
         line,
@@ -218,6 +221,7 @@ fn run_on_files<S: Store, W: Write, E: Write, T: Write + Send, R: Wait + Threads
         }
         Err(fault) => {
             drop(site);
+            drop(commands);
             report_fault(fault, faults)
         }
     }
@@ -237,7 +241,7 @@ fn run_watched<
     line: &LineFile,
     site: ShadowSite<D>,
     was_old: bool,
-    commands: &[Command],
+    commands: Vec<Command>,
     progress: Option<&Progress<T>>,
     store: &mut S,
     output: &mut W,
@@ -246,7 +250,7 @@ fn run_watched<
     requires disk { IsTrue site.line.has_disk }
     requires owned { OwnsAll site.line }
     requires old { was_old ≡ is_old site.seen.state.disk.bytes }
-    ensures { EndsRun false (S.files store.old) (S.files store.new) line.now site commands.now result }
+    ensures { EndsRun false (S.files store.old) (S.files store.new) line.now site commands.items result }
 {
     if let Some(progress) = progress {
         progress.expect(commands.len());
@@ -275,7 +279,7 @@ fn run_site<D: Device + Copy + Send, S: Store, W: Write, E: Write, R: Wait + Thr
     line: &LineFile,
     site: ShadowSite<D>,
     was_old: bool,
-    commands: &[Command],
+    commands: Vec<Command>,
     store: &mut S,
     output: &mut W,
     faults: &mut E,
@@ -283,12 +287,13 @@ fn run_site<D: Device + Copy + Send, S: Store, W: Write, E: Write, R: Wait + Thr
     requires disk { IsTrue site.line.has_disk }
     requires owned { OwnsAll site.line }
     requires old { was_old ≡ is_old site.seen.state.disk.bytes }
-    ensures { EndsRun false (S.files store.old) (S.files store.new) line.now site commands.now result }
+    ensures { EndsRun false (S.files store.old) (S.files store.new) line.now site commands.items result }
 {
     match open_station(alloc, site, was_old, None) {
         Ok(alone) => run_threads(rt, alloc, line, alone, commands, store, output, faults),
         Err((left, fault)) => {
             drop(left);
+            drop(commands);
             report_fault(of_open(fault), faults)
         }
     }
@@ -368,14 +373,14 @@ fn run_station<D: Device + Drop, S: Store, W: Write, E: Write>(
     alloc: Global,
     line: &LineFile,
     mut alone: Alone<ShadowSite<D>>,
-    commands: &[Command],
+    commands: Vec<Command>,
     store: &mut S,
     output: &mut W,
     faults: &mut E,
 ) -> ExitStatus
     requires disk { IsTrue alone.line.has_disk }
     requires slaves { length alone.line.sizes ≡ length line.now.images.items }
-    ensures { EndsStation true (S.files store.old) (S.files store.new) line.now alone commands.now result }
+    ensures { EndsStation true (S.files store.old) (S.files store.new) line.now alone commands.items result }
 {
     let mut status = ExitStatus::Done;
     let slaves = line.images.len() as u16;

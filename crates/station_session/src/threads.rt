@@ -32,16 +32,16 @@ pub(crate) fn run_threads<
     alloc: Global,
     line: &LineFile,
     alone: Alone<ShadowSite<D>>,
-    commands: &[Command],
+    commands: Vec<Command>,
     store: &mut S,
     output: &mut W,
     faults: &mut E,
 ) -> ExitStatus
     requires none { alone.book.accepted ≡ [] }
-    ensures { EndsStation false (S.files store.old) (S.files store.new) line.now alone commands.now result }
+    ensures { EndsStation false (S.files store.old) (S.files store.new) line.now alone commands.items result }
 {
     match serve_by_threads(rt, alloc, alone, line.images.len(), commands, output) {
-        Ok(left) => end_threads(alloc, line, left, commands, store, output, faults),
+        Ok(left) => end_threads(alloc, line, left, store, output, faults),
         Err(fault) => report_fault(fault, faults),
     }
 }
@@ -51,7 +51,6 @@ fn end_threads<D: Device + Copy, S: Store, W: Write, E: Write>(
     alloc: Global,
     line: &LineFile,
     left: Left<ShadowSite<D>>,
-    commands: &[Command],
     store: &mut S,
     output: &mut W,
     faults: &mut E,
@@ -59,9 +58,13 @@ fn end_threads<D: Device + Copy, S: Store, W: Write, E: Write>(
     requires line { IsLineOf (length line.now.images.items) left.site.line }
     requires told { OnOk left.ending.told (left.ending.closed ≡ Ok tt) }
     ensures others { ChangesAmong (S.files store.old) (S.files store.new) (files_of line.now) }
-    ensures saved { IsFaultless result → SavesLeft (S.files store.new) line.now left commands.now result }
+    ensures saved { IsFaultless result → SavesLeft (S.files store.new) line.now left result }
 {
-    let Left { site, ending } = left;
+    let Left {
+        site,
+        unserved,
+        ending,
+    } = left;
     let Ending {
         is_driven,
         status,
@@ -70,7 +73,7 @@ fn end_threads<D: Device + Copy, S: Store, W: Write, E: Write>(
     } = ending;
     let told = status_of(told, faults);
     let saved = save_closed(
-        alloc, line, site, closed, is_driven, commands, store, output, faults,
+        alloc, line, site, closed, is_driven, unserved, store, output, faults,
     );
     worse(status, worse(told, saved))
 }
@@ -83,14 +86,14 @@ fn save_closed<D: Device + Copy, S: Store, W: Write, E: Write>(
     site: ShadowSite<D>,
     closed: Result<(), CloseFault>,
     is_driven: bool,
-    commands: &[Command],
+    commands: Vec<Command>,
     store: &mut S,
     output: &mut W,
     faults: &mut E,
 ) -> ExitStatus
     requires line { IsLineOf (length line.now.images.items) site.line }
     ensures others { ChangesAmong (S.files store.old) (S.files store.new) (files_of line.now) }
-    ensures saved { IsFaultless result → OnOk closed (SavesBehind (S.files store.new) line.now site.seen is_driven commands.now result) }
+    ensures saved { IsFaultless result → OnOk closed (SavesBehind (S.files store.new) line.now site.seen is_driven commands.items result) }
     ensures open { IfErr closed (λ why. S.files store.new ≡ S.files store.old) }
 {
     match closed {
@@ -99,6 +102,7 @@ fn save_closed<D: Device + Copy, S: Store, W: Write, E: Write>(
         ),
         Err(_) => {
             drop(site);
+            drop(commands);
             ExitStatus::Done
         }
     }
@@ -110,14 +114,14 @@ fn save_behind<D: Device + Copy, S: Store, W: Write, E: Write>(
     line: &LineFile,
     site: ShadowSite<D>,
     is_driven: bool,
-    commands: &[Command],
+    commands: Vec<Command>,
     store: &mut S,
     output: &mut W,
     faults: &mut E,
 ) -> ExitStatus
     requires line { IsLineOf (length line.now.images.items) site.line }
     ensures others { ChangesAmong (S.files store.old) (S.files store.new) (files_of line.now) }
-    ensures saved { IsFaultless result → SavesBehind (S.files store.new) line.now site.seen is_driven commands.now result }
+    ensures saved { IsFaultless result → SavesBehind (S.files store.new) line.now site.seen is_driven commands.items result }
 {
     match recover(alloc, site) {
         Ok((alone, _recovered)) => {
@@ -127,6 +131,7 @@ fn save_behind<D: Device + Copy, S: Store, W: Write, E: Write>(
         }
         Err((left, fault)) => {
             drop(left);
+            drop(commands);
             report_fault(of_open(fault), faults)
         }
     }
@@ -138,7 +143,7 @@ fn save_recovered<D: Device + Copy, S: Store, W: Write, E: Write>(
     line: &LineFile,
     alone: Alone<ShadowSite<D>>,
     is_driven: bool,
-    commands: &[Command],
+    commands: Vec<Command>,
     store: &mut S,
     output: &mut W,
     faults: &mut E,
@@ -146,11 +151,12 @@ fn save_recovered<D: Device + Copy, S: Store, W: Write, E: Write>(
     requires disk { IsTrue alone.line.has_disk }
     requires slaves { length alone.line.sizes ≡ length line.now.images.items }
     ensures others { ChangesAmong (S.files store.old) (S.files store.new) (files_of line.now) }
-    ensures saved { IsFaultless result → HoldsBehind is_driven (S.files store.new) line.now alone commands.now result }
+    ensures saved { IsFaultless result → HoldsBehind is_driven (S.files store.new) line.now alone commands.items result }
 {
     if !is_driven {
         return run_alone(alloc, line, alone, commands, store, output, faults);
     }
+    drop(commands);
     let (core, site) = alone.into_parts();
     drop(core);
     let saved = save_site(alloc, line, site, store);
@@ -162,14 +168,14 @@ fn run_alone<D: Device + Copy, S: Store, W: Write, E: Write>(
     alloc: Global,
     line: &LineFile,
     mut alone: Alone<ShadowSite<D>>,
-    commands: &[Command],
+    commands: Vec<Command>,
     store: &mut S,
     output: &mut W,
     faults: &mut E,
 ) -> ExitStatus
     requires disk { IsTrue alone.line.has_disk }
     requires slaves { length alone.line.sizes ≡ length line.now.images.items }
-    ensures { EndsStation true (S.files store.old) (S.files store.new) line.now alone commands.now result }
+    ensures { EndsStation true (S.files store.old) (S.files store.new) line.now alone commands.items result }
 {
     let mut status = ExitStatus::Done;
     let slaves = line.images.len() as u16;

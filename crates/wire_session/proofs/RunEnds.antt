@@ -1,6 +1,6 @@
 -- What the files hold after a run on a wire.
-use Rattle.std.proofs.Common.{◌≡◌, ℕ, Bool, true, false, List, [], Result, Ok, Err, IsErrAnd, refl, inr, sym, subst, ap}
-use Rattle.std.specs.Prelude.{IfErr, IfOk, OnErr, OnOk, string_bytes}
+use Rattle.std.proofs.Common.{◌≡◌, ℕ, Bool, true, false, List, Result, Ok, Err, IsErrAnd, refl, inr, sym, subst}
+use Rattle.std.specs.Prelude.{IfErr, IfOk, OnOk, string_bytes}
 use Rattle.std.proofs.lemmas.Result.{IfOk-weaker}
 use Rattle.sii_edit.specs.declared.command.Command.{Command}
 use Rattle.site_core.specs.State.{State, Seen}
@@ -19,9 +19,10 @@ use Rattle.script_session.specs.AtDesk.{LeavesSo}
 use Rattle.script_session.proofs.DeskLaws.{served-told}
 use Rattle.station_session.specs.Site.{IsSiteOf, files_of, HoldsSite}
 use Rattle.station_session.specs.Session.{is_old, HoldsBehind, SavesBehind, SavesLeft, SavesRun, SavesServed, Serves, StartsFrom}
+use Rattle.station_session.proofs.ThreadsEnd.{behind-unserved}
 use Rattle.wire_session.specs.declared.faults.WireFault.{WireFault}
 use Rattle.wire_session.specs.Backup.{IsOfStream}
-use Rattle.wire_session.specs.Opening.{IsFound, LeavesImages}
+use Rattle.wire_session.specs.Opening.{IsFound}
 use Rattle.wire_session.specs.Running.{Ends, EndsFound, EndsServing, EndsSite, RunsScript, SavesFound}
 use Rattle.wire_session.proofs.Recovering.{among_both, among_only, only_both, unsaved_by}
 
@@ -125,31 +126,31 @@ ends_behind is_driven result old new line commands before r status recovered beg
     (λ ended. SavesBehind new line before is_driven commands ended × (ended ≡ Done → status ≡ Done)) result old new line
     (λ ended behind. (record { r = r; recovered = recovered; begins = begins; holds = behind.0 }, behind.1)) ends
 
-pub ends_left : (result : Result ExitStatus WireFault) (old new : Known) (line : LineFile) (commands : List Command) (left : Left SiteValue)
+pub ends_left : (result : Result ExitStatus WireFault) (old new : Known) (line : LineFile) (left : Left SiteValue)
     → left.ending.told ≡ Ok tt
-    → Ends (λ ended. SavesBehind new line left.site.seen left.ending.is_driven commands ended × (ended ≡ Done → left.ending.status ≡ Done))
+    → Ends (λ ended. SavesBehind new line left.site.seen left.ending.is_driven left.unserved.items ended × (ended ≡ Done → left.ending.status ≡ Done))
     result old new line
-    → Ends (λ status. SavesLeft new line left commands status) result old new line
-ends_left result old new line commands left told ends =
+    → Ends (λ status. SavesLeft new line left status) result old new line
+ends_left result old new line left told ends =
     ends_weaker
-    (λ ended. SavesBehind new line left.site.seen left.ending.is_driven commands ended × (ended ≡ Done → left.ending.status ≡ Done))
-    (λ status. SavesLeft new line left commands status) result old new line
+    (λ ended. SavesBehind new line left.site.seen left.ending.is_driven left.unserved.items ended × (ended ≡ Done → left.ending.status ≡ Done))
+    (λ status. SavesLeft new line left status) result old new line
     (λ ended saves. record { worst = saves.1; told = told; behind = saves.0 }) ends
 
 -- ---- the line is served by threads
 
 pub ends_at_desk : (result : Result ExitStatus WireFault) (old new : Known) (line : LineFile) (opened : Station) (commands : List Command)
-    (left : Left SiteValue) → LeavesSo opened commands left.ending left.site
-    → Ends (λ status. SavesLeft new line left commands status) result old new line → EndsServing false result old new line opened commands
-ends_at_desk result old new line opened commands left leaves ends =
-    ends_weaker (λ status. SavesLeft new line left commands status) (λ status. Serves false new line opened commands status) result old new line
+    (left : Left SiteValue) → LeavesSo opened commands left.ending left.site → (left.ending.is_driven ≡ false → left.unserved.items ≡ commands)
+    → Ends (λ status. SavesLeft new line left status) result old new line → EndsServing false result old new line opened commands
+ends_at_desk result old new line opened commands left leaves same ends =
+    ends_weaker (λ status. SavesLeft new line left status) (λ status. Serves false new line opened commands status) result old new line
     (λ status saves. record {
       is_driven = left.ending.is_driven;
       answers = left.ending.status;
       worst = saves.worst;
       site = left.site;
       served = served-told opened commands left.ending left.site saves.told leaves;
-      behind = saves.behind;
+      behind = behind-unserved left.ending.is_driven new line left.site.seen left.unserved.items commands status same saves.behind;
     }) ends
 
 -- ---- the station is opened

@@ -53,7 +53,7 @@ pub fn run_script<W: Wire + Send + Drop, S: Store, O: Write, R: Wait + Threads +
     match find_all(alloc, &mut wire, name, script, store) {
         Ok(given) => {
             let Given { found, commands } = given;
-            run_found(rt, alloc, found, &commands, wire, store, output)
+            run_found(rt, alloc, found, commands, wire, store, output)
         }
         Err(fault) => {
             drop(wire);
@@ -91,7 +91,7 @@ fn run_found<W: Wire + Send + Drop, S: Store, O: Write, R: Wait + Threads + Sync
     rt: &R,
     alloc: Global,
     found: Found<S::Lock>,
-    commands: &[Command],
+    commands: Vec<Command>,
     wire: NumberedWire<W>,
     store: &mut S,
     output: &mut O,
@@ -99,7 +99,7 @@ fn run_found<W: Wire + Send + Drop, S: Store, O: Write, R: Wait + Threads + Sync
     requires some { 1 ≤ length found.slaves.items }
     requires most { length found.slaves.items ≤ 64 }
     requires count { length found.slaves.items ≡ length found.line.images.items }
-    ensures { EndsFound result (S.files store.old) (S.files store.new) found.line found.slaves.items found.journal.items commands.now }
+    ensures { EndsFound result (S.files store.old) (S.files store.new) found.line found.slaves.items found.journal.items commands.items }
 {
     let Found {
         line,
@@ -125,14 +125,14 @@ fn run_on_wire<D: Device + Copy + Send, W: Wire, S: Store, O: Write, R: Wait + T
     locked: &LockedLine<W>,
     site: ShadowSite<D>,
     was_old: bool,
-    commands: &[Command],
+    commands: Vec<Command>,
     store: &mut S,
     output: &mut O,
 ) -> Result<ExitStatus, WireFault>
     requires disk { IsTrue site.line.has_disk }
     requires owned { OwnsAll site.line }
     requires old { was_old ≡ is_old site.seen.state.disk.bytes }
-    ensures { EndsSite result (S.files store.old) (S.files store.new) line.now site commands.now }
+    ensures { EndsSite result (S.files store.old) (S.files store.new) line.now site commands.items }
 {
     match run_site(rt, alloc, line, site, was_old, commands, store, output) {
         Ok(status) => Ok(status),
@@ -147,19 +147,20 @@ fn run_site<D: Device + Copy + Send, S: Store, O: Write, R: Wait + Threads + Syn
     line: &LineFile,
     site: ShadowSite<D>,
     was_old: bool,
-    commands: &[Command],
+    commands: Vec<Command>,
     store: &mut S,
     output: &mut O,
 ) -> Result<ExitStatus, WireFault>
     requires disk { IsTrue site.line.has_disk }
     requires owned { OwnsAll site.line }
     requires old { was_old ≡ is_old site.seen.state.disk.bytes }
-    ensures { EndsSite result (S.files store.old) (S.files store.new) line.now site commands.now }
+    ensures { EndsSite result (S.files store.old) (S.files store.new) line.now site commands.items }
 {
     match open_station(alloc, site, was_old, None) {
         Ok(alone) => run_threads(rt, alloc, line, alone, commands, store, output),
         Err((left, fault)) => {
             drop(left);
+            drop(commands);
             Err(WireFault::Station(of_open(fault)))
         }
     }

@@ -28,15 +28,15 @@ pub(crate) fn run_threads<D: Device + Copy + Send, S: Store, O: Write, R: Wait +
     alloc: Global,
     line: &LineFile,
     alone: Alone<ShadowSite<D>>,
-    commands: &[Command],
+    commands: Vec<Command>,
     store: &mut S,
     output: &mut O,
 ) -> Result<ExitStatus, WireFault>
     requires none { alone.book.accepted ≡ [] }
-    ensures { EndsServing false result (S.files store.old) (S.files store.new) line.now alone commands.now }
+    ensures { EndsServing false result (S.files store.old) (S.files store.new) line.now alone commands.items }
 {
     match serve_by_threads(rt, alloc, alone, line.images.len(), commands, output) {
-        Ok(left) => end_threads(alloc, line, left, commands, store, output),
+        Ok(left) => end_threads(alloc, line, left, store, output),
         Err(fault) => Err(WireFault::Station(fault)),
     }
 }
@@ -46,16 +46,19 @@ fn end_threads<D: Device + Copy, S: Store, O: Write>(
     alloc: Global,
     line: &LineFile,
     left: Left<ShadowSite<D>>,
-    commands: &[Command],
     store: &mut S,
     output: &mut O,
 ) -> Result<ExitStatus, WireFault>
     requires line { IsLineOf (length line.now.images.items) left.site.line }
     requires told { OnOk left.ending.told (left.ending.closed ≡ Ok tt) }
-    ensures { Ends (λ status. SavesLeft (S.files store.new) line.now left commands.now status)
+    ensures { Ends (λ status. SavesLeft (S.files store.new) line.now left status)
         result (S.files store.old) (S.files store.new) line.now }
 {
-    let Left { site, ending } = left;
+    let Left {
+        site,
+        unserved,
+        ending,
+    } = left;
     let Ending {
         is_driven,
         status,
@@ -64,10 +67,11 @@ fn end_threads<D: Device + Copy, S: Store, O: Write>(
     } = ending;
     match told {
         Ok(()) => save_behind(
-            alloc, line, site, is_driven, status, commands, store, output,
+            alloc, line, site, is_driven, status, unserved, store, output,
         ),
         Err(fault) => {
             drop(site);
+            drop(unserved);
             Err(WireFault::Station(fault))
         }
     }
@@ -81,12 +85,12 @@ fn save_behind<D: Device + Copy, S: Store, O: Write>(
     site: ShadowSite<D>,
     is_driven: bool,
     status: ExitStatus,
-    commands: &[Command],
+    commands: Vec<Command>,
     store: &mut S,
     output: &mut O,
 ) -> Result<ExitStatus, WireFault>
     requires line { IsLineOf (length line.now.images.items) site.line }
-    ensures { Ends (λ ended. SavesBehind (S.files store.new) line.now site.seen is_driven commands.now ended × (ended ≡ Done → status ≡ Done))
+    ensures { Ends (λ ended. SavesBehind (S.files store.new) line.now site.seen is_driven commands.items ended × (ended ≡ Done → status ≡ Done))
         result (S.files store.old) (S.files store.new) line.now }
 {
     match recover(alloc, site) {
@@ -95,6 +99,7 @@ fn save_behind<D: Device + Copy, S: Store, O: Write>(
         ),
         Err((left, fault)) => {
             drop(left);
+            drop(commands);
             Err(WireFault::Station(of_open(fault)))
         }
     }
@@ -107,13 +112,13 @@ fn save_recovered<D: Device + Copy, S: Store, O: Write>(
     alone: Alone<ShadowSite<D>>,
     is_driven: bool,
     status: ExitStatus,
-    commands: &[Command],
+    commands: Vec<Command>,
     store: &mut S,
     output: &mut O,
 ) -> Result<ExitStatus, WireFault>
     requires disk { IsTrue alone.line.has_disk }
     requires slaves { length alone.line.sizes ≡ length line.now.images.items }
-    ensures { Ends (λ ended. HoldsBehind is_driven (S.files store.new) line.now alone commands.now ended × (ended ≡ Done → status ≡ Done))
+    ensures { Ends (λ ended. HoldsBehind is_driven (S.files store.new) line.now alone commands.items ended × (ended ≡ Done → status ≡ Done))
         result (S.files store.old) (S.files store.new) line.now }
 {
     if !is_driven {
@@ -122,6 +127,7 @@ fn save_recovered<D: Device + Copy, S: Store, O: Write>(
             Err(fault) => Err(fault),
         };
     }
+    drop(commands);
     let (core, site) = alone.into_parts();
     drop(core);
     save_served(alloc, line, site, status, store)
@@ -132,13 +138,13 @@ fn run_alone<D: Device + Copy, S: Store, O: Write>(
     alloc: Global,
     line: &LineFile,
     mut alone: Alone<ShadowSite<D>>,
-    commands: &[Command],
+    commands: Vec<Command>,
     store: &mut S,
     output: &mut O,
 ) -> Result<ExitStatus, WireFault>
     requires disk { IsTrue alone.line.has_disk }
     requires slaves { length alone.line.sizes ≡ length line.now.images.items }
-    ensures { EndsServing true result (S.files store.old) (S.files store.new) line.now alone commands.now }
+    ensures { EndsServing true result (S.files store.old) (S.files store.new) line.now alone commands.items }
 {
     let mut status = ExitStatus::Done;
     let slaves = line.images.len() as u16;

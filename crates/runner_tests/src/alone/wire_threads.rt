@@ -67,7 +67,7 @@ fn run<D: Device + Copy + Send, R: Wait + Threads + Sync>(
     rt: &R,
     alloc: Global,
     site: ShadowSite<D>,
-    commands: &[Command],
+    commands: Vec<Command>,
     text: &mut Vec<u8>,
 ) -> Option<()> {
     let Some(station) = opened(alloc, site) else {
@@ -89,7 +89,7 @@ fn ended<R: Wait + Threads + Sync>(
     let mut text = Vec::new(alloc);
     let (parts, locked) = locked_on(alloc, files, wire_of(alloc, &THREE)?, trouble)?;
     let site = shared_on(rt, alloc, files, parts, &locked)?;
-    run(rt, alloc, site, &commands, &mut text)?;
+    run(rt, alloc, site, commands, &mut text)?;
     let reason = locked.reason(rt);
     let wire = locked.into_line().into_wire();
     Some(Outcome { wire, text, reason })

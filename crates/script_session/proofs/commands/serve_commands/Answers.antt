@@ -10,10 +10,10 @@ use Rattle.script_session.proofs.commands.serve_commands.Goals as goal
 pub returns-in_err-serve_all : goal.returns-in_err-serve_all
 returns-in_err-serve_all g c =
     let fault = c.in_err-serve_all.field-0.0 in
-    subst (λ (r : Result (Unit {0}) Fault). ServesSo {E = Fault} c.args.commands.now r c.args.status.now c.submit_all.new.status c.args.alone.now c.serve_all.new.alone) (sym (handed_on c.from_residual-in_err-serve_all.result fault c.from_residual-in_err-serve_all.ensures.1))
-    (serves-unserved c.args.commands.now fault c.args.status.now c.submit_all.new.status c.args.alone.now c.submit_all.new.alone c.serve_all.new.alone c.in_ok-submit_all.ensures c.in_err-serve_all.ensures.goes)
+    subst (λ (r : Result (Unit {0}) Fault). ServesSo {E = Fault} c.args.commands.items r c.args.status.now c.submit_all.new.status c.args.alone.now c.serve_all.new.alone) (sym (handed_on c.from_residual-in_err-serve_all.result fault c.from_residual-in_err-serve_all.ensures.1))
+    (serves-unserved c.args.commands.items fault c.args.status.now c.submit_all.new.status c.args.alone.now c.submit_all.new.alone c.serve_all.new.alone c.in_ok-submit_all.ensures c.in_err-serve_all.ensures.goes)
 
 pub returns : goal.returns
 returns g c =
-    serves-on c.args.commands.now c.end_session.result c.args.status.now c.submit_all.new.status c.args.alone.now c.submit_all.new.alone c.serve_all.new.alone c.in_ok-submit_all.ensures c.in_ok-serve_all.ensures.goes c.in_ok-serve_all.ensures.served
+    serves-on c.args.commands.items c.end_session.result c.args.status.now c.submit_all.new.status c.args.alone.now c.submit_all.new.alone c.serve_all.new.alone c.in_ok-submit_all.ensures c.in_ok-serve_all.ensures.goes c.in_ok-serve_all.ensures.served
     (on_ok_weaker c.end_session.result (λ none. ap (λ (b : Book). b.fault) (sym c.core.ensures.book) ∙ none) c.end_session.ensures)

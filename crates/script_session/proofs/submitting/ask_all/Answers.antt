@@ -1,16 +1,17 @@
-use Rattle.script_session.proofs.AskLaws.{asks-none, asks-next, asks-whole}
+use Rattle.std.proofs.Common.{◌≡◌, ◌∷◌, [], ◌∙◌, refl, append_assoc}
+use Rattle.std.specs.Vec.Iter.{into_iter_items}
+use Rattle.script_session.proofs.AskLaws.{asks-none, asks-next}
 use Rattle.script_session.proofs.submitting.ask_all.Goals as goal
 
-pub loop-place-init : goal.loop-place-init
-loop-place-init g c = rw c.in_ok-tickets.ensures.items (asks-none c.args.status.now c.args.share.now)
+pub loop-command-init : goal.loop-command-init
+loop-command-init g c = (refl, rw c.in_ok-tickets.ensures.items (asks-none c.args.status.now c.args.share.now))
 
-pub loop-place-preserved : goal.loop-place-preserved
-loop-place-preserved g c =
-    asks-next c.args.commands.now c.loop-place.place c.index-commands-place.result c.args.status.now c.loop-place.status c.ask_one.new.status c.args.share.now c.loop-place.share c.ask_one.new.share c.loop-place.tickets.items c.keep.new.tickets.items c.in_ok-asked.asked
-    c.loop-place-test.true c.index-commands-place.is c.loop-place.invariant c.in_ok-asked.ensures.asked c.in_ok-keep.ensures.kept
-
-pub returns : goal.returns
-returns g c = record {
-  asked = asks-whole c.args.commands.now c.loop-place.place c.args.status.now c.loop-place.status c.args.share.now c.loop-place.share c.loop-place.tickets.items c.loop-place-test.false c.loop-place.invariant;
-  failed = tt;
-}
+pub loop-command-preserved : goal.loop-command-preserved
+loop-command-preserved g c =
+    let at = c.loop-command in
+    let command = c.in-Some.command in
+    let steps : into_iter_items at.command-iterator ≡ command ∷ into_iter_items c.next.new.self = c.in-Some.ensures.steps.0 in (
+      append_assoc at.yielded (command ∷ []) _ ∙ rw (← steps) at.invariant.0,
+      asks-next at.yielded command c.args.status.now at.status c.ask_one.new.status c.args.share.now at.share c.ask_one.new.share at.tickets.items c.keep.new.tickets.items c.in_ok-asked.asked
+          at.invariant.1 c.in_ok-asked.ensures.asked c.in_ok-keep.ensures.kept,
+    )

@@ -1,6 +1,7 @@
-use Rattle.std.proofs.Common.{take}
+use Rattle.std.proofs.Common.{◌≡◌, ◌++◌}
+use Rattle.std.specs.Vec.Iter.{into_iter_items}
 use Rattle.script_session.specs.Asking.{AsksAll}
 use Rattle.script_session.proofs.submitting.ask_all.Given as goal
 
-abbrev pub invariant-loop-place : goal.invariant-loop-place
-invariant-loop-place g l = AsksAll (take l.place l.commands) l.fn.status l.status l.fn.share l.share l.tickets.items
+abbrev pub invariant-loop-command : goal.invariant-loop-command
+invariant-loop-command g l = (l.yielded ++ into_iter_items l.command-iterator ≡ into_iter_items l.initial.command-iterator) × AsksAll l.yielded l.fn.status l.status l.fn.share l.share l.tickets.items

@@ -7,6 +7,6 @@ use Rattle.station_plan.proofs.plan.plan_given.Goals.{in-Ok, in-Err}
 pub returns : goal.returns
 returns g c good =
     elim c.match-plan_site.branch [
-      | in-Ok w ↦ plans c.args.given.session.site c.args.given.commands.items w.in-Ok.planned c.plan_site.new.status c.match-plan_site.ended c.worse.result (rw c.deref.ensures.value at w.in-Ok.ensures) c.worse.ensures.done
+      | in-Ok w ↦ plans c.args.given.session.site c.args.given.commands.items w.in-Ok.planned c.plan_site.new.status c.match-plan_site.ended c.worse.result w.in-Ok.ensures c.worse.ensures.done
       | in-Err w ↦ absurd (w.report_fault-ended.ensures.fault (subst IsFaultless w.ended-is (c.worse.ensures.faultless good).1))
     ]

@@ -11,9 +11,9 @@ run_watched-requires-send-D g c κs lives = search (captured-send, watched-send,
 
 pub returns-in-Ok : goal.returns-in-Ok
 returns-in-Ok g c =
-    ends-run-opened (g.S.Store.files c.args.store.now) (g.S.Store.files c.open_files.new.store) (g.S.Store.files c.run_watched.new.store) c.args.session.line c.args.session.site c.with_device-site.result c.args.commands.now c.run_watched.result
+    ends-run-opened (g.S.Store.files c.args.store.now) (g.S.Store.files c.open_files.new.store) (g.S.Store.files c.run_watched.new.store) c.args.session.line c.args.session.site c.with_device-site.result c.args.commands.items c.run_watched.result
     c.open_files.ensures.others c.with_device-site.ensures c.run_watched.ensures
 
 pub returns : goal.returns
 returns g c =
-    ends-unopened false (g.S.Store.files c.args.store.now) (g.S.Store.files c.open_files.new.store) c.args.session.line c.args.session.site c.args.commands.now c.report_fault.result c.open_files.ensures.others c.report_fault.ensures.fault
+    ends-unopened false (g.S.Store.files c.args.store.now) (g.S.Store.files c.open_files.new.store) c.args.session.line c.args.session.site c.args.commands.items c.report_fault.result c.open_files.ensures.others c.report_fault.ensures.fault

@@ -7,7 +7,7 @@ run_threads-requires-clause-none g c κs lives = starts-none c.args.was_old c.ar
 
 pub returns-in-Ok : goal.returns-in-Ok
 returns-in-Ok g c =
-    ends-opened false (g.S.Store.files c.args.store.now) (g.S.Store.files c.run_threads.new.store) c.args.line.now c.args.site c.args.was_old c.in-Ok.alone c.args.commands.now c.run_threads.result c.requires.old c.in-Ok.ensures.starts c.run_threads.ensures
+    ends-opened false (g.S.Store.files c.args.store.now) (g.S.Store.files c.run_threads.new.store) c.args.line.now c.args.site c.args.was_old c.in-Ok.alone c.args.commands.items c.run_threads.result c.requires.old c.in-Ok.ensures.starts c.run_threads.ensures
 
 pub returns-in-Err : goal.returns-in-Err
-returns-in-Err g c = let files = g.S.Store.files c.args.store.now in ends-unopened false files files c.args.line.now c.args.site c.args.commands.now c.report_fault.result (λ other out. refl) c.report_fault.ensures.fault
+returns-in-Err g c = let files = g.S.Store.files c.args.store.now in ends-unopened false files files c.args.line.now c.args.site c.args.commands.items c.report_fault.result (λ other out. refl) c.report_fault.ensures.fault

@@ -10,8 +10,8 @@ end_threads-requires-clause-told g c κs lives = c.in-Ok.ensures.left.told
 
 pub returns-in-Ok : goal.returns-in-Ok
 returns-in-Ok g c =
-    ends-left (g.S.Store.files c.args.store.now) (g.S.Store.files c.end_threads.new.store) c.args.line.now c.args.alone c.args.commands.now c.in-Ok.left c.end_threads.result
-    c.in-Ok.ensures.left c.end_threads.ensures.others c.end_threads.ensures.saved
+    ends-left (g.S.Store.files c.args.store.now) (g.S.Store.files c.end_threads.new.store) c.args.line.now c.args.alone c.args.commands.items c.in-Ok.left c.end_threads.result
+    c.in-Ok.ensures.left c.in-Ok.ensures.unserved c.end_threads.ensures.others c.end_threads.ensures.saved
 
 pub returns-in-Err : goal.returns-in-Err
-returns-in-Err g c = ends-unserved false (g.S.Store.files c.args.store.now) c.args.line.now c.args.alone c.args.commands.now c.report_fault.result c.report_fault.ensures.fault
+returns-in-Err g c = ends-unserved false (g.S.Store.files c.args.store.now) c.args.line.now c.args.alone c.args.commands.items c.report_fault.result c.report_fault.ensures.fault

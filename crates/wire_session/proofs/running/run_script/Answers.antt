@@ -6,4 +6,4 @@ returns-in-Ok g c =
     runs c.run_found.result (g.S.Store.files c.args.store.now) (g.S.Store.files c.find_all.new.store) (g.S.Store.files c.run_found.new.store)
     c.args.name.now c.args.script.now c.in-Ok.given.found.line c.in-Ok.given.found.slaves.items c.in-Ok.given.found.journal.items
     c.in-Ok.given.commands.items c.in-Ok.ensures.found c.in-Ok.ensures.spelt c.find_all.ensures.same
-    (rw c.deref.ensures.value at c.run_found.ensures)
+    c.run_found.ensures
