@@ -1,37 +1,144 @@
-// launch IFACE TIMEOUT_US PROGRAM [ARG..]: executes PROGRAM with a raw EtherCAT socket on IFACE as its standard input and
-// output. Reads of the socket end after TIMEOUT_US microseconds. The old standard output becomes descriptor 3.
+// sii_wire [-i INTERFACE] [--timeout MS] [--program FILE] ARGUMENT..: opens a raw EtherCAT socket on the interface as descriptors 0 and 1,
+// gives up every privilege, and executes the proved program, whose text goes to what was standard output (docs/INSTALL.md).
+#define _GNU_SOURCE
 #include <arpa/inet.h>
+#include <err.h>
+#include <errno.h>
+#include <fcntl.h>
+#include <grp.h>
+#include <ifaddrs.h>
+#include <limits.h>
+#include <linux/capability.h>
 #include <linux/if_packet.h>
 #include <net/if.h>
+#include <net/if_arp.h>
+#include <pwd.h>
 #include <stdio.h>
 #include <stdlib.h>
-#include <sys/socket.h>
+#include <string.h>
+#include <sys/prctl.h>
+#include <sys/stat.h>
+#include <sys/syscall.h>
 #include <sys/time.h>
 #include <unistd.h>
 
-static void check(int ok, const char *what) {
-    if (!ok) { perror(what); exit(70); }
+enum { USAGE = 2, NONE = 66, UNAVAILABLE = 69, SYSTEM = 71, MISSING = 72, TAKEN = 75, FORBIDDEN = 77, ETHERCAT = 0x88a4, LINK = 0x10000 };
+
+static void must(int ok, const char *what) { if (!ok) err(SYSTEM, "%s", what); }
+
+// The state of an Ethernet interface, or NULL where there is none of this name. Where no name is given, all are printed.
+static const char *state_of(const char *name) {
+    struct ifaddrs *all, *it;
+    const char *found = NULL;
+    must(!getifaddrs(&all), "interfaces");
+    for (it = all; it; it = it->ifa_next) {
+        struct sockaddr_ll *at = (void *)it->ifa_addr;
+        if (!at || at->sll_family != AF_PACKET || at->sll_hatype != ARPHRD_ETHER) continue;
+        const char *state = !(it->ifa_flags & IFF_UP) ? "down" : it->ifa_flags & LINK ? "up" : "up, but without a link";
+        if (!name) printf("%s: %s\n", it->ifa_name, state);
+        else if (!strcmp(name, it->ifa_name)) found = state;
+    }
+    freeifaddrs(all);
+    return found;
+}
+
+// How many sockets for EtherCAT frames are open on an interface. So the lock of an interface is the wire itself, as long as it is open.
+static int sockets_on(int interface) {
+    char line[256];
+    int type, at, count = 0;
+    FILE *sockets = fopen("/proc/net/packet", "r");
+    must(sockets != NULL, "/proc/net/packet");
+    while (fgets(line, sizeof line, sockets))
+        count += sscanf(line, "%*s %*s %*s %x %d", (unsigned *)&type, &at) == 2 && type == ETHERCAT && (at == interface || at == 0);
+    fclose(sockets);
+    return count;
+}
+
+// The wire: a new socket on this interface; where none is named, standard input, if it is a socket of messages, as a master lends it.
+static int open_wire(const char *name, long ms) {
+    struct timeval wait = { ms / 1000, ms % 1000 * 1000 };
+    struct sockaddr_ll at = { .sll_family = AF_PACKET, .sll_protocol = htons(ETHERCAT) };
+    int wire = 0, type = 0, lent = !name && !getsockopt(0, SOL_SOCKET, SO_TYPE, &type, &(socklen_t){ sizeof type }) && type != SOCK_STREAM;
+    const char *state = name ? state_of(name) : "up";
+    if (!name && !lent) errx(USAGE, "name the interface: sii_wire -i INTERFACE ..; sii_wire -i lists them");
+    if (!state) errx(NONE, "%s: there is no such Ethernet interface; sii_wire -i lists them", name);
+    if (strcmp(state, "up")) errx(UNAVAILABLE, "%s is %s", name, state);
+    if (name && (wire = socket(AF_PACKET, SOCK_RAW, 0)) < 0 && (errno == EPERM || errno == EACCES))
+        errx(FORBIDDEN, "%s: no permission to open a raw socket: use sudo, or give sii_wire the capability (man sii_wire)", name);
+    must(wire >= 0 && !setsockopt(wire, SOL_SOCKET, SO_RCVTIMEO, &wait, sizeof wait)
+         && !setsockopt(wire, SOL_SOCKET, SO_SNDTIMEO, &wait, sizeof wait), "the wire");
+    if (name) must((at.sll_ifindex = (int)if_nametoindex(name)) && !bind(wire, (struct sockaddr *)&at, sizeof at), name);
+    if (name && sockets_on(at.sll_ifindex) > 1) errx(TAKEN, "%s is taken: another EtherCAT station or master works there", name);
+    return wire;
+}
+
+// From here on this is the user who called, also by sudo, and has no capability and no way to any.
+static void give_up_privileges(void) {
+    struct __user_cap_header_struct head = { .version = _LINUX_CAPABILITY_VERSION_3 };
+    struct __user_cap_data_struct none[2] = { { 0 } };
+    struct passwd *caller = !getuid() && getenv("SUDO_UID") ? getpwuid((uid_t)atol(getenv("SUDO_UID"))) : NULL;
+    uid_t user = caller ? caller->pw_uid : getuid();
+    gid_t group = caller ? caller->pw_gid : getgid();
+    must((!caller || !initgroups(caller->pw_name, group)) && !setresgid(group, group, group) && !setresuid(user, user, user), "user");
+    must(!prctl(PR_SET_NO_NEW_PRIVS, 1, 0, 0, 0) && !syscall(SYS_capset, &head, none), "privileges");
+}
+
+// A descriptor that the program can open once more by its name: standard output, or else a pipe to a cat, where that can't be opened.
+static int open_text(void) {
+    struct stat at;
+    int again = open("/dev/fd/1", O_WRONLY | O_APPEND | O_NOCTTY | O_NONBLOCK);
+    FILE *passed = again < 0 ? popen("exec cat", "w") : NULL;
+    must(again >= 0 || passed, "standard output");
+    // What the caller writes to this file later is to stand behind the program's text.
+    if (!fstat(1, &at) && S_ISREG(at.st_mode)) fcntl(1, F_SETFL, fcntl(1, F_GETFL) | O_APPEND);
+    return passed ? fileno(passed) : 1;
+}
+
+// The program: the one installed with this launcher, or built in the checkout that this launcher was built in.
+static const char *program_beside(void) {
+    static const char *const PLACES[] = { "../lib/pilzhoon/sii_wire", "../crates/sii_wire/out/sii_wire", "crates/sii_wire/out/sii_wire" };
+    static char path[PATH_MAX + 64];
+    ssize_t length = readlink("/proc/self/exe", path, PATH_MAX);
+    must(length > 0, "/proc/self/exe");
+    char *name = strrchr(path, '/') + 1;
+    for (size_t it = 0; it < sizeof PLACES / sizeof *PLACES; it++)
+        if (!access(strcpy(name, PLACES[it]) - (name - path), X_OK)) return path;
+    errx(MISSING, "the program isn't there: install Pilzhoon, or build it, or name it by --program FILE");
+}
+
+// Whether a word stands among these, with a space on each side.
+static int is_among(const char *word, const char *words) {
+    const char *at = strstr(words, word);
+    return at && at > words && at[-1] == ' ' && at[strlen(word)] == ' ';
 }
 
 int main(int argc, char **argv) {
-    if (argc < 4) { fprintf(stderr, "usage: launch IFACE TIMEOUT_US PROGRAM [ARG..]\n"); return 64; }
-    int wire = socket(AF_PACKET, SOCK_RAW, 0);
-    check(wire >= 0, "socket");
-    struct sockaddr_ll at = {0};
-    at.sll_family = AF_PACKET;
-    at.sll_protocol = htons(0x88a4);
-    at.sll_ifindex = if_nametoindex(argv[1]);
-    check(at.sll_ifindex != 0, argv[1]);
-    long us = atol(argv[2]);
-    struct timeval wait = { us / 1000000, us % 1000000 };
-    check(us > 0 && !setsockopt(wire, SOL_SOCKET, SO_RCVTIMEO, &wait, sizeof wait), "time-out");
-    check(!setsockopt(wire, SOL_SOCKET, SO_SNDTIMEO, &wait, sizeof wait), "time-out");
-    check(!bind(wire, (struct sockaddr *)&at, sizeof at), "bind");
-    int text = dup(1), moved = dup2(wire, 10);  // out of the way of descriptors 0, 1 and 3
-    check(text >= 0 && moved == 10 && (text == 3 || dup2(text, 3) == 3), "dup");
-    check(dup2(10, 0) == 0 && dup2(10, 1) == 1, "dup2");
-    close(10);
-    execv(argv[3], argv + 3);
-    perror(argv[3]);
-    return 71;
+    const char *name = NULL, *program = NULL, *timeout = "100";
+    char *words[argc + 4], *rest = NULL;
+    int it = 1, count = 3, helps = 0, text_named = 0, spare;
+    while ((spare = open("/dev/null", O_RDWR)) >= 0 && spare < 3) {}  // so that standard input, output and error are there
+    for (const char *word; it < argc && (word = argv[it]); it++) {
+        const char **value = !strcmp(word, "-i") ? &name : !strcmp(word, "--timeout") ? &timeout : !strcmp(word, "--program") ? &program : NULL;
+        if (value == &name && it + 1 == argc) return state_of(NULL), 0;
+        helps |= is_among(word, " -h --help -V --version ");
+        text_named |= !strncmp(word, "--text", 6);
+        if (value) *value = argv[++it];
+        else words[count++] = argv[it];
+    }
+    long ms = timeout ? strtol(timeout, &rest, 10) : 0;
+    if (!rest || *rest || ms < 1 || ms > 60000) errx(USAGE, "--timeout wants a number of milliseconds, 1 to 60000");
+    int wire = helps || is_among(count > 3 ? words[3] : "help", " help explain man completions ") ? spare : open_wire(name, ms);
+    give_up_privileges();
+    int text = fcntl(open_text(), F_DUPFD, 10), moved = fcntl(wire, F_DUPFD, 10), begin = text_named ? 2 : 0;
+    must(text >= 0 && moved >= 0 && dup2(text, 3) == 3 && dup2(moved, 0) == 0 && dup2(moved, 1) == 1, "descriptors");
+    // Help goes to standard error, and is to be read in a pager.
+    must((!helps || dup2(3, 2) == 2) && !close_range(4, ~0U, 0), "descriptors");
+    words[count] = NULL, words[begin] = argv[0];
+    if (!text_named) words[1] = "--text", words[2] = "/dev/fd/3";
+    if (!program) program = program_beside();
+#ifdef BUILD
+    if (is_among(words[count - 1], " -V --version ")) dprintf(3, "%s\n", BUILD);
+#endif
+    execv(program, words + begin);
+    err(MISSING, "%s", program);
 }

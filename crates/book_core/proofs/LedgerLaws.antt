@@ -1,6 +1,7 @@
 -- The book's own entries are the ledger's.
-use Rattle.std.proofs.Common.{◌≡◌, ◌∙◌, ℕ, ◌+◌, ◌≤◌, List, length, drop, sym, ap, arith, length-take-le, length-drop}
+use Rattle.std.proofs.Common.{◌≡◌, ◌∙◌, ℕ, ◌+◌, ◌≤◌, List, length, take, drop, sym, ap, arith, length-take-le, length-drop, Some, None}
 use Rattle.jrn_format.specs.declared.journal.Entry.{Entry}
+use Rattle.jrn_format.specs.Halves.{Place}
 use Rattle.book_model.specs.Book.{Book, being_appended}
 use Rattle.book_model.specs.Book as book
 use Rattle.book_laws.proofs.CommandLaws.{length-entries}
@@ -10,6 +11,7 @@ use Rattle.book_parts.specs.Ledger.{Ledger, contents_of, own, appended, queued}
 use Rattle.book_core.specs.declared.step.Step.{Step}
 use Rattle.book_core.specs.declared.step.Step.TheVariants.{Resting, Payload, PayloadSync, OpenGate, OpenSync, CloseGate, CloseSync, FarGate, Mark, MarkSync, Version, VersionSync}
 use Rattle.book_core.specs.Parts.{doing_of, book_of}
+use Rattle.book_core.specs.Appending.{AppendsNext}
 use Rattle.book_core.specs.Stands.{StepStands, Stands}
 use Rattle.book_core.specs.declared.book.Core.TheInside.{Inside}
 
@@ -45,3 +47,32 @@ pub queued-is : (core : Inside) → Stands core → queued core.ledger ≡ book.
 queued-is core stands =
     ap (λ (l : List Entry). drop (core.ledger.durable + core.ledger.begun) l) (own-is core stands)
     ∙ ap (λ (n : ℕ). drop (core.ledger.durable + n) (book.own (book_of core))) (sym (being-appended core.step core.area core.ledger core.work stands.doing (length-appended core.ledger stands.durable)))
+
+-- ---- what is being appended
+
+none-some : {A : Type 0} (x : A) (P : Type 0) → None ≡ Some x → P
+none-some x P is = absurd cc
+
+entries-are : (ledger : Ledger) (step : Step) (place : Place) (entries : List Entry) → book.appended (doing_of (appended ledger) step) ≡ Some (place, entries) → entries ≡ appended ledger
+entries-are ledger (Payload spot) place entries is = sym (ap being_appended is)
+entries-are ledger (PayloadSync spot) place entries is = sym (ap being_appended is)
+entries-are ledger (OpenGate spot) place entries is = sym (ap being_appended is)
+entries-are ledger (OpenSync spot) place entries is = sym (ap being_appended is)
+entries-are ledger Resting place entries is = none-some (place, entries) (entries ≡ appended ledger) is
+entries-are ledger CloseGate place entries is = none-some (place, entries) (entries ≡ appended ledger) is
+entries-are ledger CloseSync place entries is = none-some (place, entries) (entries ≡ appended ledger) is
+entries-are ledger FarGate place entries is = none-some (place, entries) (entries ≡ appended ledger) is
+entries-are ledger Mark place entries is = none-some (place, entries) (entries ≡ appended ledger) is
+entries-are ledger MarkSync place entries is = none-some (place, entries) (entries ≡ appended ledger) is
+entries-are ledger Version place entries is = none-some (place, entries) (entries ≡ appended ledger) is
+entries-are ledger VersionSync place entries is = none-some (place, entries) (entries ≡ appended ledger) is
+
+-- the ledger appends the commands right behind the durable ones
+pub appends-next : (core : Inside) → Stands core → AppendsNext (book_of core)
+appends-next core stands place entries is =
+    let ledger = core.ledger in
+    let same : entries ≡ appended ledger = entries-are ledger core.step place entries is in
+    ap (λ (l : List Entry). take (length entries) (drop ledger.durable l)) (sym (own-is core stands))
+    ∙ ap (λ (l : List Entry). take (length l) (drop ledger.durable (own ledger))) same
+    ∙ ap (λ (n : ℕ). take n (drop ledger.durable (own ledger))) (length-appended ledger stands.durable)
+    ∙ sym same

@@ -18,3 +18,4 @@ pub mod AppendLaws
 pub mod FoundLaws
 pub mod AnswerLaws
 pub mod OpenLaws
+pub mod HandLaws

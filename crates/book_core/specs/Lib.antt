@@ -8,3 +8,4 @@ pub mod Handing
 pub mod Found
 pub mod Settled
 pub mod Wear
+pub mod Appending

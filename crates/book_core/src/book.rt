@@ -52,6 +52,7 @@ impl Core {
     ghost use Rattle.book_model.specs.Book.{base_of, contents_of};
     ghost use Rattle.book_model.specs.Open.{finish, migrate};
     ghost use Rattle.book_model.specs.Reading.{applied, live_bytes, status};
+    ghost use Rattle.book_core.specs.Appending.{AppendsNext};
 
     /// Closes the book: every further command is refused as `Closed`. Accepted commands are still appended and written.
     pub fn finish(&mut self)
@@ -74,10 +75,12 @@ impl Core {
         true
     }
 
-    /// The commands accepted since the open, in order. Each is valid on the contents after those before it.
+    /// The commands accepted since the open, in order. Each is valid on the contents after those before it. Those that are being
+    /// appended are the ones right behind the durable ones.
     pub fn accepted(&self) -> &[Command]
         ensures commands { result.now ≡ self.now.accepted }
         ensures each { AreAccepted (base_of self.now) self.now.accepted }
+        ensures appending { AppendsNext self.now }
     {
         self.ledger.accepted()
     }

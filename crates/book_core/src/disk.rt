@@ -40,7 +40,7 @@ impl Core {
     ghost use Rattle.book_parts.specs.Spot.{as_place};
     ghost use Rattle.book_core.specs.Parts.{doing_of, next_entries, next_place};
     ghost use Rattle.book_core.specs.Steps.{place_appended};
-    ghost use Rattle.book_core.specs.Handing.{IsNext, IsOther, HandsOut};
+    ghost use Rattle.book_core.specs.Handing.{IsNext, IsOther, IsWrite, HandsOut};
 
     /// Hands out the next action for the disk. `disk_done` reports its outcome; until then the answer is `Idle`.
     ///
@@ -48,7 +48,8 @@ impl Core {
     ///
     /// # Errors
     ///
-    /// `Memory`: memory was refused for the bytes of a write or for the words of a new batch. The book stays as it is.
+    /// `Memory`: memory was refused for the bytes of a write or for the words of a new batch. It comes in place of a write alone. The book
+    /// stays as it is.
     pub fn disk_next(&mut self) -> Result<DiskNext, CoreFault>
         ensures { HandsOut self.old self.new result }
     {
@@ -163,6 +164,7 @@ impl Core {
     }
 
     /// Hands out the write of the whole queue as one batch.
+    #[tactic(auto, using(crate::proofs::HandLaws::writes))]
     fn write_queue(&mut self, spot: Spot) -> Result<DiskNext, CoreFault>
         requires next { IsNext self.old (Step.Payload spot) }
         requires resting { self.old.doing ≡ book.Resting }
@@ -182,6 +184,7 @@ impl Core {
     }
 
     /// Hands out the write of the batch that is being appended.
+    #[tactic(auto, using(crate::proofs::HandLaws::writes))]
     fn write_again(&mut self, spot: Spot) -> Result<DiskNext, CoreFault>
         requires next { IsNext self.old (Step.Payload spot) }
         requires begun { self.old.doing ≡ book.Payload (as_place spot) (next_entries self.old) }
@@ -198,6 +201,7 @@ impl Core {
     }
 
     /// Hands out a step other than rest and the write of a batch.
+    #[tactic(auto, using(crate::proofs::HandLaws::writes))]
     fn hand_out(&mut self, step: Step) -> Result<DiskNext, CoreFault>
         requires next { IsNext self.old step }
         requires other { IsOther step }
@@ -213,7 +217,8 @@ impl Core {
     fn action(&self, step: Step) -> Result<DiskNext, AllocError>
         requires other { IsOther step }
         requires version_2 { IsSome (place_appended step) → self.now.form ≡ Form.Two }
-        ensures { IfOk result (λ next. action_of self.now (doing_of (next_entries self.now) step) ≡ Some next) }
+        ensures action { IfOk result (λ next. action_of self.now (doing_of (next_entries self.now) step) ≡ Some next) }
+        ensures memory { OnErr result (IsWrite step) }
     {
         Ok(match step {
             Step::OpenGate(spot) => DiskNext::Gate {

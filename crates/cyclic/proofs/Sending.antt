@@ -1,12 +1,14 @@
 -- Datagrams sent one after another.
-use Rattle.std.proofs.Common.{◌≡◌, ℕ, ◌+◌, List, [], ◌∷◌, ◌++◌, length, Result, Ok, Err, IsErrAnd, refl, sym, ap, subst, ◌∙◌, append_assoc, length-append}
+use Rattle.std.proofs.Common.{◌≡◌, ℕ, ◌+◌, List, [], ◌∷◌, ◌++◌, length, Result, Ok, Err, IsErrAnd, IsTrue, refl, sym, ap, subst, ◌∙◌, inl, inr, append_assoc, length-append, arith}
 use Rattle.std.proofs.lemmas.List.{append-nil}
+use Rattle.std.proofs.Math.Nat.{eq-zero-or-pos}
 use Rattle.ecat_frame.specs.Frame.{Pdu}
 use Rattle.site_core.specs.State.{State, Leaves, Moment, Seen, CycleTurn}
 use Rattle.site_core.specs.Passes.{Passes, LeavesOnly, AddsNothing}
+use Rattle.site_core.proofs.Times.{Follows-same, Follows-then}
 use Rattle.site_core.proofs.Runs.{Passes-none, Passes-then, Passes-stays}
 use Rattle.cyclic.specs.declared.fault.CycleFault.{CycleFault}
-use Rattle.cyclic.specs.Exchange.{LeavesAll, Exchanges}
+use Rattle.cyclic.specs.Exchange.{lost_of, LeavesAll, Exchanges}
 use Rattle.cyclic.specs.Sending.{IsSent, AreTaken, BreaksOff, AreSent, SendsInOrder}
 
 -- the fault that `?` hands on
@@ -33,6 +35,10 @@ leaves_none seen = record {
   adds_nothing = adds_none seen;
   same = λ not. refl;
   stopped = λ e. absurd cc;
+  counted = omega arith;
+  follows = Follows-same seen;
+  going = λ some. absurd (omega arith);
+  nothing = λ none. refl;
 }
 
 pub leaves_then : {T : Type 0} (m n k : ℕ) → k ≡ m + n → (a b c : Seen) (result : Result T CycleFault) → LeavesAll {T = Unit {0}} m a (Ok tt) b → LeavesAll n b result c → LeavesAll k a result c
@@ -43,6 +49,13 @@ leaves_then m n k sum a b c result first second = record {
   adds_nothing = adds_then a b c (first.same (λ e. absurd cc)) first.adds_nothing second.adds_nothing;
   same = λ not. second.same not ∙ first.same (λ e. absurd cc);
   stopped = second.stopped;
+  counted = let was : b.faults ≡ a.faults = omega (arith, first.counted) in second.counted ∙ ap (λ (n : ℕ). n + lost_of result) was;
+  follows = Follows-then a b c first.follows second.follows;
+  going = λ some stops. elim (eq-zero-or-pos n) [
+    | inl none ↦ absurd (let e = first.going (omega arith) (subst (λ (s : Seen). IsTrue s.is_stopped) (second.nothing none) stops) in absurd cc)
+    | inr more ↦ second.going more stops
+  ];
+  nothing = λ none. second.nothing (omega arith) ∙ first.nothing (omega arith);
 }
 
 -- ---- The frames.

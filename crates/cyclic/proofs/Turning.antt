@@ -63,6 +63,10 @@ leaves_told count old fault new leaves = record {
   adds_nothing = leaves.adds_nothing;
   same = λ not. leaves.same (λ e. not (let is : fault ≡ cycle.Stopped = cc in ap Err is));
   stopped = λ e. leaves.stopped (let is : fault ≡ cycle.Stopped = cc in ap Err is);
+  counted = leaves.counted;
+  follows = leaves.follows;
+  going = λ some stops. let was = leaves.going some stops in (let is : fault ≡ cycle.Stopped = cc in ap Err is);
+  nothing = leaves.nothing;
 }
 
 pub turn_failed : (image : ProcessImageParts) (outputs inputs : List ℕ) (expected : ℕ) → expected ≡ image.counter → (sent : List Pdu) → sent ≡ turn_order image outputs ∷ []
@@ -117,6 +121,10 @@ turn_taken image outputs inputs left expected counter sent order old back new ex
         adds_nothing = here.leaves.adds_nothing;
         same = λ not. here.leaves.same (λ e. absurd cc);
         stopped = λ e. absurd cc;
+        counted = here.leaves.counted;
+        follows = here.leaves.follows;
+        going = λ some stops. absurd (let was = here.leaves.going some stops in absurd cc);
+        nothing = here.leaves.nothing;
       };
     } in
     subst (λ n. TakesTurn image outputs inputs old (Ok n) left new) (sym counter)

@@ -5,7 +5,7 @@ use thiserror::Error;
 /// Why a line was not configured, or process data was not exchanged.
 #[derive(Clone, Copy, Debug, PartialEq, Eq, Error)]
 pub enum CycleFault {
-    /// Not every slave took part: the working counter came back as `seen`, and would be `expected` if all had.
+    /// The working counter came back as `seen` in place of `expected`, that of all slaves: not all of them took part, or more did.
     #[error("the working counter is {seen} in place of {expected}")]
     WrongCounter { seen: u16, expected: u16 },
     /// The frame was lost. A slave may have taken it or not.

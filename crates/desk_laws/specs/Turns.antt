@@ -1,11 +1,9 @@
 -- The process data cycles that were handed out.
-use Rattle.std.specs.Prelude.{◌≡◌, ◌≤◌, ◌+◌, ℕ, List, [], ◌∷◌, length, take, drop, Some}
+use Rattle.std.specs.Prelude.{◌≡◌, ◌≤◌, ◌+◌, ℕ, List, [], ◌∷◌, length, Some}
 use Rattle.sii_edit.specs.declared.command.Command.{Command}
 use Rattle.sii_edit.specs.Fold.{contents_after}
 use Rattle.sii_image.specs.ProcessImage.{ProcessImageParts, process_image}
-use Rattle.jrn_format.specs.declared.journal.Entry.{Entry}
-use Rattle.jrn_format.specs.Halves.{Place}
-use Rattle.book_model.specs.Book.{Book, own, appended}
+pub use Rattle.book_core.specs.Appending.{AppendsNext}
 use Rattle.station_jobs.specs.declared.cycle.CycleNote.{CycleNote}
 
 -- The cycle is of the contents after a prefix of these commands, and has the size of their process image.
@@ -23,8 +21,3 @@ NeverFallFrom least (turn ∷ turns) = (least ≤ turn.prefix) × NeverFallFrom 
 -- No cycle has a shorter prefix than the one before it.
 abbrev pub NeverFall : List CycleNote → Type 0
 NeverFall turns = NeverFallFrom 0 turns
-
--- If entries are being appended, they are those of the accepted commands right behind the durable ones.
-abbrev pub AppendsNext : Book → Type 0
-AppendsNext book = (place : Place) (entries : List Entry) → appended book.doing ≡ Some (place, entries)
-    → take (length entries) (drop book.durable (own book)) ≡ entries

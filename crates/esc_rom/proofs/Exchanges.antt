@@ -181,3 +181,15 @@ module _ (old : Seen) (slave : ℕ) (order : Pdu) (new : Seen) (gentle : IsGentl
 
   pub cut : (answer : List Pdu) {stop : Stop} → Sends old slave order (Err stop) answer new → StopsQuietly old 1 new
   cut answer sends = record { quiet = exchange_quiet old slave order (Err device.Stopped) (order ∷ []) new gentle sends; stopped = sends.call.stopped.1 refl }
+
+-- what came back is this one datagram
+pub one_answer : (old : Seen) (slave : ℕ) (order : Pdu) (answer : List Pdu) (new : Seen) (datagram : Pdu) → slice_get answer 0 ≡ Some datagram
+    → ExchangesFrame old slave (order ∷ []) (Ok tt) answer new → answer ≡ datagram ∷ []
+one_answer old slave order answer new datagram first sends =
+    elim (took_none_or_one order sends.half sends.passed sends.left sends.laters sends.replies sends.split sends.through) [
+      | inl none ↦ absurd (let e : order ∷ [] ≡ [] = sends.split ∙ ap (λ (p : List Pdu). p ++ sends.left) none.0 ∙ sends.ok.0 in absurd cc)
+      | inr t ↦
+          let reply = reply_of order (served_datagram t.rested order) in
+          let is : answer ≡ reply ∷ [] = sends.ok.1 ∙ t.replies_are in
+          is ∙ ap (λ (d : Pdu). d ∷ []) (same_some reply datagram (sym (ap (λ (ds : List Pdu). slice_get ds 0) is) ∙ first))
+    ]

@@ -2,6 +2,7 @@ pub mod States
 pub mod Runs
 pub mod Past
 pub mod Exchanges
+pub mod Courses
 pub mod Polls
 pub mod Writes
 pub mod Stops
@@ -16,3 +17,4 @@ pub mod Counting
 pub mod SlaveLaws
 pub mod LineLaws
 pub mod SizeLaws
+pub mod SentLaws

@@ -7,3 +7,5 @@ pub mod Access
 pub mod Laws
 pub mod Owned
 pub mod Reading
+pub mod Courses
+pub mod Sent

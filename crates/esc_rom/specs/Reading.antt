@@ -54,6 +54,18 @@ pub record ReadsSlave (slave size : ℕ) (old : Seen) (result : Result (List ℕ
   pub faults : IfErr result (λ fault. EndsSlave slave size old fault new)
   pub stopped : IsTrue new.is_stopped ↔ IsErrOf result rom.Stopped
 
+-- The slave's opening ended with this fault, or it was opened and its reading ended so.
+abbrev pub BreaksOff : (slave size : ℕ) → RomFault → Seen → Seen → Type 0
+BreaksOff slave size fault old new =
+    OpensSlave old slave (Err fault) new
+    ⊎ ((opened : Seen) × OpensSlave old slave (Ok tt) opened × ReadsWords opened slave size (Err fault) new)
+
+-- The slave was opened and then read, or that broke off.
+abbrev pub ReadsInParts : (slave size : ℕ) → Seen → Result (List ℕ) RomFault → Seen → Type 0
+ReadsInParts slave size old (Ok words) new =
+    (opened : Seen) × OpensSlave old slave (Ok tt) opened × ReadsWords opened slave size (Ok words) new
+ReadsInParts slave size old (Err fault) new = BreaksOff slave size fault old new
+
 -- ---- all of them
 
 -- No slave is busy, these are their words, and a stop leaves no others.
@@ -75,6 +87,17 @@ pub record Dies (sizes : List ℕ) (slave : ℕ) (old new : Seen) : Type 0 where
   pub before : Quiet old (most_calls (take slave sizes)) reached
   pub first : WereRead sizes slave old reached
   pub gives_up : GivesUp slave (slice_index sizes slave) reached new
+
+-- What is known after any fault: the slaves before this one were opened and read, and this one's reading broke off with the fault. Or it
+-- was read too, and then memory was refused.
+pub record KeepsFirst (sizes : List ℕ) (old : Seen) (fault : RomFault) (new : Seen) : Type 0 where
+  pub slave : ℕ
+  pub inside : slave < length sizes
+  pub reached : Seen
+  pub before : Quiet old (most_calls (take slave sizes)) reached
+  pub first : WereRead sizes slave old reached
+  pub last : BreaksOff slave (slice_index sizes slave) fault reached new
+      ⊎ ((words : List ℕ) × (fault ≡ rom.Memory) × ReadsInParts slave (slice_index sizes slave) reached (Ok words) new)
 
 -- What each fault means for a line.
 abbrev pub EndsLine : List ℕ → Seen → RomFault → Seen → Type 0

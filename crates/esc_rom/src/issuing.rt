@@ -4,6 +4,7 @@ ghost use Rattle.std.specs.Prelude.{◌≡◌, ◌++◌};
 ghost use Rattle.std.specs.Int.{w16, w32, to_le_bytes};
 ghost use Rattle.site_core.specs.Line.{Owns};
 ghost use Rattle.esc_rom.specs.Access.{IssuesWord};
+ghost use Rattle.esc_rom.specs.Sent.{IssueSends};
 
 use crate::registers::CONTROL;
 use crate::send::send;
@@ -24,14 +25,16 @@ pub fn write_content(word: u16, value: u16) -> [u8; 8]
     [enable, command, a, b, c, d, low, high]
 }
 
-/// Sends a slave the command to write one word of its EEPROM (ETG.1000.4, slave information interface), in one datagram.
+/// Sends a slave the command to write one word of its EEPROM (ETG.1000.4, slave information interface), once: one frame with one
+/// datagram, of index 0.
 ///
 /// `settle` waits until the word is written. The site must own the EEPROM half of the slave.
 ///
 /// # Errors
 ///
-/// Only `Stopped`, if the site has stopped, or stops in this call. That word may hold anything then; no other has changed. A lost frame
-/// is no error here, but the answer `Lost`.
+/// Only `Stopped`, if the site has stopped, or stops in this call. That word may hold anything then. Of all other words a power cut
+/// leaves what it could have left before the call: a word that was in flight may still hold anything. A lost frame is no error here, but
+/// the answer `Lost`.
 pub fn issue<S: Site>(
     site: &mut S,
     slave: u16,
@@ -40,6 +43,7 @@ pub fn issue<S: Site>(
 ) -> Result<Issued, DeviceFault>
     requires { Owns (S.line site.old) slave }
     ensures issues { IssuesWord (S.seen site.old) slave word value result (S.seen site.new) }
+    ensures frames { IssueSends slave word value (S.seen site.old) result (S.seen site.new) }
     ensures line { S.line site.new ≡ S.line site.old }
 {
     let content = write_content(word, value);

@@ -1,8 +1,10 @@
 //! Opening and reading all slaves.
 
-ghost use Rattle.std.specs.Prelude.{◌≡◌, ◌<◌, length, slice_index};
+ghost use Rattle.std.specs.Prelude.{◌≡◌, ◌<◌, length, slice_index, IfErr};
 ghost use Rattle.esc_rom.specs.Owned.{OwnsAll};
-ghost use Rattle.esc_rom.specs.Reading.{ReadsSlave, ReadsLine};
+ghost use Rattle.esc_rom.specs.Reading.{ReadsSlave, ReadsInParts, ReadsLine, KeepsFirst};
+ghost use Rattle.esc_rom.specs.Courses.{Takes};
+ghost use Rattle.esc_rom.specs.Sent.{ReadsSlaveBy, LineSends};
 
 use crate::{RomFault, open_slave, read_all};
 use sii_words::Words;
@@ -14,6 +16,8 @@ fn read_slave<S: Site>(alloc: Global, site: &mut S, slave: u16) -> Result<Words,
     requires slaves { OwnsAll (S.line site.old) }
     requires inside { slave < length (S.line site.old).sizes }
     ensures reads { ReadsSlave slave (slice_index (S.line site.old).sizes slave) (S.seen site.old) result (S.seen site.new) }
+    ensures parts { ReadsInParts slave (slice_index (S.line site.old).sizes slave) (S.seen site.old) result (S.seen site.new) }
+    ensures frames { Takes (ReadsSlaveBy slave (slice_index (S.line site.old).sizes slave)) (S.seen site.old) result (S.seen site.new) }
     ensures line { S.line site.new ≡ S.line site.old }
 {
     open_slave(site, slave)?;
@@ -28,11 +32,13 @@ fn read_slave<S: Site>(alloc: Global, site: &mut S, slave: u16) -> Result<Words,
 /// # Errors
 ///
 /// The first fault that occurs: `SlaveDead` for the first slave that can't be opened or read, as for `open_slave` and `read_all`, once
-/// those before it were opened and read; `Stopped` once the site has stopped; `Memory`. A power cut leaves nothing that it couldn't
-/// leave before.
+/// those before it were opened and read; `Stopped` once the site has stopped; `Memory`, behind some slaves that were read, and perhaps one
+/// that was opened. A power cut leaves nothing that it couldn't leave before.
 pub fn read_slaves<S: Site>(alloc: Global, site: &mut S) -> Result<Vec<Words>, RomFault>
     requires { OwnsAll (S.line site.old) }
     ensures reads { ReadsLine (λ plant. plant.items) (S.line site.old).sizes (S.seen site.old) result (S.seen site.new) }
+    ensures kept { IfErr result (λ fault. KeepsFirst (S.line site.old).sizes (S.seen site.old) fault (S.seen site.new)) }
+    ensures frames { LineSends (S.line site.old).sizes (S.seen site.old) result (S.seen site.new) }
     ensures line { S.line site.new ≡ S.line site.old }
 {
     let mut plant = Vec::new(alloc);

@@ -4,6 +4,8 @@ ghost use Rattle.std.specs.Prelude.{◌≡◌};
 ghost use Rattle.site_core.specs.Line.{Owns};
 ghost use Rattle.esc_rom.specs.Runs.{Performs};
 ghost use Rattle.esc_rom.specs.Access.{OpensSlave, BecomesOpen};
+ghost use Rattle.esc_rom.specs.Courses.{Takes};
+ghost use Rattle.esc_rom.specs.Sent.{OpensBy, OpeningSends};
 
 use crate::fault::{RomFault, Stop};
 use crate::poll::wait_idle;
@@ -16,6 +18,7 @@ use site_core::Site;
 fn take_over<S: Site>(site: &mut S, frame: &mut Frame, slave: u16) -> Result<bool, Stop>
     requires { Owns (S.line site.old) slave }
     ensures runs { Performs (BecomesOpen (S.seen site.old) slave (S.seen site.new)) (S.seen site.old) slave 10009 result (S.seen site.new) }
+    ensures frames { Takes (OpensBy slave) (S.seen site.old) result (S.seen site.new) }
     ensures line { S.line site.new ≡ S.line site.old }
 {
     if !insist(site, frame, slave, ACCESS, &[0x02])? {
@@ -31,7 +34,8 @@ fn take_over<S: Site>(site: &mut S, frame: &mut Frame, slave: u16) -> Result<boo
 }
 
 /// Opens the EEPROM of a slave for word access (ETG.1000.4, slave information interface): takes it from the PDI, waits until the slave
-/// is idle, and clears its errors. Afterwards it is idle without an error. The site must own the EEPROM half of the slave.
+/// is idle, and clears its errors. Afterwards it is idle without an error. Each datagram goes in a frame of its own, with index 0. The site
+/// must own the EEPROM half of the slave.
 ///
 /// # Errors
 ///
@@ -40,6 +44,7 @@ fn take_over<S: Site>(site: &mut S, frame: &mut Frame, slave: u16) -> Result<boo
 pub fn open_slave<S: Site>(site: &mut S, slave: u16) -> Result<(), RomFault>
     requires { Owns (S.line site.old) slave }
     ensures opens { OpensSlave (S.seen site.old) slave result (S.seen site.new) }
+    ensures frames { OpeningSends slave (S.seen site.old) result (S.seen site.new) }
     ensures line { S.line site.new ≡ S.line site.old }
 {
     let mut frame = Frame::new();

@@ -5,6 +5,8 @@ ghost use Rattle.ecat_frame.specs.Frame.{pdu};
 ghost use Rattle.site_core.specs.Line.{Owns};
 ghost use Rattle.esc_rom.specs.Status.{rest_shown, found_in};
 ghost use Rattle.esc_rom.specs.Runs.{Performs, Polled, Waited};
+ghost use Rattle.esc_rom.specs.Courses.{Takes};
+ghost use Rattle.esc_rom.specs.Sent.{PollsBy, WaitsBy};
 
 use crate::fault::Stop;
 use crate::registers::{CONTROL, POLLS};
@@ -51,6 +53,7 @@ pub(crate) fn poll<S: Site>(
 ) -> Result<Option<Rested>, Stop>
     requires { Owns (S.line site.old) slave }
     ensures runs { Performs (Polled (S.seen site.old) slave (S.seen site.new)) (S.seen site.old) slave 1 result (S.seen site.new) }
+    ensures frames { Takes (PollsBy slave) (S.seen site.old) result (S.seen site.new) }
     ensures line { S.line site.new ≡ S.line site.old }
 {
     if !send(site, frame, slave, Command::Fprd, CONTROL, &[0, 0])? {
@@ -67,6 +70,7 @@ pub(crate) fn wait_idle<S: Site>(
 ) -> Result<Option<Rested>, Stop>
     requires { Owns (S.line site.old) slave }
     ensures runs { Performs (Waited (S.seen site.old) slave (S.seen site.new)) (S.seen site.old) slave 10000 result (S.seen site.new) }
+    ensures frames { Takes (WaitsBy slave) (S.seen site.old) result (S.seen site.new) }
     ensures line { S.line site.new ≡ S.line site.old }
 {
     for _poll in 0..POLLS {

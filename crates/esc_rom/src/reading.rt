@@ -8,6 +8,8 @@ ghost use Rattle.site_core.specs.Line.{Owns};
 ghost use Rattle.esc_rom.specs.Runs.{Performs};
 ghost use Rattle.esc_rom.specs.WordPairs.{pair_of, Fetched, TriesRead, ReadsPair, ReadsAll};
 ghost use Rattle.esc_rom.specs.Access.{ReadsWords};
+ghost use Rattle.esc_rom.specs.Courses.{Takes};
+ghost use Rattle.esc_rom.specs.Sent.{FetchesBy, TriesBy, ReadsPairBy, FillsBy, ReadingSends};
 
 use crate::fault::{RomFault, Stop};
 use crate::poll::{Rested, wait_idle};
@@ -67,6 +69,7 @@ fn pair_in(answer: Datagram<'_>) -> Option<WordPair>
 fn fetch<S: Site>(site: &mut S, frame: &mut Frame, slave: u16) -> Result<Option<WordPair>, Stop>
     requires { Owns (S.line site.old) slave }
     ensures runs { Performs (Fetched (S.seen site.old) slave (S.seen site.new)) (S.seen site.old) slave 1 result (S.seen site.new) }
+    ensures frames { Takes (FetchesBy slave) (S.seen site.old) result (S.seen site.new) }
     ensures line { S.line site.new ≡ S.line site.old }
 {
     if !send(site, frame, slave, Command::Fprd, CONTENT, &[0, 0, 0, 0])? {
@@ -79,6 +82,7 @@ fn fetch<S: Site>(site: &mut S, frame: &mut Frame, slave: u16) -> Result<Option<
 fn try_pair<S: Site>(site: &mut S, frame: &mut Frame, slave: u16, word: u16) -> Result<Tried, Stop>
     requires { Owns (S.line site.old) slave }
     ensures runs { Performs (TriesRead (S.seen site.old) slave word (S.seen site.new)) (S.seen site.old) slave 10002 result (S.seen site.new) }
+    ensures frames { Takes (TriesBy slave word) (S.seen site.old) result (S.seen site.new) }
     ensures line { S.line site.new ≡ S.line site.old }
 {
     let content = read_content(word);
@@ -106,6 +110,7 @@ fn read_pair<S: Site>(
 ) -> Result<Option<WordPair>, Stop>
     requires { Owns (S.line site.old) slave }
     ensures runs { Performs (ReadsPair (S.seen site.old) slave word (S.seen site.new)) (S.seen site.old) slave 30006 result (S.seen site.new) }
+    ensures frames { Takes (ReadsPairBy slave word) (S.seen site.old) result (S.seen site.new) }
     ensures line { S.line site.new ≡ S.line site.old }
 {
     for _try in 0..TRIES {
@@ -129,6 +134,7 @@ fn wait_and_fill<S: Site>(
     ensures runs { Performs (ReadsAll (S.seen site.old) slave (S.seen site.new) words.new) (S.seen site.old) slave
         (10000 + 30006 * (length words.old / 2)) result (S.seen site.new) }
     ensures length { length words.new ≡ length words.old }
+    ensures frames { Takes (FillsBy slave (length words.old)) (S.seen site.old) result (S.seen site.new) }
     ensures line { S.line site.new ≡ S.line site.old }
 {
     let Some(_rested) = wait_idle(site, frame, slave)? else {
@@ -158,8 +164,9 @@ fn blank(alloc: Global, count: u16) -> Result<Words, RomFault>
     }
 }
 
-/// Waits until a slave is idle, and reads all words of its EEPROM (ETG.1000.4, slave information interface). The site must own the
-/// EEPROM half of the slave.
+/// Waits until a slave is idle, and reads all words of its EEPROM, two by two (ETG.1000.4, slave information interface). Each try to read
+/// two words sends the command to read them. Each datagram goes in a frame of its own, with index 0. The site must own the EEPROM half of
+/// the slave.
 ///
 /// # Errors
 ///
@@ -169,6 +176,7 @@ fn blank(alloc: Global, count: u16) -> Result<Words, RomFault>
 pub fn read_all<S: Site>(alloc: Global, site: &mut S, slave: u16) -> Result<Words, RomFault>
     requires { Owns (S.line site.old) slave }
     ensures reads { ReadsWords (S.seen site.old) slave (slice_index (S.line site.old).sizes slave) result (S.seen site.new) }
+    ensures frames { ReadingSends slave (slice_index (S.line site.old).sizes slave) (S.seen site.old) result (S.seen site.new) }
     ensures line { S.line site.new ≡ S.line site.old }
 {
     let mut words = blank(alloc, site.words_of(slave))?;

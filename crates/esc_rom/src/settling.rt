@@ -4,6 +4,8 @@ ghost use Rattle.std.specs.Prelude.{◌≡◌};
 ghost use Rattle.site_core.specs.Line.{Owns};
 ghost use Rattle.esc_rom.specs.Runs.{Performs};
 ghost use Rattle.esc_rom.specs.Access.{SettlesSlave, BecomesSettled};
+ghost use Rattle.esc_rom.specs.Courses.{Takes};
+ghost use Rattle.esc_rom.specs.Sent.{SettlesBy, SettleSends};
 
 use crate::fault::Stop;
 use crate::poll::{Rested, wait_idle};
@@ -16,6 +18,7 @@ use site_core::{DeviceFault, Settled, Site};
 fn rest<S: Site>(site: &mut S, frame: &mut Frame, slave: u16, taken: bool) -> Result<Settled, Stop>
     requires { Owns (S.line site.old) slave }
     ensures runs { Performs (BecomesSettled (S.seen site.old) slave taken (S.seen site.new)) (S.seen site.old) slave 10001 result (S.seen site.new) }
+    ensures frames { Takes (SettlesBy slave taken) (S.seen site.old) result (S.seen site.new) }
     ensures line { S.line site.new ≡ S.line site.old }
 {
     let Some(rested) = wait_idle(site, frame, slave)? else {
@@ -29,8 +32,10 @@ fn rest<S: Site>(site: &mut S, frame: &mut Frame, slave: u16, taken: bool) -> Re
 }
 
 /// Waits until a slave to which a word was issued is idle, and returns whether the word is written (ETG.1000.4, slave information
-/// interface). `taken` says that `issue` returned `Taken`; otherwise the answer is never `Written`. Before the answer `Again` it sends
-/// the slave the command that clears errors, once.
+/// interface). `taken` says that `issue` returned `Taken`; otherwise the answer is never `Written`.
+///
+/// It polls the slave up to the first poll that sees it idle. `Written`: the word is written; nothing more is sent. `Again`: it isn't known
+/// to be written; the command that clears errors is sent, once. `Dead`: none of 10,000 polls saw the slave idle; nothing more is sent.
 ///
 /// The site must own the EEPROM half of the slave.
 ///
@@ -41,6 +46,7 @@ fn rest<S: Site>(site: &mut S, frame: &mut Frame, slave: u16, taken: bool) -> Re
 pub fn settle<S: Site>(site: &mut S, slave: u16, taken: bool) -> Result<Settled, DeviceFault>
     requires { Owns (S.line site.old) slave }
     ensures settles { SettlesSlave (S.seen site.old) slave taken result (S.seen site.new) }
+    ensures frames { SettleSends slave taken (S.seen site.old) result (S.seen site.new) }
     ensures line { S.line site.new ≡ S.line site.old }
 {
     let mut frame = Frame::new();

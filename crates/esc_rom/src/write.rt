@@ -7,6 +7,8 @@ ghost use Rattle.site_core.specs.Line.{Owns};
 ghost use Rattle.esc_model.specs.Orders.{address_of};
 ghost use Rattle.esc_model.specs.WordAccess.{IsGentle};
 ghost use Rattle.esc_rom.specs.Runs.{Performs, Wrote, Insists};
+ghost use Rattle.esc_rom.specs.Courses.{Takes};
+ghost use Rattle.esc_rom.specs.Sent.{WritesBy, InsistsBy};
 
 use crate::fault::Stop;
 use crate::registers::TRIES;
@@ -27,6 +29,7 @@ pub(crate) fn write<S: Site>(
     requires gentle { IsGentle (sent Fpwr 0 (address_of slave register) content.now) }
     ensures runs { Performs (Wrote (sent Fpwr 0 (address_of slave register) content.now) (S.seen site.old) (S.seen site.new))
         (S.seen site.old) slave 1 result (S.seen site.new) }
+    ensures frames { Takes (WritesBy slave (sent Fpwr 0 (address_of slave register) content.now)) (S.seen site.old) result (S.seen site.new) }
     ensures line { S.line site.new ≡ S.line site.old }
 {
     if !send(site, frame, slave, Command::Fpwr, register, content)? {
@@ -48,6 +51,7 @@ pub(crate) fn insist<S: Site>(
     requires gentle { IsGentle (sent Fpwr 0 (address_of slave register) content.now) }
     ensures runs { Performs (Insists (sent Fpwr 0 (address_of slave register) content.now) (S.seen site.old) slave (S.seen site.new))
         (S.seen site.old) slave 3 result (S.seen site.new) }
+    ensures frames { Takes (InsistsBy slave (sent Fpwr 0 (address_of slave register) content.now)) (S.seen site.old) result (S.seen site.new) }
     ensures line { S.line site.new ≡ S.line site.old }
 {
     for _try in 0..TRIES {

@@ -7,7 +7,7 @@ use Rattle.book_model.specs.declared.fault.Fault.{Fault}
 use Rattle.book_model.specs.Book.{Book}
 use Rattle.station_alone.specs.Station.{Station}
 use Rattle.station_files.specs.declared.faults.ExitStatus.{ExitStatus}
-use Rattle.script_session.specs.Rounds.{Goes, IsServed, IsServedOrClosed, ServesSo, SubmitsSo}
+use Rattle.script_session.specs.Rounds.{Goes, IsServed, IsServedOrClosed, ServesOrCloses, ServesSo, SubmitsSo}
 use Rattle.script_session.proofs.RoundLaws.{goes-then}
 
 never-closed : (fault : Option Fault) → fault ≡ None → is_some fault ≡ true → ⊥
@@ -36,17 +36,19 @@ module _ {E : Type 0} where
     all = all-still result one.all;
   }
 
-  -- a fault came as they were submitted
-  pub serves-unsubmitted : (commands : List Command) (fault other : E) (before after : ExitStatus) (a b : Station) → SubmitsSo {E = E} commands (Err fault) before after a b → ServesSo {E = E} commands (Err other) before after a b
-  serves-unsubmitted commands fault other before after a b one =
-      record { submits = record { accepted = one.accepted; goes = one.goes; among = one.among; all = tt }; served = tt }
+  -- they were served in rounds, or a fault has closed the book, or the rounds ended with a fault
+  pub closes-on : (commands : List Command) (result : Result (Unit {0}) E) (before after : ExitStatus) (a b c : Station) → SubmitsSo {E = E} commands (Ok tt) before after a b → Goes [] b c → OnOk result (IsServedOrClosed c.book)
+      → ServesOrCloses {E = E} commands result before after a c
+  closes-on commands result before after a b c one two ended = record { submits = submits-on commands result before after a b c one two; ended = ended }
 
   -- a fault came as they were served
-  pub serves-unserved : (commands : List Command) (other : E) (before after : ExitStatus) (a b c : Station) → SubmitsSo {E = E} commands (Ok tt) before after a b → Goes [] b c → ServesSo {E = E} commands (Err other) before after a c
-  serves-unserved commands other before after a b c one two = record { submits = submits-on commands (Err other) before after a b c one two; served = tt }
+  pub serves-unserved : (commands : List Command) (fault : E) (before after : ExitStatus) (a b : Station) → ServesOrCloses {E = E} commands (Err fault) before after a b → ServesSo {E = E} commands (Err fault) before after a b
+  serves-unserved commands fault before after a b one = record { submits = one.submits; served = tt }
 
   -- they were served, or a fault has closed the book, and is returned
-  pub serves-on : (commands : List Command) (result : Result (Unit {0}) E) (before after : ExitStatus) (a b c : Station) → SubmitsSo {E = E} commands (Ok tt) before after a b → Goes [] b c → IsServedOrClosed c.book → OnOk result (c.book.fault ≡ None)
-      → ServesSo {E = E} commands result before after a c
-  serves-on commands result before after a b c one two served none =
-      record { submits = submits-on commands result before after a b c one two; served = served-on result c.book served none }
+  pub serves-on : (commands : List Command) (result : Result (Unit {0}) E) (before after : ExitStatus) (a b : Station) → ServesOrCloses {E = E} commands (Ok tt) before after a b → OnOk result (b.book.fault ≡ None)
+      → ServesSo {E = E} commands result before after a b
+  serves-on commands result before after a b one none = record {
+    submits = record { accepted = one.submits.accepted; goes = one.submits.goes; among = one.submits.among; all = all-still result one.submits.all };
+    served = served-on result b.book one.ended none;
+  }

@@ -50,6 +50,12 @@ pub record SubmitsSo {E : Type 0} (commands : List Command) (result : Result (Un
   pub among : AreAmong accepted commands
   pub all : OnOk result (after ≡ Done → (before ≡ Done) × (accepted ≡ commands))
 
+-- The commands were submitted so, and then served, or a fault closed the book, if the result is no fault.
+pub record ServesOrCloses {E : Type 0} (commands : List Command) (result : Result (Unit {0}) E) (before after : ExitStatus)
+    (old new : Station) : Type 0 where
+  pub submits : SubmitsSo commands result before after old new
+  pub ended : OnOk result (IsServedOrClosed new.book)
+
 -- The commands were submitted so, and then served if the result is no fault.
 pub record ServesSo {E : Type 0} (commands : List Command) (result : Result (Unit {0}) E) (before after : ExitStatus)
     (old new : Station) : Type 0 where

@@ -42,7 +42,7 @@ pub(crate) struct AtDesk<S: Site> {
     pub(crate) unserved: Vec<Command>,
 }
 
-/// Closes the desk with the submitter's share and receipts and the ends of the threads. Prints the totals if the submitter got its receipts.
+/// Closes the desk with the submitter's share and receipts and the ends of the threads. Prints the totals if the commands were submitted.
 /// `room` is an empty list with room for the share.
 pub(crate) fn hand_in<T: Tickets, R: Refusals, C: Asked, O: Write, D: Device + Copy>(
     desk: Desk<T, R>,
@@ -67,9 +67,8 @@ pub(crate) fn hand_in<T: Tickets, R: Refusals, C: Asked, O: Write, D: Device + C
     let mut shares = room;
     shares.push_reserved(share);
     let is_driven = came.is_some();
-    let has_totals = has_receipts(&came);
     let (receipts, asked) = received(alloc, came);
-    let (ends, closed, ended) = close_desk(desk, shares, receipts, ends, has_totals, output);
+    let (ends, closed, ended) = close_desk(desk, shares, receipts, ends, is_driven, output);
     let ending = Ending {
         is_driven,
         status,
@@ -81,11 +80,6 @@ pub(crate) fn hand_in<T: Tickets, R: Refusals, C: Asked, O: Write, D: Device + C
         ending,
         unserved,
     }
-}
-
-/// Whether the submitter got its receipts.
-fn has_receipts(came: &Option<Result<Vec<Receipt>, Fault>>) -> bool {
-    matches!(came, Some(Ok(_)))
 }
 
 /// The receipts of the submitter, if it got any, and its fault, if it met one.

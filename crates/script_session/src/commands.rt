@@ -1,6 +1,6 @@
 //! Submits the commands of a script to a station on one thread, and serves them.
 ghost use Rattle.std.specs.Prelude.{◌≡◌, ◌∷◌, [], IsTrue, OnOk, None};
-ghost use Rattle.script_session.specs.Rounds.{AnswersCommand, IsAccepted, ServesSo, SubmitsSo};
+ghost use Rattle.script_session.specs.Rounds.{AnswersCommand, IsAccepted, ServesOrCloses, ServesSo, SubmitsSo};
 
 use crate::answers::{fault_of_book, print_accepted, print_refused, refused_as};
 use crate::rounds::{serve_all, serve_round};
@@ -13,13 +13,13 @@ use station_files::{ExitStatus, Fault, Refused};
 use station_listing::Code;
 use std::io::Write;
 
-/// Submits the commands in order to a station of `slaves` slaves, prints the answer to each, serves them in rounds, and prints the totals.
-/// A refusal raises the status. A command is dropped once it is answered.
+/// Submits the commands in order to a station of `slaves` slaves, prints the answer to each, serves them in rounds, and prints the totals,
+/// also behind a fault. A refusal raises the status. A command is dropped once it is answered.
 ///
 /// # Errors
 ///
 /// `File` where the output fails; `Memory` at any point, also where a round had no memory; `Unserved` where 2^64 - 1 rounds don't suffice;
-/// and, once the totals are printed, the fault that closed the book. Commands that were accepted before stay accepted.
+/// and otherwise the fault that closed the book. Commands that were accepted before stay accepted.
 pub fn serve_commands<S: Site, W: Write>(
     alone: &mut Alone<S>,
     slaves: u16,
@@ -29,9 +29,26 @@ pub fn serve_commands<S: Site, W: Write>(
 ) -> Result<(), Fault>
     ensures { ServesSo commands.items result status.old status.new alone.old alone.new }
 {
+    let served = serve_in_rounds(alone, slaves, commands, output, status);
+    let ended = end_session(alone.core(), output);
+    match served {
+        Ok(()) => ended,
+        Err(fault) => Err(fault),
+    }
+}
+
+/// Submits the commands in order, prints the answer to each, and serves them in rounds.
+fn serve_in_rounds<S: Site, W: Write>(
+    alone: &mut Alone<S>,
+    slaves: u16,
+    commands: Vec<Command>,
+    output: &mut W,
+    status: &mut ExitStatus,
+) -> Result<(), Fault>
+    ensures { ServesOrCloses commands.items result status.old status.new alone.old alone.new }
+{
     submit_all(alone, slaves, commands, output, status)?;
-    serve_all(alone, slaves)?;
-    end_session(alone.core(), output)
+    serve_all(alone, slaves)
 }
 
 /// Prints the totals, and gives the fault that closed the book, if one did.

@@ -4,6 +4,7 @@ pub mod UnlessLaws
 pub mod ShapeLaws
 mod CategoryLaws
 mod ExchangeLaws
+mod OneEdit
 pub mod CommandLaws
 mod DraftLaws
 mod DraftRuns

@@ -12,7 +12,7 @@ ghost use Rattle.sii_edit.specs.declared.refusal.Refusal.{Refusal};
 
 use crate::command::Edit;
 use crate::refusal::Cause;
-use sii_cats::readings;
+use sii_cats::{one_chain, readings};
 
 /// The words with a new alias differ from the old ones as `ChangesAlias` says.
 pub fn alias_is_changed()
@@ -33,6 +33,14 @@ pub fn category_is_changed()
         → edited_words expect (Edit.Category slave kind content) words ≡ Ok new → ChangesCategory words kind content new }
 {
     readings();
+}
+
+/// No other words differ from the old ones as `ChangesCategory` says: a category edit has one result.
+pub fn category_change_is_determined()
+    ensures { (old : List ℕ) (kind : ℕ) (content new other : List ℕ)
+        → ChangesCategory old kind content new → ChangesCategory old kind content other → new ≡ other }
+{
+    one_chain();
 }
 
 /// An accepted command keeps the number of slaves, and the number of words of each.

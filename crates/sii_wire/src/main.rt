@@ -5,7 +5,7 @@
 use site_wire::EthernetWire;
 use std::alloc::Global;
 use std::fs::{File, Files, OpenOptions};
-use std::io::{Read, Write};
+use std::io::{IsTerminal, Read, Write};
 use std::process::ExitCode;
 use std::rt::Clock;
 use std::sync::Wait;
@@ -44,7 +44,7 @@ fn serve_words<
     H: Files<File = File> + Wait + Threads + Clock + Sync,
     R: Read + Send + Drop,
     W: Write + Send + Drop,
-    E: Write,
+    E: Write + IsTerminal,
 >(
     rt: &H,
     alloc: Global,
@@ -79,7 +79,7 @@ fn serve_task<
     R: Read + Send + Drop,
     W: Write + Send + Drop,
     O: Write,
-    E: Write,
+    E: Write + IsTerminal,
 >(
     rt: &H,
     alloc: Global,
@@ -90,9 +90,15 @@ fn serve_task<
     faults: &mut E,
 ) -> u8 {
     let mut files = FileStore::new(alloc, rt);
-    let Arguments { task, capture, .. } = arguments;
+    let Arguments {
+        task,
+        capture,
+        is_verbose,
+        ..
+    } = arguments;
+    let is_told = is_verbose || faults.is_terminal();
     let status = serve(
-        rt, alloc, task, capture, wire, number, &mut files, text, faults,
+        rt, alloc, task, capture, is_told, wire, number, &mut files, text, faults,
     );
     status as u8
 }

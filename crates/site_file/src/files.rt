@@ -26,11 +26,11 @@ pub struct OpenFiles<F> {
 ///
 /// If the system reports an error, the call on the journal that met it fails with `Disk`, and the next call stops the site; an error on an
 /// image stops the site at once. A later sync that succeeds would prove nothing. The site also stops if the journal has other bytes than
-/// the shadow.
+/// the shadow. What one copy of the device has met the others don't know.
 #[derive(Drop)]
 pub struct FileDevice<'f, F> {
     files: &'f OpenFiles<F>,
-    /// Whether a call on a file has failed. From then on no file is written.
+    /// Whether a call of this copy on a file has failed. From then on this copy writes no file.
     has_failed: bool,
 }
 

@@ -4,6 +4,7 @@ pub mod JournalLaws
 pub mod Laying
 pub mod ZeroLaws
 pub mod FormatLaws
+pub mod PieceLaws
 pub mod EmptyLaws
 pub mod DiskRuns
 pub mod HoldLaws

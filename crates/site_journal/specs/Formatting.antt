@@ -1,9 +1,10 @@
 -- A disk is formatted as an empty journal of version 2: a header, and an area of zeros whose halves both begin with a closed gate.
-use Rattle.std.specs.Prelude.{◌≡◌, ◌⊎◌, ℕ, ◌+◌, List, ◌∷◌, ◌++◌, length, drop, replicate, Result, OnOk}
+use Rattle.std.specs.Prelude.{◌≡◌, ◌⊎◌, ℕ, ◌+◌, ◌≤◌, List, ◌∷◌, ◌++◌, length, drop, replicate, Result, OnOk}
 use Rattle.std.specs.Int.{div_ceil}
+use Rattle.std.specs.List.{AllByRecursion}
 use Rattle.site_core.specs.declared.fault.DeviceFault.{DeviceFault}
 use Rattle.site_core.specs.Disk.{Disk, StopImage, IsOutside, IsSynced, overlaid, write_begun, written}
-use Rattle.site_core.specs.State.{State, Pair, Seen, Leaves, EachMayLeave}
+use Rattle.site_core.specs.State.{State, Pair, Moment, Seen, Leaves, EachMayLeave}
 use Rattle.site_core.specs.Calls.{begin_write}
 use Rattle.jrn_format.specs.Area.{IsClosed}
 use Rattle.jrn_format.specs.Header.{header_bytes}
@@ -70,3 +71,22 @@ pub record Formats (slaves capacity : ℕ) (old : Seen) (result : Result (Unit {
   pub bytes : OnOk result (new.state.disk.bytes ≡ formatted slaves capacity old.state.disk.bytes)
   pub only : OnOk result ((image : List ℕ) → StopImage new.state.disk image → image ≡ formatted slaves capacity old.state.disk.bytes)
   pub halves : OnOk result (new.state.halves ≡ old.state.halves)
+
+-- ---- in pieces
+
+-- A write of at most 4,096 bytes has begun.
+pub record BeginsPiece (before state : State) : Type 0 where
+  pub at : ℕ
+  pub count : ℕ
+  pub few : count ≤ 4096
+  pub begun : state ≡ begin_write before at count
+
+-- A device call that writes at most that much, or nothing.
+abbrev pub IsPiece : Moment → Type 0
+IsPiece moment = AllByRecursion (BeginsPiece moment.before) moment.middle
+
+-- Each device call in between wrote at most 4,096 bytes.
+pub record WritesPieces (old new : Seen) : Type 0 where
+  pub calls : List Moment
+  pub past : new.past ≡ old.past ++ calls
+  pub pieces : AllByRecursion IsPiece calls

@@ -1,1 +1,2 @@
 mod Only
+mod Due

@@ -1,11 +1,12 @@
 -- What came back of a datagram, beside the answer of the shadow (ETG.1000.4, slave information interface).
-use Rattle.std.specs.Prelude.{◌≡◌, ℕ, ◌+◌, ◌/◌, ◌<◌, ◌≤◌, ◌==◌, nat_le, true, List, length, take, min, slice_index, slice_get, Option, Some, None, IsTrue, if◌then◌else◌}
+use Rattle.std.specs.Prelude.{◌≡◌, ℕ, ◌+◌, ◌/◌, ◌<◌, ◌≤◌, ◌==◌, nat_le, Bool, true, false, List, length, take, min, slice_index, slice_get, Option, Some, None, IsTrue, if◌then◌else◌}
 use Rattle.ecat_frame.specs.Frame.{Pdu}
 use Rattle.ecat_frame.specs.Command.{code_of}
 use Rattle.esc_model.specs.Bytes.{register_of}
 use Rattle.esc_model.specs.SlaveHalf.{SlaveHalf, is_busy}
-use Rattle.site_shadow.specs.declared.device.Resting.{Resting}
-use Rattle.site_shadow.specs.declared.device.Resting.TheVariants as resting
+use Rattle.esc_model.specs.declared.rest.WordWrite.{WordWrite}
+use Rattle.site_wire.specs.declared.device.Next.{Next}
+use Rattle.site_wire.specs.declared.device.Next.TheVariants as next
 use Rattle.wire_laws.specs.Due.{WritesControl}
 use Rattle.wire_laws.specs.Answers.{compared, ReadAlike}
 use Rattle.wire_laws.specs.Exchanges.{Agrees}
@@ -30,12 +31,15 @@ abbrev pub shown_by : Option ℕ → Shown
 shown_by None = shown.Nothing
 shown_by (Some status) = if nat_le 0x80 status then shown.Busy else if nat_le 0x20 status then shown.Failed else shown.Well
 
--- how a busy shadow rests, where the slave shows this
-abbrev pub resting_by : Shown → Resting
-resting_by shown.Nothing = resting.Stays
-resting_by shown.Busy = resting.Stays
-resting_by shown.Well = resting.Well
-resting_by shown.Failed = resting.Failed
+-- What is done behind an answer that shows this: a busy slave stays so; one that ended its command in error, or wasn't seen busy with it, is
+-- told it again; a word that is shown as written is read back; and a read that has ended is at an end.
+abbrev pub next_by : Shown → Option WordWrite → Bool → Next
+next_by shown.Nothing write unconfirmed = next.Stays
+next_by shown.Busy write unconfirmed = next.Stays
+next_by shown.Failed write unconfirmed = next.Again
+next_by shown.Well write true = next.Again
+next_by shown.Well (Some write) false = next.ReadsBack write
+next_by shown.Well None false = next.Rests
 
 -- It is the answer to this datagram, of 16 bytes at most; what was written comes back as it was.
 pub record IsAnswer (given : Pdu) (answer : Answer) : Type 0 where

@@ -1,15 +1,15 @@
 //! What an answer shows of a slave, and whether it is the one that the shadow gives.
 ghost use Rattle.std.specs.Prelude.{◌≡◌, ◌<◌, ◌/◌, ◌↔◌, length, IsTrue, IfSome, None, Some};
 ghost use Rattle.ecat_frame.specs.Frame.{pdu};
-ghost use Rattle.wire_laws.specs.Due.{WritesControl};
 ghost use Rattle.wire_laws.specs.Answers.{compared, ReadAlike, shown_status};
 ghost use Rattle.site_wire.specs.Answering.{found_of, shown_by, IsAnswer, difference_at, FirstDiffers, IsAlike, IsUnconfirmed};
 ghost use Rattle.site_wire.specs.declared.answers.Comparison.TheVariants.{Alike, Unconfirmed};
 
+use crate::asking::Last;
 use crate::faults::Difference;
+use crate::fitting::{FPWR, register_of, waits_for_rest};
 use ecat_frame::{Command, Datagram, Frame};
 use esc_model::RomHalf;
-use esc_rom::CONTROL;
 
 /// The byte that says who has access to the EEPROM (ETG.1000.4, slave information interface).
 const ACCESS: usize = 0x0500;
@@ -22,9 +22,6 @@ const WORDS: usize = 0x0508;
 
 /// The code of FPRD (ETG.1000.4).
 const FPRD: u8 = 4;
-
-/// The code of FPWR (ETG.1000.4).
-const FPWR: u8 = 5;
 
 /// The most bytes of a datagram for a slave: the registers of the EEPROM have so many.
 pub(crate) const LONGEST: usize = 16;
@@ -45,9 +42,14 @@ pub struct Answer {
 }
 
 impl Answer {
-    /// The first datagram of a frame that came back.
-    pub(crate) fn of(frame: &Frame, again: bool) -> Option<Answer> {
+    /// The first datagram of a frame that came back. One that isn't the answer to that of the frame that was sent counts as not taken.
+    pub(crate) fn of(sent: &Frame, frame: &Frame, again: bool) -> Option<Answer> {
+        let asked = sent.datagrams().next()?;
         let found = frame.datagrams().next()?;
+        let is_to = asked.command.code() == found.command.code()
+            && asked.index == found.index
+            && asked.address == found.address
+            && asked.content.len() == found.content.len();
         let length = found.content.len();
         let mut front = [0u8; LONGEST];
         let count = length.min(LONGEST);
@@ -56,11 +58,32 @@ impl Answer {
             command: found.command,
             index: found.index,
             address: found.address,
-            counter: found.counter,
+            counter: if is_to { found.counter } else { 0 },
             length,
             front,
             again,
         })
+    }
+
+    /// What it tells of the slave.
+    pub(crate) fn last(&self) -> Last {
+        Last {
+            command: self.command,
+            register: register_of(self.address) as u16,
+            counter: Some(self.counter),
+            status: status_of(self),
+        }
+    }
+
+    /// The two words in the answer to a read of them. None where it isn't one that one slave counted.
+    pub(crate) fn words_read(&self) -> Option<[u8; 4]> {
+        let [a, b, c, d, ..] = self.front;
+        let is_read = self.command.code() == FPRD && register_of(self.address) == WORDS;
+        if is_read && self.length == 4 && self.counter == 1 {
+            Some([a, b, c, d])
+        } else {
+            None
+        }
     }
 
     /// The content, up to the bytes that are looked at.
@@ -91,22 +114,6 @@ pub(crate) enum Comparison {
     /// It is to a command that was sent again: the shadow is busy with it and counts it, and the slave doesn't.
     Unconfirmed,
     Differs(Difference),
-}
-
-/// The register of an FP command.
-fn register_of(address: u32) -> usize
-    ensures register { result ≡ address / 65536 }
-    ensures small { result < 65536 }
-{
-    (address / 65536) as usize
-}
-
-/// Whether a busy slave takes nothing of the datagram: it writes to control and status or behind them.
-pub(crate) fn waits_for_rest(datagram: Datagram<'_>) -> bool
-    ensures { IsTrue result ↔ WritesControl (pdu datagram.entry) }
-{
-    let end = register_of(datagram.address) + datagram.content.len();
-    datagram.command.code() == FPWR && end > usize::from(CONTROL)
 }
 
 /// The byte of control and status with the busy bit and the error bits, if the answer is to a read that one slave counted, and has it.

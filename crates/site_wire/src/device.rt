@@ -1,23 +1,28 @@
 //! The slaves on a wire and the journal's file, as the device behind a shadow.
-ghost use Rattle.std.specs.Prelude.{◌≡◌, ◌∷◌, [], true, false, None, IsTrue, IfSome, IsSome};
+ghost use Rattle.std.specs.Prelude.{◌≡◌, ◌<◌, ◌∷◌, ◌==◌, [], true, false, None, Some, slice_set, if◌then◌else◌, IsTrue, IfSome, IsSome};
 ghost use Rattle.ecat_frame.specs.Frame.{pdu};
-ghost use Rattle.esc_model.specs.SlaveHalf.{in_flight};
+ghost use Rattle.wire_laws.specs.Due.{IsFit, WritesControl};
+ghost use Rattle.esc_model.specs.SlaveHalf.{in_flight, is_busy};
 ghost use Rattle.site_shadow.specs.declared.device.Resting.TheVariants as resting;
 ghost use Rattle.site_wire.specs.declared.answers.Shown.TheVariants as shown_as;
-ghost use Rattle.site_wire.specs.Answering.{resting_by, AgreesWith};
+ghost use Rattle.wire_laws.specs.Answers.{shown_status};
+ghost use Rattle.site_wire.specs.Answering.{found_of, shown_by, next_by, AgreesWith};
 
-use crate::answers::{
-    Answer, Comparison, LONGEST, Shown, compared_with, state_shown, waits_for_rest,
-};
-use crate::faults::{Difference, StopReason};
+use crate::amending::{issue_again, read_back};
+use crate::answers::{Answer, Comparison, LONGEST, Shown, compared_with, state_shown};
+use crate::asking::Last;
+use crate::faults::{Difference, Sighting, StopReason};
+use crate::fitting::{is_fit, waits_for_rest, word_named};
 use crate::numbered::NumberedWire;
+use crate::pace::{ATTEMPTS, Pace};
 use crate::reach::{LiveLine, Reach, SharedLine};
 use crate::wire::Wire;
 use ecat_frame::{Datagram, Frame};
-use esc_model::RomHalf;
+use esc_model::{RomHalf, WordWrite};
 use site_file::{FileDevice, RandomAccessFile};
 use site_shadow::{Device, Passing, Pattern, Resting, ShadowSite};
 use std::alloc::AllocError;
+use std::rt::Clock;
 use std::sync::Wait;
 
 /// What the shadow holds of unsynced bytes and of a word in flight once the site has stopped. It could be anything: nobody reads it.
@@ -30,29 +35,62 @@ const LEFT: Pattern = Pattern::New;
 /// working counter, who has access, busy, the error bits, and the two words that were read. Where they agree the shadow's answer is
 /// given. Else the site stops for good, and the line keeps the reason.
 ///
+/// A slave that ends a command in error is told to do it again, its error cleared before, for half a second; the shadow stays busy
+/// meanwhile. A word that the slave shows as written is read back before the shadow has it in place. Polls of a busy slave have pauses.
+///
 /// Over a `SharedLine` each part of a line can have a copy. Once one of them has stopped, no other sends a frame.
 #[derive(Drop)]
-pub struct WireDevice<'f, L, F> {
+pub struct WireDevice<'f, L, F, C> {
     line: L,
+    clock: &'f C,
     journal: FileDevice<'f, F>,
-    /// What came back of the last frame. None where it wasn't sent, or didn't come back.
+    /// What came back of the last frame. None where it wasn't sent, or didn't come back, or the slave does the command again.
     returned: Option<Answer>,
-    /// By slave, whether a command was sent again and not counted, and the slave wasn't seen busy since. Of each command that is at an end
-    /// the slave was seen idle, and so this is settled.
+    /// How the half rests before it takes the last frame.
+    resting: Resting,
+    /// The command that each slave was told last.
+    commands: [SlaveCommand; 64],
+    /// By slave, whether its command was not counted as it was sent last, and the slave wasn't seen busy since. Of each command that is at
+    /// an end the slave was seen idle, and so this is settled.
     is_unconfirmed: [bool; 64],
     /// Whether this device has stopped its site.
     is_over: bool,
 }
 
+/// The command that a slave was told last.
+#[derive(Clone, Copy)]
+struct SlaveCommand {
+    /// The word that it names.
+    word: u16,
+    /// How often it was issued again, since the slave ended it in error or didn't take it.
+    tries: u32,
+    /// Between polls.
+    polls: Pace,
+    /// Between tries.
+    pauses: Pace,
+}
+
 /// A line on a wire, and a disk in a file.
-pub type WireSite<'f, W, F> = ShadowSite<WireDevice<'f, LiveLine<W>, F>>;
+pub type WireSite<'f, W, F, C> = ShadowSite<WireDevice<'f, LiveLine<W>, F, C>>;
 
 /// A line on a wire that threads share, and a disk in a file.
-pub type SharedSite<'f, R, W, F> = ShadowSite<WireDevice<'f, SharedLine<'f, R, W>, F>>;
+pub type SharedSite<'f, R, W, F, C> = ShadowSite<WireDevice<'f, SharedLine<'f, R, W>, F, C>>;
 
-impl<'f, L: Copy, F> Copy for WireDevice<'f, L, F> {}
+impl SlaveCommand {
+    /// A command that names this word.
+    fn of(word: u16) -> SlaveCommand {
+        SlaveCommand {
+            word,
+            tries: 0,
+            polls: Pace::of_polls(),
+            pauses: Pace::of_tries(),
+        }
+    }
+}
 
-impl<'f, L: Copy, F> Clone for WireDevice<'f, L, F> {
+impl<'f, L: Copy, F, C> Copy for WireDevice<'f, L, F, C> {}
+
+impl<'f, L: Copy, F, C> Clone for WireDevice<'f, L, F, C> {
     ghost use Rattle.std.specs.Prelude.{⊤};
 
     ghost is_infallible = { λ _. ⊤ };
@@ -60,21 +98,25 @@ impl<'f, L: Copy, F> Clone for WireDevice<'f, L, F> {
     fn clone(&self) -> Result<Self, AllocError> {
         Ok(WireDevice {
             line: self.line,
+            clock: self.clock,
             journal: self.journal,
             returned: self.returned,
+            resting: self.resting,
+            commands: self.commands,
             is_unconfirmed: self.is_unconfirmed,
             is_over: self.is_over,
         })
     }
 }
 
-impl<'f, W: Wire, F: RandomAccessFile> WireDevice<'f, LiveLine<W>, F> {
-    /// The slaves on this wire, and this journal, of whose device only the file of the journal is used.
+impl<'f, W: Wire, F: RandomAccessFile, C: Clock> WireDevice<'f, LiveLine<W>, F, C> {
+    /// The slaves on this wire, a clock for its pauses, and this journal, of whose device only the file of the journal is used.
     pub fn new(
         wire: NumberedWire<W>,
+        clock: &'f C,
         journal: FileDevice<'f, F>,
-    ) -> WireDevice<'f, LiveLine<W>, F> {
-        WireDevice::on(LiveLine::new(wire), journal)
+    ) -> WireDevice<'f, LiveLine<W>, F, C> {
+        WireDevice::on(LiveLine::new(wire), clock, journal)
     }
 
     /// The wire, as work on it ends.
@@ -89,23 +131,59 @@ impl<'f, W: Wire, F: RandomAccessFile> WireDevice<'f, LiveLine<W>, F> {
     }
 }
 
-impl<'f, R: Wait, W: Wire, F: RandomAccessFile> WireDevice<'f, SharedLine<'f, R, W>, F> {
-    /// The slaves of a line that threads share, and this journal, as for `new`.
+impl<'f, R: Wait, W: Wire, F: RandomAccessFile, C: Clock> WireDevice<
+    'f,
+    SharedLine<'f, R, W>,
+    F,
+    C,
+> {
+    /// The slaves of a line that threads share, a clock, and this journal, as for `new`.
     pub fn shared(
         line: SharedLine<'f, R, W>,
+        clock: &'f C,
         journal: FileDevice<'f, F>,
-    ) -> WireDevice<'f, SharedLine<'f, R, W>, F> {
-        WireDevice::on(line, journal)
+    ) -> WireDevice<'f, SharedLine<'f, R, W>, F, C> {
+        WireDevice::on(line, clock, journal)
     }
 }
 
-impl<'f, L: Reach, F: RandomAccessFile> WireDevice<'f, L, F> {
+/// What is done behind an answer of a slave whose half is busy.
+#[derive(Clone, Copy)]
+enum Next {
+    /// The half stays busy.
+    Stays,
+    /// The slave is told the command again.
+    Again,
+    /// The half rests without an error, as the slave shows it.
+    Rests,
+    /// This word, which is in flight, is read back.
+    ReadsBack(WordWrite),
+}
+
+/// What is done behind an answer that shows this of a slave: with the word that its half writes, and whether it wasn't seen busy with its
+/// command yet.
+fn next_of(shown: Shown, in_flight: Option<WordWrite>, is_unconfirmed: bool) -> Next
+    ensures { result ≡ next_by shown in_flight is_unconfirmed }
+{
+    match (shown, in_flight) {
+        (Shown::Nothing | Shown::Busy, _) => Next::Stays,
+        (Shown::Failed, _) => Next::Again,
+        (Shown::Well, _) if is_unconfirmed => Next::Again,
+        (Shown::Well, Some(write)) => Next::ReadsBack(write),
+        (Shown::Well, None) => Next::Rests,
+    }
+}
+
+impl<'f, L: Reach, F: RandomAccessFile, C: Clock> WireDevice<'f, L, F, C> {
     /// The slaves on this line, and this journal.
-    fn on(line: L, journal: FileDevice<'f, F>) -> WireDevice<'f, L, F> {
+    fn on(line: L, clock: &'f C, journal: FileDevice<'f, F>) -> WireDevice<'f, L, F, C> {
         WireDevice {
             line,
+            clock,
             journal,
             returned: None,
+            resting: Resting::Stays,
+            commands: [SlaveCommand::of(0); 64],
             is_unconfirmed: [false; 64],
             is_over: false,
         }
@@ -116,62 +194,27 @@ impl<'f, L: Reach, F: RandomAccessFile> WireDevice<'f, L, F> {
         self.line.reason()
     }
 
-    /// The site stops with this reason, unless the line has one already.
-    fn stop(&mut self, reason: StopReason)
-        ensures { self.new.is_over ≡ true }
+    /// What was seen of the slave for which the site has stopped, if it has.
+    pub fn seen(&self) -> Option<Sighting> {
+        self.line.seen()
+    }
+
+    /// The site stops with this reason, unless the line has one already. `about` says which slave it is about, and its last answer.
+    fn stop(&mut self, reason: StopReason, about: Option<(u16, Last)>)
+        ensures over { self.new.is_over ≡ true }
+        ensures rests { self.new.resting ≡ self.old.resting }
     {
         self.is_over = true;
-        self.line.stop(reason);
-    }
-
-    /// Whether the slave has yet to be seen busy with a command.
-    fn is_unconfirmed(&self, slave: usize) -> bool {
-        self.is_unconfirmed.get(slave).copied().unwrap_or(false)
-    }
-
-    fn set_unconfirmed(&mut self, slave: usize, is_unconfirmed: bool)
-        ensures { self.new.is_over ≡ self.old.is_over }
-    {
-        if slave < 64 {
-            self.is_unconfirmed[slave] = is_unconfirmed;
-        }
+        self.line.stop(reason, about);
     }
 
     /// A call on the journal that ended so.
     fn end_call(&mut self, passing: Passing) -> Passing {
         match passing {
             Passing::Passes => {}
-            Passing::Fails | Passing::Stops(_) => self.stop(StopReason::Journal),
+            Passing::Fails | Passing::Stops(_) => self.stop(StopReason::Journal, None),
         }
         passing
-    }
-
-    /// How a busy half comes to rest, where the slave shows this.
-    fn rest_as(&mut self, slave: usize, half: &RomHalf, shown: Shown) -> Resting
-        ensures goes { self.new.is_over ≡ false → result ≡ resting_by shown }
-        ensures stops { self.old.is_over ≡ false → self.new.is_over ≡ true → result ≡ resting.Stays }
-        ensures word { shown ≡ shown_as.Failed → IsSome (in_flight half.now.activity) → self.new.is_over ≡ true }
-    {
-        match shown {
-            Shown::Nothing => return Resting::Stays,
-            Shown::Busy => {
-                self.set_unconfirmed(slave, false);
-                return Resting::Stays;
-            }
-            Shown::Well | Shown::Failed => {}
-        }
-        if self.is_unconfirmed(slave) {
-            self.stop(StopReason::Unconfirmed { slave });
-            return Resting::Stays;
-        }
-        match (shown, half.in_flight()) {
-            (Shown::Failed, Some(_)) => {
-                self.stop(StopReason::WordFailed { slave });
-                Resting::Stays
-            }
-            (Shown::Failed, None) => Resting::Failed,
-            _ => Resting::Well,
-        }
     }
 
     /// In what the slave's answer is another than the one that the shadow gives. Where nothing came back there is nothing to compare.
@@ -193,15 +236,155 @@ impl<'f, L: Reach, F: RandomAccessFile> WireDevice<'f, L, F> {
         }
     }
 
-    /// Sends a frame of one short datagram, unless the half is busy and takes nothing of it.
-    fn send(&mut self, half: &RomHalf, sent: Datagram<'_>, frame: &Frame)
-        requires { frame.now ≡ pdu sent ∷ [] }
-    {
-        if half.is_at_work() && waits_for_rest(sent) {
-            return;
+    /// A slave and its last answer.
+    fn about(&self, slave: usize) -> Option<(u16, Last)> {
+        match (u16::try_from(slave), &self.returned) {
+            (Ok(number), Some(answer)) => Some((number, answer.last())),
+            _ => None,
         }
+    }
+
+    /// Notes whether a slave has yet to be seen busy with its command.
+    fn set_unconfirmed(&mut self, slave: usize, is_unconfirmed: bool)
+        ensures set { slave < 64 → self.new.is_unconfirmed ≡ slice_set self.old.is_unconfirmed slave is_unconfirmed }
+        ensures over { self.new.is_over ≡ self.old.is_over }
+        ensures rests { self.new.resting ≡ self.old.resting }
+    {
+        if slave < 64 {
+            self.is_unconfirmed[slave] = is_unconfirmed;
+        }
+    }
+
+    /// Sends a frame of one short datagram, unless the half is busy and takes nothing of it. Where the half is busy, a pause comes first, and
+    /// then it rests as the answer shows.
+    fn send(&mut self, slave: u16, half: &RomHalf, sent: Datagram<'_>, frame: &Frame)
+        requires slave { slave < 64 }
+        requires frame { frame.now ≡ pdu sent ∷ [] }
+        requires fits { IsFit half.now (pdu sent) }
+        requires stays { self.old.resting ≡ resting.Stays }
+    {
+        let place = usize::from(slave);
+        if !half.is_at_work() {
+            self.commands[place] = SlaveCommand::of(word_named(sent));
+            self.is_unconfirmed[place] = false;
+        } else if waits_for_rest(sent) {
+            return;
+        } else {
+            self.commands[place].polls.pause(self.clock);
+        }
+        self.pass(half, sent, frame);
+        match self.returned {
+            Some(answer) if half.is_at_work() => self.follow(slave, half, answer),
+            _ => {}
+        }
+    }
+
+    /// Sends a frame of one datagram that the half takes.
+    #[tactic(auto, using(crate::proofs::Due::sent_due))]
+    fn pass(&mut self, half: &RomHalf, sent: Datagram<'_>, frame: &Frame)
+        requires frame { frame.now ≡ pdu sent ∷ [] }
+        requires fits { IsFit half.now (pdu sent) }
+        requires quiet { IsTrue (is_busy half.now.activity) → ¬ WritesControl (pdu sent) }
+        ensures { self.new.resting ≡ self.old.resting }
+    {
         self.returned = self.line.pass(half, frame);
         self.is_over = self.returned.is_none();
+    }
+
+    /// Does what is to be done behind this answer of a slave whose half is busy.
+    fn follow(&mut self, slave: u16, half: &RomHalf, answer: Answer)
+        requires slave { slave < 64 }
+        requires stays { self.old.resting ≡ resting.Stays }
+        ensures read { in_flight half.now.activity ≡ None → self.new.resting ≡ resting.Well → shown_by (shown_status (found_of answer)) ≡ shown_as.Well }
+        ensures failed { self.new.resting ≡ resting.Failed → in_flight half.now.activity ≡ None }
+    {
+        let is_unconfirmed = self.is_unconfirmed[usize::from(slave)];
+        let shown = state_shown(&answer);
+        match next_of(shown, half.in_flight(), is_unconfirmed) {
+            Next::Stays => {
+                if shown == Shown::Busy {
+                    self.set_unconfirmed(usize::from(slave), false);
+                }
+            }
+            Next::Rests => self.resting = Resting::Well,
+            Next::ReadsBack(write) => match self.read_back(slave, half, write) {
+                Some(value) if value == write.value => self.resting = Resting::Well,
+                _ => self.try_again(slave, half, answer),
+            },
+            Next::Again => self.try_again(slave, half, answer),
+        }
+    }
+
+    /// Reads the word in flight back.
+    fn read_back(&mut self, slave: u16, half: &RomHalf, write: WordWrite) -> Option<u16>
+        requires slave { slave < 64 }
+        ensures { self.new.resting ≡ self.old.resting }
+    {
+        let found = read_back(&mut self.line, self.clock, slave, half, write);
+        self.is_over = self.line.reason().is_some();
+        found
+    }
+
+    /// Tells the slave the command again with which its half is busy, so that it stays busy. Once that has gone on for half a second, it
+    /// ends in error.
+    fn try_again(&mut self, slave: u16, half: &RomHalf, answer: Answer)
+        requires slave { slave < 64 }
+        requires stays { self.old.resting ≡ resting.Stays }
+        ensures read { in_flight half.now.activity ≡ None → ¬ (self.new.resting ≡ resting.Well) }
+        ensures failed { self.new.resting ≡ resting.Failed → in_flight half.now.activity ≡ None }
+    {
+        let place = usize::from(slave);
+        if self.is_over {
+            return;
+        }
+        if self.commands[place].tries >= ATTEMPTS {
+            return self.end_in_error(slave, half, answer);
+        }
+        self.returned = None;
+        self.commands[place].tries += 1;
+        self.commands[place].pauses.pause(self.clock);
+        match issue_again(&mut self.line, slave, half, self.commands[place].word) {
+            Some(is_taken) => self.set_unconfirmed(place, !is_taken),
+            None => self.is_over = true,
+        }
+    }
+
+    /// The half ends its command in error, as the slave does. A word in flight holds what the slave has.
+    fn end_in_error(&mut self, slave: u16, half: &RomHalf, answer: Answer)
+        requires slave { slave < 64 }
+        requires stays { self.old.resting ≡ resting.Stays }
+        ensures read { in_flight half.now.activity ≡ None → ¬ (self.new.resting ≡ resting.Well) }
+        ensures failed { self.new.resting ≡ resting.Failed → in_flight half.now.activity ≡ None }
+    {
+        let place = usize::from(slave);
+        let Some(write) = half.in_flight() else {
+            if state_shown(&answer) == Shown::Failed {
+                self.resting = Resting::Failed;
+            } else {
+                let reason = StopReason::Unconfirmed { slave: place };
+                self.stop(reason, Some((slave, answer.last())));
+            }
+            return;
+        };
+        self.returned = None;
+        match self.read_back(slave, half, write) {
+            Some(value) => self.resting = ended_with(write, value),
+            None => {
+                let reason = StopReason::WordFailed { slave: place };
+                self.stop(reason, Some((slave, answer.last())));
+            }
+        }
+    }
+}
+
+/// How a word ends that the slave holds as this value.
+fn ended_with(write: WordWrite, value: u16) -> Resting
+    ensures { result ≡ (if value == write.value then resting.Well else resting.FailedWith value) }
+{
+    if value == write.value {
+        Resting::Well
+    } else {
+        Resting::FailedWith(value)
     }
 }
 
@@ -219,7 +402,18 @@ fn only_datagram(frame: &Frame) -> Option<Datagram<'_>>
     Some(datagram)
 }
 
-impl<'f, L: Reach, F: RandomAccessFile> Device for WireDevice<'f, L, F> {
+/// The datagram of a frame that has just one, of 16 bytes at most, if its command is one for this half.
+fn fit_datagram<'a>(half: &RomHalf, frame: &'a Frame) -> Option<Datagram<'a>>
+    ensures one { IfSome result (λ datagram. frame.now ≡ pdu datagram ∷ []) }
+    ensures fits { IfSome result (λ datagram. IsFit half.now (pdu datagram)) }
+{
+    match only_datagram(frame) {
+        Some(datagram) if is_fit(half, datagram) => Some(datagram),
+        _ => None,
+    }
+}
+
+impl<'f, L: Reach, F: RandomAccessFile, C: Clock> Device for WireDevice<'f, L, F, C> {
     fn len(&mut self, length: usize) -> Passing {
         let passing = self.journal.len(length);
         self.end_call(passing)
@@ -244,25 +438,29 @@ impl<'f, L: Reach, F: RandomAccessFile> Device for WireDevice<'f, L, F> {
     /// takes it before the site stops.
     fn exchange(&mut self, slave: usize, half: &RomHalf, frame: &Frame) -> Passing {
         self.returned = None;
-        let Some(sent) = only_datagram(frame) else {
-            self.stop(StopReason::NotOneDatagram { slave });
-            return Passing::Stops(LEFT);
-        };
+        self.resting = Resting::Stays;
         if self.is_over {
             return Passing::Stops(LEFT);
         }
-        self.send(half, sent, frame);
+        match (fit_datagram(half, frame), u16::try_from(slave)) {
+            (Some(sent), Ok(number)) if number < 64 => self.send(number, half, sent, frame),
+            _ => {
+                self.stop(StopReason::NotOneDatagram { slave }, None);
+                return Passing::Stops(LEFT);
+            }
+        }
         Passing::Passes
     }
 
-    fn rest(&mut self, slave: usize, half: &RomHalf, _k: usize) -> Resting {
-        match &self.returned {
-            Some(answer) if half.is_at_work() => {
-                let shown = state_shown(answer);
-                self.rest_as(slave, half, shown)
-            }
-            Some(_) | None => Resting::Stays,
+    fn rest(&mut self, _slave: usize, _half: &RomHalf, _k: usize) -> Resting
+        ensures rests { self.old.is_over ≡ false → result ≡ self.old.resting }
+        ensures same { self.new ≡ self.old }
+    {
+        let resting = self.resting;
+        if self.is_over {
+            return Resting::Stays;
         }
+        resting
     }
 
     fn taken(
@@ -272,10 +470,14 @@ impl<'f, L: Reach, F: RandomAccessFile> Device for WireDevice<'f, L, F> {
         answer: &Frame,
         _k: usize,
         _added: u16,
-    ) -> Option<Pattern> {
+    ) -> Option<Pattern>
+        ensures agrees { result ≡ None → IfSome self.old.returned (λ found. AgreesWith half.now answer.now found) }
+        ensures stops { IsTrue self.old.is_over → IsSome result }
+    {
         if !self.is_over {
             if let Some(what) = self.compare(slave, half, answer) {
-                self.stop(StopReason::Differs { slave, what });
+                let about = self.about(slave);
+                self.stop(StopReason::Differs { slave, what }, about);
             }
         }
         if self.is_over {

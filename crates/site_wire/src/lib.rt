@@ -1,25 +1,30 @@
 //! A line of slaves on a real wire: bringing it up, and the device behind the shadow that sends each frame and compares its answer.
 #![tactic(auto)]
 
+mod amending;
 mod answers;
+mod asking;
 mod bringing_up;
 mod device;
 mod ethernet;
 mod faults;
+mod fitting;
+mod found;
 mod numbered;
-mod practice;
-mod practice_files;
-mod practice_wire;
+mod pace;
 mod reach;
+mod registers;
+mod sizing;
 mod wire;
 
-pub use bringing_up::bring_up;
+pub use asking::Last;
+pub use bringing_up::{bring_up, hand_back};
 pub use device::{SharedSite, WireDevice, WireSite};
 pub use ethernet::EthernetWire;
-pub use faults::{Difference, LineFault, StopReason};
-pub use numbered::NumberedWire;
-pub use practice::PracticeLine;
-pub use practice_files::PracticeFiles;
-pub use practice_wire::{Fate, Mishap, PracticeWire};
+pub use faults::{Cause, Difference, LineFault, Sighting, SlaveFault, StopReason};
+pub use found::{FoundLine, FoundSlave, Sizes, SlaveState};
+pub use numbered::{NumberedWire, number_of};
 pub use reach::{LiveLine, LockedLine, Reach, SharedLine};
+pub use registers::{AL_STATUS, APRD, APWR, BRD, BWR, DL_ALIAS, STATION};
+pub use sizing::{Extent, SizeFound};
 pub use wire::Wire;

@@ -1,4 +1,6 @@
 //! Frames that are sent until they come back.
+ghost use Rattle.std.specs.Prelude.{◌≡◌, length, IfSome};
+ghost use Rattle.site_wire.specs.Numbers.{HasNumber};
 
 use crate::wire::Wire;
 use ecat_frame::{Command, Frame, MAX_LEN};
@@ -90,7 +92,10 @@ impl<W: Wire> NumberedWire<W> {
     }
 
     /// Waits for the frame of this number, which has so many datagrams.
-    fn receive(&mut self, count: usize) -> Option<Frame> {
+    fn receive(&mut self, count: usize) -> Option<Frame>
+        ensures numbered { IfSome result (λ frame. HasNumber frame self.new.number) }
+        ensures count { IfSome result (λ frame. length frame ≡ count) }
+    {
         let mut bytes = [0u8; MAX_LEN];
         for _other in 0..OTHERS {
             let length = match self.wire.receive(&mut bytes) {
@@ -108,8 +113,10 @@ impl<W: Wire> NumberedWire<W> {
     }
 }
 
-/// The number behind a frame.
-pub(crate) fn number_of(frame: &Frame) -> Option<u32> {
+/// The number behind a frame, if there is one.
+pub fn number_of(frame: &Frame) -> Option<u32>
+    ensures { IfSome result (λ number. HasNumber frame.now number) }
+{
     let count = frame.count();
     if count == 0 {
         return None;

@@ -2,26 +2,32 @@
 ghost use Rattle.wire_laws.specs.Due.{IsDue};
 
 use crate::answers::Answer;
-use crate::faults::StopReason;
+use crate::asking::{Last, sight};
+use crate::faults::{Sighting, StopReason};
 use crate::numbered::NumberedWire;
 use crate::wire::Wire;
 use ecat_frame::Frame;
-use esc_model::RomHalf;
+use esc_model::{FIRST_STATION, RomHalf};
 use std::alloc::AllocError;
 use std::sync::{Mutex, Wait};
 
 /// A wire on which a line was brought up, as the devices reach it that work on its slaves.
 pub trait Reach {
-    /// Sends a frame to the slave of this half until it comes back, three times at most. While the half is busy, nothing is sent that writes
-    /// to control and status. None where it doesn't come back, and the line stops then; or where it has stopped, and nothing is sent.
+    /// Sends a frame to the slave of this half until it comes back, three times at most. A command names words that the half has. While the
+    /// half is busy, of what writes to control and status only that is sent which clears errors, reads words, or issues the word in flight
+    /// again. None where it doesn't come back, and the line stops then; or where it has stopped, and nothing is sent.
     fn pass(&mut self, half: &RomHalf, frame: &Frame) -> Option<Answer>
         requires due { IsDue half.now frame.now };
 
     /// Why the line has stopped, if it has.
     fn reason(&self) -> Option<StopReason>;
 
-    /// The line stops with this reason, unless it has one already.
-    fn stop(&mut self, reason: StopReason);
+    /// What was seen of the slave for which the line has stopped, if it has stopped for one.
+    fn seen(&self) -> Option<Sighting>;
+
+    /// The line stops with this reason, unless it has one already. It looks for the slave that the reason is about, which `about` names with
+    /// its last answer.
+    fn stop(&mut self, reason: StopReason, about: Option<(u16, Last)>);
 }
 
 /// A wire on which a line was brought up.
@@ -29,12 +35,17 @@ pub trait Reach {
 pub struct LiveLine<W> {
     wire: NumberedWire<W>,
     reason: Option<StopReason>,
+    seen: Option<Sighting>,
 }
 
 impl<W: Wire> LiveLine<W> {
     /// The line that was brought up on this wire.
     pub fn new(wire: NumberedWire<W>) -> LiveLine<W> {
-        LiveLine { wire, reason: None }
+        LiveLine {
+            wire,
+            reason: None,
+            seen: None,
+        }
     }
 
     /// The wire, as work on it ends.
@@ -55,21 +66,42 @@ impl<W: Wire> Reach for LiveLine<W> {
             return None;
         }
         let Some(returned) = self.wire.pass(frame) else {
-            self.stop(StopReason::Silent);
+            self.stop(StopReason::Silent, unanswered(frame));
             return None;
         };
-        Answer::of(&returned.frame, returned.again)
+        Answer::of(frame, &returned.frame, returned.again)
     }
 
     fn reason(&self) -> Option<StopReason> {
         self.reason
     }
 
-    fn stop(&mut self, reason: StopReason) {
-        if self.reason.is_none() {
-            self.reason = Some(reason);
+    fn seen(&self) -> Option<Sighting> {
+        self.seen
+    }
+
+    fn stop(&mut self, reason: StopReason, about: Option<(u16, Last)>) {
+        if self.reason.is_some() {
+            return;
+        }
+        self.reason = Some(reason);
+        if let Some((slave, last)) = about {
+            self.seen = Some(sight(&mut self.wire, slave, last));
         }
     }
+}
+
+/// The slave to which a frame went that didn't come back.
+fn unanswered(frame: &Frame) -> Option<(u16, Last)> {
+    let sent = frame.datagrams().next()?;
+    let station = (sent.address % 65536) as u16;
+    let last = Last {
+        command: sent.command,
+        register: (sent.address / 65536) as u16,
+        counter: None,
+        status: None,
+    };
+    Some((station.wrapping_sub(FIRST_STATION), last))
 }
 
 /// A line on a wire under a lock of its own, for the devices of several threads. The lock is held while one frame is exchanged.
@@ -97,6 +129,11 @@ impl<W: Wire> LockedLine<W> {
     /// Why the line has stopped, if it has.
     pub fn reason<R: Wait>(&self, rt: &R) -> Option<StopReason> {
         self.lock.lock(rt).reason()
+    }
+
+    /// What was seen of the slave for which the line has stopped, if it has stopped for one.
+    pub fn seen<R: Wait>(&self, rt: &R) -> Option<Sighting> {
+        self.lock.lock(rt).seen()
     }
 
     /// The line, as work on it ends.
@@ -133,7 +170,11 @@ impl<'a, R: Wait, W: Wire> Reach for SharedLine<'a, R, W> {
         self.lock.lock(self.rt).reason()
     }
 
-    fn stop(&mut self, reason: StopReason) {
-        self.lock.lock(self.rt).stop(reason);
+    fn seen(&self) -> Option<Sighting> {
+        self.lock.lock(self.rt).seen()
+    }
+
+    fn stop(&mut self, reason: StopReason, about: Option<(u16, Last)>) {
+        self.lock.lock(self.rt).stop(reason, about);
     }
 }

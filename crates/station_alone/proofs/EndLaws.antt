@@ -40,7 +40,7 @@ use Rattle.station_alone.specs.Opening as opening
 use Rattle.station_alone.specs.Opening.{Begins, BeginsSession, FailsToOpen, KeepsOpening, OpensOn, OpensCounted}
 use Rattle.station_alone.proofs.KeepLaws.{of-later}
 use Rattle.station_alone.specs.declared.recovery.Recovered.{Recovered}
-use Rattle.station_alone.specs.Recovery.{BeginsRecovered, CountsRecovered, FailsToRecover, HasRecovered, KeepsRecovering, MakesFewCalls, recovery_calls}
+use Rattle.station_alone.specs.Recovery.{BeginsRecovered, CountsRecovered, FailsToRecover, HasRecovered, KeepsRecovering, MakesFewCalls, RecoversBySteps, recovery_calls}
 use Rattle.station_alone.specs.Rounds.{IsDone, IsFinished, IsLeft, IsSmall, IsWorking, StaysKept}
 use Rattle.station_alone.proofs.RowLaws.{up-of}
 
@@ -204,6 +204,10 @@ module _ {X : Type 0} (line_of : X → Line) (seen_of : X → Seen) (its : Line)
   pub came-counts : (result : Result (Station × Recovered) (X × OpenFault)) → Came result → IfOk result (λ r. CountsRecovered its.sizes old r.1 r.0)
   came-counts (Ok r) came = end-counts its old opens.0 s opens.1 found r.1 r.0 opens.2 came.0
   came-counts (Err e) came = tt
+
+  pub came-by_steps : (result : Result (Station × Recovered) (X × OpenFault)) → Came result → IfOk result (λ r. RecoversBySteps its old r.0)
+  came-by_steps (Ok r) came = record { opened = s; opens = (opens.0, opens.1); leads = came.0.works.leads }
+  came-by_steps (Err e) came = tt
 
   pub came-recovered : (result : Result (Station × Recovered) (X × OpenFault)) → Came result → IfOk result (λ r. HasRecovered r.0)
   came-recovered (Ok r) came = end-recovered r.0 came.0.works.working came.0.finished

@@ -1,5 +1,5 @@
 -- What opening a station gives.
-use Rattle.std.proofs.Common.{◌≡◌, ℕ, ◌+◌, ◌^◌, ◌<◌, ◌≤◌, Bool, false, List, [], ◌∷◌, length, get_or, map, take, drop, refl, sym, ◌∙◌, ap, subst, arith, length-append, Result, Ok, Err, Vec, Global}
+use Rattle.std.proofs.Common.{◌≡◌, inl, inr, ℕ, ◌+◌, ◌^◌, ◌<◌, ◌≤◌, Bool, false, List, [], ◌∷◌, length, get_or, map, take, drop, refl, sym, ◌∙◌, ap, subst, arith, length-append, Result, Ok, Err, Vec, Global}
 use Rattle.std.specs.Prelude.{IsTrue, IfErr, IsErrAnd}
 use Rattle.std.proofs.lemmas.List.{length-map, take-append-drop}
 use Rattle.std.proofs.lemmas.List.Concat.{flat_map-append}
@@ -71,7 +71,7 @@ runs-quiet old most result new runs =
 -- ---- why it isn't opened
 
 pub fails-without-memory : (its : Line) (seen : Seen) → FailsToOpen its seen faults.Memory its seen
-fails-without-memory its seen = record { line = refl; quiet = Quiet-none seen (most_calls_to_open its.sizes); why = tt }
+fails-without-memory its seen = record { line = refl; quiet = Quiet-none seen (most_calls_to_open its.sizes); why = inl refl }
 
 module _ (T : Type 0) (plant_of : T → List (List ℕ)) (its later last : Line) (sizes : List ℕ) (old mid new : Seen) (are : AreSizes sizes its old) (later_is : later ≡ its) (last_is : last ≡ later) where
   fault-is : (result : Result T RomFault) (fault other : RomFault) → result ≡ Err fault → result ≡ Err other → fault ≡ other
@@ -133,7 +133,12 @@ reads-found its later sizes old mid new capacity journal words are later_is read
       some = omega (arith, many, some);
       most = omega (arith, many, most);
       of_line = many ∙ ap (λ (l : List ℕ). length l) are.of_line;
+      all = record { found = (capacity, journal); read = mid; journal = subst (λ (s : List ℕ). ReadsJournal s old (Ok (capacity, journal)) mid) are.of_line reads; slaves = line.were_read };
     }
+
+-- memory for the book was refused once all was read
+pub fails-at-book : (its later : Line) (old : Seen) (r : Reading) (new : Seen) → later ≡ its → ReadsFound its old r new → FailsToOpen its old faults.Memory later new
+fails-at-book its later old r new later_is reads = record { line = later_is; quiet = reads.quiet; why = inr reads.all }
 
 -- ---- the book is opened on it
 
@@ -186,7 +191,7 @@ module _ (its : Line) (old : Seen) (r : Reading) (new : Seen) (reads : ReadsFoun
 
 -- ---- what is kept
 
-as-read : (halves : List SlaveHalf) → EachMayLeave halves (words_in halves)
+pub as-read : (halves : List SlaveHalf) → EachMayLeave halves (words_in halves)
 as-read [] = tt
 as-read (half ∷ halves) = (MayLeave-same half, as-read halves)
 

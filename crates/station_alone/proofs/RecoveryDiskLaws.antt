@@ -84,34 +84,38 @@ module _ (old new : Station) (working : IsWorking old) (stands : Stands new) (go
   failed : GetsNearer 1 0 old.book (disk_done (disk_next old.book).1 (Ok tt)) → CallsDisk (disk_next old.book).0 old.seen (Err device.Disk) new.seen → Served (Failed faults.Disk) old new
   failed near fails = let left = near.left in record { goes = record { kept = kept (omega (arith, left)); breaks = record { mid = old; leads = leads-none old; fails = fails } }; moves = tt }
 
-  stopped : GetsNearer 1 0 old.book (disk_done (disk_next old.book).1 (Ok tt)) → IsTrue new.seen.is_stopped → Served (Failed faults.Stopped) old new
-  stopped near is = let left = near.left in record { goes = record { kept = kept (omega (arith, left)); breaks = is }; moves = tt }
+  stopped : GetsNearer 1 0 old.book (disk_done (disk_next old.book).1 (Ok tt)) → StepsDisk old (Failed faults.Stopped) new → IsTrue new.seen.is_stopped → Served (Failed faults.Stopped) old new
+  stopped near step is =
+      let left = near.left in record {
+        goes = record { kept = kept (omega (arith, left)); breaks = record { mid = old; leads = leads-none old; choice = choices.Disk; of_recovery = tt; steps = step; stopped = is } };
+        moves = tt;
+      }
 
   -- after the outcome was reported to the book
   module _ (action : DiskNext) (is_next : (disk_next old.book).0 ≡ action) (has : HasAction old.book) (near : GetsNearer 1 0 old.book (disk_done (disk_next old.book).1 (Ok tt))) where
-    after : (answer : Answer) → LeadsTo old new → (result : Result (Unit {0}) DeviceFault) → CallsDisk action old.seen result new.seen → new.book ≡ disk_done (disk_next old.book).1 result → answer ≡ done_with new.book.fault → Served answer old new
-    after answer leads (Ok done) calls book said =
+    after : (answer : Answer) → LeadsTo old new → StepsDisk old answer new → (result : Result (Unit {0}) DeviceFault) → CallsDisk action old.seen result new.seen → new.book ≡ disk_done (disk_next old.book).1 result → answer ≡ done_with new.book.fault → Served answer old new
+    after answer leads step (Ok done) calls book said =
         let same : new.book.fault ≡ old.book.fault = ap (λ (b : Book). b.fault) book ∙ action-fault old.book (Ok done) working.recovering has in
         let is : answer ≡ Did = said ∙ ap done_with (same ∙ none-of old.book.fault working.sound) in
         subst (λ (a : Answer). Served a old new) (sym is) (did (subst (GetsNearer 1 0 old.book) (sym book) near) same leads)
-    after answer leads (Err device.Disk) calls book said =
+    after answer leads step (Err device.Disk) calls book said =
         let now : new.book.fault ≡ Some faults.Disk = ap (λ (b : Book). b.fault) book ∙ action-fault old.book (Err device.Disk) working.recovering has ∙ first-is old.book.fault faults.Disk working.sound in
         let is : answer ≡ Failed faults.Disk = said ∙ ap done_with now in
         let fails = subst (λ (a : DiskNext). CallsDisk a old.seen (Err device.Disk) new.seen) (sym is_next) calls in
         subst (λ (a : Answer). Served a old new) (sym is) (failed near fails)
-    after answer leads (Err device.Lost) calls book said = let ends = call-ends action old.seen new.seen (Err device.Lost) calls in absurd (ends.1 refl)
-    after answer leads (Err device.Stopped) calls book said =
+    after answer leads step (Err device.Lost) calls book said = let ends = call-ends action old.seen new.seen (Err device.Lost) calls in absurd (ends.1 refl)
+    after answer leads step (Err device.Stopped) calls book said =
         let now : new.book.fault ≡ Some faults.Stopped = ap (λ (b : Book). b.fault) book ∙ action-fault old.book (Err device.Stopped) working.recovering has ∙ first-is old.book.fault faults.Stopped working.sound in
         let is : answer ≡ Failed faults.Stopped = said ∙ ap done_with now in
         let ends = call-ends action old.seen new.seen (Err device.Stopped) calls in
-        subst (λ (a : Answer). Served a old new) (sym is) (stopped near (ends.0.1 refl))
+        subst (λ (a : Answer). Served a old new) (sym is) (stopped near (subst (λ (a : Answer). StepsDisk old a new) is step) (ends.0.1 refl))
 
   acts : (answer : Answer) (action : DiskNext) → (disk_next old.book).0 ≡ action → IsAction action → StepsDisk old answer new → DoesDisk action old answer new → Served answer old new
   acts answer action is some step does =
       let u = up-of old working in
       let has = has-action old.book action is some in
       let near = action-done u.0 old.book old.seen.state u.1 u.2 u.3 working.recovering has in
-      after action is has near answer (leads-one choices.Disk answer old new tt step) does.result does.calls does.book does.answered
+      after action is has near answer (leads-one choices.Disk answer old new tt step) step does.result does.calls does.book does.answered
 
 rests : (old : Station) → IsWorking old → DiskRests old.book → Served Idle old old
 rests old working idle = record { goes = works-none old working; moves = inr (refl, idle) }
@@ -126,6 +130,6 @@ carries old new answer disk.Stop working stands goes keeps is step n = absurd (d
 
 pub disk-serves : (old new : Station) (answer : Answer) → IsWorking old → Stands new → GoesOn [] 1 old new → Keeps [] old new → StepsDisk old answer new → ServesDisk (told answer) old new
 disk-serves old new answer working stands goes keeps (carried_out does) = carries old new answer (disk_next old.book).0 working stands goes keeps refl (carried_out does) does
-disk-serves old new answer working stands goes keeps (out_of_memory n) =
+disk-serves old new answer working stands goes keeps (out_of_memory takes n) =
     subst (λ (a : Answer). Served a old new) (sym n.answered)
-    (subst (λ (s : Station). Served NoMemory old s) (sym n.same) (record { goes = record { kept = kept-none old; breaks = leads-none old }; moves = tt }))
+    (subst (λ (s : Station). Served NoMemory old s) (sym n.same) (record { goes = record { kept = kept-none old; breaks = record { leads = leads-none old; takes = takes } }; moves = tt }))

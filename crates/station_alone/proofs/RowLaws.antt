@@ -110,13 +110,14 @@ works-then m n a b c one two = record {
 breaks-later : (fault : OpenFault) (a b c : Station) → LeadsTo a b → Breaks fault b c → Breaks fault a c
 breaks-later (why.Journal (read.Device device.Disk)) a b c more breaks = record { mid = breaks.mid; leads = leads-then a b breaks.mid more breaks.leads; fails = breaks.fails }
 breaks-later (why.Journal (read.Device device.Lost)) a b c more breaks = absurd breaks
-breaks-later (why.Journal (read.Device device.Stopped)) a b c more breaks = breaks
+breaks-later (why.Journal (read.Device device.Stopped)) a b c more breaks =
+    record { mid = breaks.mid; leads = leads-then a b breaks.mid more breaks.leads; choice = breaks.choice; of_recovery = breaks.of_recovery; steps = breaks.steps; stopped = breaks.stopped }
 breaks-later (why.Journal (read.Journal fault)) a b c more breaks = absurd breaks
 breaks-later (why.Slave (rom.SlaveDead slave)) a b c more breaks =
     record { mid = breaks.mid; leads = leads-then a b breaks.mid more breaks.leads; taken = breaks.taken; asked = breaks.asked; settles = breaks.settles }
 breaks-later (why.Slave rom.Memory) a b c more breaks = absurd breaks
 breaks-later (why.Slave rom.Stopped) a b c more breaks = absurd breaks
-breaks-later why.Memory a b c more breaks = leads-then a b c more breaks
+breaks-later why.Memory a b c more breaks = record { leads = leads-then a b c more breaks.leads; takes = breaks.takes }
 
 pub cut-then : (m : ℕ) (fault : OpenFault) (a b c : Station) → Works m a b → EndsEarly fault b c → EndsEarly fault a c
 cut-then m fault a b c one cut = record { kept = kept-then a b c one.left one.kept cut.kept; breaks = breaks-later fault a b c one.leads cut.breaks }

@@ -6,8 +6,12 @@ use Rattle.station_alone.specs.declared.choice.Choice.{Choice}
 use Rattle.station_alone.specs.declared.choice.Answer.{Answer}
 use Rattle.station_alone.specs.Station.{Station}
 use Rattle.station_alone.specs.Steps.{Steps, StepsInOrder, most_calls, most_calls_of}
-use Rattle.station_alone.specs.Keeping.{GoesOn, Keeps, accepted_by, accepted_in}
-use Rattle.station_alone.proofs.KeepLaws.{keeps-then, keeps-while-still}
+use Rattle.site_core.specs.Passes.{LeavesOnly}
+use Rattle.site_journal.specs.Running.{with_commands}
+use Rattle.book_model.specs.Machine.{Machine}
+use Rattle.book_laws.specs.Keeping.{IsOfBook}
+use Rattle.station_alone.specs.Keeping.{GoesOn, Keeps, KeepsInOrder, KeptFor, KeptInOrder, accepted_by, accepted_in}
+use Rattle.station_alone.proofs.KeepLaws.{keeps-then, keeps-while-still, of-later}
 
 -- one step more
 pub steps-push : (choices : List Choice) (answers : List Answer) (choice : Choice) (answer : Answer) (a b c : Station) → StepsInOrder choices a answers b → Steps choice b answer c
@@ -40,11 +44,35 @@ goes-then first second m n a b c one two = record {
   within = let x = one.within in let y = two.within in omega (arith, x, y);
 }
 
+-- each step by itself keeps what is kept
+kept-push : (m : Machine) (choices : List Choice) (answers : List Answer) (choice : Choice) (answer : Answer) (a b c : Station) → IsOfBook a.book m → LeavesOnly (KeptFor m) a.seen.state → KeptInOrder m choices a answers b
+    → Steps choice b answer c → GoesOn (accepted_by choice answer) (most_calls choice) b c → Keeps (accepted_by choice answer) b c → KeptInOrder m (choices ++ choice ∷ []) a (answers ++ answer ∷ []) c
+kept-push m [] [] choice answer a b c of kept first step goes keeps = (
+  c,
+  record {
+    steps = subst (λ (s : Station). Steps choice s answer c) first step;
+    goes_on = subst (λ (s : Station). GoesOn (accepted_by choice answer) (most_calls choice) s c) first goes;
+    keeps = subst (λ (s : Station). Keeps (accepted_by choice answer) s c) first keeps m of kept;
+  },
+  refl,
+)
+kept-push m [] (other ∷ answers) choice answer a b c of kept first step goes keeps = absurd first
+kept-push m (other ∷ choices) [] choice answer a b c of kept first step goes keeps = absurd first
+kept-push m (other ∷ choices) (told ∷ answers) choice answer a b c of kept first step goes keeps =
+    let mid = first.0 in
+    let one = first.1 in (
+      mid,
+      one,
+      kept-push (with_commands m (accepted_by other told) mid.book.durable) choices answers choice answer mid b c (of-later m (accepted_by other told) (most_calls other) a mid of one.goes_on) one.keeps.at_last
+          first.2 step goes keeps,
+    )
+
 -- what a run of steps leaves
 pub record Ran (choices : List Choice) (answers : List Answer) (old new : Station) : Type 0 where
   pub steps : StepsInOrder choices old answers new
   pub goes_on : GoesOn (accepted_in choices answers) (most_calls_of choices) old new
   pub keeps : Keeps (accepted_in choices answers) old new
+  pub in_order : KeepsInOrder choices old answers new
 
 pub ran-push : (choices : List Choice) (answers : List Answer) (choice : Choice) (answer : Answer) (a b c : Station) → Ran choices answers a b → Steps choice b answer c
     → GoesOn (accepted_by choice answer) (most_calls choice) b c → Keeps (accepted_by choice answer) b c → Ran (choices ++ choice ∷ []) (answers ++ answer ∷ []) a c
@@ -56,6 +84,7 @@ ran-push choices answers choice answer a b c ran step goes keeps =
           (subst (λ (l : List Command). GoesOn l (most_calls_of choices + most_calls choice) a c) (sym accepted)
           (goes-then (accepted_in choices answers) (accepted_by choice answer) (most_calls_of choices) (most_calls choice) a b c ran.goes_on goes));
       keeps = subst (λ (l : List Command). Keeps l a c) (sym accepted) (keeps-then (accepted_in choices answers) (accepted_by choice answer) (most_calls_of choices) a b c ran.goes_on ran.keeps keeps);
+      in_order = λ m of kept. kept-push m choices answers choice answer a b c of kept (ran.in_order m of kept) step goes keeps;
     }
 
 pub ran-none : (s : Station) → Ran [] [] s s
@@ -63,6 +92,7 @@ ran-none s = record {
   steps = refl;
   goes_on = record { line = refl; words = refl; found = refl; accepted = sym (append-nil s.book.accepted); durable = omega arith; within = omega arith };
   keeps = keeps-while-still s s refl refl;
+  in_order = λ m of kept. refl;
 }
 
 -- all of them were made

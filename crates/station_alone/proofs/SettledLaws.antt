@@ -16,7 +16,10 @@ use Rattle.book_laws.proofs.SettledLaws.{retire-settled}
 use Rattle.book_laws.proofs.LineLaws.{holds-all}
 use Rattle.site_journal.specs.Ready.{IsUp}
 use Rattle.station_alone.specs.Station.{Station}
-use Rattle.station_alone.specs.Settled.{HasSettled, HoldsContents}
+use Rattle.site_core.proofs.StopImages.{StopImage-same}
+use Rattle.book_laws.specs.Opening.{words_in}
+use Rattle.station_alone.specs.Settled.{HasSettled, HoldsContents, ReadAsContents}
+use Rattle.station_alone.proofs.OpenLaws.{as-read}
 
 pub settled-holds : (s : Station) → IsUp s.book s.seen → HasSettled s.book → HoldsContents s
 settled-holds s u settled pair leaves =
@@ -30,3 +33,9 @@ settled-holds s u settled pair leaves =
     let leads = plant-leads-retired book.words up.gone lives [] cells pair.words fit all may in
     sym (redone-nil pair.words) ∙ leads ∙ ap (λ (r : List Run). redone book.words (up.gone ++ r)) (append-nil lives) ∙ sym up.fits.contents ∙ entries-contents 0 (base_of book) book.accepted book.durable
     ∙ ap (λ (l : List Command). contents (base_of book) l) (take_all book.durable book.accepted (omega (arith, settled.durable)))
+
+-- the words that the slaves hold are among those that a stop may leave
+pub settled-reads : (s : Station) → HoldsContents s → ReadAsContents s
+settled-reads s holds =
+    let state = s.seen.state in
+    holds (record { disk = state.disk.bytes; words = words_in state.halves }) (record { disk = StopImage-same state.disk; words = as-read state.halves })

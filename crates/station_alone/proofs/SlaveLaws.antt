@@ -1,6 +1,6 @@
 -- What is handed out for a slave as a step of a recovery.
 use Rattle.std.proofs.Common.{◌≡◌, inl, inr, ℕ, ◌+◌, ◌<◌, ◌≤◌, Bool, [], length, refl, sym, ◌∙◌, ap, subst, arith, Result, Ok, Err}
-use Rattle.std.specs.Prelude.{is_some}
+use Rattle.std.specs.Prelude.{is_some, IsTrue}
 use Rattle.esc_rom.specs.Access.{IssuesWord, SettlesSlave}
 use Rattle.site_core.specs.declared.fault.DeviceFault.{DeviceFault}
 use Rattle.site_core.specs.declared.answers.Issued.{Issued}
@@ -21,7 +21,7 @@ use Rattle.station_alone.specs.declared.choice.Answer.TheVariants.{Did, Idle, Fa
 use Rattle.station_alone.specs.Station.{Station, Stands}
 use Rattle.station_alone.specs.Steps.{DoesIssue, DoesSettle, Serves, done_with}
 use Rattle.station_alone.specs.Keeping.{GoesOn, Keeps}
-use Rattle.station_alone.specs.Recovery.{LeadsTo}
+use Rattle.station_alone.specs.Recovery.{LeadsTo, StopsIn}
 use Rattle.station_alone.specs.Rounds.{IsWorking, StaysKept, Works, SlaveRests, ServesSlave, told, counted}
 use Rattle.station_alone.proofs.RowLaws.{up-of, leads-none, leads-one, works-none}
 use Rattle.station_alone.proofs.RecoveryDiskLaws.{none-of, first-is}
@@ -54,11 +54,25 @@ module _ (old new : Station) (slave : ℕ) (working : IsWorking old) (stands : S
         issued = near.issued;
       }
 
+  -- the site has stopped in this step
+  stops : (answer : Answer) → answer ≡ Failed faults.Stopped → Serves (rom_next old.book slave).0 slave old answer new → IsTrue new.seen.is_stopped → StopsIn old new
+  stops answer is step stop = record {
+    mid = old;
+    leads = leads-none old;
+    choice = choices.Rom slave;
+    of_recovery = tt;
+    steps = subst (λ (a : Answer). Serves (rom_next old.book slave).0 slave old a new) is step;
+    stopped = stop;
+  }
+
   -- ---- an issue
 
   module _ (w value : ℕ) (answer : Answer) (is_next : (rom_next old.book slave).0 ≡ word.Issue w value) (does : DoesIssue slave w value old answer new) where
+    issue-step : Serves (rom_next old.book slave).0 slave old answer new
+    issue-step = subst (λ (n : RomNext). Serves n slave old answer new) (sym is_next) does
+
     issue-leads : LeadsTo old new
-    issue-leads = leads-one (choices.Rom slave) answer old new tt (subst (λ (n : RomNext). Serves n slave old answer new) (sym is_next) does)
+    issue-leads = leads-one (choices.Rom slave) answer old new tt issue-step
 
     issued : (result : Result Issued DeviceFault) → IssuesWord old.seen slave w value result new.seen → GetsNearer 1 1 old.book new.book → MayFail slave (issue_outcome result) old.book.fault new.book.fault
         → Served slave (word.Issue w value) answer old new
@@ -73,7 +87,7 @@ module _ (old new : Station) (slave : ℕ) (working : IsWorking old) (stands : S
         let one = issues.clock in
         let stop = issues.stopped.1 (ap (λ (f : DeviceFault). Err f) issues.only_stopped) in
         subst (λ (a : Answer). Served slave (word.Issue w value) a old new) (sym is)
-        (record { goes = record { kept = kept 1 1 near (omega (arith, one)); breaks = stop }; few = tt; moves = tt })
+        (record { goes = record { kept = kept 1 1 near (omega (arith, one)); breaks = stops answer is issue-step stop }; few = tt; moves = tt })
 
     pub issue-serves : slave < length old.book.slaves → Served slave (word.Issue w value) answer old new
     issue-serves within =
@@ -86,8 +100,11 @@ module _ (old new : Station) (slave : ℕ) (working : IsWorking old) (stands : S
   -- ---- a settle
 
   module _ (taken : Bool) (answer : Answer) (is_next : (rom_next old.book slave).0 ≡ word.Settle taken) (does : DoesSettle slave taken old answer new) where
+    settle-step : Serves (rom_next old.book slave).0 slave old answer new
+    settle-step = subst (λ (n : RomNext). Serves n slave old answer new) (sym is_next) does
+
     settle-leads : LeadsTo old new
-    settle-leads = leads-one (choices.Rom slave) answer old new tt (subst (λ (n : RomNext). Serves n slave old answer new) (sym is_next) does)
+    settle-leads = leads-one (choices.Rom slave) answer old new tt settle-step
 
     settled : (result : Result Settled DeviceFault) → SettlesSlave old.seen slave taken result new.seen → GetsNearer 10001 0 old.book new.book → MayFail slave (settle_outcome result) old.book.fault new.book.fault
         → Served slave (word.Settle taken) answer old new
@@ -107,7 +124,7 @@ module _ (old new : Station) (slave : ℕ) (working : IsWorking old) (stands : S
         let is : answer ≡ Failed faults.Stopped = does.answered ∙ ap done_with (fault ∙ first-is old.book.fault faults.Stopped working.sound) in
         let stop = settles.stopped.1 (ap (λ (f : DeviceFault). Err f) settles.only_stopped) in
         subst (λ (a : Answer). Served slave (word.Settle taken) a old new) (sym is)
-        (record { goes = record { kept = kept 10001 0 near settles.quiet.within; breaks = stop }; few = tt; moves = tt })
+        (record { goes = record { kept = kept 10001 0 near settles.quiet.within; breaks = stops answer is settle-step stop }; few = tt; moves = tt })
 
     pub settle-serves : slave < length old.book.slaves → Served slave (word.Settle taken) answer old new
     settle-serves within =

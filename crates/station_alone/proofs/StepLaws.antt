@@ -131,7 +131,7 @@ module _ (old new : Station) (answer : Answer) (stands : Stands old) (line : new
 
   disk-step : StepsDisk old answer new → Goes [] 1 old new
   disk-step (carried_out does) = carried (disk_next old.book).0 refl does
-  disk-step (steps.out_of_memory none) = nothing-goes _ 1 old answer new stands none
+  disk-step (steps.out_of_memory takes none) = nothing-goes _ 1 old answer new stands none
 
 -- ---- a slave
 

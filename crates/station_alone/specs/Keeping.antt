@@ -54,3 +54,24 @@ pub record Went (choice : Choice) (old : Station) (answer : Answer) (new : Stati
   pub steps : Steps choice old answer new
   pub goes_on : GoesOn (accepted_by choice answer) (most_calls choice) old new
   pub keeps : Keeps (accepted_by choice answer) old new
+
+-- ---- steps in a row, one by one
+
+-- A step was made while the book was this machine to its callers, and what is claimed of a step holds for it.
+pub record KeepsInStep (machine : Machine) (choice : Choice) (old : Station) (answer : Answer) (new : Station) : Type 0 where
+  pub steps : Steps choice old answer new
+  pub goes_on : GoesOn (accepted_by choice answer) (most_calls choice) old new
+  pub keeps : KeepsFor machine (accepted_by choice answer) old new
+
+-- Steps in a row. At each moment of a step a stop could have left only what is kept with all commands that the steps before it
+-- accepted, and everything acknowledged that was durable when it began.
+abbrev pub KeptInOrder : Machine → List Choice → Station → List Answer → Station → Type 0
+KeptInOrder machine [] old [] new = new ≡ old
+KeptInOrder machine (choice ∷ choices) old (answer ∷ answers) new = (mid : Station) × KeepsInStep machine choice old answer mid
+    × KeptInOrder (with_commands machine (accepted_by choice answer) mid.book.durable) choices mid answers new
+KeptInOrder machine choices old answers new = ⊥
+
+-- This is so for each machine that the book is to its callers, if all that a stop may leave was kept before.
+abbrev pub KeepsInOrder : List Choice → Station → List Answer → Station → Type 0
+KeepsInOrder choices old answers new = (machine : Machine) → IsOfBook old.book machine → LeavesOnly (KeptFor machine) old.seen.state
+    → KeptInOrder machine choices old answers new

@@ -1,5 +1,5 @@
 -- A station is opened: the disk is synced and read, and then each slave is opened and read.
-use Rattle.std.specs.Prelude.{◌≡◌, ◌↔◌, ℕ, ◌+◌, ◌≤◌, List, length, Ok, Err, IsTrue}
+use Rattle.std.specs.Prelude.{◌≡◌, ◌⊎◌, ◌↔◌, ℕ, ◌+◌, ◌≤◌, List, length, Ok, Err, IsTrue}
 use Rattle.jrn_format.specs.declared.journal.Journal.{Journal}
 use Rattle.jrn_format.specs.Journal.{IsJournal}
 use Rattle.esc_rom.specs.declared.fault.RomFault.{RomFault}
@@ -9,7 +9,7 @@ use Rattle.site_core.specs.Line.{Line}
 use Rattle.site_core.specs.State.{Seen}
 use Rattle.site_core.specs.Passes.{LeavesOnly}
 use Rattle.site_journal.specs.Reading.{ReadsJournal}
-use Rattle.esc_rom.specs.Reading.{EndsLine, most_calls}
+use Rattle.esc_rom.specs.Reading.{EndsLine, WereRead, most_calls}
 use Rattle.book_model.specs.Entries.{entries_of}
 use Rattle.book_model.specs.Machine.{Machine, reopened, MayKeep}
 use Rattle.book_laws.specs.Keeping.{IsOfBook}
@@ -28,6 +28,13 @@ most_calls_to_open sizes = 3 + most_calls sizes
 
 -- ---- what is read
 
+-- The journal was read, and then each slave was opened and read.
+pub record ReadAll (sizes : List ℕ) (old new : Seen) : Type 0 where
+  pub found : ℕ × Journal
+  pub read : Seen
+  pub journal : ReadsJournal sizes old (Ok found) read
+  pub slaves : WereRead sizes (length sizes) read new
+
 -- The journal and the words of 1 to 64 slaves were read. At no moment could a stop leave anything that it couldn't leave before.
 pub record ReadsFound (line : Line) (old : Seen) (reading : Reading) (new : Seen) : Type 0 where
   pub quiet : Quiet old (most_calls_to_open line.sizes) new
@@ -39,6 +46,7 @@ pub record ReadsFound (line : Line) (old : Seen) (reading : Reading) (new : Seen
   pub some : 1 ≤ length reading.words.items
   pub most : length reading.words.items ≤ 64
   pub of_line : length reading.words.items ≡ length line.sizes
+  pub all : ReadAll line.sizes old new
 
 -- ---- the open succeeds
 
@@ -75,11 +83,12 @@ pub record FailsAtSlave (sizes : List ℕ) (old : Seen) (fault : RomFault) (new 
   pub ends : EndsLine sizes read fault new
   pub stopped : IsTrue new.is_stopped ↔ (fault ≡ rom.Stopped)
 
--- What each fault means: why the journal wasn't read, or which slave wasn't. Memory means nothing more.
+-- What each fault means: why the journal wasn't read, or which slave wasn't. Memory was refused before the first device call, or after
+-- the last one.
 abbrev pub WhyNot : OpenFault → List ℕ → Seen → Seen → Type 0
 WhyNot (faults.Journal fault) sizes old new = ReadsJournal sizes old (Err fault) new
 WhyNot (faults.Slave fault) sizes old new = FailsAtSlave sizes old fault new
-WhyNot faults.Memory sizes old new = Unit {0}
+WhyNot faults.Memory sizes old new = (new ≡ old) ⊎ ReadAll sizes old new
 
 -- The site is as the calls so far left it. At no moment could a stop leave anything that it couldn't leave before.
 pub record FailsToOpen (its : Line) (old : Seen) (fault : OpenFault) (later : Line) (new : Seen) : Type 0 where

@@ -17,6 +17,7 @@ use Rattle.book_model.specs.Entries.{entries_of}
 use Rattle.book_model.specs.Book.{base_of, is_version_2}
 use Rattle.book_model.specs.DiskSteps.{disk_next}
 use Rattle.book_model.specs.RomSteps.{rom_next}
+use Rattle.book_core.specs.Handing.{TakesMemory}
 use Rattle.book_model.specs.Reading.{planned}
 use Rattle.book_model.specs.Machine.{Machine}
 use Rattle.book_laws.specs.Opening.{words_in}
@@ -29,7 +30,7 @@ use Rattle.station_alone.specs.declared.choice.Choice.TheVariants.{Submit}
 use Rattle.station_alone.specs.declared.choice.Answer.{Answer}
 use Rattle.station_alone.specs.declared.choice.Answer.TheVariants.{Failed}
 use Rattle.station_alone.specs.Station.{Station}
-use Rattle.station_alone.specs.Steps.{DoesSettle, StepsInOrder}
+use Rattle.station_alone.specs.Steps.{DoesSettle, Steps, StepsInOrder}
 use Rattle.station_alone.specs.Keeping.{KeptFor}
 use Rattle.station_alone.specs.Opening.{Opens, FailsToOpen, Begins}
 use Rattle.station_alone.specs.declared.recovery.Recovered.{Recovered}
@@ -69,7 +70,7 @@ pub record HasRecovered (s : Station) : Type 0 where
   pub only : (pair : Pair) → Leaves s.seen.state pair → pair.words ≡ base_of s.book
   pub plan : planned s.book ≡ base_of s.book
 
--- ---- the recovery fails
+-- ---- what it did
 
 -- A step that a recovery may make: any but a command.
 abbrev pub IsOfRecovery : Choice → Type 0
@@ -82,6 +83,14 @@ pub record LeadsTo (old new : Station) : Type 0 where
   pub answers : List Answer
   pub of_recovery : AllByRecursion IsOfRecovery choices
   pub steps : StepsInOrder choices old answers new
+
+-- A station was opened on the line, and such steps led from there to this one: no other device call was made.
+pub record RecoversBySteps (line : Line) (old : Seen) (new : Station) : Type 0 where
+  pub opened : Station
+  pub opens : Opens line old opened
+  pub leads : LeadsTo opened new
+
+-- ---- the recovery fails
 
 -- Behind steps from the open on, the device call failed that carries out the book's next action for the disk.
 pub record DiskFails (opened last : Station) : Type 0 where
@@ -97,13 +106,27 @@ pub record SlaveDies (slave : ℕ) (opened last : Station) : Type 0 where
   pub asked : (rom_next mid.book slave).0 ≡ Settle taken
   pub settles : DoesSettle slave taken mid (Failed (faults.SlaveDead slave)) last
 
+-- Behind steps from the open on, a step of a recovery was answered that the site has stopped.
+pub record StopsIn (opened last : Station) : Type 0 where
+  pub mid : Station
+  pub leads : LeadsTo opened mid
+  pub choice : Choice
+  pub of_recovery : IsOfRecovery choice
+  pub steps : Steps choice mid (Failed faults.Stopped) last
+  pub stopped : IsTrue last.seen.is_stopped
+
+-- Behind steps from the open on, memory was refused for the write that the book hands out next, and nothing more was done.
+pub record RunsOut (opened last : Station) : Type 0 where
+  pub leads : LeadsTo opened last
+  pub takes : TakesMemory (disk_next last.book).0
+
 -- Why a recovery ended early after the open, and what its last step left: the disk failed, the site has stopped, a settle gave its
--- slave up, or memory was refused for the mark of a migration and nothing more was done.
+-- slave up, or memory was refused for a write of a migration.
 abbrev pub Breaks : OpenFault → (opened last : Station) → Type 0
 Breaks (why.Journal (read.Device device.Disk)) opened last = DiskFails opened last
-Breaks (why.Journal (read.Device device.Stopped)) opened last = IsTrue last.seen.is_stopped
+Breaks (why.Journal (read.Device device.Stopped)) opened last = StopsIn opened last
 Breaks (why.Slave (rom.SlaveDead slave)) opened last = SlaveDies slave opened last
-Breaks why.Memory opened last = LeadsTo opened last
+Breaks why.Memory opened last = RunsOut opened last
 Breaks other opened last = ⊥
 
 -- The station was opened, and this fault then ended the recovery.

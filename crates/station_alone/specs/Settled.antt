@@ -6,6 +6,7 @@ use Rattle.jrn_format.specs.Halves.{live}
 use Rattle.book_model.specs.Entries.{live_runs}
 use Rattle.book_model.specs.Reading.{runs_settled}
 use Rattle.book_model.specs.Book.{Book, all_cells, contents_of}
+use Rattle.book_laws.specs.Opening.{words_in}
 use Rattle.station_alone.specs.Station.{Station}
 
 -- All accepted commands are durable, and every word that a live batch names is in place. What is retired was settled before.
@@ -16,3 +17,7 @@ pub record HasSettled (book : Book) : Type 0 where
 -- A stop leaves the slaves with the contents after all accepted commands, and with no others.
 abbrev pub HoldsContents : Station → Type 0
 HoldsContents s = LeavesOnly (λ (pair : Pair). pair.words ≡ contents_of s.book) s.seen.state
+
+-- Each slave reads as the contents after all accepted commands: its EEPROM holds these words.
+abbrev pub ReadAsContents : Station → Type 0
+ReadAsContents s = words_in s.seen.state.halves ≡ contents_of s.book

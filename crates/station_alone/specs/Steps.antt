@@ -19,6 +19,7 @@ use Rattle.book_model.specs.Submit.{IsSubmitted, with_command}
 use Rattle.book_model.specs.DiskSteps.{disk_next, disk_done}
 use Rattle.book_model.specs.RomSteps.{rom_next, rom_done}
 use Rattle.book_model.specs.Open.{migrate}
+use Rattle.book_core.specs.Handing.{TakesMemory}
 use Rattle.site_journal.specs.Running.{CallsDisk}
 use Rattle.site_journal.specs.Ready.{issue_outcome, settle_outcome}
 use Rattle.station_alone.specs.declared.choice.Choice.{Choice}
@@ -84,10 +85,10 @@ CarriesOut disk.Idle old answer new = DoesNothing Idle old answer new
 CarriesOut disk.Stop old answer new = DoesNothing Ended old answer new
 CarriesOut action old answer new = DoesDisk action old answer new
 
--- The next action for the disk is carried out, or memory was refused and nothing was done.
+-- The next action for the disk is carried out; or it is a write, memory was refused for it, and nothing was done.
 pub data StepsDisk (old : Station) (answer : Answer) (new : Station) : Type 0 where
   carried_out : CarriesOut (disk_next old.book).0 old answer new → StepsDisk old answer new
-  out_of_memory : DoesNothing NoMemory old answer new → StepsDisk old answer new
+  out_of_memory : TakesMemory (disk_next old.book).0 → DoesNothing NoMemory old answer new → StepsDisk old answer new
 
 -- ---- a slave
 

@@ -39,7 +39,7 @@ impl<S: Site> Alone<S> {
     ghost use Rattle.esc_rom.specs.Owned.{OwnsAll};
     ghost use Rattle.station_alone.specs.Station.{Stands};
     ghost use Rattle.station_alone.specs.Steps.{Steps, Serves, StepsInOrder, most_calls, most_calls_of};
-    ghost use Rattle.station_alone.specs.Keeping.{GoesOn, Keeps, Went, accepted_by, accepted_in};
+    ghost use Rattle.station_alone.specs.Keeping.{GoesOn, Keeps, KeepsInOrder, Went, accepted_by, accepted_in};
     ghost use Rattle.station_alone.specs.Opening.{Opens, OpensCounted, FailsToOpen, KeepsOpening, BeginsSession};
 
     /// Opens a station on a site: syncs the disk and reads its journal, and then opens and reads each slave.
@@ -158,6 +158,7 @@ impl<S: Site> Alone<S> {
         ensures steps { IfOk result (λ answers. StepsInOrder choices.now self.old answers.items self.new) }
         ensures goes_on { IfOk result (λ answers. GoesOn (accepted_in choices.now answers.items) (most_calls_of choices.now) self.old self.new) }
         ensures keeps { IfOk result (λ answers. Keeps (accepted_in choices.now answers.items) self.old self.new) }
+        ensures in_order { IfOk result (λ answers. KeepsInOrder choices.now self.old answers.items self.new) }
         ensures refused { OnErr result (self.new ≡ self.old) }
     {
         let mut answers = Vec::with_capacity(self.alloc, choices.len())?;

@@ -12,7 +12,7 @@ ghost use Rattle.book_laws.specs.Opening.{words_in};
 ghost use Rattle.station_alone.specs.Station.{Station, Stands};
 ghost use Rattle.station_alone.specs.Keeping.{KeptFor};
 ghost use Rattle.station_alone.specs.Formatted.{IsBlank};
-ghost use Rattle.station_alone.specs.Settled.{HasSettled, HoldsContents};
+ghost use Rattle.station_alone.specs.Settled.{HasSettled, HoldsContents, ReadAsContents};
 
 /// After `format` succeeded on a line with idle slaves, a power cut leaves only what is kept for a machine that holds the words of
 /// these slaves and has accepted nothing. That is what `Alone::open` and `recover` need to begin its first session.
@@ -27,4 +27,10 @@ pub fn a_formatted_line_is_kept()
 pub fn settled_slaves_hold_the_contents()
     ensures going { (s : Station) → Stands s → ¬ IsTrue s.seen.is_stopped → HasSettled s.book → HoldsContents s }
     ensures no_fault { (s : Station) → Stands s → is_some s.book.fault ≡ false → HasSettled s.book → HoldsContents s }
+{}
+
+/// Then each slave reads as these contents too.
+pub fn settled_slaves_read_as_the_contents()
+    ensures going { (s : Station) → Stands s → ¬ IsTrue s.seen.is_stopped → HasSettled s.book → ReadAsContents s }
+    ensures no_fault { (s : Station) → Stands s → is_some s.book.fault ≡ false → HasSettled s.book → ReadAsContents s }
 {}

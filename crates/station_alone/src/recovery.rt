@@ -1,7 +1,15 @@
 ghost use Rattle.std.specs.Prelude.{◌≡◌, MatchResult, IfOk, IfErr, IsTrue};
 ghost use Rattle.esc_rom.specs.Owned.{OwnsAll};
 ghost use Rattle.station_alone.specs.Rounds.{IsDone, IsLeft, IsSmall, IsWorking};
-ghost use Rattle.station_alone.specs.Recovery.{BeginsRecovered, CountsRecovered, FailsToRecover, HasRecovered, KeepsRecovering, MakesFewCalls};
+ghost use Rattle.station_alone.specs.Recovery.{
+  BeginsRecovered,
+  CountsRecovered,
+  FailsToRecover,
+  HasRecovered,
+  KeepsRecovering,
+  MakesFewCalls,
+  RecoversBySteps,
+};
 
 use crate::rounds::redo;
 use crate::step::stand;
@@ -53,8 +61,8 @@ fn finish<S: Site>(station: Alone<S>, found: Found) -> Result<(Alone<S>, Recover
 /// # Errors
 ///
 /// First as for `Alone::open`. Then the first fault that occurs: `Journal` with the device fault `Disk` or `Stopped`; `Slave` with
-/// `SlaveDead` for a slave that is given up; `Memory` for the mark of a migration. The site is handed back as the calls so far left
-/// it, and what was recoverable stays so.
+/// `SlaveDead` for a slave that is given up; `Memory` for a write of a migration. The site is handed back as the calls so far left it, and
+/// what was recoverable stays so.
 pub fn recover<S: Site>(alloc: Global, site: S) -> Result<(Alone<S>, Recovered), (S, OpenFault)>
     requires disk { IsTrue (S.line site).has_disk }
     requires slaves { OwnsAll (S.line site) }
@@ -64,6 +72,7 @@ pub fn recover<S: Site>(alloc: Global, site: S) -> Result<(Alone<S>, Recovered),
         (λ r. MakesFewCalls (S.line site).sizes (S.seen site) r.0.seen)
         (λ e. MakesFewCalls (S.line site).sizes (S.seen site) (S.seen e.0)) }
     ensures counts { IfOk result (λ r. CountsRecovered (S.line site).sizes (S.seen site) r.1 r.0) }
+    ensures steps { IfOk result (λ r. RecoversBySteps (S.line site) (S.seen site) r.0) }
     ensures recovered { IfOk result (λ r. HasRecovered r.0) }
     ensures begins { IfOk result (λ r. BeginsRecovered (S.seen site) r.0) }
     ensures refused { IfErr result (λ e. FailsToRecover (S.line site) (S.seen site) e.1 (S.line e.0) (S.seen e.0)) }

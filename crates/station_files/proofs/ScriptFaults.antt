@@ -9,7 +9,7 @@ use Rattle.station_text.specs.declared.script_command.ScriptGroupEdit.{ScriptGro
 use Rattle.station_files.specs.Files.{Known, HasBytes}
 use Rattle.station_files.specs.ScriptFiles.{IsNoScript, RefusesCommand, RefusesCommands, RefusesEdit, RefusesGroup, RefusesImages, RefusesOne, RefusesScript, RefusesText}
 use Rattle.station_files.specs.declared.faults.Fault.{Fault}
-use Rattle.station_files.specs.declared.faults.Fault.TheVariants.{OddLength, BadSize, ImageOverLimit, Memory, Disk, Lost, Stopped, SlaveDead, NotAJournal, BadVersion, BadJournal, WrongLine, Unserved, File, BadHex, BadLine, BadScript, Exists, Busy}
+use Rattle.station_files.specs.declared.faults.Fault.TheVariants.{OddLength, BadSize, ImageOverLimit, Memory, Disk, Lost, Stopped, SlaveDead, NotAJournal, BadVersion, BadJournal, WrongLine, Unserved, File, BadHex, BadLine, BadScript, Exists, Busy, SameFile}
 use Rattle.station_files.proofs.Loaded.{of_held}
 
 -- one of the items is refused

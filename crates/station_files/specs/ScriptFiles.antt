@@ -1,5 +1,5 @@
 -- The commands that a script file and the image files named in it spell.
-use Rattle.std.specs.Prelude.{◌≡◌, ◌⊎◌, ◌/◌, ◌%◌, ℕ, List, length, All, Contains, IsUtf8, None, string_bytes, ⊤}
+use Rattle.std.specs.Prelude.{◌≡◌, ◌⊎◌, ◌/◌, ◌%◌, ℕ, List, [], ◌∷◌, flat_map, length, All, Contains, IsUtf8, None, string_bytes, ⊤}
 use Rattle.std.specs.List.{AllZip}
 use Rattle.sii_words.specs.Words.{IsImageSize, bytes_of}
 use Rattle.sii_edit.specs.declared.command.Command.{Command}
@@ -51,6 +51,23 @@ pub record SpellsCommands (files : Known) (name : List ℕ) (commands : List Com
   pub script : List ScriptCommand
   pub spelt : Holds files name (λ text. SpellsScriptFile text script)
   pub loaded : AllZip (LoadsCommand files) script commands
+
+-- the name of the image of an edit, if it has one
+abbrev pub image_of : ScriptEdit → List (List ℕ)
+image_of (Image slave file) = string_bytes file ∷ []
+image_of edit = []
+
+-- the names of the images of a command
+abbrev pub images_of : ScriptCommand → List (List ℕ)
+images_of (One edit) = image_of edit
+images_of (Swap a b) = []
+images_of (Group edits) = flat_map (λ (one : ScriptGroupEdit). image_of one.edit) edits.items
+
+-- these are the names of the images of the script in this file, in order
+pub record NamesImages (files : Known) (name : List ℕ) (names : List (List ℕ)) : Type 0 where
+  pub script : List ScriptCommand
+  pub spelt : Holds files name (λ text. SpellsScriptFile text script)
+  pub named : names ≡ flat_map images_of script
 
 -- ---- why a script isn't loaded
 

@@ -51,6 +51,8 @@ pub enum Fault {
     Exists,
     /// Another station has locked the journal.
     Busy,
+    /// Two names lead to the same file, one of which is to be written.
+    SameFile,
 }
 
 /// A refused command, as it is printed.
@@ -126,6 +128,7 @@ impl Fault {
             Fault::BadScript { .. } => Code::BadScript,
             Fault::Exists => Code::Exists,
             Fault::Busy => Code::Busy,
+            Fault::SameFile => Code::SameFile,
         }
     }
 

@@ -1,7 +1,8 @@
 //! The files of the operating system as a store.
 
+use crate::location::Location;
 use crate::reading::read_about;
-use crate::replacing::{Place, holds, place_of, replace, sync_folder};
+use crate::replacing::{Place, folder_of, holds, locate, place_of, replace, sync_folder};
 use crate::store::{LockFault, Store};
 use site_file::RandomAccessFile;
 use std::alloc::Global;
@@ -21,6 +22,8 @@ pub struct FileStore<'r, R> {
     prepared: Vec<Prepared>,
     /// The files that replaced others, kept open: each is locked, so the lock of a journal survives its replacement.
     replaced: Vec<File>,
+    /// The folders whose names were synced.
+    synced: Vec<String>,
 }
 
 /// Where the file of a name is replaced.
@@ -60,7 +63,30 @@ impl<'r, R> FileStore<'r, R> {
             alloc,
             prepared: Vec::new(alloc),
             replaced: Vec::new(alloc),
+            synced: Vec::new(alloc),
         }
+    }
+}
+
+impl<R: Files<File = File>> FileStore<'_, R> {
+    /// Syncs the folder of a file, and of a link the folder that it leads to, so that a power cut keeps these names. Each folder is synced
+    /// once.
+    fn sync_names(&mut self, name: &str) -> io::Result<()> {
+        self.sync_once(name)?;
+        let place = place_of(self.files, self.alloc, name)?;
+        self.sync_once(place.path.as_str())
+    }
+
+    /// Syncs the folder of this file, unless it was synced before.
+    fn sync_once(&mut self, name: &str) -> io::Result<()> {
+        let folder = folder_of(name);
+        if self.synced.iter().any(|synced| synced.as_str() == folder) {
+            return Ok(());
+        }
+        sync_folder(self.files, name)?;
+        let folder = String::from_str(self.alloc, folder)?;
+        self.synced.push(folder)?;
+        Ok(())
     }
 }
 
@@ -85,6 +111,10 @@ impl<R: Files<File = File>> Store for FileStore<'_, R> {
         Ok(())
     }
 
+    fn locate(&mut self, alloc: Global, name: &str) -> io::Result<Location> {
+        locate(self.files, alloc, name)
+    }
+
     fn write(&mut self, name: &str, bytes: &[u8]) -> io::Result<()> {
         if let Some(file) = holds(self.files, name, bytes) {
             return file.sync_all();
@@ -104,6 +134,7 @@ impl<R: Files<File = File>> Store for FileStore<'_, R> {
             .write(true)
             .open(self.files, name)?;
         file.sync_all()?;
+        self.sync_names(name)?;
         Ok(SystemFile { file })
     }
 
@@ -125,7 +156,7 @@ impl<R: Files<File = File>> Store for FileStore<'_, R> {
         if !is_in_place(self.files, &file, name)? {
             return Err(LockFault::Busy);
         }
-        sync_folder(self.files, name)?;
+        self.sync_names(name)?;
         Ok(Some(SystemLock { _file: file }))
     }
 }

@@ -1,18 +1,23 @@
 //! Replaces a file of the operating system as a whole, so that a power cut leaves the old file or the new one.
 
-use std::alloc::Global;
+use crate::location::{FileId, Location};
+use std::alloc::{AllocError, Global};
 use std::fs::{File, Files, Permissions};
 use std::io::Read;
+use std::os::unix::fs::MetadataExt;
 use std::{fs, io};
 
 /// The number of bytes of a file that are compared at a time.
 const PIECE: usize = 512;
 
+/// How many symbolic links lead from one to the next at most.
+const MOST_LINKS: u32 = 40;
+
 /// Where a file is replaced. Once this is made, replacing the file takes no memory.
 #[derive(Drop)]
 pub(crate) struct Place {
     /// The file's name, which is not a symbolic link.
-    path: String,
+    pub(crate) path: String,
     /// The name of the new file, until it is renamed.
     beside: String,
 }
@@ -42,19 +47,128 @@ fn is_rest<R: Read>(input: &mut R, bytes: &[u8]) -> io::Result<bool> {
     Ok(input.read(&mut buffer)? == 0)
 }
 
-/// Where the file `name` is replaced, or created. Of a symbolic link that is the file that it points to.
+/// Where the file `name` is replaced, or created. Of a symbolic link that is the file that it points to, also where that isn't there yet.
 pub(crate) fn place_of<R: Files<File = File>>(
     files: &R,
     alloc: Global,
     name: &str,
 ) -> io::Result<Place> {
-    let path = match files.canonicalize(alloc, name) {
-        Ok(path) => path.into_string(),
-        Err(error) if error.kind() == io::ErrorKind::NotFound => String::from_str(alloc, name)?,
-        Err(error) => return Err(error),
-    };
+    let path = whole_name(files, alloc, name)?;
     let beside = name_beside(alloc, path.as_str())?;
     Ok(Place { path, beside })
+}
+
+/// The whole name of a file, in which no link is left. Where there is no such file, it is the name that the file would get.
+///
+/// # Errors
+///
+/// Memory was refused, or the name leads nowhere: through a file that is no folder, or through links in a circle.
+fn whole_name<R: Files<File = File>>(files: &R, alloc: Global, name: &str) -> io::Result<String> {
+    let mut path = String::from_str(alloc, name)?;
+    for _link in 0..MOST_LINKS {
+        match files.canonicalize(alloc, path.as_str()) {
+            Ok(found) => return Ok(found.into_string()),
+            Err(error) if error.kind() == io::ErrorKind::NotFound => {}
+            Err(error) => return Err(error),
+        }
+        match behind_link(files, alloc, path.as_str())? {
+            Some(behind) => path = behind,
+            None => return in_whole_folder(files, alloc, path.as_str()),
+        }
+    }
+    Err(io::Error::other("too many links"))
+}
+
+/// Where a symbolic link leads; `None` where there is no link of this name.
+fn behind_link<R: Files<File = File>>(
+    files: &R,
+    alloc: Global,
+    name: &str,
+) -> io::Result<Option<String>> {
+    match fs::symlink_metadata(files, name) {
+        Ok(found) if found.is_symlink() => {}
+        _ => return Ok(None),
+    }
+    let target = files.read_link(alloc, name)?.into_string();
+    if target.as_str().starts_with('/') {
+        return Ok(Some(target));
+    }
+    Ok(Some(beside_file(alloc, name, target.as_str())?))
+}
+
+/// A name in the folder of the file `name`.
+fn beside_file(alloc: Global, name: &str, other: &str) -> Result<String, AllocError> {
+    match name.rsplit_once('/') {
+        Some((folder, _)) => format!(in alloc; "{folder}/{other}"),
+        None => String::from_str(alloc, other),
+    }
+}
+
+/// The whole name of a file that isn't there, in which no link is left.
+fn in_whole_folder<R: Files<File = File>>(
+    files: &R,
+    alloc: Global,
+    name: &str,
+) -> io::Result<String> {
+    let last = match name.rsplit_once('/') {
+        Some((_, last)) => last,
+        None => name,
+    };
+    match files.canonicalize(alloc, folder_of(name)) {
+        Ok(found) => Ok(format!(in alloc; "{}/{last}", whole_folder(found.as_str()))?),
+        Err(error) if error.kind() == io::ErrorKind::OutOfMemory => Err(error),
+        Err(_) => Ok(String::from_str(alloc, name)?),
+    }
+}
+
+/// A folder's name as it stands before a slash.
+fn whole_folder(folder: &str) -> &str {
+    match folder {
+        "/" => "",
+        _ => folder,
+    }
+}
+
+/// The folder that holds the file `name`.
+pub(crate) fn folder_of(name: &str) -> &str {
+    match name.rsplit_once('/') {
+        Some(("", _)) => "/",
+        Some((folder, _)) => folder,
+        None => ".",
+    }
+}
+
+/// Where the file `name` is, and which names and files it may meet there. A name that can't be followed stands for itself.
+///
+/// # Errors
+///
+/// Memory was refused.
+pub(crate) fn locate<R: Files<File = File>>(
+    files: &R,
+    alloc: Global,
+    name: &str,
+) -> io::Result<Location> {
+    let place = match place_of(files, alloc, name) {
+        Ok(place) => place,
+        Err(error) if error.kind() == io::ErrorKind::OutOfMemory => return Err(error),
+        Err(_) => return Ok(Location::of_name(alloc, name)?),
+    };
+    let Place { path, beside } = place;
+    Ok(Location {
+        id: id_of(files, name),
+        beside_id: id_of(files, beside.as_str()),
+        path,
+        beside,
+    })
+}
+
+/// What tells the file of this name from others; `None` where there is none, or the system doesn't tell.
+fn id_of<R: Files<File = File>>(files: &R, name: &str) -> Option<FileId> {
+    let found = fs::metadata(files, name).ok()?;
+    Some(FileId {
+        device: found.dev(),
+        number: found.ino(),
+    })
 }
 
 /// Replaces the file at this place by a new file with these bytes, or creates it. The new file has the permissions of the old one, and is
@@ -77,12 +191,11 @@ pub(crate) fn replace<R: Files<File = File>>(
 }
 
 /// The name of the temporary file, `.NAME.new` in the same folder.
-fn name_beside(alloc: Global, name: &str) -> io::Result<String> {
-    let spelt = match name.rsplit_once('/') {
-        Some((folder, last)) => format!(in alloc; "{folder}/.{last}.new")?,
-        None => format!(in alloc; ".{name}.new")?,
-    };
-    Ok(spelt)
+pub(crate) fn name_beside(alloc: Global, name: &str) -> Result<String, AllocError> {
+    match name.rsplit_once('/') {
+        Some((folder, last)) => format!(in alloc; "{folder}/.{last}.new"),
+        None => format!(in alloc; ".{name}.new"),
+    }
 }
 
 /// Creates a file with these bytes and syncs it. A file of this name from an earlier run is removed first. If writing fails, the new
@@ -114,10 +227,5 @@ fn fill(file: &mut File, permissions: Option<Permissions>, bytes: &[u8]) -> io::
 
 /// Syncs the folder of the file `name`, so that a power cut keeps the names in it.
 pub(crate) fn sync_folder<R: Files<File = File>>(files: &R, name: &str) -> io::Result<()> {
-    let folder = match name.rsplit_once('/') {
-        Some(("", _)) => "/",
-        Some((folder, _)) => folder,
-        None => ".",
-    };
-    File::open(files, folder)?.sync_all()
+    File::open(files, folder_of(name))?.sync_all()
 }

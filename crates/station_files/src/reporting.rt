@@ -1,7 +1,7 @@
 //! Prints failures and faults, and gives the exit status for each.
 
 ghost use Rattle.std.specs.Prelude.{◌≡◌, ◌≢◌, OnErr, OnOk};
-ghost use Rattle.station_files.specs.Faults.{IsFaultless};
+ghost use Rattle.station_files.specs.Faults.{IsFaultless, status_of};
 
 use crate::faults::{ExitStatus, Failure, Fault};
 use std::io::Write;
@@ -16,6 +16,7 @@ pub fn report<E: Write>(failure: Failure, faults: &mut E) -> ExitStatus
 
 /// Prints a fault as one line, and returns its exit status. An error of `faults` is ignored.
 pub fn report_fault<E: Write>(fault: Fault, faults: &mut E) -> ExitStatus
+    ensures exact { result ≡ status_of fault }
     ensures done { result ≢ ExitStatus.Done }
     ensures fault { ¬ IsFaultless result }
 {

@@ -1,14 +1,14 @@
 //! Loads the images that the commands of a script name.
-ghost use Rattle.std.specs.Prelude.{◌≡◌, ◌↔◌, All, IfErr, IfOk, IsTrue};
+ghost use Rattle.std.specs.Prelude.{◌≡◌, ◌↔◌, ◌++◌, flat_map, map, string_bytes, All, IfErr, IfOk, IsTrue, OnOk};
 ghost use Rattle.std.specs.List.{AllZip};
-ghost use Rattle.station_files.specs.ScriptFiles.{IsPlain, LoadsCommand, LoadsEdit, LoadsGroup, LoadsGuarded, RefusesCommand, RefusesCommands, RefusesEdit, RefusesGroup};
+ghost use Rattle.station_files.specs.ScriptFiles.{image_of, images_of, IsPlain, LoadsCommand, LoadsEdit, LoadsGroup, LoadsGuarded, RefusesCommand, RefusesCommands, RefusesEdit, RefusesGroup};
 
 use crate::faults::Fault;
 use crate::store::{Store, read_file};
 use sii_edit::{Command, Edit, EditList, GuardedEdit, GuardedEditList};
 use sii_words::ImageFile;
 use station_text::{ScriptCommand, ScriptEdit, ScriptGroupEdit};
-use std::alloc::Global;
+use std::alloc::{AllocError, Global};
 
 /// Turns the commands of a script into commands with the words of their images. The files are read in the order of the commands, each
 /// judged before the next one is read.
@@ -31,6 +31,56 @@ pub fn load_commands<S: Store>(
         commands.push(load_command(alloc, command, store)?)?;
     }
     Ok(commands)
+}
+
+/// The names of the images of a script, in the order in which they are read.
+pub fn image_names(alloc: Global, script: &[ScriptCommand]) -> Result<Vec<String>, AllocError>
+    ensures { IfOk result (λ names. map (λ name. string_bytes name) names.items ≡ flat_map images_of script.now) }
+{
+    let mut names = Vec::new(alloc);
+    for command in script {
+        push_images(alloc, command, &mut names)?;
+    }
+    Ok(names)
+}
+
+/// Appends the names of the images of a command.
+fn push_images(
+    alloc: Global,
+    command: &ScriptCommand,
+    names: &mut Vec<String>,
+) -> Result<(), AllocError>
+    ensures { OnOk result (map (λ name. string_bytes name) names.new.items ≡ map (λ name. string_bytes name) names.old.items ++ images_of command.now) }
+{
+    match command {
+        ScriptCommand::One(edit) => push_image(alloc, edit, names),
+        ScriptCommand::Swap { .. } => Ok(()),
+        ScriptCommand::Group(edits) => push_group_images(alloc, edits, names),
+    }
+}
+
+/// Appends the names of the images of a group.
+fn push_group_images(
+    alloc: Global,
+    edits: &[ScriptGroupEdit],
+    names: &mut Vec<String>,
+) -> Result<(), AllocError>
+    ensures { OnOk result (map (λ name. string_bytes name) names.new.items ≡ map (λ name. string_bytes name) names.old.items ++ flat_map (λ one. image_of one.edit) edits.now) }
+{
+    for one in edits {
+        push_image(alloc, &one.edit, names)?;
+    }
+    Ok(())
+}
+
+/// Appends the name of the image of an edit, if it has one.
+fn push_image(alloc: Global, edit: &ScriptEdit, names: &mut Vec<String>) -> Result<(), AllocError>
+    ensures { OnOk result (map (λ name. string_bytes name) names.new.items ≡ map (λ name. string_bytes name) names.old.items ++ image_of edit.now) }
+{
+    if let ScriptEdit::Image { file, .. } = edit {
+        names.push(String::from_str(alloc, file.as_str())?)?;
+    }
+    Ok(())
 }
 
 fn load_command<S: Store>(

@@ -4,6 +4,7 @@ ghost use Rattle.station_files.specs.Faults.{IsOfLock, IsOfStream};
 ghost use Rattle.station_files.specs.Files.{HasBytes, ChangesOnly};
 
 use crate::faults::Fault;
+use crate::location::Location;
 use site_file::RandomAccessFile;
 use std::alloc::Global;
 use std::io;
@@ -38,6 +39,18 @@ pub trait Store {
     fn prepare(&mut self, name: &str) -> io::Result<()>
         ensures same { files self.new ≡ files self.old };
 
+    /// Finds out where a name leads, so that two names of the same file can be told. No file changes. A store whose names are whole and
+    /// without links needs no method of its own.
+    ///
+    /// # Errors
+    ///
+    /// Memory was refused.
+    fn locate(&mut self, alloc: Global, name: &str) -> io::Result<Location>
+        ensures same { files self.new ≡ files self.old }
+    {
+        Ok(Location::of_name(alloc, name)?)
+    }
+
     /// Makes `bytes` the contents of the file `name`, which is created where it is absent. A file that has these bytes already stays.
     /// Any other is replaced as a whole: a power cut during the call leaves the old file or the new one. Once the call succeeds, the new
     /// contents survive a power cut.
@@ -50,8 +63,8 @@ pub trait Store {
         ensures written { OnOk result (HasBytes (files self.new) name.now bytes.now) }
         ensures others { ChangesOnly (files self.old) (files self.new) name.now };
 
-    /// Opens an existing file for access at byte offsets, and syncs it, so that what was read of it before survives a power cut from then
-    /// on, also if another process wrote it. Contracts know nothing of its contents until it is written as a whole.
+    /// Opens an existing file for access at byte offsets, and syncs it and its name, so that what was read of it before survives a power
+    /// cut from then on, also if another process wrote it. Contracts know nothing of its contents until it is written as a whole.
     ///
     /// # Errors
     ///

@@ -2,7 +2,7 @@
 ghost use Rattle.std.specs.Prelude.{◌≡◌, IfOk, IfSome};
 ghost use Rattle.station_input.specs.InputScript.{with_input};
 
-use station_files::{LockFault, Store};
+use station_files::{Location, LockFault, Store};
 use std::alloc::Global;
 use std::io;
 use std::io::Read;
@@ -64,6 +64,13 @@ impl<S: Store> Store for InputScript<'_, S> {
             Ok(bytes) => Ok(Some(bytes.to_vec(alloc)?)),
             Err(error) => Err(*error),
         }
+    }
+
+    fn locate(&mut self, alloc: Global, name: &str) -> io::Result<Location> {
+        if name == INPUT {
+            return Ok(Location::of_name(alloc, name)?);
+        }
+        self.store.locate(alloc, name)
     }
 
     fn prepare(&mut self, name: &str) -> io::Result<()> {

@@ -2,7 +2,7 @@
 use Rattle.std.proofs.Common.{◌≡◌, ℕ, ◌+◌, List, [], ◌∷◌, ◌++◌, length, replicate, append_assoc, take, filter, Option, Some, None, Result, Ok, Err, refl, sym, ap, subst, ◌∙◌, inl, inr, length-append}
 use Rattle.std.specs.Prelude.{IsTrue}
 use Rattle.std.specs.List.{AllByRecursion, enumerate_from, flat_map, range_with_len}
-use Rattle.std.proofs.lemmas.List.{append-nil, length-replicate}
+use Rattle.std.proofs.lemmas.List.{append-nil, length-replicate, replicate-append-replicate}
 use Rattle.std.proofs.Math.Nat.{eq-zero-or-pos}
 use Rattle.ecat_frame.specs.Frame.{Pdu}
 use Rattle.site_core.specs.State.{State, Leaves, Seen, CycleTurn}
@@ -150,6 +150,7 @@ module _ (job : CycleJob) (orders : List Pdu) (old mid new : Seen) (writes : All
               sent = refl;
               exchanges = refl;
               bytes = length-sum job.outputs.items image.outputs image.inputs job.whole;
+              zeros = ap (λ (l : List ℕ). l ++ replicate image.inputs 0) job.blank ∙ replicate-append-replicate image.outputs image.inputs 0;
             };
           };
           adds_nothing = adds-then old mid new before.adds_nothing stays leaves.adds_nothing;

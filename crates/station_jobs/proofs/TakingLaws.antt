@@ -1,6 +1,7 @@
 -- A process data cycle with a buffer for its inputs.
-use Rattle.std.proofs.Common.{◌≡◌, ℕ, List, ◌++◌, length, take, drop, Result, Ok, Err, refl, sym, ap, subst, ◌∙◌}
+use Rattle.std.proofs.Common.{◌≡◌, ℕ, ◌+◌, List, [], ◌∷◌, ◌++◌, length, take, drop, replicate, Result, Ok, Err, refl, sym, ap, subst, ◌∙◌, arith}
 use Rattle.std.specs.List.{refill}
+use Rattle.std.proofs.lemmas.List.{length-replicate}
 use Rattle.std.proofs.Math.Seq.{take-append_seam}
 use Rattle.sii_image.specs.ProcessImage.{ProcessImageParts}
 use Rattle.site_core.specs.State.{Seen}
@@ -15,6 +16,16 @@ ok-of (Err fault) not = absurd (not fault refl)
 -- a buffer that was written from end to end holds what was written
 refill-all : (bytes written : List ℕ) → length written ≡ length bytes → refill (length bytes) bytes written ≡ written
 refill-all bytes written same = ap (λ (n : ℕ). take n (written ++ drop (length written) bytes)) (sym same) ∙ take-append_seam written (drop (length written) bytes)
+
+-- a buffer without bytes holds none
+take-none : (bytes : List ℕ) → take 0 bytes ≡ []
+take-none [] = refl
+take-none (byte ∷ bytes) = refl
+
+pub no-bytes : (buffer written : List ℕ) (outputs inputs : ℕ) → buffer ≡ replicate inputs 0 → outputs + inputs ≡ 0 → refill (length buffer) buffer written ≡ []
+no-bytes buffer written outputs inputs is none =
+    let empty : length buffer ≡ 0 = ap length is ∙ length-replicate inputs 0 ∙ omega arith in
+    ap (λ (n : ℕ). take n (written ++ drop (length written) buffer)) empty ∙ take-none (written ++ drop (length written) buffer)
 
 -- the same cycle, stated of the buffer itself
 pub turn-in : (image : ProcessImageParts) (lent outputs inputs zeros buffer written : List ℕ) (old new : Seen) (result : Result ℕ CycleFault) → lent ≡ outputs → inputs ≡ buffer → buffer ≡ zeros → length written ≡ length inputs

@@ -1,5 +1,5 @@
 -- What the process data thread sends: for each job the frames that configure the line, and then one exchange of the process image.
-use Rattle.std.specs.Prelude.{◌≡◌, ◌≢◌, ◌⊎◌, ℕ, ◌+◌, List, [], ◌∷◌, ◌++◌, length, map, Option, None, Err, IsTrue}
+use Rattle.std.specs.Prelude.{◌≡◌, ◌≢◌, ◌⊎◌, ℕ, ◌+◌, List, [], ◌∷◌, ◌++◌, length, map, replicate, Option, None, Err, IsTrue}
 use Rattle.std.specs.List.{AllByRecursion}
 use Rattle.ecat_frame.specs.Frame.{Pdu}
 use Rattle.ecat_frame.specs.Command.{code_of}
@@ -25,12 +25,13 @@ pub record IsSetting (turn : CycleTurn) : Type 0 where
   pub sent : turn.sent ≡ order ∷ []
   pub writes : IsWrite order
 
--- the frame of one exchange of `size` bytes of process data (LRW)
+-- the frame of one exchange of `size` bytes of process data (LRW), all of which go out as zeros
 pub record IsExchange (size : ℕ) (turn : CycleTurn) : Type 0 where
   pub order : Pdu
   pub sent : turn.sent ≡ order ∷ []
   pub exchanges : order.command ≡ code_of Lrw
   pub bytes : length order.content ≡ size
+  pub zeros : order.content ≡ replicate size 0
 
 -- The last of these frames failed, so the line isn't configured.
 pub record FailsToSet (settings : List CycleTurn) : Type 0 where

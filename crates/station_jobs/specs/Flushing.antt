@@ -1,6 +1,7 @@
 -- What the disk's thread does: actions on the disk, one after another, as the events of the main law describe them.
 use Rattle.std.specs.Prelude.{◌≡◌, ◌≤◌, List, length, Result, Ok, Err, Some}
 use Rattle.site_core.specs.declared.fault.DeviceFault.{DeviceFault}
+use Rattle.site_core.specs.declared.fault.DeviceFault.TheVariants as device
 use Rattle.site_core.specs.Disk.{Disk}
 use Rattle.site_core.specs.State.{State, Pair, Seen, Leaves}
 use Rattle.book_model.specs.declared.next.DiskNext.{DiskNext}
@@ -8,6 +9,7 @@ use Rattle.book_model.specs.declared.next.DiskNext.TheVariants as next
 use Rattle.book_laws.specs.Events.{begun_on, ended_on, FailsOn}
 use Rattle.site_journal.specs.Running.{CallsDisk}
 use Rattle.station_jobs.specs.declared.log.Assignment.{Assignment}
+use Rattle.station_jobs.specs.Jobs.{RunsToEnd}
 use Rattle.station_jobs.specs.Left.{ServedJobs}
 
 -- This is an action, and if it writes, it begins inside the disk or right behind its end.
@@ -35,6 +37,10 @@ ActionReturns action (Err fault) old new =
 -- what a power cut may leave while the action is in progress
 abbrev pub LeftInAction : DiskNext → State → Pair → Type 0
 LeftInAction action state pair = Leaves (begun action state) pair
+
+-- The loop did the actions of the log. It ended with `ended`, or with the action in which the site stopped, once its result was reported.
+abbrev pub Flushes : (ended : Type 0) → List (Assignment DiskNext (Result (Unit {0}) DeviceFault)) → Seen → Seen → Type 0
+Flushes ended log old new = RunsToEnd DoesAction (λ result. result ≡ Err device.Stopped) ended ⊥ log old new
 
 -- the actions of a log, done one after another
 abbrev pub IsFlushed : List (Assignment DiskNext (Result (Unit {0}) DeviceFault)) → Seen → Seen → Type 0

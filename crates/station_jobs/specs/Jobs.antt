@@ -35,3 +35,22 @@ pub record Led {J O : Type 0} (Does : J → O → Seen → Seen → Type 0) (log
   pub mid : Seen
   pub in_turn : DoneInTurn Does done old mid
   pub ends : MayEnd Does last mid new
+
+-- After the jobs before it, a loop did no job, and `ended` holds. Or it did one more: either its outcome was reported and is one by which
+-- the site stopped, or `held` holds and it wasn't reported.
+abbrev pub EndsLoop : {J O : Type 0} → (J → O → Seen → Seen → Type 0) → (O → Type 0) → (ended held : Type 0) → List (Assignment J O) → Seen → Seen → Type 0
+EndsLoop Does IsStop ended held [] old new = ended × (new ≡ old)
+EndsLoop {O = O} Does IsStop ended held (last ∷ []) old new =
+    (outcome : O) × Does last.job outcome old new
+    × (((last.outcome ≡ Some outcome) × IsStop outcome) ⊎ ((last.outcome ≡ None) × held))
+EndsLoop Does IsStop ended held jobs old new = ⊥
+
+-- A loop did the jobs of the log, and ended so.
+pub record RunsToEnd {J O : Type 0} (Does : J → O → Seen → Seen → Type 0) (IsStop : O → Type 0) (ended held : Type 0)
+    (log : List (Assignment J O)) (old new : Seen) : Type 0 where
+  pub done : List (Assignment J O)
+  pub last : List (Assignment J O)
+  pub log_is : log ≡ done ++ last
+  pub mid : Seen
+  pub in_turn : DoneInTurn Does done old mid
+  pub ends : EndsLoop Does IsStop ended held last mid new

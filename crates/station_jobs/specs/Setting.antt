@@ -1,5 +1,5 @@
 -- One process data cycle: the line is configured for the plan, and the process data is exchanged.
-use Rattle.std.specs.Prelude.{◌≡◌, ℕ, ◌+◌, ◌<◌, replicate, Option, Some, None, Result, Ok, Err}
+use Rattle.std.specs.Prelude.{◌≡◌, ℕ, ◌+◌, ◌<◌, [], replicate, Option, Some, None, Result, Ok, Err}
 use Rattle.cyclic.specs.declared.fault.CycleFault.{CycleFault}
 use Rattle.cyclic.specs.Configuration.{configuring, reconfiguring}
 use Rattle.cyclic.specs.Sending.{SendsInOrder}
@@ -17,6 +17,7 @@ SetsLine slaves (Some last) plan old result new = SendsInOrder (reconfiguring sl
 -- The process data is exchanged. For an image without bytes nothing is sent.
 pub record Exchanges (job : CycleJob) (old : Seen) (outcome : CycleOutcome) (new : Seen) : Type 0 where
   pub nothing : job.plan.image.outputs + job.plan.image.inputs ≡ 0 → (outcome.result ≡ Ok 0) × (new ≡ old)
+  pub no_inputs : job.plan.image.outputs + job.plan.image.inputs ≡ 0 → outcome.inputs.items ≡ []
   pub turn : 0 < job.plan.image.outputs + job.plan.image.inputs
       → TakesTurn job.plan.image job.outputs.items (replicate job.plan.image.inputs 0) old outcome.result outcome.inputs.items new
 

@@ -9,10 +9,12 @@ use Rattle.site_core.specs.State.{State, Pair, Seen, Leaves, HalfGoes}
 use Rattle.book_model.specs.declared.next.RomNext.{RomNext}
 use Rattle.book_model.specs.declared.next.RomNext.TheVariants as next
 use Rattle.book_model.specs.declared.next.RomOutcome.{RomOutcome}
+use Rattle.book_model.specs.declared.next.RomOutcome.TheVariants as outcomes
 use Rattle.book_model.specs.Book.{Errand, Issuing, Settling}
 use Rattle.book_laws.specs.Steps.{MayBegin, MayComeBack}
 use Rattle.site_journal.specs.Ready.{issue_outcome, settle_outcome}
 use Rattle.station_jobs.specs.declared.log.Assignment.{Assignment}
+use Rattle.station_jobs.specs.Jobs.{RunsToEnd}
 use Rattle.station_jobs.specs.Left.{ServedJobs}
 
 -- This is an issue or a settle.
@@ -73,6 +75,11 @@ LeftInCall slave (next.Issue word value) state pair = (before : Pair) × Leaves 
 LeftInCall slave job state pair = Leaves state pair
 
 -- ---- the log
+
+-- The loop did the issues and settles of the log. It ended with `ended`, or with the one in which the site stopped, once its outcome was
+-- reported. Where the hook may answer false (`held`), it may have ended with one whose outcome wasn't reported.
+abbrev pub Works : ℕ → (ended held : Type 0) → List (Assignment RomNext RomOutcome) → Seen → Seen → Type 0
+Works slave ended held log old new = RunsToEnd (CallsSlave slave) (λ outcome. outcome ≡ outcomes.Stopped) ended held log old new
 
 -- the issues and settles of a log, done one after another
 abbrev pub IsWorked : ℕ → List (Assignment RomNext RomOutcome) → Seen → Seen → Type 0

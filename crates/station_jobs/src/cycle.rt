@@ -1,6 +1,6 @@
 //! The jobs of the process data thread.
 
-ghost use Rattle.std.specs.Prelude.{◌≡◌, length};
+ghost use Rattle.std.specs.Prelude.{◌≡◌, length, replicate};
 
 use arrayvec::ArrayVec;
 use cyclic::CycleFault;
@@ -11,10 +11,12 @@ use sii_image::{IMAGE_BYTES, Plan};
 pub struct CycleJob {
     /// The process image to exchange.
     pub plan: Plan,
-    /// The outputs: exactly as many bytes as the image has outputs.
+    /// The outputs: a zero byte for each byte of outputs of the image. The station moves nothing that hangs on the line.
     pub outputs: ArrayVec<u8, IMAGE_BYTES>,
     /// As many output bytes as the image has.
     pub ghost whole: { length outputs.items ≡ plan.image.outputs },
+    /// Each of them is zero.
+    pub ghost blank: { outputs.items ≡ replicate plan.image.outputs 0 },
 }
 
 /// The outcome of a process data cycle.

@@ -1,7 +1,7 @@
 //! The loop of the disk's thread.
 
 ghost use Rattle.std.specs.Prelude.{◌≡◌, [], IsTrue};
-ghost use Rattle.station_jobs.specs.Flushing.{CanBegin, DoesAction};
+ghost use Rattle.station_jobs.specs.Flushing.{CanBegin, DoesAction, Flushes};
 
 use crate::dispatch::{Dispatch, Turn};
 use crate::end::End;
@@ -34,7 +34,8 @@ pub fn flush<S: Site, D: Dispatch<DiskLog>, R: Wait>(
     requires disk { IsTrue (S.line site).has_disk }
     requires fresh { D.log dispatch ≡ [] }
     requires begins { (action : DiskNext) → D.may_hand dispatch action → CanBegin action (S.seen site).state.disk }
-    ensures { result.start ≡ site }
+    ensures start { result.start ≡ site }
+    ensures flushes { Flushes (D.has_ended dispatch) result.log (S.seen site) (S.seen result.site) }
 {
     let start = Snapshot::of(&site);
     for _ in rt.forever() {

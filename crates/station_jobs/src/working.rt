@@ -2,7 +2,7 @@
 
 ghost use Rattle.std.specs.Prelude.{◌≡◌, []};
 ghost use Rattle.site_core.specs.Line.{Owns};
-ghost use Rattle.station_jobs.specs.Working.{CallsSlave, IsCall};
+ghost use Rattle.station_jobs.specs.Working.{CallsSlave, IsCall, Works};
 
 use crate::dispatch::{Dispatch, Turn};
 use crate::end::End;
@@ -51,6 +51,7 @@ pub fn work<S: Site, D: Dispatch<RomLog>, G: Hook, R: Wait>(
     requires calls { (job : RomNext) → D.may_hand dispatch job → IsCall job }
     ensures start { result.start ≡ site }
     ensures slave { result.log.slave ≡ slave }
+    ensures works { Works slave (D.has_ended dispatch) (G.may_hold hook.now) result.log.jobs (S.seen site) (S.seen result.site) }
 {
     let start = Snapshot::of(&site);
     for _ in rt.forever() {

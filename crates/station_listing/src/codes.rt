@@ -88,6 +88,8 @@ pub enum Code {
     Exists = 94,
     /// Another station has locked the journal.
     Busy = 95,
+    /// Two names lead to the same file, one of which is to be written.
+    SameFile = 96,
 }
 
 /// The entry of a code in the table.
@@ -104,7 +106,7 @@ pub struct CodeEntry {
 }
 
 /// All codes, in the order of their numbers.
-pub const CODES: [Code; 41] = [
+pub const CODES: [Code; 42] = [
     Code::OddLength,
     Code::BadSize,
     Code::RunsOut,
@@ -146,6 +148,7 @@ pub const CODES: [Code; 41] = [
     Code::BadScript,
     Code::Exists,
     Code::Busy,
+    Code::SameFile,
 ];
 
 /// Law: each code stands in the table `CODES`.
@@ -212,6 +215,7 @@ impl Code {
             Code::BadScript => &BAD_SCRIPT,
             Code::Exists => &EXISTS,
             Code::Busy => &BUSY,
+            Code::SameFile => &SAME_FILE,
         }
     }
 }
@@ -509,4 +513,13 @@ const BUSY: CodeEntry = CodeEntry {
     meaning: "Another station works on this journal.",
     reason: "Two stations that write the same slaves would leave neither's commands.",
     remedy: "Wait until it ends, or end it, and try again. Nothing was written.",
+};
+
+const SAME_FILE: CodeEntry = CodeEntry {
+    name: "SameFile",
+    meaning: "Two names lead to the same file.",
+    reason: "The journal and the images of the slaves are written, so each has to be a file of its own: under no other name, and under no link, \
+        the file of another slave, the line file, the script or an image of the script. While NAME is replaced, the new file is called \
+        .NAME.new, so no other file may have that name.",
+    remedy: "Give each slave a file of its own, and copy a file that a script is to write to a slave. Nothing was written.",
 };

@@ -4,7 +4,7 @@ use Rattle.std.specs.Prelude.{⊤}
 use Rattle.station_files.specs.Files.{Known, Holds}
 use Rattle.station_files.specs.LineFiles.{RefusesPlant}
 use Rattle.station_files.specs.declared.faults.Fault.{Fault}
-use Rattle.station_files.specs.declared.faults.Fault.TheVariants.{OddLength, BadSize, ImageOverLimit, Memory, Disk, Lost, Stopped, SlaveDead, NotAJournal, BadVersion, BadJournal, WrongLine, Unserved, File, BadHex, BadLine, BadScript, Exists, Busy}
+use Rattle.station_files.specs.declared.faults.Fault.TheVariants.{OddLength, BadSize, ImageOverLimit, Memory, Disk, Lost, Stopped, SlaveDead, NotAJournal, BadVersion, BadJournal, WrongLine, Unserved, File, BadHex, BadLine, BadScript, Exists, Busy, SameFile}
 use Rattle.station_session.specs.Init.{RefusesUnformatted}
 
 -- a line that is refused isn't formatted
@@ -29,6 +29,7 @@ line_refused files name BadHex refused = refused
 line_refused files name BadLine refused = refused
 line_refused files name (BadScript command) refused = refused
 line_refused files name Busy refused = refused
+line_refused files name SameFile refused = refused
 
 -- a file that was read exists
 pub is_there : (old new : Known) (name spelt : List ℕ) (found : Option (Vec ℕ Global)) (bytes : Vec ℕ Global) → new ≡ old → spelt ≡ name → found ≡ Some bytes

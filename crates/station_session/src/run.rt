@@ -7,6 +7,7 @@ ghost use Rattle.station_session.specs.Session.{is_old, EndsCaptured, EndsRun, E
 use crate::capture::{begin_capture, end_capture};
 use crate::faults::of_open;
 use crate::opening::open_files;
+use crate::same_files::keep_apart;
 use crate::session::{Session, give_up, load_session};
 use crate::site::save_site;
 use crate::threads::run_threads;
@@ -18,7 +19,9 @@ use site_mem::{FaultPlan, Pattern};
 use site_progress::{Cleared, Progress, Watched};
 use site_shadow::{Device, ShadowSite};
 use station_alone::{Alone, OpenFault, recover};
-use station_files::{ExitStatus, Fault, Store, load_script, report_fault, status_of, worse};
+use station_files::{
+    ExitStatus, Fault, Script, Store, load_script_files, report_fault, status_of, worse,
+};
 use station_text::LineFile;
 use std::alloc::Global;
 use std::io::Write;
@@ -303,7 +306,7 @@ fn run_site<D: Device + Copy + Send, S: Store, W: Write, E: Write, R: Wait + Thr
 ///
 /// # Errors
 ///
-/// As for `load_session`, then as for `load_script`.
+/// As for `load_session`, then as for `load_script_files` and `keep_apart`.
 pub fn load<S: Store>(
     alloc: Global,
     name: &str,
@@ -316,10 +319,34 @@ pub fn load<S: Store>(
     ensures same { S.files store.new ≡ S.files store.old }
 {
     let session = load_session(alloc, name, store)?;
-    match load_script(alloc, script, store) {
+    match load_commands(alloc, script, &session.line, store) {
         Ok(commands) => Ok(Given { session, commands }),
         Err(fault) => {
             drop(session);
+            Err(fault)
+        }
+    }
+}
+
+/// Reads a script and the images that it names, none of which may be a file that the run writes.
+///
+/// # Errors
+///
+/// As for `load_script_files`, then as for `keep_apart`.
+fn load_commands<S: Store>(
+    alloc: Global,
+    script: &str,
+    line: &LineFile,
+    store: &mut S,
+) -> Result<Vec<Command>, Fault>
+    ensures spelt { IfOk result (λ commands. SpellsCommands (S.files store.old) script.now commands.items) }
+    ensures same { S.files store.new ≡ S.files store.old }
+{
+    let Script { commands, images } = load_script_files(alloc, script, store)?;
+    match keep_apart(alloc, script, line, &images, store) {
+        Ok(()) => Ok(commands),
+        Err(fault) => {
+            drop(commands);
             Err(fault)
         }
     }

@@ -6,6 +6,7 @@ ghost use Rattle.station_session.specs.Site.{files_of};
 ghost use Rattle.station_session.specs.Session.{is_old, IsRefusal, Loads};
 
 use crate::faults::of_open;
+use crate::same_files::keep_apart;
 use crate::site::{save_site, site_of};
 use jrn_format::version;
 use site_journal::ReadFault;
@@ -38,7 +39,7 @@ pub struct Session<L> {
 /// # Errors
 ///
 /// As for `load_line`; `Busy` where another station has locked the journal, `File` where the system can't lock it; as for `load_slaves`;
-/// `File` where the journal is absent or can't be read. `Memory` may come at any point.
+/// `File` where the journal is absent or can't be read; then as for `keep_apart`. `Memory` may come at any point.
 pub fn load_session<S: Store>(
     alloc: Global,
     name: &str,
@@ -55,6 +56,7 @@ pub fn load_session<S: Store>(
     let Some(lock) = lock else {
         return Err(Fault::File);
     };
+    keep_apart(alloc, name, &line, &[], store)?;
     let is_old = is_old(&journal);
     let site = site_of(alloc, &slaves, journal, FaultPlan::none())?;
     Ok(Session {

@@ -7,15 +7,16 @@ use Rattle.station_jobs.specs.Ends.{Stay}
 use Rattle.desk_book.specs.declared.call.Call.{Call}
 use Rattle.desk_book.specs.Calls.{replayed, AreAnswered}
 use Rattle.desk_book.specs.Logs.{cycle_log}
+use Rattle.book_core.specs.Appending.{AppendsNext}
 use Rattle.desk_laws.proofs.TurnLaws.{turns-are}
 use Rattle.desk_laws.proofs.FallLaws.{turns-rise}
 use Rattle.station_threads.specs.Closing.{IsCycleOf, AreTurnsOf}
 
-module _ (opened : Book) (calls : List Call) (answered : AreAnswered opened calls) where
+module _ (opened : Book) (calls : List Call) (next : AppendsNext opened) (answered : AreAnswered opened calls) where
   handed : AreTurnsOf opened calls (cycle_log calls)
   handed = record {
     images = turns-are (base_of opened) (replayed opened calls).accepted opened calls [] answered refl refl tt;
-    rising = λ next. turns-rise opened calls next answered;
+    rising = turns-rise opened calls next answered;
   }
 
   -- the cycle's end has the cycles that the calls handed out

@@ -10,7 +10,7 @@ use Rattle.desk_book.specs.Logs.{disk_log, cycle_log}
 use Rattle.desk_book.specs.Numbered.{Numbered}
 use Rattle.desk_book.specs.Serving.{ShareCounts}
 use Rattle.desk_book.specs.Closing.{CountAll, AreReceiptsOf, AreWorkersOf}
-use Rattle.desk_laws.specs.Turns.{IsTurnOf, NeverFall, AppendsNext}
+use Rattle.desk_laws.specs.Turns.{IsTurnOf, NeverFall}
 use Rattle.station_threads.specs.declared.closing.Ends.{Ends}
 
 -- The cycle's log has the turns that the calls handed out. Without a cycle they handed out none.
@@ -33,7 +33,7 @@ pub record IsHandedIn {S : Type 0} (opened : Book) (calls : List Call) (shares :
   pub ended : AreEndsOf opened calls ends
 
 -- Each cycle in the log is of the contents after a prefix of the accepted commands, with the size of their process image. No cycle has a
--- shorter prefix than the one before it, unless other commands than the book's next ones were being appended when the desk was made.
+-- shorter prefix than the one before it.
 pub record AreTurnsOf (opened : Book) (calls : List Call) (log : List CycleNote) : Type 0 where
   pub images : AllByRecursion (IsTurnOf (base_of opened) (replayed opened calls).accepted) log
-  pub rising : AppendsNext opened → NeverFall log
+  pub rising : NeverFall log

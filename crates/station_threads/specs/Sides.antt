@@ -1,7 +1,8 @@
 -- What contracts see of a desk and of its dispatches.
-use Rattle.std.specs.Prelude.{◌≡◌, ℕ, Bool, true, false, List, nat_le}
+use Rattle.std.specs.Prelude.{◌≡◌, ℕ, Bool, true, false, List, nat_le, replicate}
 use Rattle.book_model.specs.declared.next.DiskNext.{DiskNext}
 use Rattle.book_model.specs.declared.next.DiskNext.TheVariants as disk
+use Rattle.station_jobs.specs.declared.cycle.CycleJob.{CycleJob}
 use Rattle.station_jobs.specs.declared.cycle.CycleNote.{CycleNote}
 use Rattle.desk_book.specs.Logs.{DiskEntry, RomEntry}
 
@@ -37,3 +38,7 @@ begins_below limit disk.Stop = false
 
 abbrev pub BeginsBelow : ℕ → DiskNext → Type 0
 BeginsBelow limit job = begins_below limit job ≡ true
+
+-- All outputs of the cycle are zero.
+abbrev pub IsBlank : CycleJob → Type 0
+IsBlank job = job.outputs.items ≡ replicate job.plan.image.outputs 0

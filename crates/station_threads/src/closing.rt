@@ -122,8 +122,7 @@ fn audit_all<T: Tickets, R: Refusals>(book: &mut Served<T, R>, shares: &mut Vec<
 /// prefix is all of them. After `Unserved` the state is recoverable too, whether there was a fault, a power cut, or work is left.
 ///
 /// Each process data cycle in the log of the cycle's end, after `Ok` and after `Unserved`, is of the contents after a prefix of the
-/// accepted commands, and its size is that of their process image. No cycle has a shorter prefix than the one before it, unless other
-/// commands than the book's next ones were being appended when the desk was made.
+/// accepted commands, and its size is that of their process image. No cycle has a shorter prefix than the one before it.
 ///
 /// # Errors
 ///

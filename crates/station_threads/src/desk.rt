@@ -1,6 +1,7 @@
 //! The desk: a book under one lock, shared by the threads that submit and the threads that do its jobs.
 
-ghost use Rattle.std.specs.Prelude.{◌≡◌, ◌+◌, [], false, length, IfOk, IfErr};
+ghost use Rattle.std.specs.Prelude.{◌≡◌, ◌+◌, ◌<◌, [], false, length, IfOk, IfErr};
+ghost use Rattle.book_core.specs.Appending.{AppendsNext};
 ghost use Rattle.desk_book.specs.Closing.{IsReceiptOf};
 ghost use Rattle.desk_book.specs.Submitting.{CountsRefusal};
 
@@ -32,11 +33,42 @@ pub struct Desk<T: Tickets, R: Refusals> {
 }
 
 impl<T: Tickets, R: Refusals> Model for Desk<T, R> {
+    ghost use Rattle.book_core.specs.Appending.{AppendsNext};
     ghost use Rattle.station_threads.specs.Sides.{Limited};
 
     ghost Value = { Limited };
 
     ghost view = { λ desk. record { limit = desk.limit } };
+
+    ghost invariant = { λ _. AppendsNext T.opened };
+}
+
+/// What the book is appending are the accepted commands right behind the durable ones.
+fn appends_next(core: &Core)
+    ensures { AppendsNext core.now }
+{
+    let _commands = core.accepted();
+}
+
+/// The book under a desk's lock, with nothing given out, and those who will wait at the desk.
+fn open_book<T: Tickets, R: Refusals>(
+    alloc: Global,
+    core: Core,
+    tickets: BlankLedger,
+    refusals: BlankLedger,
+) -> Result<(Served<T, R>, Sleepers), AllocError>
+    requires core { core ≡ T.opened }
+    requires none { core.accepted ≡ [] }
+    requires tickets { (tickets.name ≡ T.name) × (tickets.count ≡ T.parts) }
+    requires refusals { (refusals.name ≡ R.name) × (refusals.count ≡ R.parts) }
+    ensures { IfOk result (λ both. both.0.pool ≡ record { tickets = tickets.count; refusals = refusals.count; given = 0 }) }
+{
+    let Ok(sleepers) = Sleepers::new(alloc, core.contents().len()) else {
+        drop(core);
+        return Err(AllocError);
+    };
+    let served = Served::of(alloc, core, tickets, refusals)?;
+    Ok((served, sleepers))
 }
 
 impl<T: Tickets, R: Refusals> Desk<T, R> {
@@ -59,18 +91,51 @@ impl<T: Tickets, R: Refusals> Desk<T, R> {
         requires refusals { (refusals.name ≡ R.name) × (refusals.count ≡ R.parts) }
         ensures { IfOk result (λ desk. desk.limit ≡ 8 + core.capacity) }
     {
+        appends_next(&core);
         let limit = AREA_START + core.capacity() as usize;
-        let Ok(sleepers) = Sleepers::new(alloc, core.contents().len()) else {
-            drop(core);
-            return Err(AllocError);
-        };
-        let served = Served::of(alloc, core, tickets, refusals)?;
+        let (served, sleepers) = open_book(alloc, core, tickets, refusals)?;
         Ok(Desk {
             served: Mutex::new(served),
             sleepers,
             alloc,
             limit,
         })
+    }
+
+    /// Makes a desk as `of` does, and gives out its first share, which a new desk never refuses.
+    ///
+    /// Each ledger needs two parts: one for the share, and one that the desk keeps.
+    ///
+    /// # Errors
+    ///
+    /// `AllocError`: memory was refused. The book is dropped.
+    pub fn with_share(
+        alloc: Global,
+        core: Core,
+        tickets: BlankLedger,
+        refusals: BlankLedger,
+    ) -> Result<(Desk<T, R>, Share<T, R>), AllocError>
+        requires core { core ≡ T.opened }
+        requires none { core.accepted ≡ [] }
+        requires tickets { (tickets.name ≡ T.name) × (tickets.count ≡ T.parts) }
+        requires refusals { (refusals.name ≡ R.name) × (refusals.count ≡ R.parts) }
+        requires parts { (1 < tickets.count) × (1 < refusals.count) }
+        ensures limit { IfOk result (λ made. made.0.limit ≡ 8 + core.capacity) }
+        ensures share { IfOk result (λ made. made.1 ≡ record { tickets = 0; refusals = 0 }) }
+    {
+        appends_next(&core);
+        let limit = AREA_START + core.capacity() as usize;
+        let (mut served, sleepers) = open_book(alloc, core, tickets, refusals)?;
+        let Some(share) = served.share() else {
+            unreachable!()
+        };
+        let desk = Desk {
+            served: Mutex::new(served),
+            sleepers,
+            alloc,
+            limit,
+        };
+        Ok((desk, share))
     }
 
     /// Gives out a share, the right to submit. It counts no tickets and no refusals yet.

@@ -1,7 +1,7 @@
 //! The dispatches of a desk: for the disk, for each slave, and for the process data.
 
 ghost use Rattle.std.specs.Prelude.{◌≡◌, [], false};
-ghost use Rattle.station_threads.specs.Sides.{begins_below};
+ghost use Rattle.station_threads.specs.Sides.{IsBlank, begins_below};
 
 use crate::desk::Desk;
 use crate::patience::Patience;
@@ -240,18 +240,21 @@ impl<'a, T: Tickets, R: Refusals> Dispatch<RomLog> for RomSide<'a, T, R> {
 
 /// One process data cycle by this plan, with all outputs zero.
 fn blank_turn(plan: Plan) -> CycleJob
-    ensures { result.plan ≡ plan }
+    ensures plan { result.plan ≡ plan }
+    ensures blank { IsBlank result }
 {
     let outputs = zero_bytes(plan.image.outputs());
     CycleJob { plan, outputs }
 }
 
 impl<'a, T: Tickets, R: Refusals> Dispatch<CycleLog> for CycleSide<'a, T, R> {
+    ghost use Rattle.station_threads.specs.Sides.{IsBlank};
+
     ghost log = { λ side. side.log };
 
     ghost has_job = { λ side. side.has_job };
 
-    ghost may_hand = { λ _ _. Unit {0} };
+    ghost may_hand = { λ _ job. IsBlank job };
 
     ghost has_ended = { λ _. Unit {0} };
 

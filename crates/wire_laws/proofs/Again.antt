@@ -11,12 +11,12 @@ use Rattle.esc_model.specs.Datagrams.{served_datagram}
 use Rattle.esc_model.proofs.Resting.{MayRest-idle, MayRest-station, MayHold-same}
 use Rattle.esc_model.proofs.Serving.{Goes-served}
 use Rattle.esc_model.proofs.Status.{idle_not_busy}
-use Rattle.wire_laws.specs.Due.{WritesControl}
+use Rattle.wire_laws.specs.Due.{WritesControl, is_command, IsFit, NamesInside, none as names_none, reads as names_reads, writes as names_writes}
 use Rattle.wire_laws.specs.Likeness.{IsLike, MayBe}
 use Rattle.wire_laws.proofs.Liking.{like_is_possible, MayBe-refl, MayBe-rests, MayBe-as}
-use Rattle.wire_laws.proofs.Stored.{offered_same, forced_same, address_same, first_same, second_same, offered_again, forced_again, address_again, first_again, second_again}
-use Rattle.wire_laws.proofs.Judged.{judged, Doing, Nothing, Fetches, Writes, doing_of, done, begun_is, begun_as, SameCommand, judged_same, nothing_alike, fetching_alike, writing_alike}
-use Rattle.wire_laws.proofs.Taking.{true_or_false, writes_code, writes_inside, writes_here, writes_same, served_other, served_write, written_quiet, written_idle, written_ignored, judges, stores}
+use Rattle.wire_laws.proofs.Stored.{offered_same, forced_same, offered_again, forced_again}
+use Rattle.wire_laws.proofs.Judged.{judged, Doing, Nothing, Fetches, Writes, doing_of, done, begun_is, begun_as, SameCommand, Needs, none as no_command, reads as a_read, writes as a_write, needs_covers, judged_same, address_needed, first_needed, nothing_alike, fetching_alike, writing_alike}
+use Rattle.wire_laws.proofs.Taking.{true_or_false, HasAll, writes_code, writes_inside, writes_here, writes_same, served_other, served_write, written_quiet, written_idle, written_ignored, judges, stores}
 
 -- WHAT IS SENT
 
@@ -44,6 +44,24 @@ quiet_or_idle half d may writes = by (true_or_false (is_busy half.activity)) (le
     by (inl busy) (inl quiet) = inl quiet.1
     by (inl busy) (inr past) = absurd (may busy (record { write = writes_code half d writes; behind = omega (arith, inside, past.1) }))
 
+-- what is fit has all that its command needs
+pub fit_all : (shadow : SlaveHalf) (d : Pdu) → IsFit shadow d → (half : SlaveHalf) → writes_here half (command_of d.command) d.address d.content ≡ true
+    → HasAll (place_of d) d.content
+fit_all shadow d fits half writes covers =
+    let inside : 0x0500 ≤ register_of d.address = writes_inside half (command_of d.command) d.address d.content writes in
+    let parts = and_parts (nat_le (place_of d) 2) (nat_le 4 (place_of d + length d.content)) covers in
+    let low : place_of d ≤ 2 = leb-true (place_of d) 2 parts.0 in
+    let high : 4 ≤ place_of d + length d.content = leb-true 4 (place_of d + length d.content) parts.1 in
+    let code : d.command ≡ 5 = writes_code half d writes in
+    let is : is_command d ≡ true =
+    rw (code, le-leb (register_of d.address) 0x0502 (omega arith), le-leb 0x0504 (register_of d.address + length d.content) (omega arith)) refl in
+    (let e = fits.from is in omega arith, needed (fits.names is))
+  where
+    needed : NamesInside shadow d.content → Needs d.content
+    needed (names_none covers is) = no_command covers is
+    needed (names_reads covers is inside) = a_read covers is
+    needed (names_writes covers is inside) = a_write covers is
+
 -- BEFORE AND AFTER
 
 module _ (half : SlaveHalf) (at : ℕ) (over : List ℕ) where
@@ -60,9 +78,6 @@ module _ (half : SlaveHalf) (at : ℕ) (over : List ℕ) where
           forced = forced_same half other at over refl refl;
           command_error = refl;
           enable_error = refl;
-          address = address_same half other at over refl;
-          first = first_same half other at over refl;
-          second = second_same half other at over refl;
         };
         words = refl;
       }
@@ -150,94 +165,90 @@ module _ (half : SlaveHalf) (at : ℕ) (over : List ℕ) (bytes : (k : ℕ) → 
           forced = forced_again half stored at over bytes refl refl;
           command_error = refl;
           enable_error = refl;
-          address = address_again half stored at over bytes refl;
-          first = first_again half stored at over bytes refl;
-          second = second_again half stored at over bytes refl;
         };
         words = MayHold-same half.activity half.words;
       }
 
-  module _ (from : at ≤ 2) (covers : 4 ≤ at + length over) where
-    -- a half that has the access bits and the address of the command
-    command_again : (other : SlaveHalf) → other.station ≡ half.station
-        → other.registers.offered ≡ (judged half at over).registers.offered
-        → other.registers.forced ≡ (judged half at over).registers.forced
-        → other.registers.address ≡ (judged half at over).registers.address
-        → length other.words ≡ length half.words
-        → SameCommand (judged half at over) (judged other at over)
-    command_again other station offered forced address count =
-        judged_same half other at over from covers station
-        (offered_again half other at over bytes offered forced) (forced_again half other at over bytes offered forced)
-        (address_again half other at over bytes address) count
+-- a command that is judged again
+module _ (half : SlaveHalf) (over : List ℕ) (bytes : (k : ℕ) → slice_index over k < 256) (needs : Needs over) where
+  -- a half that has the access bits that the command left
+  command_again : (other : SlaveHalf) → other.station ≡ half.station
+      → other.registers.offered ≡ (judged half 2 over).registers.offered
+      → other.registers.forced ≡ (judged half 2 over).registers.forced
+      → length other.words ≡ length half.words
+      → SameCommand (judged half 2 over) (judged other 2 over)
+  command_again other station offered forced count =
+      judged_same half other over needs station
+      (offered_again half other 2 over bytes offered forced) (forced_again half other 2 over bytes offered forced) count
 
-    both : (nat_le at 2 && nat_le 4 (at + length over)) ≡ true
-    both = rw (le-leb at 2 from, le-leb 4 (at + length over) covers) refl
+  both : (nat_le 2 2 && nat_le 4 (2 + length over)) ≡ true
+  both = rw (le-leb 2 2 (omega arith), le-leb 4 (2 + length over) (omega (arith, needs_covers over needs))) refl
 
-    done_again : (d : Doing) → doing_of (judged half at over) ≡ d → (other : SlaveHalf) → other.activity ≡ Idle
-        → SameCommand (judged half at over) (judged other at over) → (written other at over).half ≡ done d (judged other at over)
-    done_again d is other idle same =
-        written_idle other at over idle ∙ judges other at over both ∙ begun_as (judged half at over) (judged other at over) same
-        ∙ ap (λ (e : Doing). done e (judged other at over)) is
+  done_again : (d : Doing) → doing_of (judged half 2 over) ≡ d → (other : SlaveHalf) → other.activity ≡ Idle
+      → SameCommand (judged half 2 over) (judged other 2 over) → (written other 2 over).half ≡ done d (judged other 2 over)
+  done_again d is other idle same =
+      written_idle other 2 over idle ∙ judges other 2 over both ∙ begun_as (judged half 2 over) (judged other 2 over) same
+      ∙ ap (λ (e : Doing). done e (judged other 2 over)) is
 
-    nothing_again : half.activity ≡ Idle → doing_of (judged half at over) ≡ Nothing → MayBe (judged half at over) (written (judged half at over) at over).half
-    nothing_again idle is =
-        let mine : SlaveHalf = judged half at over in
-        let same = command_again mine refl refl refl refl refl in
-        subst (MayBe mine) (sym (done_again Nothing is mine idle same))
-        (like_is_possible mine (judged mine at over)
-        (nothing_alike mine (judged mine at over) same refl (first_again half mine at over bytes refl) (second_again half mine at over bytes refl)
-        (MayHold-same half.activity half.words)))
+  nothing_again : half.activity ≡ Idle → doing_of (judged half 2 over) ≡ Nothing → MayBe (judged half 2 over) (written (judged half 2 over) 2 over).half
+  nothing_again idle is =
+      let mine : SlaveHalf = judged half 2 over in
+      let same = command_again mine refl refl refl refl in
+      subst (MayBe mine) (sym (done_again Nothing is mine idle same))
+      (like_is_possible mine (judged mine 2 over) (nothing_alike mine (judged mine 2 over) same refl (MayHold-same half.activity half.words)))
 
-    read_again : doing_of (judged half at over) ≡ Fetches → (command_error enable_error : Bool)
-        → MayBe (fetching (judged half at over))
-        (written (with_errors (record (fetching (judged half at over)) { activity = Idle }) command_error enable_error) at over).half
-    read_again is command_error enable_error =
-        let mine : SlaveHalf = judged half at over in
-        let other : SlaveHalf = with_errors (record (fetching mine) { activity = Idle }) command_error enable_error in
-        let same = command_again other refl refl refl refl refl in
-        subst (MayBe (fetching mine)) (sym (done_again Fetches is other refl same))
-        (like_is_possible (fetching mine) (fetching (judged other at over)) (fetching_alike mine (judged other at over) same refl))
+  read_again : doing_of (judged half 2 over) ≡ Fetches → (command_error enable_error : Bool)
+      → MayBe (fetching (judged half 2 over))
+      (written (with_errors (record (fetching (judged half 2 over)) { activity = Idle }) command_error enable_error) 2 over).half
+  read_again is command_error enable_error =
+      let mine : SlaveHalf = judged half 2 over in
+      let other : SlaveHalf = with_errors (record (fetching mine) { activity = Idle }) command_error enable_error in
+      let same = command_again other refl refl refl refl in
+      subst (MayBe (fetching mine)) (sym (done_again Fetches is other refl same))
+      (like_is_possible (fetching mine) (fetching (judged other 2 over)) (fetching_alike mine (judged other 2 over) same refl))
 
-    write_again : doing_of (judged half at over) ≡ Writes → (left : ℕ) (command_error enable_error : Bool)
-        → MayBe (writing (judged half at over))
-        (written (with_errors (settled (writing (judged half at over)) (judged half at over).registers.address left) command_error enable_error) at over).half
-    write_again is left command_error enable_error =
-        let mine : SlaveHalf = judged half at over in
-        let other : SlaveHalf = with_errors (settled (writing mine) mine.registers.address left) command_error enable_error in
-        let same = command_again other refl refl refl refl (length-set mine.words mine.registers.address left) in
-        subst (MayBe (writing mine)) (sym (done_again Writes is other refl same))
-        (like_is_possible (writing mine) (writing (judged other at over))
-        (writing_alike mine (judged other at over) same (first_again half other at over bytes refl) (second_again half other at over bytes refl) (left, refl)))
+  write_again : doing_of (judged half 2 over) ≡ Writes → (left : ℕ) (command_error enable_error : Bool)
+      → MayBe (writing (judged half 2 over))
+      (written (with_errors (settled (writing (judged half 2 over)) (judged half 2 over).registers.address left) command_error enable_error) 2 over).half
+  write_again is left command_error enable_error =
+      let mine : SlaveHalf = judged half 2 over in
+      let other : SlaveHalf = with_errors (settled (writing mine) mine.registers.address left) command_error enable_error in
+      let same = command_again other refl refl refl (length-set mine.words mine.registers.address left) in
+      subst (MayBe (writing mine)) (sym (done_again Writes is other refl same))
+      (like_is_possible (writing mine) (writing (judged other 2 over))
+      (writing_alike mine (judged other 2 over) same
+      (address_needed half other over needs Writes is (λ e. absurd cc)) (first_needed half other over needs is) (left, refl)))
 
-    -- while it is busy it takes nothing
-    busy_again : (mine later : SlaveHalf) → is_busy mine.activity ≡ true → later ≡ mine → MayBe mine (written later at over).half
-    busy_again mine later busy same =
-        subst (λ (h : SlaveHalf). MayBe mine (written h at over).half) (sym same)
-        (subst (MayBe mine) (sym (written_ignored mine at over busy (omega arith))) (MayBe-refl mine))
+  -- while it is busy it takes nothing
+  busy_again : (mine later : SlaveHalf) → is_busy mine.activity ≡ true → later ≡ mine → MayBe mine (written later 2 over).half
+  busy_again mine later busy same =
+      subst (λ (h : SlaveHalf). MayBe mine (written h 2 over).half) (sym same)
+      (subst (MayBe mine) (sym (written_ignored mine 2 over busy (omega (arith, needs_covers over needs)))) (MayBe-refl mine))
 
-    -- the half that the command left has come to rest, and takes it again
-    judged_again : half.activity ≡ Idle → (d : Doing) → doing_of (judged half at over) ≡ d → (later : SlaveHalf)
-        → MayRest (done d (judged half at over)) later → MayBe (done d (judged half at over)) (written later at over).half
-    judged_again idle Nothing is later rests =
-        subst (λ (h : SlaveHalf). MayBe (judged half at over) (written h at over).half) (sym (MayRest-idle (judged half at over) later idle rests))
-        (nothing_again idle is)
-    judged_again idle Fetches is later (inl same) = busy_again (fetching (judged half at over)) later refl same
-    judged_again idle Fetches is later (inr (inl well)) =
-        subst (λ (h : SlaveHalf). MayBe (fetching (judged half at over)) (written h at over).half) (sym well)
-        (read_again is (judged half at over).registers.command_error (judged half at over).registers.enable_error)
-    judged_again idle Fetches is later (inr (inr fails)) =
-        subst (λ (h : SlaveHalf). MayBe (fetching (judged half at over)) (written h at over).half) (sym fails.rested_is)
-        (read_again is later.registers.command_error later.registers.enable_error)
-    judged_again idle Writes is later (inl same) = busy_again (writing (judged half at over)) later refl same
-    judged_again idle Writes is later (inr (inl well)) =
-        subst (λ (h : SlaveHalf). MayBe (writing (judged half at over)) (written h at over).half) (sym well)
-        (write_again is (judged half at over).registers.first false false)
-    judged_again idle Writes is later (inr (inr fails)) =
-        subst (λ (h : SlaveHalf). MayBe (writing (judged half at over)) (written h at over).half) (sym fails.ends.rested_is)
-        (write_again is fails.left later.registers.command_error later.registers.enable_error)
+  -- the half that the command left has come to rest, and takes it again
+  judged_again : half.activity ≡ Idle → (d : Doing) → doing_of (judged half 2 over) ≡ d → (later : SlaveHalf)
+      → MayRest (done d (judged half 2 over)) later → MayBe (done d (judged half 2 over)) (written later 2 over).half
+  judged_again idle Nothing is later rests =
+      subst (λ (h : SlaveHalf). MayBe (judged half 2 over) (written h 2 over).half) (sym (MayRest-idle (judged half 2 over) later idle rests))
+      (nothing_again idle is)
+  judged_again idle Fetches is later (inl same) = busy_again (fetching (judged half 2 over)) later refl same
+  judged_again idle Fetches is later (inr (inl well)) =
+      subst (λ (h : SlaveHalf). MayBe (fetching (judged half 2 over)) (written h 2 over).half) (sym well)
+      (read_again is (judged half 2 over).registers.command_error (judged half 2 over).registers.enable_error)
+  judged_again idle Fetches is later (inr (inr fails)) =
+      subst (λ (h : SlaveHalf). MayBe (fetching (judged half 2 over)) (written h 2 over).half) (sym fails.rested_is)
+      (read_again is later.registers.command_error later.registers.enable_error)
+  judged_again idle Writes is later (inl same) = busy_again (writing (judged half 2 over)) later refl same
+  judged_again idle Writes is later (inr (inl well)) =
+      subst (λ (h : SlaveHalf). MayBe (writing (judged half 2 over)) (written h 2 over).half) (sym well)
+      (write_again is (judged half 2 over).registers.first false false)
+  judged_again idle Writes is later (inr (inr fails)) =
+      subst (λ (h : SlaveHalf). MayBe (writing (judged half 2 over)) (written h 2 over).half) (sym fails.ends.rested_is)
+      (write_again is fails.left later.registers.command_error later.registers.enable_error)
 
 -- a half that is at rest after it took what may be sent is one that may be at rest once it took it again
-module _ (half later : SlaveHalf) (d : Pdu) (may : MaySend half d) (bytes : (k : ℕ) → slice_index d.content k < 256) (rests : MayRest (served_datagram half d).half later) where
+module _ (half later : SlaveHalf) (d : Pdu) (may : MaySend half d)
+    (all : (any : SlaveHalf) → writes_here any (command_of d.command) d.address d.content ≡ true → HasAll (place_of d) d.content) (bytes : (k : ℕ) → slice_index d.content k < 256) (rests : MayRest (served_datagram half d).half later) where
   same_station : later.station ≡ half.station
   same_station = MayRest-station (served_datagram half d).half later rests ∙ (Goes-served half (command_of d.command) d.address d.content).station
 
@@ -267,13 +278,14 @@ module _ (half later : SlaveHalf) (d : Pdu) (may : MaySend half d) (bytes : (k :
             ⊎ ((nat_le (place_of d) 2 && nat_le 4 (place_of d + length d.content)) ≡ false)
             → MayBe (served_datagram half d).half (served_datagram later d).half
         by (inl covers) =
-            let parts = and_parts (nat_le (place_of d) 2) (nat_le 4 (place_of d + length d.content)) covers in
             let doing = doing_of (judged half (place_of d) d.content) in
             let first : (served_datagram half d).half ≡ done doing (judged half (place_of d) d.content) =
             first_time ∙ written_idle half (place_of d) d.content idle ∙ judges half (place_of d) d.content covers ∙ begun_is (judged half (place_of d) d.content) in
             may_be_as _ _ _ _ first next_time
-            (judged_again half (place_of d) d.content bytes (leb-true (place_of d) 2 parts.0) (leb-true 4 (place_of d + length d.content) parts.1) idle doing refl later
-            (subst (λ (h : SlaveHalf). MayRest h later) first rests))
+            (subst (λ (n : ℕ). MayBe (done (doing_of (judged half n d.content)) (judged half n d.content)) (written later n d.content).half) (sym (all half writes covers).0)
+            (judged_again half d.content bytes (all half writes covers).1 idle (doing_of (judged half 2 d.content)) refl later
+            (subst (λ (n : ℕ). MayRest (done (doing_of (judged half n d.content)) (judged half n d.content)) later) (all half writes covers).0
+            (subst (λ (h : SlaveHalf). MayRest h later) first rests))))
         by (inr part) =
             let first : (served_datagram half d).half ≡ with_stored half (place_of d) d.content =
             first_time ∙ written_idle half (place_of d) d.content idle ∙ stores half (place_of d) d.content part in

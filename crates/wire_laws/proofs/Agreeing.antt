@@ -1,6 +1,6 @@
 -- After an answer that agrees the real slave is one that the shadow may be; after any other a power cut leaves no more of it.
-use Rattle.std.proofs.Common.{◌≡◌, ◌⊎◌, ℕ, ◌/◌, ◌<◌, ◌≤◌, ◌||◌, Bool, true, false, nat_le, List, Option, Some, None, slice_index, slice_set, refl, sym, ap, subst, ◌∙◌, inl, inr, arith}
-use Rattle.std.specs.Prelude.{if◌then◌else◌, IsTrue}
+use Rattle.std.proofs.Common.{◌≡◌, ◌⊎◌, ℕ, ◌/◌, ◌<◌, Bool, true, false, nat_le, List, Some, None, refl, sym, ap, subst, ◌∙◌, inl, inr, arith}
+use Rattle.std.specs.Prelude.{if◌then◌else◌}
 use Rattle.std.proofs.lemmas.Bool.Decides.{leb_tells}
 use Rattle.ecat_frame.specs.Command.{command_of}
 use Rattle.ecat_frame.specs.Frame.{Pdu}
@@ -10,12 +10,12 @@ use Rattle.esc_model.proofs.Status.{idle_not_busy, no_error}
 use Rattle.wire_laws.specs.Due.{WritesControl}
 use Rattle.wire_laws.specs.Likeness.{IsLike, MayBe}
 use Rattle.wire_laws.specs.Answers.{AnswersAlike, has_status}
-use Rattle.wire_laws.specs.Exchanges.{IsSent, Takes, Takings, Answers, rested_well, rested_failed, rested_as, rested_by_answer, Agrees, alike, unconfirmed, Exchange, unsent, answered, Exchanges, start, next, Stop, silent, told}
+use Rattle.wire_laws.specs.Exchanges.{IsSent, Takes, Takings, rested_well, rested_failed, rested_as, rested_by_answer, Agrees, alike, unconfirmed, unsent, answered, start, next, silent, told}
 use Rattle.wire_laws.specs.Laws.{AgreedIsPossible, StopLeavesNoMore, RunIsPossible}
-use Rattle.wire_laws.proofs.Liking.{IsLike-refl, IsLike-then, like_is_possible, possible_leaves_no_more}
+use Rattle.wire_laws.proofs.Liking.{IsLike-then, like_is_possible, possible_leaves_no_more}
 use Rattle.wire_laws.proofs.Taking.{true_or_false, served_other, writes_here, writes_inside, served_write, written_ignored}
 use Rattle.wire_laws.proofs.Again.{MaySend, place_of}
-use Rattle.wire_laws.proofs.Chain.{takings, answered as answered_once, served_leaves}
+use Rattle.wire_laws.proofs.Chain.{takings, told_once, more_takings, served_leaves}
 use Rattle.wire_laws.proofs.Showing.{flags, same_flags, ShowsStatus, shows_status, status_in, reads_only, status_shown}
 
 -- HOW THE SHADOW RESTS
@@ -73,7 +73,7 @@ read_ended half later command_error enable_error reading rests idle first second
     these c e f g = record {
       station = refl;
       activity = refl;
-      registers = record { offered = refl; forced = refl; command_error = f; enable_error = g; address = refl; first = refl; second = refl };
+      registers = record { offered = refl; forced = refl; command_error = f; enable_error = g };
       words = refl;
     }
 
@@ -105,13 +105,15 @@ word_ended half later word value writing rests idle first second = by rests
 
 -- AN ANSWER
 
-module _ (shadow real later : SlaveHalf) (d found : Pdu) (sent : IsSent d) (may : MaySend shadow d) (be : MayBe shadow real) (answers : Answers d real found later) where
+-- `later` is the real slave as it gave the answer
+module _ (base shadow real mid later : SlaveHalf) (d found : Pdu) (sent : IsSent base d) (may : MaySend shadow d) (be : MayBe shadow real)
+    (before : Takings d real mid) (answer : Takes d mid found later) where
   stayed : MayBe (served_datagram shadow d).half later
-  stayed = answered_once shadow d sent may real later found be answers
+  stayed = told_once base shadow d sent may real mid later found be before answer
 
   module _ (shows : ShowsStatus found) where
     reads : d.command ≡ 4
-    reads = sym answers.last.answer.command ∙ shows.command
+    reads = sym answer.answer.command ∙ shows.command
 
     unchanged : (half : SlaveHalf) → (served_datagram half d).half ≡ half
     unchanged half = served_other half (command_of d.command) d.address d.content (reads_only half d reads)
@@ -122,9 +124,9 @@ module _ (shadow real later : SlaveHalf) (d found : Pdu) (sent : IsSent d) (may 
     -- bits 5 to 7 are those of the real slave
     real_flags : flags later.registers.command_error later.registers.enable_error (is_busy later.activity) ≡ status_in found / 0x20
     real_flags =
-        let mid = answers.last.rested in
-        let like : IsLike mid later = subst (λ (h : SlaveHalf). IsLike h later) (unchanged mid) answers.last.half in
-        rw (like.registers.command_error, like.registers.enable_error, like.activity) (status_shown mid d found sent.counter answers.last.answer shows)
+        let taker = answer.rested in
+        let like : IsLike taker later = subst (λ (h : SlaveHalf). IsLike h later) (unchanged taker) answer.half in
+        rw (like.registers.command_error, like.registers.enable_error, like.activity) (status_shown taker d found sent.counter answer.answer shows)
 
     read_agrees : (command_error enable_error : Bool) → shadow.activity ≡ Reading
         → flags command_error enable_error false ≡ status_in found / 0x20
@@ -172,25 +174,46 @@ module _ (shadow real later : SlaveHalf) (d found : Pdu) (sent : IsSent d) (may 
           subst (λ (h : SlaveHalf). MayBe h later) (sym (unchanged shows (rested_by_answer found shadow) ∙ is))
           (word_agrees shows word value writing low)
 
-  module _ (left : List ℕ) (leaves : MayLeave later left) where
-    stayed_leaves : MayLeave (served_datagram shadow d).half left
-    stayed_leaves = possible_leaves_no_more (served_datagram shadow d).half later left stayed leaves
+  -- the shadow as it rests may be sent the datagram too
+  may_rested : MaySend (rested_by_answer found shadow) d
+  may_rested = by (how_rested found shadow)
+    where
+      by : Rested found shadow → MaySend (rested_by_answer found shadow) d
+      by (stays is) = subst (λ (h : SlaveHalf). MaySend h d) (sym is) may
+      by (read_ends shows reading c e is) = λ busy. absurd (let no : is_busy (rested_by_answer found shadow).activity ≡ false = ap (λ (h : SlaveHalf). is_busy h.activity) is in cc)
+      by (word_ends word value shows writing low is) = λ busy. absurd (let no : is_busy (rested_by_answer found shadow).activity ≡ false = ap (λ (h : SlaveHalf). is_busy h.activity) is in cc)
 
-    read_leaves : shadow.activity ≡ Reading → MayLeave shadow left → left ≡ shadow.words
-    read_leaves reading m = subst (λ (a : Activity). MayHold a shadow.words left) reading m
+  -- and takes it again
+  module _ (last : SlaveHalf) (behind : Takings d later last) where
+    pub agreed_behind : (after : SlaveHalf) → Agrees after (reply_of d (served_datagram (rested_by_answer found shadow) d)) found
+        → MayBe (served_datagram (rested_by_answer found shadow) d).half last
+    agreed_behind after agrees = more_takings base (rested_by_answer found shadow) d sent may_rested later last (agreed after agrees) behind
 
-    -- as the shadow rests, whether the answer agrees or not
-    rested_leaves : MayLeave (served_datagram (rested_by_answer found shadow) d).half left
-    rested_leaves = by (how_rested found shadow)
-      where
-        by : Rested found shadow → MayLeave (served_datagram (rested_by_answer found shadow) d).half left
-        by (stays is) = subst (λ (h : SlaveHalf). MayLeave (served_datagram h d).half left) (sym is) stayed_leaves
-        by (read_ends shows reading c e is) =
-            subst (λ (h : SlaveHalf). MayLeave h left) (sym (unchanged shows (rested_by_answer found shadow) ∙ is))
-            (read_leaves reading (possible_leaves_no_more shadow later left (may_be shows) leaves))
-        by (word_ends word value shows writing low is) =
-            subst (λ (h : SlaveHalf). MayLeave h left) (sym (unchanged shows (rested_by_answer found shadow) ∙ is))
-            (possible_leaves_no_more (with_errors (settled shadow word value) false false) later left (word_agrees shows word value writing low) leaves)
+    module _ (left : List ℕ) (leaves : MayLeave last left) where
+      stayed_last : MayBe (served_datagram shadow d).half last
+      stayed_last = more_takings base shadow d sent may later last stayed behind
+
+      pub stayed_leaves : MayLeave (served_datagram shadow d).half left
+      stayed_leaves = possible_leaves_no_more (served_datagram shadow d).half last left stayed_last leaves
+
+      read_leaves : shadow.activity ≡ Reading → MayLeave shadow left → left ≡ shadow.words
+      read_leaves reading m = subst (λ (a : Activity). MayHold a shadow.words left) reading m
+
+      -- as the shadow rests, whether the answer agrees or not
+      pub rested_leaves : MayLeave (served_datagram (rested_by_answer found shadow) d).half left
+      rested_leaves = by (how_rested found shadow)
+        where
+          by : Rested found shadow → MayLeave (served_datagram (rested_by_answer found shadow) d).half left
+          by (stays is) = subst (λ (h : SlaveHalf). MayLeave (served_datagram h d).half left) (sym is) stayed_leaves
+          by (read_ends shows reading c e is) =
+              subst (λ (h : SlaveHalf). MayLeave h left) (sym (unchanged shows (rested_by_answer found shadow) ∙ is))
+              (read_leaves reading (subst (λ (h : SlaveHalf). MayLeave h left) (unchanged shows shadow) stayed_leaves))
+          by (word_ends word value shows writing low is) =
+              possible_leaves_no_more (served_datagram (rested_by_answer found shadow) d).half last left
+              (more_takings base (rested_by_answer found shadow) d sent may_rested later last
+              (subst (λ (h : SlaveHalf). MayBe h later) (sym (unchanged shows (rested_by_answer found shadow) ∙ is))
+              (word_agrees shows word value writing low)) behind)
+              leaves
 
 -- THE LAWS
 
@@ -207,7 +230,8 @@ pub agreed_is_possible : AgreedIsPossible
 agreed_is_possible shadow real shadow_after real_after be (unsent d busy writes is same) =
     subst (λ (h : SlaveHalf). MayBe h real_after) (sym (is ∙ ignored shadow d busy writes)) (subst (MayBe shadow) (sym same) be)
 agreed_is_possible shadow real shadow_after real_after be (answered d found sent may answers is agrees) =
-    subst (λ (h : SlaveHalf). MayBe h real_after) (sym is) (agreed shadow real real_after d found sent may be answers shadow_after agrees)
+    subst (λ (h : SlaveHalf). MayBe h real_after) (sym is)
+    (agreed_behind shadow shadow real answers.mid answers.after d found sent may be answers.before answers.told real_after answers.behind shadow_after agrees)
 
 pub run_is_possible : RunIsPossible
 run_is_possible shadow real shadow_after real_after like start = like_is_possible shadow real like
@@ -217,11 +241,13 @@ run_is_possible shadow real shadow_after real_after like (next s r _ _ before ex
 pub stop_leaves_no_more : StopLeavesNoMore
 stop_leaves_no_more shadow real shadow_after real_after left be (silent d sent may taken is) leaves =
     subst (λ (h : SlaveHalf). MayLeave h left) (sym is)
-    (elim (takings shadow d sent may real real_after be taken) [
+    (elim (takings shadow shadow d sent may real real_after be taken) [
       | inl never ↦ served_leaves shadow d left (possible_leaves_no_more shadow real_after left never leaves)
       | inr once ↦ possible_leaves_no_more (served_datagram shadow d).half real_after left once leaves
     ])
 stop_leaves_no_more shadow real shadow_after real_after left be (told d found sent may answers (inl rested)) leaves =
-    subst (λ (h : SlaveHalf). MayLeave h left) (sym rested) (rested_leaves shadow real real_after d found sent may be answers left leaves)
+    subst (λ (h : SlaveHalf). MayLeave h left) (sym rested)
+    (rested_leaves shadow shadow real answers.mid answers.after d found sent may be answers.before answers.told real_after answers.behind left leaves)
 stop_leaves_no_more shadow real shadow_after real_after left be (told d found sent may answers (inr same)) leaves =
-    subst (λ (h : SlaveHalf). MayLeave h left) (sym same) (stayed_leaves shadow real real_after d found sent may be answers left leaves)
+    subst (λ (h : SlaveHalf). MayLeave h left) (sym same)
+    (stayed_leaves shadow shadow real answers.mid answers.after d found sent may be answers.before answers.told real_after answers.behind left leaves)

@@ -1,8 +1,8 @@
 -- A real slave that takes a datagram once or more is one that the shadow may be that takes it once.
-use Rattle.std.proofs.Common.{◌≡◌, ◌⊎◌, ℕ, ◌<◌, Bool, true, false, List, length, slice_index, refl, sym, ap, subst, ◌∙◌, inl, inr}
+use Rattle.std.proofs.Common.{◌≡◌, ◌⊎◌, ℕ, List, sym, subst, ◌∙◌, inl, inr}
 use Rattle.ecat_frame.specs.Command.{command_of}
 use Rattle.ecat_frame.specs.Frame.{Pdu}
-use Rattle.esc_model.specs.SlaveHalf.{SlaveHalf, Activity, Idle, Reading, Writing, MayRest, MayHold, MayLeave}
+use Rattle.esc_model.specs.SlaveHalf.{SlaveHalf, Activity, Idle, Reading, Writing, MayHold, MayLeave}
 use Rattle.esc_model.specs.Datagrams.{served_datagram}
 use Rattle.esc_model.proofs.Resting.{MayLeave-same, MayLeave-idle}
 use Rattle.esc_model.proofs.Serving.{Goes, Goes-served}
@@ -10,16 +10,17 @@ use Rattle.wire_laws.specs.Likeness.{IsLike, MayBe}
 use Rattle.wire_laws.specs.Exchanges.{IsSent, Takes, Takings, none, more, Answers}
 use Rattle.wire_laws.proofs.Liking.{MayBe-rests, MayBe-like}
 use Rattle.wire_laws.proofs.Taking.{served_like}
-use Rattle.wire_laws.proofs.Again.{MaySend, forward, again}
+use Rattle.wire_laws.proofs.Again.{MaySend, fit_all, forward, again}
 
-module _ (shadow : SlaveHalf) (d : Pdu) (sent : IsSent d) (may : MaySend shadow d) where
+-- `base` is the half for which the datagram is fit
+module _ (base shadow : SlaveHalf) (d : Pdu) (sent : IsSent base d) (may : MaySend shadow d) where
   -- what the shadow may be once it took the datagram, from what it is when the real slave takes it
   landed : (from mid later : SlaveHalf) → IsLike from mid → IsLike (served_datagram mid d).half later
       → MayBe (served_datagram shadow d).half (served_datagram from d).half → MayBe (served_datagram shadow d).half later
   landed from mid later like taken be =
       MayBe-like (served_datagram shadow d).half (served_datagram mid d).half later
       (MayBe-like (served_datagram shadow d).half (served_datagram from d).half (served_datagram mid d).half be
-      (served_like from mid (command_of d.command) d.address d.content like)) taken
+      (served_like from mid (command_of d.command) d.address d.content (fit_all base d sent.fits from) like)) taken
 
   first_taking : (real later : SlaveHalf) (found : Pdu) → MayBe shadow real → Takes d real found later → MayBe (served_datagram shadow d).half later
   first_taking real later found be takes =
@@ -30,7 +31,7 @@ module _ (shadow : SlaveHalf) (d : Pdu) (sent : IsSent d) (may : MaySend shadow 
       → MayBe (served_datagram shadow d).half later
   next_taking real later found be takes =
       let b = MayBe-rests (served_datagram shadow d).half real takes.rested be takes.rests in
-      landed b.rested takes.rested later b.like takes.half (again shadow b.rested d may sent.bytes b.rests)
+      landed b.rested takes.rested later b.like takes.half (again shadow b.rested d may (fit_all base d sent.fits) sent.bytes b.rests)
 
   -- any number of takings
   pub takings : (real later : SlaveHalf) → MayBe shadow real → Takings d real later → MayBe shadow later ⊎ MayBe (served_datagram shadow d).half later
@@ -41,12 +42,23 @@ module _ (shadow : SlaveHalf) (d : Pdu) (sent : IsSent d) (may : MaySend shadow 
       by (inl b) = inr (first_taking mid later lost b takes)
       by (inr b) = inr (next_taking mid later lost b takes)
 
-  pub answered : (real later : SlaveHalf) (found : Pdu) → MayBe shadow real → Answers d real found later → MayBe (served_datagram shadow d).half later
-  answered real later found be answers = by (takings real answers.mid be answers.before)
+  -- any number of them behind one
+  pub more_takings : (real later : SlaveHalf) → MayBe (served_datagram shadow d).half real → Takings d real later → MayBe (served_datagram shadow d).half later
+  more_takings real later be none = be
+  more_takings real later be (more mid _ lost before takes) = next_taking mid later lost (more_takings real mid be before) takes
+
+  -- as one of the answers was given
+  pub told_once : (real mid after : SlaveHalf) (found : Pdu) → MayBe shadow real → Takings d real mid → Takes d mid found after
+      → MayBe (served_datagram shadow d).half after
+  told_once real mid after found be before told = by (takings real mid be before)
     where
-      by : MayBe shadow answers.mid ⊎ MayBe (served_datagram shadow d).half answers.mid → MayBe (served_datagram shadow d).half later
-      by (inl b) = first_taking answers.mid later found b answers.last
-      by (inr b) = next_taking answers.mid later found b answers.last
+      by : MayBe shadow mid ⊎ MayBe (served_datagram shadow d).half mid → MayBe (served_datagram shadow d).half after
+      by (inl b) = first_taking mid after found b told
+      by (inr b) = next_taking mid after found b told
+
+  pub answered : (real later : SlaveHalf) (found : Pdu) → MayBe shadow real → Answers d real found later → MayBe (served_datagram shadow d).half later
+  answered real later found be answers =
+      more_takings answers.after later (told_once real answers.mid answers.after found be answers.before answers.told) answers.behind
 
 -- a datagram takes nothing from what a power cut may leave
 pub served_leaves : (half : SlaveHalf) (d : Pdu) (left : List ℕ) → MayLeave half left → MayLeave (served_datagram half d).half left

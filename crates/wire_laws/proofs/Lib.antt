@@ -7,3 +7,4 @@ mod Again
 mod Chain
 mod Showing
 mod Agreeing
+mod Amending

@@ -5,12 +5,12 @@ use Rattle.esc_model.specs.Registers.{Registers}
 use Rattle.esc_model.specs.SlaveHalf.{SlaveHalf, Activity, Idle, Reading, Writing, with_errors, settled, MayEnd, MayRest, MayHold, MayLeave}
 use Rattle.esc_model.proofs.Resting.{MayHold-same, MayRest-leaves, MayRest-twice}
 use Rattle.wire_laws.specs.Likeness.{SameRegisters, IsLike, MayBe}
-use Rattle.wire_laws.specs.Laws.{LikeIsPossible, PossibleLeavesNoMore}
+use Rattle.wire_laws.specs.Laws.{BroughtUpIsLike, LikeIsPossible, PossibleLeavesNoMore}
 
 -- REGISTERS
 
 pub SameRegisters-refl : (r : Registers) → SameRegisters r r
-SameRegisters-refl r = record { offered = refl; forced = refl; command_error = refl; enable_error = refl; address = refl; first = refl; second = refl }
+SameRegisters-refl r = record { offered = refl; forced = refl; command_error = refl; enable_error = refl }
 
 pub SameRegisters-then : (a b c : Registers) → SameRegisters a b → SameRegisters b c → SameRegisters a c
 SameRegisters-then a b c f g = record {
@@ -18,9 +18,6 @@ SameRegisters-then a b c f g = record {
   forced = g.forced ∙ f.forced;
   command_error = g.command_error ∙ f.command_error;
   enable_error = g.enable_error ∙ f.enable_error;
-  address = g.address ∙ f.address;
-  first = g.first ∙ f.first;
-  second = g.second ∙ f.second;
 }
 
 pub SameRegisters-sym : (a b : Registers) → SameRegisters a b → SameRegisters b a
@@ -29,9 +26,6 @@ SameRegisters-sym a b f = record {
   forced = sym f.forced;
   command_error = sym f.command_error;
   enable_error = sym f.enable_error;
-  address = sym f.address;
-  first = sym f.first;
-  second = sym f.second;
 }
 
 -- WORDS
@@ -89,9 +83,6 @@ module _ (a b : SlaveHalf) (station : b.station ≡ a.station) (registers : Same
       forced = registers.forced;
       command_error = refl;
       enable_error = refl;
-      address = registers.address;
-      first = registers.first;
-      second = registers.second;
     };
     words = same;
   }
@@ -140,6 +131,14 @@ rest_alike a b later like (inr ends) =
 
 pub like_is_possible : LikeIsPossible
 like_is_possible shadow real like = record { rested = shadow; rests = inl refl; like = like }
+
+pub brought_up_is_like : BroughtUpIsLike
+brought_up_is_like words station real up = record {
+  station = up.station_is;
+  activity = up.idle;
+  registers = record { offered = up.offered; forced = up.forced; command_error = up.command_error; enable_error = up.enable_error };
+  words = up.words_are;
+}
 
 pub MayBe-refl : (half : SlaveHalf) → MayBe half half
 MayBe-refl half = like_is_possible half half (IsLike-refl half)

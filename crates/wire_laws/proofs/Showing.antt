@@ -1,17 +1,14 @@
 -- What the answer to a read shows of a half.
-use Rattle.std.proofs.Common.{◌≡◌, ◌⊎◌, ℕ, ◌+◌, ◌-◌, ◌/◌, ◌%◌, ◌<◌, ◌≤◌, ◌&&◌, Bool, true, false, nat_lt, nat_le, List, length, take, drop, slice_index, slice_range, refl, sym, ap, subst, ◌∙◌, inl, inr, arith, get_or-drop, get_or-take, length-take}
+use Rattle.std.proofs.Common.{◌≡◌, ◌⊎◌, ℕ, ◌+◌, ◌-◌, ◌/◌, ◌%◌, ◌<◌, ◌≤◌, ◌&&◌, Bool, true, false, nat_lt, nat_le, List, length, drop, slice_index, slice_range, refl, sym, ap, subst, ◌∙◌, inl, inr, arith, get_or-drop, get_or-take, length-take}
 use Rattle.std.specs.Prelude.{◌==◌, if◌then◌else◌}
 use Rattle.std.proofs.lemmas.Bool.{and_parts, leb-true, ltb-true, eqb-true}
-use Rattle.ecat_frame.specs.declared.Command.{Command}
-use Rattle.ecat_frame.specs.declared.Command.TheVariants.{Fprd}
 use Rattle.ecat_frame.specs.Command.{command_of}
 use Rattle.ecat_frame.specs.Frame.{Pdu}
 use Rattle.esc_model.specs.Bytes.{lies_in, station_of, register_of}
-use Rattle.esc_model.specs.Registers.{Registers, status_byte}
+use Rattle.esc_model.specs.Registers.{status_byte}
 use Rattle.esc_model.specs.SlaveHalf.{SlaveHalf, Outcome, is_busy, concerns, shown_bytes, replied, passed_on, served}
 use Rattle.esc_model.specs.Datagrams.{served_datagram, reply_of}
 use Rattle.wire_laws.specs.Answers.{compared, AnswersAlike, has_status}
-use Rattle.wire_laws.specs.Exchanges.{IsSent}
 use Rattle.wire_laws.proofs.Taking.{true_or_false, writes_here, writes_code}
 
 -- BITS 5 TO 7

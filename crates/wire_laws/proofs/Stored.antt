@@ -1,16 +1,21 @@
 -- The registers after a write, by what they were before.
-use Rattle.std.proofs.Common.{◌≡◌, ℕ, ◌+◌, ◌*◌, ◌/◌, ◌%◌, ◌<◌, ◌≤◌, List, length, slice_index, refl, sym, ap, ◌∙◌, arith}
+use Rattle.std.proofs.Common.{◌≡◌, ℕ, ◌+◌, ◌-◌, ◌*◌, ◌/◌, ◌%◌, ◌<◌, ◌≤◌, List, length, slice_index, refl, sym, ap, ◌∙◌, arith}
 use Rattle.std.specs.Prelude.{◌==◌, if◌then◌else◌}
 use Rattle.std.proofs.lemmas.Bool.Decides.{nat_tests}
 use Rattle.esc_model.specs.Bytes.{overlaid}
 use Rattle.esc_model.specs.Registers.{Registers, access_byte, status_byte}
 use Rattle.esc_model.specs.SlaveHalf.{SlaveHalf, is_busy, shown_bytes, with_stored}
 use Rattle.wire_laws.specs.Likeness.{SameRegisters}
-use Rattle.wire_laws.proofs.Storing.{byte_after, Lies, before, within, behind, lies, after_before, after_behind, overlaid_at, after_twice, after_small, after_covered}
+use Rattle.wire_laws.proofs.Storing.{byte_after, Lies, before, within, behind, lies, after_before, after_behind, overlaid_at, after_within, after_covered}
 
 -- a word that stands at a place, after the write
 pub word_after : (old at : ℕ) → List ℕ → ℕ → ℕ
 word_after old at over i = byte_after (old % 256) at over i + 256 * byte_after (old / 256) at over (i + 1)
+
+word_covered : (old other at i : ℕ) (over : List ℕ) → at ≤ i → i + 1 < at + length over → word_after old at over i ≡ word_after other at over i
+unfolding word_after
+word_covered old other at i over from h =
+    rw (after_covered (old % 256) (other % 256) at i over from (omega arith), after_covered (old / 256) (other / 256) at (i + 1) over (omega arith) (omega arith)) refl
 
 -- the number of a word, after the write
 pub address_after : (old at : ℕ) → List ℕ → ℕ
@@ -50,10 +55,6 @@ module _ (half : SlaveHalf) (at : ℕ) (over : List ℕ) where
   unfolding word_after
   first_is = rw (byte_is 8 (omega arith), byte_is 9 (omega arith)) refl
 
-  pub second_is : after.second ≡ word_after half.registers.second at over 10
-  unfolding word_after
-  second_is = rw (byte_is 10 (omega arith), byte_is 11 (omega arith)) refl
-
 -- THE SAME REGISTERS GIVE THE SAME
 
 access_same : (r s : Registers) → s.offered ≡ r.offered → s.forced ≡ r.forced → access_byte s ≡ access_byte r
@@ -70,24 +71,12 @@ module _ (a b : SlaveHalf) (at : ℕ) (over : List ℕ) where
   forced_same o f =
       forced_is b at over ∙ ap (λ (n : ℕ). byte_after n at over 0 / 2 % 2 == 1) (access_same a.registers b.registers o f) ∙ sym (forced_is a at over)
 
-  pub address_same : b.registers.address ≡ a.registers.address → (with_stored b at over).registers.address ≡ (with_stored a at over).registers.address
-  address_same e = address_is b at over ∙ ap (λ (n : ℕ). address_after n at over) e ∙ sym (address_is a at over)
-
-  pub first_same : b.registers.first ≡ a.registers.first → (with_stored b at over).registers.first ≡ (with_stored a at over).registers.first
-  first_same e = first_is b at over ∙ ap (λ (n : ℕ). word_after n at over 8) e ∙ sym (first_is a at over)
-
-  pub second_same : b.registers.second ≡ a.registers.second → (with_stored b at over).registers.second ≡ (with_stored a at over).registers.second
-  second_same e = second_is b at over ∙ ap (λ (n : ℕ). word_after n at over 10) e ∙ sym (second_is a at over)
-
   pub stored_same : SameRegisters a.registers b.registers → SameRegisters (with_stored a at over).registers (with_stored b at over).registers
   stored_same same = record {
     offered = offered_same same.offered same.forced;
     forced = forced_same same.offered same.forced;
     command_error = same.command_error;
     enable_error = same.enable_error;
-    address = address_same same.address;
-    first = first_same same.first;
-    second = second_same same.second;
   }
 
   -- of what the content covers only the content counts
@@ -102,6 +91,27 @@ module _ (a b : SlaveHalf) (at : ℕ) (over : List ℕ) where
       command_is b at over
       ∙ ap (λ (n : ℕ). n % 8) (after_covered (status_byte b.registers (is_busy b.activity)) (status_byte a.registers (is_busy a.activity)) at 3 over (omega arith) (omega arith))
       ∙ sym (command_is a at over)
+
+  pub address_covered : at ≤ 2 → 8 ≤ at + length over → (with_stored b at over).registers.address ≡ (with_stored a at over).registers.address
+  unfolding address_after
+  address_covered from covers =
+      address_is b at over
+      ∙ (rw (
+        word_covered (b.registers.address % 65536) (a.registers.address % 65536) at 4 over (omega arith) (omega arith),
+        word_covered (b.registers.address / 65536) (a.registers.address / 65536) at 6 over (omega arith) (omega arith),
+      ) refl)
+      ∙ sym (address_is a at over)
+
+  pub first_covered : at ≤ 2 → 10 ≤ at + length over → (with_stored b at over).registers.first ≡ (with_stored a at over).registers.first
+  first_covered from covers =
+      first_is b at over ∙ word_covered b.registers.first a.registers.first at 8 over (omega arith) (omega arith) ∙ sym (first_is a at over)
+
+  -- the command that the content has
+  pub command_given : at ≡ 2 → 2 ≤ length over → (with_stored a at over).registers.command ≡ slice_index over 1 % 8
+  command_given from covers =
+      command_is a at over
+      ∙ ap (λ (n : ℕ). n % 8)
+      (after_within (status_byte a.registers (is_busy a.activity)) at 3 over (omega arith) (omega arith) ∙ ap (λ (n : ℕ). slice_index over (3 - n)) from)
 
 -- WRITTEN AGAIN
 
@@ -124,33 +134,6 @@ low_by n m e = let same : n % 2 ≡ m % 2 = omega arith in ap (λ (k : ℕ). k =
 high_by : (n m : ℕ) → n % 4 ≡ m % 4 → (n / 2 % 2 == 1) ≡ (m / 2 % 2 == 1)
 high_by n m e = let same : n / 2 % 2 ≡ m / 2 % 2 = omega arith in ap (λ (k : ℕ). k == 1) same
 
-word_twice : (old at i : ℕ) (over : List ℕ) → ((k : ℕ) → slice_index over k < 256) → word_after (word_after old at over i) at over i ≡ word_after old at over i
-unfolding word_after
-word_twice old at i over bytes =
-    let low = byte_after (old % 256) at over i in
-    let high = byte_after (old / 256) at over (i + 1) in
-    let small : low < 256 = after_small (old % 256) at i over (omega arith) bytes in
-    let first : (low + 256 * high) % 256 ≡ low = omega arith in
-    let second : (low + 256 * high) / 256 ≡ high = omega arith in
-    rw (first, second, after_twice (old % 256) at i over, after_twice (old / 256) at (i + 1) over) refl
-
-word_small : (old at i : ℕ) (over : List ℕ) → old < 65536 → ((k : ℕ) → slice_index over k < 256) → word_after old at over i < 65536
-unfolding word_after
-word_small old at i over small bytes =
-    let low : byte_after (old % 256) at over i < 256 = after_small (old % 256) at i over (omega arith) bytes in
-    let high : byte_after (old / 256) at over (i + 1) < 256 = after_small (old / 256) at (i + 1) over (omega arith) bytes in
-    omega arith
-
-address_twice : (old at : ℕ) (over : List ℕ) → ((k : ℕ) → slice_index over k < 256) → address_after (address_after old at over) at over ≡ address_after old at over
-unfolding address_after
-address_twice old at over bytes =
-    let low = word_after (old % 65536) at over 4 in
-    let high = word_after (old / 65536) at over 6 in
-    let small : low < 65536 = word_small (old % 65536) at 4 over (omega arith) bytes in
-    let first : (low + 65536 * high) % 65536 ≡ low = omega arith in
-    let second : (low + 65536 * high) / 65536 ≡ high = omega arith in
-    rw (first, second, word_twice (old % 65536) at 4 over bytes, word_twice (old / 65536) at 6 over bytes) refl
-
 -- a half whose registers are as the write left them
 module _ (a b : SlaveHalf) (at : ℕ) (over : List ℕ) (bytes : (k : ℕ) → slice_index over k < 256) where
   access_again : b.registers.offered ≡ (with_stored a at over).registers.offered → b.registers.forced ≡ (with_stored a at over).registers.forced
@@ -167,24 +150,3 @@ module _ (a b : SlaveHalf) (at : ℕ) (over : List ℕ) (bytes : (k : ℕ) → s
   pub forced_again : b.registers.offered ≡ (with_stored a at over).registers.offered → b.registers.forced ≡ (with_stored a at over).registers.forced
       → (with_stored b at over).registers.forced ≡ (with_stored a at over).registers.forced
   forced_again o f = forced_is b at over ∙ high_by _ _ (access_again o f) ∙ sym (forced_is a at over)
-
-  pub address_again : b.registers.address ≡ (with_stored a at over).registers.address → (with_stored b at over).registers.address ≡ (with_stored a at over).registers.address
-  address_again e =
-      address_is b at over
-      ∙ ap (λ (n : ℕ). address_after n at over) (e ∙ address_is a at over)
-      ∙ address_twice a.registers.address at over bytes
-      ∙ sym (address_is a at over)
-
-  pub first_again : b.registers.first ≡ (with_stored a at over).registers.first → (with_stored b at over).registers.first ≡ (with_stored a at over).registers.first
-  first_again e =
-      first_is b at over
-      ∙ ap (λ (n : ℕ). word_after n at over 8) (e ∙ first_is a at over)
-      ∙ word_twice a.registers.first at 8 over bytes
-      ∙ sym (first_is a at over)
-
-  pub second_again : b.registers.second ≡ (with_stored a at over).registers.second → (with_stored b at over).registers.second ≡ (with_stored a at over).registers.second
-  second_again e =
-      second_is b at over
-      ∙ ap (λ (n : ℕ). word_after n at over 10) (e ∙ second_is a at over)
-      ∙ word_twice a.registers.second at 10 over bytes
-      ∙ sym (second_is a at over)

@@ -13,7 +13,7 @@ use Rattle.esc_model.proofs.Resting.{MayLeave-idle}
 use Rattle.esc_model.proofs.Status.{idle_not_busy}
 use Rattle.wire_laws.specs.Likeness.{IsLike}
 use Rattle.wire_laws.proofs.Stored.{stored_same}
-use Rattle.wire_laws.proofs.Judged.{judged, begun_like}
+use Rattle.wire_laws.proofs.Judged.{judged, Needs, begun_like}
 
 pub true_or_false : (b : Bool) → (b ≡ true) ⊎ (b ≡ false)
 true_or_false true = inl refl
@@ -127,34 +127,39 @@ stored_like a b at over like = record {
 from_both : (a b c d : SlaveHalf) → a ≡ c → b ≡ d → IsLike c d → IsLike a b
 from_both a b c d e f like = subst (λ (h : SlaveHalf). IsLike h b) (sym e) (subst (IsLike c) (sym f) like)
 
-after_like : (a b : SlaveHalf) (at : ℕ) (over : List ℕ) → a.activity ≡ Idle → IsLike a b → IsLike (after_write a at over) (after_write b at over)
-after_like a b at over idle like = by (true_or_false (nat_le at 2 && nat_le 4 (at + length over)))
+-- What covers control and status begins there, and has all that its command needs.
+abbrev pub HasAll : (at : ℕ) → List ℕ → Type 0
+HasAll at over = (nat_le at 2 && nat_le 4 (at + length over)) ≡ true → (at ≡ 2) × Needs over
+
+after_like : (a b : SlaveHalf) (at : ℕ) (over : List ℕ) → HasAll at over → a.activity ≡ Idle → IsLike a b → IsLike (after_write a at over) (after_write b at over)
+after_like a b at over all idle like = by (true_or_false (nat_le at 2 && nat_le 4 (at + length over)))
   where
     by : ((nat_le at 2 && nat_le 4 (at + length over)) ≡ true) ⊎ ((nat_le at 2 && nat_le 4 (at + length over)) ≡ false)
         → IsLike (after_write a at over) (after_write b at over)
     by (inr part) = from_both _ _ _ _ (stores a at over part) (stores b at over part) (stored_like a b at over like)
     by (inl covers) =
-        let parts = and_parts (nat_le at 2) (nat_le 4 (at + length over)) covers in
         from_both _ _ _ _ (judges a at over covers) (judges b at over covers)
-        (begun_like a b at over (leb-true at 2 parts.0) (leb-true 4 (at + length over) parts.1) like (MayLeave-idle a b.words idle like.words))
+        (subst (λ (n : ℕ). IsLike (begun (judged a n over)) (begun (judged b n over))) (sym (all covers).0)
+        (begun_like a b over (all covers).1 like (MayLeave-idle a b.words idle like.words)))
 
-written_like : (a b : SlaveHalf) (at : ℕ) (over : List ℕ) → IsLike a b → IsLike (written a at over).half (written b at over).half
-written_like a b at over like = by (true_or_false (is_busy a.activity)) (leb_tells (at + length over) 2)
+written_like : (a b : SlaveHalf) (at : ℕ) (over : List ℕ) → HasAll at over → IsLike a b → IsLike (written a at over).half (written b at over).half
+written_like a b at over all like = by (true_or_false (is_busy a.activity)) (leb_tells (at + length over) 2)
   where
     by : (is_busy a.activity ≡ true) ⊎ (is_busy a.activity ≡ false)
         → ((nat_le (at + length over) 2 ≡ true) × (at + length over ≤ 2)) ⊎ ((nat_le (at + length over) 2 ≡ false) × (2 < at + length over))
         → IsLike (written a at over).half (written b at over).half
     by (inr free) _ =
         let idle : a.activity ≡ Idle = idle_not_busy a.activity free in
-        from_both _ _ _ _ (written_idle a at over idle) (written_idle b at over (like.activity ∙ idle)) (after_like a b at over idle like)
+        from_both _ _ _ _ (written_idle a at over idle) (written_idle b at over (like.activity ∙ idle)) (after_like a b at over all idle like)
     by (inl busy) (inl quiet) = from_both _ _ _ _ (written_quiet a at over quiet.1) (written_quiet b at over quiet.1) (stored_like a b at over like)
     by (inl busy) (inr past) =
         from_both _ _ _ _ (written_ignored a at over busy past.1) (written_ignored b at over (ap is_busy like.activity ∙ busy) past.1) like
 
 -- halves that are like one another are so once they took a datagram
-pub served_like : (a b : SlaveHalf) (command : Command) (address : ℕ) (content : List ℕ) → IsLike a b
+pub served_like : (a b : SlaveHalf) (command : Command) (address : ℕ) (content : List ℕ)
+    → (writes_here a command address content ≡ true → HasAll (register_of address - 0x0500) content) → IsLike a b
     → IsLike (served a command address content).half (served b command address content).half
-served_like a b command address content like = by (true_or_false (writes_here a command address content))
+served_like a b command address content all like = by (true_or_false (writes_here a command address content))
   where
     same : writes_here b command address content ≡ writes_here a command address content
     same = writes_same a b command address content like.station
@@ -163,6 +168,6 @@ served_like a b command address content like = by (true_or_false (writes_here a 
         → IsLike (served a command address content).half (served b command address content).half
     by (inl writes) =
         from_both _ _ _ _ (served_write a command address content writes) (served_write b command address content (same ∙ writes))
-        (written_like a b (register_of address - 0x0500) content like)
+        (written_like a b (register_of address - 0x0500) content (all writes) like)
     by (inr other) =
         from_both _ _ _ _ (served_other a command address content other) (served_other b command address content (same ∙ other)) like

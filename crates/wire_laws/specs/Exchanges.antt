@@ -3,16 +3,18 @@ use Rattle.std.specs.Prelude.{◌≡◌, ◌⊎◌, ℕ, ◌<◌, nat_le, true, 
 use Rattle.ecat_frame.specs.Frame.{Pdu}
 use Rattle.esc_model.specs.SlaveHalf.{SlaveHalf, Activity, Idle, Reading, Writing, is_busy, MayRest, settled, with_errors}
 use Rattle.esc_model.specs.Datagrams.{served_datagram, reply_of}
-use Rattle.wire_laws.specs.Due.{WritesControl}
+use Rattle.wire_laws.specs.Due.{WritesControl, IsFit}
 use Rattle.wire_laws.specs.Likeness.{IsLike}
 use Rattle.wire_laws.specs.Answers.{AnswersAlike, shown_status}
 
 -- THE REAL SLAVE
 
--- The datagram is as it is sent: of bytes, and with a working counter of 0.
-pub record IsSent (d : Pdu) : Type 0 where
+-- The datagram is as it is sent: of bytes, and with a working counter of 0; and a command begins at control and status, and has all that it
+-- needs.
+pub record IsSent (shadow : SlaveHalf) (d : Pdu) : Type 0 where
   pub counter : d.counter ≡ 0
   pub bytes : (k : ℕ) → slice_index d.content k < 256
+  pub fits : IsFit shadow d
 
 -- The real slave takes the datagram as the definition says, perhaps after it became idle, up to what is the controller's own; and this
 -- comes back.
@@ -27,11 +29,13 @@ pub data Takings (d : Pdu) (real : SlaveHalf) : (later : SlaveHalf) → Type 0 w
   none : Takings d real real
   more : (mid later : SlaveHalf) (lost : Pdu) → Takings d real mid → Takes d mid lost later → Takings d real later
 
--- It takes the datagram once or more, and the last answer comes back.
+-- It takes the datagram once or more, and one of the answers comes back, which need not be the last one.
 pub record Answers (d : Pdu) (real : SlaveHalf) (found : Pdu) (later : SlaveHalf) : Type 0 where
   pub mid : SlaveHalf
+  pub after : SlaveHalf
   pub before : Takings d real mid
-  pub last : Takes d mid found later
+  pub told : Takes d mid found after
+  pub behind : Takings d after later
 
 -- THE SHADOW
 
@@ -71,7 +75,7 @@ pub data Agrees (shadow : SlaveHalf) (given found : Pdu) : Type 0 where
 pub data Exchange (shadow real shadow_after real_after : SlaveHalf) : Type 0 where
   unsent : (d : Pdu) → IsTrue (is_busy shadow.activity) → WritesControl d
       → shadow_after ≡ (served_datagram shadow d).half → real_after ≡ real → Exchange shadow real shadow_after real_after
-  answered : (d found : Pdu) → IsSent d → (IsTrue (is_busy shadow.activity) → ¬ WritesControl d)
+  answered : (d found : Pdu) → IsSent shadow d → (IsTrue (is_busy shadow.activity) → ¬ WritesControl d)
       → Answers d real found real_after
       → shadow_after ≡ (served_datagram (rested_by_answer found shadow) d).half
       → Agrees shadow_after (reply_of d (served_datagram (rested_by_answer found shadow) d)) found
@@ -80,9 +84,9 @@ pub data Exchange (shadow real shadow_after real_after : SlaveHalf) : Type 0 whe
 -- Both have taken a datagram, and the site stops: no answer came back, and the shadow has taken it; or one came back, and whatever it was,
 -- the shadow rested as it shows or stayed, and has taken the datagram.
 pub data Stop (shadow real shadow_after real_after : SlaveHalf) : Type 0 where
-  silent : (d : Pdu) → IsSent d → (IsTrue (is_busy shadow.activity) → ¬ WritesControl d)
+  silent : (d : Pdu) → IsSent shadow d → (IsTrue (is_busy shadow.activity) → ¬ WritesControl d)
       → Takings d real real_after → shadow_after ≡ (served_datagram shadow d).half → Stop shadow real shadow_after real_after
-  told : (d found : Pdu) → IsSent d → (IsTrue (is_busy shadow.activity) → ¬ WritesControl d)
+  told : (d found : Pdu) → IsSent shadow d → (IsTrue (is_busy shadow.activity) → ¬ WritesControl d)
       → Answers d real found real_after
       → (shadow_after ≡ (served_datagram (rested_by_answer found shadow) d).half) ⊎ (shadow_after ≡ (served_datagram shadow d).half)
       → Stop shadow real shadow_after real_after

@@ -1,12 +1,27 @@
 -- Laws that hold for a real slave and its shadow.
-use Rattle.std.specs.Prelude.{ℕ, List}
-use Rattle.esc_model.specs.SlaveHalf.{SlaveHalf, MayLeave}
+use Rattle.std.specs.Prelude.{◌≡◌, ℕ, false, List}
+use Rattle.esc_model.specs.SlaveHalf.{SlaveHalf, Idle, powered_up, MayLeave}
 use Rattle.wire_laws.specs.Likeness.{IsLike, MayBe}
 use Rattle.wire_laws.specs.Exchanges.{Exchange, Exchanges, Stop}
 
 -- A half that is like the shadow is one that the shadow may be.
 abbrev pub LikeIsPossible : Type 0
 LikeIsPossible = (shadow real : SlaveHalf) → IsLike shadow real → MayBe shadow real
+
+-- The slave is as bring-up leaves it: it has these words, is at this station, idle and without an error, and its EEPROM isn't offered to the
+-- PDI. The number of the word and the data are those of the last words that were read.
+pub record IsBroughtUp (words : List ℕ) (station : ℕ) (real : SlaveHalf) : Type 0 where
+  pub words_are : real.words ≡ words
+  pub station_is : real.station ≡ station
+  pub idle : real.activity ≡ Idle
+  pub offered : real.registers.offered ≡ false
+  pub forced : real.registers.forced ≡ false
+  pub command_error : real.registers.command_error ≡ false
+  pub enable_error : real.registers.enable_error ≡ false
+
+-- Such a slave is like the shadow of its words at power-up, with which the site begins.
+abbrev pub BroughtUpIsLike : Type 0
+BroughtUpIsLike = (words : List ℕ) (station : ℕ) (real : SlaveHalf) → IsBroughtUp words station real → IsLike (powered_up words station) real
 
 -- The shadow is like itself.
 abbrev pub IsLikeItself : Type 0

@@ -3,3 +3,4 @@ pub mod Likeness
 pub mod Answers
 pub mod Exchanges
 pub mod Laws
+pub mod Amending

@@ -4,19 +4,16 @@ use Rattle.std.specs.Prelude.{◌≡◌}
 use Rattle.esc_model.specs.Registers.{Registers}
 use Rattle.esc_model.specs.SlaveHalf.{SlaveHalf, MayHold, MayRest}
 
--- The registers are the same but for what is the controller's own: of control and status bits 0 to 12, where bit 0 is write enable, 5 to
--- 7 say what it can do, 8 to 10 are the command, and 11 and 12 tell of loading; and the third and fourth word of data, which a controller
--- fills that reads eight bytes at a time.
+-- The registers are the same in what no command rewrites that a station sends, and in the errors: bits 0 and 1 of 0x0500, and bits 13 and 14
+-- of control and status. Of control and status bits 0 to 12 are the controller's own: bit 0 is write enable, 5 to 7 say what it can do, 8
+-- to 10 are the command, and 11 and 12 tell of loading. The number of the word and the data are what the last command left there.
 pub record SameRegisters (registers others : Registers) : Type 0 where
   pub offered : others.offered ≡ registers.offered
   pub forced : others.forced ≡ registers.forced
   pub command_error : others.command_error ≡ registers.command_error
   pub enable_error : others.enable_error ≡ registers.enable_error
-  pub address : others.address ≡ registers.address
-  pub first : others.first ≡ registers.first
-  pub second : others.second ≡ registers.second
 
--- The other half is the same but for what is the controller's own, and for the value of a word in flight.
+-- The other half is the same but for what is the controller's own, for what each command rewrites, and for the value of a word in flight.
 pub record IsLike (half other : SlaveHalf) : Type 0 where
   pub station : other.station ≡ half.station
   pub activity : other.activity ≡ half.activity

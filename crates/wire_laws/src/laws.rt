@@ -1,10 +1,12 @@
 //! Laws that hold for a real slave and its shadow. The functions here do nothing: the contract of each is the law.
 
-ghost use Rattle.wire_laws.specs.Laws.{LikeIsPossible, IsLikeItself, PossibleLeavesNoMore, AgreedIsPossible, RunIsPossible, StopLeavesNoMore};
+ghost use Rattle.wire_laws.specs.Amending.{PossibleIsAmended, AmendedStays, AmendedLeavesNoMore, BusyIsPossible, ReadBackIsPossible, OtherIsKept};
+ghost use Rattle.wire_laws.specs.Laws.{BroughtUpIsLike, LikeIsPossible, IsLikeItself, PossibleLeavesNoMore, AgreedIsPossible, RunIsPossible, StopLeavesNoMore};
 
-/// A slave that is like its shadow, but for what is the controller's own, is one that the shadow may be. What a power cut leaves of any
+/// A slave as bring-up leaves it is like its shadow. A slave that is like its shadow, but for what is the controller's own, is one that the shadow may be. What a power cut leaves of any
 /// slave that the shadow may be is among what it may leave of the shadow.
 pub fn possible_leaves_no_more()
+    ensures brought_up { BroughtUpIsLike }
     ensures itself { IsLikeItself }
     ensures like { LikeIsPossible }
     ensures leaves { PossibleLeavesNoMore }
@@ -21,4 +23,17 @@ pub fn agreed_is_possible()
 /// the shadow.
 pub fn stop_leaves_no_more()
     ensures { StopLeavesNoMore }
+{}
+
+/// While a shadow is busy, the device may tell its slave to clear its errors, to read words, and the word in flight again. At each moment of
+/// this a power cut leaves of the real slave what it may leave of the shadow. It ends with a slave that the shadow may be: one that is busy
+/// with the same command, or that is idle and whose word reads back as it was to be written. Where it reads back as another value, the slave
+/// has the words of a shadow whose word ended in error with that value.
+pub fn amending_is_possible()
+    ensures begins { PossibleIsAmended }
+    ensures stays { AmendedStays }
+    ensures leaves { AmendedLeavesNoMore }
+    ensures busy { BusyIsPossible }
+    ensures read_back { ReadBackIsPossible }
+    ensures other { OtherIsKept }
 {}

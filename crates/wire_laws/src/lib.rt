@@ -5,4 +5,6 @@
 
 mod laws;
 
-pub use laws::{agreed_is_possible, possible_leaves_no_more, stop_leaves_no_more};
+pub use laws::{
+    agreed_is_possible, amending_is_possible, possible_leaves_no_more, stop_leaves_no_more,
+};

@@ -1,10 +1,17 @@
 //! Reads the arguments of the program; also has the help texts.
 
 use crate::capture_argument::{capture_argument, capture_of};
-use crate::practice::PowerCut;
+use crate::practice::{PowerCut, Practice};
+use crate::quirks::QuirkList;
+use crate::session_arguments::{
+    allowed_of, force_argument, resize_argument, trust_argument, trust_of, words_argument,
+};
+use crate::sizes::sizes_of;
 use clap::error::ErrorKind;
-use clap::{Arg, ArgMatches, Command, Error, value_parser};
+use clap::{Arg, ArgAction, ArgMatches, Command, Error, value_parser};
+use site_wire::Sizes;
 use std::alloc::{AllocError, Global};
+use wire_session::Allowed;
 
 /// A command line: what it asks for, and where its text and its frames go.
 #[derive(Clone, Copy)]
@@ -13,6 +20,8 @@ pub struct Arguments<'a> {
     pub text: Option<&'a str>,
     /// The name of the file that each frame is written to, if there is one.
     pub capture: Option<&'a str>,
+    /// Whether faults have a second line where standard error is no terminal, too.
+    pub is_verbose: bool,
     /// What is asked for.
     pub task: Task<'a>,
 }
@@ -21,16 +30,23 @@ pub struct Arguments<'a> {
 #[derive(Clone, Copy)]
 pub enum Task<'a> {
     /// Prints a line for each slave.
-    Scan,
+    Scan {
+        /// The sizes of EEPROMs, as far as they are given.
+        sizes: Sizes,
+    },
     /// Writes the slaves' image files.
     Backup {
         /// The name of the line file.
         line: &'a str,
+        /// The sizes of EEPROMs, as far as they are given.
+        sizes: Sizes,
     },
     /// Makes an empty journal for the line.
     Init {
         /// The name of the line file.
         line: &'a str,
+        /// What is allowed on the line.
+        allowed: Allowed,
     },
     /// Runs a script on the line.
     Run {
@@ -38,19 +54,18 @@ pub enum Task<'a> {
         line: &'a str,
         /// The name of the script file.
         script: &'a str,
+        /// What is allowed on the line.
+        allowed: Allowed,
     },
     /// Recovers the line.
     Recover {
         /// The name of the line file.
         line: &'a str,
+        /// What is allowed on the line.
+        allowed: Allowed,
     },
     /// Serves the slaves of a line to practise on.
-    Slaves {
-        /// The name of the line file.
-        line: &'a str,
-        /// A planned power cut, if there is one.
-        cut: Option<PowerCut>,
-    },
+    Slaves(Practice<'a>),
     /// Explains all codes.
     Explain,
 }
@@ -60,29 +75,39 @@ const VERSION: &str = "0.1.0";
 
 /// The help text on how the program is started, and on its exit status.
 const STARTING: &str =
-    "Standard input and output are the wire: a raw socket, which a launcher opens before it
-starts this program. Text goes to standard error, or to the file that --text names.
-Faults go to standard error as: fault CODE NAME. The subcommand explain says what
-a code means.
-
+    "The network interface comes first: sii_wire -i eth0 scan. Without a name -i lists all;
+--timeout MS (100) says after how long a frame is lost. Text goes to standard output,
+faults to standard error as: fault CODE NAME. explain says what a code means.
 Exit status: 0 done, 1 a command was refused, 2 wrong usage, 3 a file or its form,
-4 the line, 5 no memory.
-
-Example, with the text on standard output:
-  launch eth0 2000 sii_wire --text /dev/fd/3 scan";
+4 the line, 5 no memory.";
 
 /// The help text on what `scan` prints.
 const SCAN_ANSWERS: &str = "Answers, a line for each slave:
   slave P words N alias A check C vendor V product Q revision R serial S
                    P is its position, from 0, and N the size of its EEPROM;
-                   C is ok, or bad with the check byte found and the one expected";
+                   C is ok, or bad with the check byte found and the one expected
+  slave P fault CODE NAME ..
+                   it can't be worked on; the other slaves are listed all the same
+Behind either stands:
+  state T          the AL state: init, preop, boot, safeop, op or unknown
+  error            the slave tells an error of that state
+  held             its PDI has the EEPROM, or is offered it
+  says W found F   W words are there by word 0x3e, and F were found: open where the
+                   words don't repeat up to word 4096, and alike where all words
+                   that were compared are the same, so that it can't be told
+  larger           it has more than 4096 words; the first 4096 are worked on";
 
 /// The help text on the files of `backup`.
 const BACKUP_FILES: &str =
     "A line file that is there says where the images go. Where LINE isn't there it is
 written too: of a name like line.toml it names line-s0.bin, line-s1.bin and so on,
 and line-journal.bin, which is not made. A file that is there already is never
-written over: fault 94 Exists.";
+written over: fault 94 Exists.
+
+Answers, a line for each slave whose word 0x3e tells another size than it has:
+  slave P words N says W
+                   N words were backed up, and W are there by word 0x3e
+  ... larger       it has more than 4096 words; the first 4096 are worked on";
 
 /// The help text on what `init` prints.
 const INIT_ANSWERS: &str = "Answers:
@@ -108,7 +133,11 @@ const RUN_ANSWERS: &str = "Answers:
 The script is one of sii_station, whose run --help shows a command of each kind. It
 is read before a frame is sent. In the end each image file has the words of its
 slave. After a fault of the line or the journal the image files are as they were.
-Recover the line then: each durable command is done as a whole.";
+Recover the line then: each durable command is done as a whole.
+
+Before a word is written it is refused: an image file larger than its slave's EEPROM
+(fault 109), a slave above Pre-Operational (110), an EEPROM that its PDI has (111),
+and a command that makes word 0x3e tell another size than the EEPROM has (112).";
 
 /// The help text on what `recover` prints and writes.
 const RECOVER_ANSWERS: &str = "Answers:
@@ -152,10 +181,12 @@ fn arguments_of<'a>(
 ) -> Result<Arguments<'a>, Error> {
     let text = matches.get_str("text");
     let capture = capture_of(matches);
+    let is_verbose = matches.get_flag("verbose");
     match task_of(command, matches) {
         Ok(task) => Ok(Arguments {
             text,
             capture,
+            is_verbose,
             task,
         }),
         Err(error) => Err(error),
@@ -167,6 +198,21 @@ fn task_of<'a>(command: &mut Command<'a>, matches: &ArgMatches<'a>) -> Result<Ta
     if let Some(slaves) = matches.subcommand_matches("slaves") {
         return slaves_task(command, slaves);
     }
+    if let Some(scan) = matches.subcommand_matches("scan") {
+        return match sizes_in(command, scan) {
+            Ok(sizes) => Ok(Task::Scan { sizes }),
+            Err(error) => Err(error),
+        };
+    }
+    if let Some(backup) = matches.subcommand_matches("backup") {
+        return match sizes_in(command, backup) {
+            Ok(sizes) => Ok(Task::Backup {
+                line: line_of(backup),
+                sizes,
+            }),
+            Err(error) => Err(error),
+        };
+    }
     match plain_task(matches) {
         Some(task) => Ok(task),
         None => refused(
@@ -177,33 +223,39 @@ fn task_of<'a>(command: &mut Command<'a>, matches: &ArgMatches<'a>) -> Result<Ta
     }
 }
 
-/// The task of `scan`, `backup`, `init`, `run`, `recover` or `explain`, whose arguments need no further check.
-fn plain_task<'a>(matches: &ArgMatches<'a>) -> Option<Task<'a>> {
-    if matches.subcommand_matches("scan").is_some() {
-        return Some(Task::Scan);
+/// The sizes of EEPROMs that are given.
+fn sizes_in<'a>(command: &mut Command<'a>, matches: &ArgMatches<'a>) -> Result<Sizes, Error> {
+    match sizes_of(matches.get_str("words").unwrap_or("")) {
+        Some(sizes) => Ok(sizes),
+        None => Err(command.error(
+            ErrorKind::ValueValidation,
+            "--words is SLAVE=N,.. with N from 64 to 4096, a multiple of 64",
+        )?),
     }
+}
+
+/// The task of `init`, `run`, `recover` or `explain`, whose arguments need no further check.
+fn plain_task<'a>(matches: &ArgMatches<'a>) -> Option<Task<'a>> {
     if matches.subcommand_matches("explain").is_some() {
         return Some(Task::Explain);
-    }
-    if let Some(backup) = matches.subcommand_matches("backup") {
-        return Some(Task::Backup {
-            line: line_of(backup),
-        });
     }
     if let Some(init) = matches.subcommand_matches("init") {
         return Some(Task::Init {
             line: line_of(init),
+            allowed: trust_of(init),
         });
     }
     if let Some(run) = matches.subcommand_matches("run") {
         return Some(Task::Run {
             line: line_of(run),
             script: script_of(run),
+            allowed: allowed_of(run),
         });
     }
     let recover = matches.subcommand_matches("recover")?;
     Some(Task::Recover {
         line: line_of(recover),
+        allowed: trust_of(recover),
     })
 }
 
@@ -233,10 +285,18 @@ fn slaves_task<'a>(command: &mut Command<'a>, matches: &ArgMatches<'a>) -> Resul
         Some(word) => Some(PowerCut { word, left }),
         None => None,
     };
-    Ok(Task::Slaves {
+    let Some(quirks) = QuirkList::of(matches.get_str("quirks").unwrap_or("")) else {
+        return refused(
+            command,
+            ErrorKind::ValueValidation,
+            "LIST has items as 'missed=3' or '1:chip=128', separated by commas: see slaves --help",
+        );
+    };
+    Ok(Task::Slaves(Practice {
         line: line_of(matches),
         cut,
-    })
+        quirks,
+    }))
 }
 
 /// The description of the command line, with all subcommands.
@@ -246,7 +306,8 @@ fn program<'a>(alloc: Global) -> Result<Command<'a>, AllocError> {
         .version(VERSION)
         .after_help(STARTING)
         .subcommand_required(true)
-        .arg(text_argument(alloc))?;
+        .arg(text_argument(alloc))?
+        .arg(verbose_argument(alloc))?;
     let program = with_subcommand(program, scan_command(alloc))?;
     let program = with_subcommand(program, backup_command(alloc))?;
     let program = with_subcommand(program, init_command(alloc))?;
@@ -265,9 +326,22 @@ fn with_subcommand<'a>(
 }
 
 fn text_argument<'a>(alloc: Global) -> Arg<'a> {
-    Arg::new(alloc, "text").long("text").value_name("FILE").help(
-        "The file that text is added to, in place of standard error",
-    )
+    Arg::new(alloc, "text")
+        .long("text")
+        .value_name("FILE")
+        .help("The file that text is added to; it has to be there")
+}
+
+fn verbose_argument<'a>(alloc: Global) -> Arg<'a> {
+    Arg::new(alloc, "verbose")
+        .long("verbose")
+        .help("Says of a fault of the line what was seen, what it usually is, and what to do")
+        .long_help(
+            "Says of a fault of the line what was seen, what it usually is, and what to do, in a second line. Without this option the line \
+            comes where standard error is a terminal.",
+        )
+        .action(ArgAction::SetTrue)
+        .global(true)
 }
 
 fn scan_command<'a>(alloc: Global) -> Result<Command<'a>, AllocError> {
@@ -276,8 +350,9 @@ fn scan_command<'a>(alloc: Global) -> Result<Command<'a>, AllocError> {
         .long_about(
             "Brings up the line and reads the EEPROM of each slave. No word and no file is written, but for that of --capture.",
         )
-        .after_help("Example:\n  launch eth0 2000 sii_wire scan")
+        .after_help("Example:\n  sii_wire -i eth0 scan")
         .after_long_help(SCAN_ANSWERS)
+        .arg(words_argument(alloc))?
         .arg(capture_argument(alloc))
 }
 
@@ -293,9 +368,10 @@ fn backup_command<'a>(alloc: Global) -> Result<Command<'a>, AllocError> {
         .long_about(
             "Brings up the line, reads the EEPROM of each slave, and writes its words to its image file. No word of a slave is written.",
         )
-        .after_help("Example:\n  launch eth0 2000 sii_wire backup line.toml")
+        .after_help("Example:\n  sii_wire -i eth0 backup line.toml")
         .after_long_help(BACKUP_FILES)
         .arg(line_argument(alloc))?
+        .arg(words_argument(alloc))?
         .arg(capture_argument(alloc))
 }
 
@@ -305,9 +381,10 @@ fn init_command<'a>(alloc: Global) -> Result<Command<'a>, AllocError> {
         .long_about(
             "Brings up the line, and makes an empty journal for as many slaves. No word of a slave is written.",
         )
-        .after_help("Example:\n  launch eth0 2000 sii_wire init line.toml")
+        .after_help("Example:\n  sii_wire -i eth0 init line.toml")
         .after_long_help(INIT_ANSWERS)
         .arg(line_argument(alloc))?
+        .arg(trust_argument(alloc))?
         .arg(capture_argument(alloc))
 }
 
@@ -321,10 +398,13 @@ fn run_command<'a>(alloc: Global) -> Result<Command<'a>, AllocError> {
     Command::new(alloc, "run")
         .about("Runs the commands of a script on the line")
         .long_about(RUN_TASK)
-        .after_help("Example:\n  launch eth0 2000 sii_wire run line.toml script.toml")
+        .after_help("Example:\n  sii_wire -i eth0 run line.toml script.toml")
         .after_long_help(RUN_ANSWERS)
         .arg(line_argument(alloc))?
         .arg(script_argument(alloc))?
+        .arg(force_argument(alloc))?
+        .arg(trust_argument(alloc))?
+        .arg(resize_argument(alloc))?
         .arg(capture_argument(alloc))
 }
 
@@ -334,9 +414,10 @@ fn recover_command<'a>(alloc: Global) -> Result<Command<'a>, AllocError> {
         .long_about(
             "Brings up the line, does what is live in its journal, and writes the words of each slave to its image file.",
         )
-        .after_help("Example:\n  launch eth0 2000 sii_wire recover line.toml")
+        .after_help("Example:\n  sii_wire -i eth0 recover line.toml")
         .after_long_help(RECOVER_ANSWERS)
         .arg(line_argument(alloc))?
+        .arg(trust_argument(alloc))?
         .arg(capture_argument(alloc))
 }
 
@@ -356,17 +437,55 @@ fn left_argument<'a>(alloc: Global) -> Arg<'a> {
         .value_parser(value_parser!(u16))
 }
 
+/// The help text on quirks.
+const QUIRKS: &str =
+    "What the slaves do as some controllers and chips do: items that are separated by
+commas, each for all slaves, or for slave S alone where S: stands before it.
+
+  chip=N       the chip has N words, 1 to 65536; addresses behind them roll over
+  busy=N       busy with a command for N datagrams; 2 where nothing is said
+  read=T       busy with a read for T microseconds
+  write=T      busy with a write for T microseconds
+  programs=T   the chip programs a word for T microseconds once the slave shows
+               idle: each command meanwhile ends with a missing acknowledge
+  missed=K     the first K commands end with a missing acknowledge
+  each=K       each command whose number is a multiple of K does
+  blocks       an error that is set blocks commands until command 000 clears it
+  aliasing     alias addressing is on as the power comes
+  state=N      the AL state: 1 Init, 2 Pre-Op, 4 Safe-Op, 8 Op
+  held         the PDI holds the EEPROM as the power comes
+  station=N    the slave has this station address, and keeps it
+  restarts=K   this slave alone loses its power for a moment behind frame K
+  cut=K        this slave alone loses its power for a moment in its word K
+  left=W       what a word in flight is left as then
+  S:cable=K    behind K frames the cable behind slave S is pulled
+
+A blank slave is an image file whose bytes are all 0xff. An image file may have up
+to 65536 words here; what its word 0x3E says is up to you.
+
+Example:
+  launch eth1 2000 sii_wire slaves line.toml --quirks 0:chip=128,missed=2,blocks";
+
+fn quirks_argument<'a>(alloc: Global) -> Arg<'a> {
+    Arg::new(alloc, "quirks")
+        .long("quirks")
+        .value_name("LIST")
+        .help("What the slaves do as some controllers and chips do, such as 0:chip=128,missed=2")
+        .long_help(QUIRKS)
+}
+
 fn slaves_command<'a>(alloc: Global) -> Result<Command<'a>, AllocError> {
     Command::new(alloc, "slaves")
         .about("Serves a line of slaves to practise on")
         .long_about(
             "Reads a line file and the EEPROM images that it names, and answers on the wire as slaves with these words do.",
         )
-        .after_help("Example:\n  launch eth1 2000 sii_wire slaves line.toml")
+        .after_help("Example:\n  sii_wire -i eth1 slaves line.toml")
         .after_long_help(SLAVES_LIFE)
         .arg(line_argument(alloc))?
         .arg(cut_argument(alloc))?
-        .arg(left_argument(alloc))
+        .arg(left_argument(alloc))?
+        .arg(quirks_argument(alloc))
 }
 
 fn explain_command<'a>(alloc: Global) -> Result<Command<'a>, AllocError> {

@@ -13,7 +13,7 @@ is written anew; a FILE that holds anything else stays, and no frame is sent. If
 FILE can't be written further, the work goes on and tells it at its end.
 
 Example:
-  launch eth0 2000 sii_wire run line.toml script.toml --capture frames.pcap
+  sii_wire -i eth0 run line.toml script.toml --capture frames.pcap
   tshark -r frames.pcap";
 
 /// The description of the argument.

@@ -5,9 +5,13 @@ mod arguments;
 mod capture_argument;
 mod explain;
 mod practice;
+mod quirks;
 mod serving;
+mod session_arguments;
+mod sizes;
 
 pub use arguments::{Arguments, Task, read_arguments};
-pub use practice::{PowerCut, serve_slaves};
+pub use practice::{PowerCut, Practice, serve_slaves};
+pub use quirks::QuirkList;
 pub use serving::{refuse_text, refuse_words, serve, show_usage};
 pub use station_files::FileStore;

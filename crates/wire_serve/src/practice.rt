@@ -1,18 +1,28 @@
 //! The subcommand `slaves`: a line to practise on, whose slaves hold the words of image files.
 
+use crate::quirks::QuirkList;
 use ecat_frame::{Frame, MAX_LEN};
+use sii_words::words_of_bytes;
 use site_file::RandomAccessFile;
 use site_shadow::Pattern;
-use site_wire::{PracticeFiles, PracticeLine, Wire};
-use station_files::{Fault, Store, load_line, load_slaves};
+use site_wire::Wire;
+use station_files::{Fault, Store, load_line, read_file};
 use station_text::LineFile;
 use std::alloc::Global;
 use std::io;
 use std::io::Write;
+use std::rt::Clock;
+use wire_practice::{NO_QUIRKS, PracticeFiles, PracticeLine, PracticeSlave, Quirks};
 use wire_session::WireFault;
 
-/// For how many datagrams a slave stays busy with a command.
-const DELAY: u32 = 2;
+/// What a slave does of which nothing is said: it stays busy with a command for two datagrams.
+const PLAIN: Quirks = Quirks {
+    delay: 2,
+    ..NO_QUIRKS
+};
+
+/// The most words of an image. A chip of 1 MBit has so many.
+const MOST_WORDS: usize = 65_536;
 
 /// How many empty reads in a row show that the wire is closed.
 const EMPTY_READS: u32 = 1_000;
@@ -26,6 +36,17 @@ pub struct PowerCut {
     pub left: u16,
 }
 
+/// A line of slaves to practise on.
+#[derive(Clone, Copy)]
+pub struct Practice<'a> {
+    /// The name of the line file.
+    pub line: &'a str,
+    /// A planned power cut, if there is one.
+    pub cut: Option<PowerCut>,
+    /// What the slaves do beyond the definition of a slave.
+    pub quirks: QuirkList<'a>,
+}
+
 /// What was heard on the wire.
 #[derive(Drop)]
 enum Heard {
@@ -36,43 +57,35 @@ enum Heard {
     Empty,
 }
 
-/// Serves the slaves of the line file `name` on this wire, with the words of their image files, until the power is cut or the program is
-/// ended. A word that a slave has written is in its file before the next frame is answered. The journal isn't looked at.
+/// Serves the slaves of a line file on this wire, with the words of their image files, until the power is cut or the program is ended. A
+/// word that a slave has written is in its file before the next frame is answered. The journal isn't looked at.
 ///
 /// # Errors
 ///
-/// As for `load_line` and `load_slaves`; `File` where an image file can't be opened, written or synced, or the wire is closed; `Memory`.
-pub fn serve_slaves<W: Wire, S: Store, O: Write>(
+/// As for `load_line`; `File` where an image file is absent or can't be read, `OddLength` and `BadSize` where it hasn't 1 to 65,536 words;
+/// `File` where one can't be opened, written or synced, or the wire is closed; `Memory`.
+pub fn serve_slaves<C: Clock, W: Wire, S: Store, O: Write>(
+    clock: &C,
     alloc: Global,
-    name: &str,
-    cut: Option<PowerCut>,
+    practice: Practice<'_>,
     wire: &mut W,
     store: &mut S,
     output: &mut O,
 ) -> Result<(), WireFault> {
-    let line = load_line(alloc, name, store)?;
-    serve_line(alloc, &line, cut, wire, store, output)
-}
-
-fn serve_line<W: Wire, S: Store, O: Write>(
-    alloc: Global,
-    line: &LineFile,
-    cut: Option<PowerCut>,
-    wire: &mut W,
-    store: &mut S,
-    output: &mut O,
-) -> Result<(), WireFault> {
-    let mut slaves = switch_on(alloc, line, store)?;
-    serve_frames(&mut slaves, cut, wire, output)
+    let line = load_line(alloc, practice.line, store)?;
+    let mut slaves = switch_on(alloc, &line, practice.quirks, store)?;
+    serve_frames(clock, &mut slaves, practice.cut, wire, output)
 }
 
 /// The slaves of a line, just switched on, with their files.
 fn switch_on<S: Store>(
     alloc: Global,
     line: &LineFile,
+    quirks: QuirkList<'_>,
     store: &mut S,
 ) -> Result<PracticeFiles<S::File>, Fault> {
-    let practice = power_up(alloc, line, store)?;
+    let slaves = power_up(alloc, &line.images, quirks, store)?;
+    let practice = PracticeLine::of(slaves, quirks.cable());
     match open_images(alloc, &line.images, store) {
         Ok(images) => Ok(PracticeFiles::new(practice, images)),
         Err(fault) => Err(fault),
@@ -82,11 +95,36 @@ fn switch_on<S: Store>(
 /// The slaves of a line, just switched on, with the words of their files.
 fn power_up<S: Store>(
     alloc: Global,
-    line: &LineFile,
+    names: &[String],
+    quirks: QuirkList<'_>,
     store: &mut S,
-) -> Result<PracticeLine, Fault> {
-    let plant = load_slaves(alloc, line, store)?;
-    Ok(PracticeLine::power_up(alloc, &plant, DELAY)?)
+) -> Result<Vec<PracticeSlave>, Fault> {
+    let mut slaves = Vec::new(alloc);
+    for slave in 0..names.len() {
+        let words = load_image(alloc, names[slave].as_str(), store)?;
+        let quirks = quirks.of_slave(PLAIN, slave).unwrap_or(PLAIN);
+        slaves.push(PracticeSlave::switched_on(alloc, &words, quirks)?)?;
+    }
+    Ok(slaves)
+}
+
+/// The words of an image file, of which there may be more or fewer than the station works on.
+fn load_image<S: Store>(alloc: Global, name: &str, store: &mut S) -> Result<Vec<u16>, Fault> {
+    let bytes = read_file(alloc, name, store)?;
+    if bytes.len() % 2 != 0 {
+        return Err(Fault::OddLength);
+    }
+    if bytes.is_empty() || bytes.len() > 2 * MOST_WORDS {
+        return Err(Fault::BadSize);
+    }
+    Ok(words_of_bytes(alloc, &bytes)?)
+}
+
+/// The moment, in microseconds.
+fn moment<C: Clock>(clock: &C) -> Result<u64, Fault> {
+    let now = clock.monotonic()?;
+    let whole = now.as_secs().saturating_mul(1_000_000);
+    Ok(whole.saturating_add(u64::from(now.subsec_micros())))
 }
 
 /// Opens the files `names`, in order.
@@ -143,7 +181,8 @@ fn answer<W: Wire, F: RandomAccessFile>(
 }
 
 /// Answers frames until the power is cut or the wire is closed.
-fn serve_frames<W: Wire, F: RandomAccessFile, O: Write>(
+fn serve_frames<C: Clock, W: Wire, F: RandomAccessFile, O: Write>(
+    clock: &C,
     slaves: &mut PracticeFiles<F>,
     cut: Option<PowerCut>,
     wire: &mut W,
@@ -151,7 +190,9 @@ fn serve_frames<W: Wire, F: RandomAccessFile, O: Write>(
 ) -> Result<(), WireFault> {
     let mut empty = 0u32;
     for _turn in 0..u64::MAX {
-        match hear(wire)? {
+        let heard = hear(wire)?;
+        slaves.pass_time(moment(clock)?)?;
+        match heard {
             Heard::Frame(frame) => {
                 empty = 0;
                 if answer(slaves, cut, wire, frame)? {

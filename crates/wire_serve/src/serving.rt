@@ -19,7 +19,7 @@ use wire_session::{WireFault, backup_line, init_on_wire, recover_line, run_scrip
 
 /// Carries out a task on the wire that is read and written by these two, and returns the exit status: `Done`; `Refused` where a command was
 /// refused; `File` for a file or its form; `Device` for the line; or `Memory`. The frames are numbered from the one behind `number` on.
-/// Faults are printed to `faults`.
+/// Faults are printed to `faults`, those of the line with a second line behind if `is_told`.
 ///
 /// Each frame is written down in the file `capture`, if one is named, once it is sent or received. Where the capture can't begin, no frame
 /// is sent and nothing is read or written. If it can't be written further, the work goes on as without it, and the fault is printed behind
@@ -36,6 +36,7 @@ pub fn serve<
     alloc: Global,
     task: Task<'_>,
     capture: Option<&str>,
+    is_told: bool,
     wire: EthernetWire<R, W>,
     number: u32,
     store: &mut S,
@@ -46,7 +47,11 @@ pub fn serve<
         Ok(begun) => {
             let captured = CapturedWire::new(wire, begun.as_ref(), rt);
             let numbered = NumberedWire::new(captured, number);
-            let status = status_of(do_task(rt, alloc, task, numbered, store, output), faults);
+            let status = status_of(
+                do_task(rt, alloc, task, numbered, store, output),
+                is_told,
+                faults,
+            );
             end_capture(begun, status, faults)
         }
         Err(fault) => {
@@ -57,7 +62,7 @@ pub fn serve<
 }
 
 /// Carries out a task on this wire.
-fn do_task<H: Wait + Threads + Sync, W: Wire + Send + Drop, S: Store, O: Write>(
+fn do_task<H: Wait + Threads + Clock + Sync, W: Wire + Send + Drop, S: Store, O: Write>(
     rt: &H,
     alloc: Global,
     task: Task<'_>,
@@ -66,15 +71,25 @@ fn do_task<H: Wait + Threads + Sync, W: Wire + Send + Drop, S: Store, O: Write>(
     output: &mut O,
 ) -> Result<ExitStatus, WireFault> {
     match task {
-        Task::Scan => all_done(scan_line(alloc, &mut wire, output)),
-        Task::Backup { line } => all_done(backup_line(alloc, &mut wire, line, store)),
-        Task::Init { line } => all_done(init_on_wire(alloc, &mut wire, line, store, output)),
-        Task::Run { line, script } => run_script(rt, alloc, wire, line, script, store, output),
-        Task::Recover { line } => all_done(recover_line(alloc, wire, line, store, output)),
-        Task::Slaves { line, cut } => all_done(serve_slaves(
-            alloc,
+        Task::Scan { sizes } => all_done(scan_line(alloc, &mut wire, rt, &sizes, output)),
+        Task::Backup { line, sizes } => all_done(backup_line(
+            alloc, &mut wire, rt, &sizes, line, store, output,
+        )),
+        Task::Init { line, allowed } => all_done(init_on_wire(
+            alloc, &mut wire, rt, line, allowed, store, output,
+        )),
+        Task::Run {
             line,
-            cut,
+            script,
+            allowed,
+        } => run_script(rt, alloc, wire, line, script, allowed, store, output),
+        Task::Recover { line, allowed } => {
+            all_done(recover_line(rt, alloc, wire, line, allowed, store, output))
+        }
+        Task::Slaves(practice) => all_done(serve_slaves(
+            rt,
+            alloc,
+            practice,
             wire.wire(),
             store,
             output,
@@ -93,11 +108,18 @@ fn all_done(ended: Result<(), WireFault>) -> Result<ExitStatus, WireFault> {
 }
 
 /// The exit status for a result: that of what was done, or that of the fault, which is printed.
-fn status_of<E: Write>(ended: Result<ExitStatus, WireFault>, faults: &mut E) -> ExitStatus {
+fn status_of<E: Write>(
+    ended: Result<ExitStatus, WireFault>,
+    is_told: bool,
+    faults: &mut E,
+) -> ExitStatus {
     match ended {
         Ok(status) => status,
         Err(fault) => {
             let _ = writeln!(faults, "{fault}");
+            if let (true, Some(told)) = (is_told, fault.told()) {
+                let _ = writeln!(faults, "{told}");
+            }
             fault.status()
         }
     }

@@ -84,4 +84,19 @@ pub refuses_early : (fault : WireFault) (old new : Known) (name : List ℕ) → 
 refuses_early (wire.Station fault) old new name same = inl same
 refuses_early (wire.Line fault) old new name same = same
 refuses_early (wire.OtherCount slaves) old new name same = same
-refuses_early (wire.Stopped reason) old new name same = same
+refuses_early (wire.Stopped reason seen) old new name same = same
+refuses_early (wire.UnknownSize slave says) old new name same = same
+refuses_early (wire.Running slave) old new name same = same
+refuses_early (wire.Held slave) old new name same = same
+refuses_early (wire.OtherSize command slave words) old new name same = same
+
+-- ---- the reason is told
+
+-- the files hold the same, whatever the fault is called, if one of a stream isn't told as another
+pub recovery_told : (ended : Result (Unit {0}) WireFault) (old new : Known) (line : LineFile) (before : Seen) (fault told : WireFault)
+    → ended ≡ Err fault → (IsOfStream fault → IsOfStream told) → EndsRecovery ended old new line before
+    → EndsRecovery (Err told) old new line before
+recovery_told ended old new line before fault told is stream ends =
+    let so : EndsRecovery (Err fault) old new line before
+    = subst (λ (x : Result (Unit {0}) WireFault). EndsRecovery x old new line before) is ends in
+    record { others = so.others; unsaved = λ apart. so.unsaved (λ of_stream. apart (stream of_stream)); saved = tt }

@@ -6,35 +6,58 @@ ghost use Rattle.station_files.specs.Files.{IsAbsent};
 ghost use Rattle.wire_session.specs.Backup.{Backs, KeepsAll};
 
 use crate::faults::WireFault;
+use crate::measures::{judge_measures, print_measures};
 use crate::plan::{Plan, is_there, plan_backup};
 use sii_words::Plant;
-use site_wire::{NumberedWire, Wire, bring_up};
+use site_wire::{NumberedWire, Sizes, Wire, bring_up, hand_back};
 use station_files::{Fault, Store, save_slaves};
 use std::alloc::Global;
+use std::io::Write;
+use std::rt::Clock;
 
 /// Brings up the line on this wire, and writes the words of each slave to its image file. The line file `name` says which that is. Where
 /// it isn't there it is written too, and then names `STEM-s0.bin`, `STEM-s1.bin` and so on, and `STEM-journal.bin`, where `STEM` is its
-/// name without `.toml`. No word of a slave is written.
+/// name without `.toml`. No word of a slave is written, and the EEPROMs are handed back. Prints a line for each slave whose word 0x3E tells
+/// another size than the one that it is backed up with.
 ///
 /// No file that is there already changes, whatever happens.
 ///
 /// # Errors
 ///
-/// As for `bring_up`; then as for `load_line`, or `OtherCount` where the line file names another number of slaves; then `Exists` where an
+/// As for `bring_up`; for the first slave, `Line` where it can't be worked on, and `UnknownSize` where its size can't be told and isn't among
+/// the given ones; then as for `load_line`, or `OtherCount` where the line file names another number of slaves; then `Exists` where an
 /// image file is there already. Nothing is written up to there. Then `File` or `Memory`, as the store answers.
 #[tactic(auto, using(crate::proofs::Kept::unchanged))]
-pub fn backup_line<W: Wire, S: Store>(
+pub fn backup_line<W: Wire, C: Clock, S: Store, O: Write>(
     alloc: Global,
     wire: &mut NumberedWire<W>,
+    clock: &C,
+    sizes: &Sizes,
     name: &str,
     store: &mut S,
+    output: &mut O,
 ) -> Result<(), WireFault>
     ensures { Backs result (S.files store.old) (S.files store.new) }
 {
-    match bring_up(alloc, wire) {
-        Ok(slaves) => save_backup(alloc, name, &Plant::of(slaves), store),
-        Err(fault) => Err(WireFault::Line(fault)),
+    match measured_plant(alloc, wire, clock, sizes, output) {
+        Ok(plant) => save_backup(alloc, name, &plant, store),
+        Err(fault) => Err(fault),
     }
+}
+
+/// Brings up the line, looks at the sizes that were found, and gives the words of the slaves.
+fn measured_plant<W: Wire, C: Clock, O: Write>(
+    alloc: Global,
+    wire: &mut NumberedWire<W>,
+    clock: &C,
+    sizes: &Sizes,
+    output: &mut O,
+) -> Result<Plant, WireFault> {
+    let found = bring_up(alloc, wire, clock, sizes)?;
+    hand_back(wire, &found.states());
+    judge_measures(&found, sizes)?;
+    print_measures(&found, output)?;
+    Ok(Plant::of(found.into_words(alloc)?))
 }
 
 /// Writes the files of a backup.

@@ -24,10 +24,18 @@ pub enum WireCode {
     Unconfirmed = 107,
     /// A frame was to be sent that this program doesn't send over a wire.
     NotForWire = 108,
+    /// An image file has more words than its slave's EEPROM.
+    SmallerChip = 109,
+    /// A slave is in Safe-Operational or Operational.
+    Running = 110,
+    /// The PDI of a slave has the EEPROM.
+    Held = 111,
+    /// A command makes word 0x3E tell another size than the EEPROM has.
+    OtherSize = 112,
 }
 
 /// All codes of a wire, in the order of their numbers.
-pub const WIRE_CODES: [WireCode; 9] = [
+pub const WIRE_CODES: [WireCode; 13] = [
     WireCode::Silent,
     WireCode::NoSlaves,
     WireCode::TooManySlaves,
@@ -37,6 +45,10 @@ pub const WIRE_CODES: [WireCode; 9] = [
     WireCode::WordFailed,
     WireCode::Unconfirmed,
     WireCode::NotForWire,
+    WireCode::SmallerChip,
+    WireCode::Running,
+    WireCode::Held,
+    WireCode::OtherSize,
 ];
 
 impl WireCode {
@@ -57,6 +69,10 @@ impl WireCode {
             WireCode::WordFailed => &WORD_FAILED,
             WireCode::Unconfirmed => &UNCONFIRMED,
             WireCode::NotForWire => &NOT_FOR_WIRE,
+            WireCode::SmallerChip => &SMALLER_CHIP,
+            WireCode::Running => &RUNNING,
+            WireCode::Held => &HELD,
+            WireCode::OtherSize => &OTHER_SIZE,
         }
     }
 }
@@ -90,9 +106,9 @@ const TOO_MANY_SLAVES: CodeEntry = CodeEntry {
 
 const UNKNOWN_SIZE: CodeEntry = CodeEntry {
     name: "UnknownSize",
-    meaning: "The EEPROM of a slave doesn't state its size.",
-    reason: "Word 0x3E of the slave with this number is no size in KiBit, less one, below 64. Blank EEPROMs are like that.",
-    remedy: "Write a whole image to this slave with the tool of its maker first.",
+    meaning: "The size of a slave's EEPROM can't be told.",
+    reason: "All words of the slave with this number that were compared are alike, and word 0x3E tells another size. Blank EEPROMs are like that.",
+    remedy: "Look up the size of the EEPROM in the slave's data sheet, and say it to backup: --words SLAVE=N. Later calls take it from the image file.",
 };
 
 const OTHER_COUNT: CodeEntry = CodeEntry {
@@ -128,4 +144,36 @@ const NOT_FOR_WIRE: CodeEntry = CodeEntry {
     meaning: "A frame was to be sent that this program doesn't send over a wire.",
     reason: "It has several datagrams for one slave, or a long one. The station asks for none of them, so this is an error of the program.",
     remedy: "Report it, with the script and the line file. Recovering the line is safe.",
+};
+
+const SMALLER_CHIP: CodeEntry = CodeEntry {
+    name: "SmallerChip",
+    meaning: "An image file has more words than its slave's EEPROM.",
+    reason: "The words of the slave with this number repeat before the end of the image, or can't be read there. Words written behind the end \
+        of an EEPROM replace its first ones.",
+    remedy: "Make the backup anew, or put the slave there that the image file is of. If you are sure that the EEPROM is as large as the image \
+        file, and its contents only repeat, say --trust-images. Nothing was written.",
+};
+
+const RUNNING: CodeEntry = CodeEntry {
+    name: "Running",
+    meaning: "A slave is in Safe-Operational or Operational.",
+    reason: "The slave with this number exchanges process data with a master, or did so when that ended. An application that reads its EEPROM \
+        meanwhile finds it taken.",
+    remedy: "Bring the line to Init or Pre-Operational, and end the master. With --force the slave is worked on as it is. Nothing was written.",
+};
+
+const HELD: CodeEntry = CodeEntry {
+    name: "Held",
+    meaning: "The PDI of a slave has the EEPROM.",
+    reason: "The EEPROM of the slave with this number was offered to its own processor, or that one has it (0x0500 and 0x0501).",
+    remedy: "Bring the slave to Init, in which a master takes the EEPROM back. With --force it is taken, and handed back at the end. Nothing was \
+        written.",
+};
+
+const OTHER_SIZE: CodeEntry = CodeEntry {
+    name: "OtherSize",
+    meaning: "A command makes word 0x3E tell another size than the EEPROM has.",
+    reason: "The command with this number in the script changes word 0x3E, by which masters and tools tell the size of an EEPROM.",
+    remedy: "Correct word 0x3E in the image of that command. If it is to be so, say --resize. Nothing was written.",
 };

@@ -4,7 +4,7 @@ ghost use Rattle.wire_session.specs.Backup.{IsOfStream};
 ghost use Rattle.wire_session.specs.declared.faults.WireFault.TheVariants as wire;
 
 use crate::codes::WireCode;
-use site_wire::{LineFault, StopReason};
+use site_wire::{LineFault, Sighting, SlaveFault, StopReason};
 use station_files::{ExitStatus, Fault};
 use std::alloc::{AllocError, AllocFailed};
 use std::{fmt, io};
@@ -15,9 +15,33 @@ pub enum WireFault {
     /// The line can't be brought up.
     Line(LineFault),
     /// The line file names another number of slaves than the line has; `slaves` is that of the line.
-    OtherCount { slaves: usize },
-    /// The site on the wire has stopped.
-    Stopped(StopReason),
+    OtherCount {
+        slaves: usize,
+    },
+    /// The site on the wire has stopped. What was seen of a slave, if anything was.
+    Stopped {
+        reason: StopReason,
+        seen: Option<Sighting>,
+    },
+    /// The size of this slave's EEPROM can't be told; so many words are there by its word 0x3E.
+    UnknownSize {
+        slave: usize,
+        says: u32,
+    },
+    /// This slave is in Safe-Operational or Operational.
+    Running {
+        slave: usize,
+    },
+    /// The PDI of this slave has the EEPROM, or is offered it.
+    Held {
+        slave: usize,
+    },
+    /// The command at this place of the script makes word 0x3E of this slave tell so many words, and it has others.
+    OtherSize {
+        command: usize,
+        slave: usize,
+        words: u32,
+    },
     /// A file, a stream or memory failed, or a file has a wrong form.
     Station(Fault),
 }
@@ -26,7 +50,10 @@ pub enum WireFault {
 fn fault_of_station(fault: LineFault) -> Option<Fault> {
     match fault {
         LineFault::Memory => Some(Fault::Memory),
-        LineFault::SlaveDead { slave } => Some(Fault::SlaveDead { slave }),
+        LineFault::Slave {
+            slave,
+            why: SlaveFault::Dead(_),
+        } => Some(Fault::SlaveDead { slave }),
         _ => None,
     }
 }
@@ -36,7 +63,7 @@ fn code_of_line(fault: LineFault) -> (WireCode, Option<usize>) {
     match fault {
         LineFault::NoSlaves => (WireCode::NoSlaves, None),
         LineFault::TooManySlaves { slaves } => (WireCode::TooManySlaves, Some(usize::from(slaves))),
-        LineFault::UnknownSize { slave, .. } => (WireCode::UnknownSize, Some(usize::from(slave))),
+        LineFault::Slave { slave, .. } => (WireCode::SmallerChip, Some(usize::from(slave))),
         _ => (WireCode::Silent, None),
     }
 }
@@ -54,25 +81,39 @@ fn code_of_stop(reason: StopReason) -> (WireCode, Option<usize>) {
 
 /// Why work on a wire ended early: the fault of a file or stream, or want of memory; or else the reason for which its site has stopped, if
 /// it has; or else the fault.
-pub(crate) fn why_ended(reason: Option<StopReason>, fault: WireFault) -> WireFault
+pub(crate) fn why_ended(
+    reason: Option<StopReason>,
+    seen: Option<Sighting>,
+    fault: WireFault,
+) -> WireFault
     ensures { IsOfStream fault → IsOfStream result }
 {
     match (fault, reason) {
         (WireFault::Station(Fault::File), _) => fault,
         (WireFault::Station(Fault::Memory), _) => fault,
-        (_, Some(reason)) => WireFault::Stopped(reason),
+        (_, Some(reason)) => WireFault::Stopped { reason, seen },
         (_, None) => fault,
     }
 }
 
 impl WireFault {
+    /// Want of memory.
+    pub(crate) fn memory() -> WireFault
+        ensures { IsOfStream result }
+    {
+        WireFault::Station(Fault::Memory)
+    }
+
     /// The fault of the station that this one is, if it is one.
     fn of_station(self) -> Option<Fault> {
         match self {
             WireFault::Station(fault) => Some(fault),
             WireFault::Line(fault) => fault_of_station(fault),
-            WireFault::Stopped(StopReason::Journal) => Some(Fault::Disk),
-            WireFault::Stopped(_) | WireFault::OtherCount { .. } => None,
+            WireFault::Stopped {
+                reason: StopReason::Journal,
+                ..
+            } => Some(Fault::Disk),
+            _ => None,
         }
     }
 
@@ -81,15 +122,26 @@ impl WireFault {
         match self {
             WireFault::OtherCount { slaves } => (WireCode::OtherCount, Some(slaves)),
             WireFault::Line(fault) => code_of_line(fault),
-            WireFault::Stopped(reason) => code_of_stop(reason),
+            WireFault::Stopped { reason, .. } => code_of_stop(reason),
+            WireFault::UnknownSize { slave, .. } => (WireCode::UnknownSize, Some(slave)),
+            WireFault::Running { slave } => (WireCode::Running, Some(slave)),
+            WireFault::Held { slave } => (WireCode::Held, Some(slave)),
+            WireFault::OtherSize { command, .. } => (WireCode::OtherSize, Some(command)),
             WireFault::Station(_) => (WireCode::Silent, None),
         }
     }
 
-    /// The exit status for this fault: that of the station's fault, 3 where the line file is another line's, and 4 for any other.
+    /// The exit status for this fault: that of the station's fault, 3 where a file is another line's or isn't for this line, and 4 for any
+    /// other.
     pub fn status(self) -> ExitStatus {
         match self {
-            WireFault::OtherCount { .. } => ExitStatus::File,
+            WireFault::OtherCount { .. } | WireFault::OtherSize { .. } => ExitStatus::File,
+            WireFault::Line(
+                LineFault::Slave {
+                    why: SlaveFault::Smaller { .. },
+                    ..
+                },
+            ) => ExitStatus::File,
             _ => match self.of_station() {
                 Some(fault) => fault.status(),
                 None => ExitStatus::Device,
@@ -104,9 +156,13 @@ impl fmt::Display for WireFault {
             return write!(f, "{fault}");
         }
         match (self.of_wire(), self) {
-            ((code, Some(slave)), WireFault::Stopped(StopReason::Differs { what, .. })) => {
-                write!(f, "fault {code} {slave} ({what})")
-            }
+            (
+                (code, Some(slave)),
+                WireFault::Stopped {
+                    reason: StopReason::Differs { what, .. },
+                    ..
+                },
+            ) => write!(f, "fault {code} {slave} ({what})"),
             ((code, Some(number)), _) => write!(f, "fault {code} {number}"),
             ((code, None), _) => write!(f, "fault {code}"),
         }

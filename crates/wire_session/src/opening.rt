@@ -5,13 +5,18 @@ ghost use Rattle.station_files.specs.LineFiles.{SpellsLine};
 ghost use Rattle.station_files.specs.Faults as station;
 ghost use Rattle.wire_session.specs.Opening.{IsFound};
 
+use crate::allowances::Allowed;
 use crate::faults::WireFault;
+use crate::judging::{judge_slaves, judge_states};
+use crate::sizes::sizes_of_images;
 use sii_words::Words;
 use site_file::OpenFiles;
-use site_wire::{NumberedWire, Wire, bring_up};
+use site_wire::{FoundLine, NumberedWire, SlaveState, Wire, bring_up, hand_back};
 use station_files::{Fault, Store, load_line, read_file};
+use station_session::keep_apart;
 use station_text::LineFile;
 use std::alloc::Global;
+use std::rt::Clock;
 
 /// A line that was found on a wire, and its journal.
 #[derive(Drop)]
@@ -20,6 +25,8 @@ pub(crate) struct Found<L> {
     pub(crate) line: LineFile,
     /// The words of the slaves, in the order of the line.
     pub(crate) slaves: Vec<Words>,
+    /// What the slaves were in as they were found.
+    pub(crate) states: [SlaveState; 64],
     /// The bytes of the journal's file.
     pub(crate) journal: Vec<u8>,
     /// The lock of the journal, which keeps other stations away.
@@ -27,17 +34,19 @@ pub(crate) struct Found<L> {
 }
 
 /// Reads the line file `name`, locks the journal, brings up the line on this wire, and reads the journal. No file changes, and no word of
-/// a slave is written. The image files aren't looked at.
+/// a slave is written. Each slave has the size of its image file, where there is one. After a fault the EEPROMs are handed back.
 ///
 /// # Errors
 ///
 /// As for `load_line`; `Busy` where another station has locked the journal, `File` where it is absent or the system can't lock it; as for
-/// `bring_up`; `OtherCount` where the line file names another number of slaves; `File` where the journal can't be read. `Memory` may come
-/// at any point.
-pub(crate) fn find_line<W: Wire, S: Store>(
+/// `keep_apart`; as for `sizes_of_images`; as for `bring_up`; as for `judge_slaves`, and, unless slaves in any state are allowed, as for `judge_states`; `File`
+/// where the journal can't be read. `Memory` may come at any point.
+pub(crate) fn find_line<W: Wire, C: Clock, S: Store>(
     alloc: Global,
     wire: &mut NumberedWire<W>,
+    clock: &C,
     name: &str,
+    allowed: Allowed,
     store: &mut S,
 ) -> Result<Found<S::Lock>, WireFault>
     ensures found { IfOk result (λ found. IsFound (S.files store.old) name.now found.line found.slaves.items found.journal.items) }
@@ -46,47 +55,65 @@ pub(crate) fn find_line<W: Wire, S: Store>(
     ensures same { S.files store.new ≡ S.files store.old }
 {
     let line = load_line(alloc, name, store)?;
-    let lock = lock_journal(&line, store)?;
-    let slaves = bring_up_line(alloc, wire, &line)?;
-    let journal = read_file(alloc, line.journal.as_str(), store)?;
-    Ok(Found {
-        line,
-        slaves,
-        journal,
-        lock,
-    })
-}
-
-/// Locks the journal's file.
-fn lock_journal<S: Store>(line: &LineFile, store: &mut S) -> Result<S::Lock, Fault>
-    ensures { S.files store.new ≡ S.files store.old }
-{
-    match store.lock(line.journal.as_str())? {
-        Some(lock) => Ok(lock),
-        None => Err(Fault::File),
+    let lock = lock_journal(alloc, name, &line, store)?;
+    let sizes = sizes_of_images(alloc, &line.images, allowed.trusts_images, store)?;
+    let found = bring_up(alloc, wire, clock, &sizes)?;
+    let states = found.states();
+    match read_found(alloc, &line, found, allowed, store) {
+        Ok((slaves, journal)) => Ok(Found {
+            line,
+            slaves,
+            states,
+            journal,
+            lock,
+        }),
+        Err(fault) => {
+            hand_back(wire, &states);
+            Err(fault)
+        }
     }
 }
 
-/// Brings up the line on this wire, which has to have as many slaves as the line file names images.
-///
-/// # Errors
-///
-/// As for `bring_up`; then `OtherCount`.
-pub(crate) fn bring_up_line<W: Wire>(
+/// The words of the slaves of a line that was brought up, and the bytes of its journal.
+fn read_found<S: Store>(
     alloc: Global,
-    wire: &mut NumberedWire<W>,
     line: &LineFile,
-) -> Result<Vec<Words>, WireFault>
-    ensures count { IfOk result (λ slaves. length slaves.items ≡ length line.now.images.items) }
-    ensures some { IfOk result (λ slaves. 1 ≤ length slaves.items) }
-    ensures most { IfOk result (λ slaves. length slaves.items ≤ 64) }
+    found: FoundLine,
+    allowed: Allowed,
+    store: &mut S,
+) -> Result<(Vec<Words>, Vec<u8>), WireFault>
+    ensures count { IfOk result (λ read. length read.0.items ≡ length line.now.images.items) }
+    ensures found { IfOk result (λ read. length read.0.items ≡ length found.slaves.items) }
+    ensures journal { IfOk result (λ read. HasBytes (S.files store.old) (string_bytes line.now.journal) read.1.items) }
+    ensures same { S.files store.new ≡ S.files store.old }
 {
-    let slaves = bring_up(alloc, wire)?;
-    let count = slaves.len();
-    if count == line.images.len() {
-        Ok(slaves)
-    } else {
-        Err(WireFault::OtherCount { slaves: count })
+    let states = found.states();
+    let slaves = judge_slaves(alloc, found, line.images.len())?;
+    if !allowed.is_forced {
+        judge_states(&states, slaves.len())?;
+    }
+    let journal = read_file(alloc, line.journal.as_str(), store)?;
+    Ok((slaves, journal))
+}
+
+/// Locks the journal's file, and refuses a line of which two files are the same.
+fn lock_journal<S: Store>(
+    alloc: Global,
+    name: &str,
+    line: &LineFile,
+    store: &mut S,
+) -> Result<S::Lock, Fault>
+    ensures { S.files store.new ≡ S.files store.old }
+{
+    let Some(lock) = store.lock(line.journal.as_str())? else {
+        return Err(Fault::File);
+    };
+    match keep_apart(alloc, name, line, &[], store) {
+        Ok(()) => Ok(lock),
+        Err(fault) => {
+            drop(lock);
+            Err(fault)
+        }
     }
 }
 

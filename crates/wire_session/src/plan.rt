@@ -4,6 +4,7 @@ ghost use Rattle.station_files.specs.Files.{IsAbsent};
 
 use crate::faults::WireFault;
 use station_files::{Fault, Store, load_line};
+use station_session::keep_apart;
 use station_text::{LineFile, read_line};
 use std::alloc::{AllocError, Global};
 use std::io;
@@ -21,7 +22,7 @@ pub(crate) struct Plan {
 ///
 /// # Errors
 ///
-/// As for `load_line`; `OtherCount` where the line file names another number of slaves; `BadLine` where a line file can't spell
+/// As for `load_line` and `keep_apart`; `OtherCount` where the line file names another number of slaves; `BadLine` where a line file can't spell
 /// names beside `name`; `Memory`.
 pub(crate) fn plan_backup<S: Store>(
     alloc: Global,
@@ -67,6 +68,7 @@ fn old_line<S: Store>(
     ensures same { S.files store.new ≡ S.files store.old }
 {
     let line = load_line(alloc, name, store)?;
+    keep_apart(alloc, name, &line, &[], store)?;
     if line.images.len() == slaves {
         Ok(Plan { line, text: None })
     } else {

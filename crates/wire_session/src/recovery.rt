@@ -6,42 +6,50 @@ ghost use Rattle.station_session.specs.Site.{files_of, switched_on, HoldsSite};
 ghost use Rattle.wire_session.specs.Backup.{IsOfStream};
 ghost use Rattle.wire_session.specs.Opening.{EndsRecovery, Recovers};
 
+use crate::allowances::Allowed;
 use crate::faults::{WireFault, why_ended};
 use crate::opening::{Found, find_line, open_journal};
-use crate::reasons::KeepsReason;
+use sii_words::Words;
 use site_file::FileDevice;
-use site_shadow::ShadowSite;
-use site_wire::{NumberedWire, Wire, WireDevice};
+use site_shadow::{Device, ShadowSite};
+use site_wire::{LiveLine, LockedLine, NumberedWire, Wire, WireDevice, hand_back};
 use station_alone::{Recovered, recover};
 use station_files::Store;
 use station_session::{of_open, save_site, site_of, write_recovered};
 use station_text::LineFile;
 use std::alloc::Global;
 use std::io::Write;
+use std::rt::Clock;
+use std::sync::Wait;
 
 /// Recovers the line on this wire, whose line file is `name`, with its journal: what is live in the journal is done, and the slaves then
 /// hold the contents after a prefix of the commands accepted before, with every acknowledged one in it. Writes the words of each slave to
-/// its image file, which is replaced as a whole, and prints what was recovered.
+/// its image file, which is replaced as a whole, and prints what was recovered. The EEPROMs are handed back as they were found.
 ///
 /// # Errors
 ///
-/// As for `load_line`; `Busy` or `File` where the journal can't be locked; as for `bring_up`; `OtherCount` where the line file names another
-/// number of slaves; `File` where the journal can't be read. Nothing is written up to there. Then `NotAJournal`, `BadVersion`, `WrongLine` or
+/// As for `find_line`, where slaves in any state are allowed. Nothing is written up to there. Then `NotAJournal`, `BadVersion`, `WrongLine` or
 /// `BadJournal` where the journal is refused, with no word written; `SlaveDead` for a slave that is given up; or why the site on the wire has
 /// stopped. No image file is written up to there, and another recovery completes what was begun. Then `File` or `Memory`, as the store or
 /// the output answers.
-pub fn recover_line<W: Wire + Drop, S: Store, O: Write>(
+pub fn recover_line<R: Wait + Clock, W: Wire + Drop, S: Store, O: Write>(
+    rt: &R,
     alloc: Global,
     wire: NumberedWire<W>,
     name: &str,
+    allowed: Allowed,
     store: &mut S,
     output: &mut O,
 ) -> Result<(), WireFault>
     ensures { Recovers result (S.files store.old) (S.files store.new) name.now }
 {
     let mut wire = wire;
-    match find_line(alloc, &mut wire, name, store) {
-        Ok(found) => recover_found(alloc, found, wire, store, output),
+    let allowed = Allowed {
+        is_forced: true,
+        ..allowed
+    };
+    match find_line(alloc, &mut wire, rt, name, allowed, store) {
+        Ok(found) => recover_found(rt, alloc, found, wire, store, output),
         Err(fault) => {
             drop(wire);
             Err(fault)
@@ -49,8 +57,9 @@ pub fn recover_line<W: Wire + Drop, S: Store, O: Write>(
     }
 }
 
-/// Opens the journal of a line that was found, and recovers the line.
-fn recover_found<W: Wire + Drop, S: Store, O: Write>(
+/// Recovers a line that was found, and hands the EEPROMs back.
+fn recover_found<R: Wait + Clock, W: Wire + Drop, S: Store, O: Write>(
+    rt: &R,
     alloc: Global,
     found: Found<S::Lock>,
     wire: NumberedWire<W>,
@@ -66,17 +75,63 @@ fn recover_found<W: Wire + Drop, S: Store, O: Write>(
     let Found {
         line,
         slaves,
+        states,
         journal,
         lock: _lock,
     } = found;
-    let files = open_journal(alloc, &line, store)?;
-    let device = WireDevice::new(wire, FileDevice::new(&files));
-    let site = site_of(alloc, &slaves, journal, device)?;
-    recover_site(alloc, &line, site, store, output)
+    let locked = LockedLine::new(LiveLine::new(wire));
+    let ended = recover_on(rt, alloc, &line, &slaves, journal, &locked, store, output);
+    let mut wire = locked.into_line().into_wire();
+    hand_back(&mut wire, &states);
+    drop(wire);
+    ended
+}
+
+/// Opens the journal of a line, and recovers the line.
+fn recover_on<R: Wait + Clock, W: Wire + Drop, S: Store, O: Write>(
+    rt: &R,
+    alloc: Global,
+    line: &LineFile,
+    slaves: &[Words],
+    journal: Vec<u8>,
+    locked: &LockedLine<W>,
+    store: &mut S,
+    output: &mut O,
+) -> Result<(), WireFault>
+    requires some { 1 ≤ length slaves.now }
+    requires most { length slaves.now ≤ 64 }
+    requires count { length slaves.now ≡ length line.now.images.items }
+    ensures { EndsRecovery result (S.files store.old) (S.files store.new) line.now (switched_on slaves.now journal.items) }
+{
+    let files = open_journal(alloc, line, store)?;
+    let device = WireDevice::shared(locked.shared(rt), rt, FileDevice::new(&files));
+    let site = site_of(alloc, slaves, journal, device)?;
+    recover_told(rt, alloc, line, site, locked, store, output)
+}
+
+/// Recovers a line, and tells of a fault why the line on the wire has stopped, if it has.
+fn recover_told<D: Device + Drop, R: Wait, W: Wire, S: Store, O: Write>(
+    rt: &R,
+    alloc: Global,
+    line: &LineFile,
+    site: ShadowSite<D>,
+    locked: &LockedLine<W>,
+    store: &mut S,
+    output: &mut O,
+) -> Result<(), WireFault>
+    requires disk { IsTrue site.line.has_disk }
+    requires owned { OwnsAll site.line }
+    requires slaves { length site.line.sizes ≡ length line.now.images.items }
+    ensures { EndsRecovery result (S.files store.old) (S.files store.new) line.now site.seen }
+{
+    match recover_site(alloc, line, site, store, output) {
+        Ok(()) => Ok(()),
+        Err(fault) => Err(why_ended(locked.reason(rt), locked.seen(rt), fault)),
+    }
 }
 
 /// Recovers a line, and saves what its slaves hold to their image files.
-fn recover_site<D: KeepsReason + Drop, S: Store, O: Write>(
+fn recover_site<D: Device + Drop, S: Store, O: Write>(
     alloc: Global,
     line: &LineFile,
     site: ShadowSite<D>,
@@ -95,15 +150,14 @@ fn recover_site<D: KeepsReason + Drop, S: Store, O: Write>(
             save_recovered(alloc, line, left, recovered, store, output)
         }
         Err((left, fault)) => {
-            let reason = left.device().reason();
             drop(left);
-            Err(why_ended(reason, WireFault::Station(of_open(fault))))
+            Err(WireFault::Station(of_open(fault)))
         }
     }
 }
 
 /// Saves what the slaves hold, and prints what was recovered.
-fn save_recovered<D: KeepsReason + Drop, S: Store, O: Write>(
+fn save_recovered<D: Device + Drop, S: Store, O: Write>(
     alloc: Global,
     line: &LineFile,
     site: ShadowSite<D>,

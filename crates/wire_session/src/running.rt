@@ -6,18 +6,22 @@ ghost use Rattle.station_session.specs.Session.{is_old};
 ghost use Rattle.wire_session.specs.Opening.{IsFound};
 ghost use Rattle.wire_session.specs.Running.{EndsFound, EndsSite, RunsScript};
 
+use crate::allowances::Allowed;
 use crate::faults::{WireFault, why_ended};
+use crate::judging::judge_commands;
 use crate::opening::{Found, find_line, open_journal};
 use crate::threads::run_threads;
 use sii_edit::Command;
+use sii_words::Words;
 use site_file::FileDevice;
 use site_shadow::{Device, ShadowSite};
-use site_wire::{LiveLine, LockedLine, NumberedWire, Wire, WireDevice};
+use site_wire::{LiveLine, LockedLine, NumberedWire, Wire, WireDevice, hand_back};
 use station_files::{ExitStatus, Store, load_script};
 use station_session::{is_old, of_open, open_station, site_of};
 use station_text::LineFile;
 use std::alloc::Global;
 use std::io::Write;
+use std::rt::Clock;
 use std::sync::Wait;
 use std::thread::Threads;
 
@@ -31,26 +35,28 @@ struct Given<L> {
 /// Runs the script file `script` on the line on this wire, whose line file is `name`: submits its commands in order, serves them by
 /// threads, one for each slave, prints the answer to each and the totals, and writes the words of each slave to its image file, which is
 /// replaced as a whole. The threads share the wire under a lock, frame by frame. A journal that isn't of version 2 is recovered and migrated
-/// first. Where no thread can be made, one serves all. Returns the exit status: `Done`, or that of the worst refusal.
+/// first. Where no thread can be made, one serves all. The EEPROMs are handed back as they were found. Returns the exit status: `Done`, or
+/// that of the worst refusal.
 ///
 /// # Errors
 ///
-/// As for `load_script`; then as for `find_line`. Nothing is written up to there. Then as for `open_journal`, `open_station` and
+/// As for `load_script`; then as for `find_line`; then, unless that is allowed, as for `judge_commands`. Nothing is written up to there. Then as for `open_journal`, `open_station` and
 /// `serve_by_threads`, or why the line on the wire has stopped. No image file is written up to there, and a recovery completes what was begun.
 /// Then `File` or `Memory`, as the store answers.
-pub fn run_script<W: Wire + Send + Drop, S: Store, O: Write, R: Wait + Threads + Sync>(
+pub fn run_script<W: Wire + Send + Drop, S: Store, O: Write, R: Wait + Threads + Clock + Sync>(
     rt: &R,
     alloc: Global,
     wire: NumberedWire<W>,
     name: &str,
     script: &str,
+    allowed: Allowed,
     store: &mut S,
     output: &mut O,
 ) -> Result<ExitStatus, WireFault>
     ensures { RunsScript result (S.files store.old) (S.files store.new) name.now script.now }
 {
     let mut wire = wire;
-    match find_all(alloc, &mut wire, name, script, store) {
+    match find_all(alloc, &mut wire, rt, name, script, allowed, store) {
         Ok(given) => {
             let Given { found, commands } = given;
             run_found(rt, alloc, found, commands, wire, store, output)
@@ -63,11 +69,13 @@ pub fn run_script<W: Wire + Send + Drop, S: Store, O: Write, R: Wait + Threads +
 }
 
 /// Reads the script, and then finds the line. No file changes. A script that can't be read leaves the wire alone.
-fn find_all<W: Wire, S: Store>(
+fn find_all<W: Wire, C: Clock, S: Store>(
     alloc: Global,
     wire: &mut NumberedWire<W>,
+    clock: &C,
     name: &str,
     script: &str,
+    allowed: Allowed,
     store: &mut S,
 ) -> Result<Given<S::Lock>, WireFault>
     ensures found { IfOk result (λ given. IsFound (S.files store.old) name.now given.found.line given.found.slaves.items given.found.journal.items) }
@@ -77,8 +85,16 @@ fn find_all<W: Wire, S: Store>(
     ensures same { S.files store.new ≡ S.files store.old }
 {
     let commands = load_script(alloc, script, store)?;
-    match find_line(alloc, wire, name, store) {
-        Ok(found) => Ok(Given { found, commands }),
+    match find_line(alloc, wire, clock, name, allowed, store) {
+        Ok(found) => match judge_script(alloc, &found.slaves, &commands, allowed) {
+            Ok(()) => Ok(Given { found, commands }),
+            Err(fault) => {
+                hand_back(wire, &found.states);
+                drop(found);
+                drop(commands);
+                Err(fault)
+            }
+        },
         Err(fault) => {
             drop(commands);
             Err(fault)
@@ -86,8 +102,24 @@ fn find_all<W: Wire, S: Store>(
     }
 }
 
-/// Opens the journal of a line that was found, and runs the commands.
-fn run_found<W: Wire + Send + Drop, S: Store, O: Write, R: Wait + Threads + Sync>(
+/// Looks whether the commands may be run on these slaves.
+fn judge_script(
+    alloc: Global,
+    slaves: &[Words],
+    commands: &[Command],
+    allowed: Allowed,
+) -> Result<(), WireFault>
+    requires some { 1 ≤ length slaves.now }
+    requires most { length slaves.now ≤ 64 }
+{
+    if allowed.resizes {
+        return Ok(());
+    }
+    judge_commands(alloc, slaves, commands)
+}
+
+/// Runs the commands on a line that was found, and hands the EEPROMs back.
+fn run_found<W: Wire + Send + Drop, S: Store, O: Write, R: Wait + Threads + Clock + Sync>(
     rt: &R,
     alloc: Global,
     found: Found<S::Lock>,
@@ -104,16 +136,43 @@ fn run_found<W: Wire + Send + Drop, S: Store, O: Write, R: Wait + Threads + Sync
     let Found {
         line,
         slaves,
+        states,
         journal,
         lock: _lock,
     } = found;
-    let files = open_journal(alloc, &line, store)?;
-    let was_old = is_old(&journal);
     let locked = LockedLine::new(LiveLine::new(wire));
-    let device = WireDevice::shared(locked.shared(rt), FileDevice::new(&files));
-    let site = site_of(alloc, &slaves, journal, device)?;
+    let ended = run_opened(
+        rt, alloc, &line, &slaves, journal, &locked, commands, store, output,
+    );
+    let mut wire = locked.into_line().into_wire();
+    hand_back(&mut wire, &states);
+    drop(wire);
+    ended
+}
+
+/// Opens the journal of a line, and runs the commands.
+fn run_opened<W: Wire + Send + Drop, S: Store, O: Write, R: Wait + Threads + Clock + Sync>(
+    rt: &R,
+    alloc: Global,
+    line: &LineFile,
+    slaves: &[Words],
+    journal: Vec<u8>,
+    locked: &LockedLine<W>,
+    commands: Vec<Command>,
+    store: &mut S,
+    output: &mut O,
+) -> Result<ExitStatus, WireFault>
+    requires some { 1 ≤ length slaves.now }
+    requires most { length slaves.now ≤ 64 }
+    requires count { length slaves.now ≡ length line.now.images.items }
+    ensures { EndsFound result (S.files store.old) (S.files store.new) line.now slaves.now journal.items commands.items }
+{
+    let files = open_journal(alloc, line, store)?;
+    let was_old = is_old(&journal);
+    let device = WireDevice::shared(locked.shared(rt), rt, FileDevice::new(&files));
+    let site = site_of(alloc, slaves, journal, device)?;
     run_on_wire(
-        rt, alloc, &line, &locked, site, was_old, commands, store, output,
+        rt, alloc, line, locked, site, was_old, commands, store, output,
     )
 }
 
@@ -136,7 +195,7 @@ fn run_on_wire<D: Device + Copy + Send, W: Wire, S: Store, O: Write, R: Wait + T
 {
     match run_site(rt, alloc, line, site, was_old, commands, store, output) {
         Ok(status) => Ok(status),
-        Err(fault) => Err(why_ended(locked.reason(rt), fault)),
+        Err(fault) => Err(why_ended(locked.reason(rt), locked.seen(rt), fault)),
     }
 }
 

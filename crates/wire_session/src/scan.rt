@@ -1,33 +1,58 @@
 //! The subcommand `scan`.
-
 use crate::faults::WireFault;
 use sii_words::{Identity, Words};
-use site_wire::{NumberedWire, Wire, bring_up};
+use site_wire::{
+    Extent, FoundLine, FoundSlave, LineFault, NumberedWire, SizeFound, Sizes, SlaveState, Wire,
+    bring_up, hand_back,
+};
 use station_listing::CheckByte;
 use std::alloc::Global;
-use std::io;
 use std::io::Write;
+use std::rt::Clock;
+use std::{fmt, io};
 
 /// Brings up the line on this wire, and prints one line for each slave: its position, the number of words of its EEPROM, its alias,
-/// whether its check byte is right, and its identity. No file is read or written, and no word of a slave.
+/// whether its check byte is right, and its identity; or the fault for which it can't be worked on. Behind that stand its state, and what
+/// was found of its EEPROM's size. No file is read or written, and no word of a slave. The EEPROMs are handed back.
 ///
 /// # Errors
 ///
-/// As for `bring_up`, with nothing printed; then `File` or `Memory`, as the output answers.
-pub fn scan_line<W: Wire, O: Write>(
+/// As for `bring_up`, with nothing printed; `File` or `Memory`, as the output answers; and, once all slaves are printed, `Line` for the first
+/// one that can't be worked on.
+pub fn scan_line<W: Wire, C: Clock, O: Write>(
     alloc: Global,
     wire: &mut NumberedWire<W>,
+    clock: &C,
+    sizes: &Sizes,
     output: &mut O,
 ) -> Result<(), WireFault> {
-    let slaves = bring_up(alloc, wire)?;
-    print_slaves(&slaves, output)?;
-    Ok(())
+    let found = bring_up(alloc, wire, clock, sizes)?;
+    hand_back(wire, &found.states());
+    print_slaves(&found, output)?;
+    match first_fault(&found) {
+        Some(fault) => Err(WireFault::Line(fault)),
+        None => Ok(()),
+    }
+}
+
+/// Why the first slave can't be worked on that can't.
+fn first_fault(found: &FoundLine) -> Option<LineFault> {
+    let mut slave = 0u16;
+    for each in &found.slaves {
+        if let Err(why) = each.words {
+            return Some(LineFault::Slave { slave, why });
+        }
+        slave = slave.saturating_add(1);
+    }
+    None
 }
 
 /// Prints a line for each slave.
-fn print_slaves<O: Write>(slaves: &[Words], output: &mut O) -> io::Result<()> {
-    for (slave, words) in slaves.iter().enumerate() {
-        print_slave(slave, words, output)?;
+fn print_slaves<O: Write>(found: &FoundLine, output: &mut O) -> io::Result<()> {
+    let mut slave = 0u16;
+    for each in &found.slaves {
+        print_slave(slave, each, output)?;
+        slave = slave.saturating_add(1);
     }
     output.flush()
 }
@@ -44,7 +69,22 @@ fn judge_check(words: &Words) -> CheckByte {
     }
 }
 
-fn print_slave<O: Write>(slave: usize, words: &Words, output: &mut O) -> io::Result<()> {
+fn print_slave<O: Write>(slave: u16, found: &FoundSlave, output: &mut O) -> io::Result<()> {
+    match &found.words {
+        Ok(words) => print_words(slave, words, output)?,
+        Err(why) => {
+            let fault = WireFault::Line(LineFault::Slave { slave, why: *why });
+            write!(output, "slave {slave} {fault}")?;
+        }
+    }
+    print_state(found.state, output)?;
+    if let Some(size) = found.size {
+        print_size(size, output)?;
+    }
+    writeln!(output)
+}
+
+fn print_words<O: Write>(slave: u16, words: &Words, output: &mut O) -> io::Result<()> {
     let (count, alias, check) = (words.len(), words.alias(), judge_check(words));
     let Identity {
         vendor,
@@ -56,8 +96,62 @@ fn print_slave<O: Write>(slave: usize, words: &Words, output: &mut O) -> io::Res
         output,
         "slave {slave} words {count} alias {alias} check {check} "
     )?;
-    writeln!(
+    write!(
         output,
         "vendor 0x{vendor:08x} product 0x{product:08x} revision 0x{revision:08x} serial 0x{serial:08x}"
     )
+}
+
+/// The name of a state (ETG.1000.6).
+fn name_of_state(al_status: u16) -> &'static str {
+    match al_status % 16 {
+        1 => "init",
+        2 => "preop",
+        3 => "boot",
+        4 => "safeop",
+        8 => "op",
+        _ => "unknown",
+    }
+}
+
+/// Prints the state of a slave, whether it tells an error, and whether its PDI has the EEPROM.
+fn print_state<O: Write>(state: SlaveState, output: &mut O) -> io::Result<()> {
+    let name = name_of_state(state.al_status.unwrap_or(0));
+    write!(output, " state {name}")?;
+    if state.al_status.is_some_and(|status| status / 16 % 2 == 1) {
+        write!(output, " error")?;
+    }
+    if state.is_with_pdi() {
+        write!(output, " held")?;
+    }
+    Ok(())
+}
+
+/// How large a chip was found to be, as it is printed.
+#[derive(Clone, Copy)]
+struct Found {
+    extent: Extent,
+}
+
+impl fmt::Display for Found {
+    fn fmt<W: fmt::Write>(&self, f: &mut fmt::Formatter<W>) -> fmt::Result {
+        match self.extent {
+            Extent::Repeats(words) | Extent::EndsAt(words) => write!(f, "{words}"),
+            Extent::Open => write!(f, "open"),
+            Extent::Uniform => write!(f, "alike"),
+        }
+    }
+}
+
+/// Prints what word 0x3E says of the size, and what was found.
+fn print_size<O: Write>(size: SizeFound, output: &mut O) -> io::Result<()> {
+    let says = size.says;
+    let found = Found {
+        extent: size.extent,
+    };
+    write!(output, " says {says} found {found}")?;
+    if size.is_larger {
+        write!(output, " larger")?;
+    }
+    Ok(())
 }

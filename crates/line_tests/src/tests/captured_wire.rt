@@ -4,7 +4,7 @@ use super::zero_words;
 use crate::devices::put;
 use site_capture::Capture;
 use site_file::RandomAccessFile;
-use site_wire::{Fate, Mishap, NumberedWire, PracticeLine, PracticeWire, bring_up};
+use site_wire::{NumberedWire, Sizes, bring_up};
 use std::alloc::Global;
 use std::io;
 use std::rt::Clock;
@@ -13,6 +13,7 @@ use std::sync::atomic::AtomicU8;
 use std::sync::atomic::Ordering::SeqCst;
 use std::time::Duration;
 use wire_capture::CapturedWire;
+use wire_practice::{Fate, Mishap, PracticeClock, PracticeLine, PracticeWire};
 
 // A file that is empty at first, and keeps what is written to its first bytes.
 #[derive(Drop)]
@@ -90,23 +91,26 @@ const COUNT: &[u8] = &[
 
 // One slave has counted up the working counter.
 const COUNTED: &[u8] = &[
-    0x19, 0x10, 7, 0, 0, 0, 0, 0, 1, 0x80, 0, 0, 0, 1, 0, 0, 0, 8, 0, 0, 0, 0, 0, 0, 0, 0, 0,
+    0x19, 0x10, 7, 0, 0, 0, 0, 0, 1, 0x80, 0, 0, 0x11, 1, 0, 0, 0, 8, 0, 0, 0, 0, 0, 0, 0, 0, 0,
+];
+
+// Its counter is falsified.
+const UNCOUNTED: &[u8] = &[
+    0x19, 0x10, 7, 0, 0, 0, 0, 0, 1, 0x80, 0, 0, 0x11, 0, 0, 0, 0, 8, 0, 0, 0, 0, 0, 0, 0, 0, 0,
 ];
 
 // Its length is falsified.
 const SHORTER: &[u8] = &[
-    0x18, 0x10, 7, 0, 0, 0, 0, 0, 1, 0x80, 0, 0, 0, 1, 0, 0, 0, 8, 0, 0, 0, 0, 0, 0, 0, 0, 0,
+    0x18, 0x10, 7, 0, 0, 0, 0, 0, 1, 0x80, 0, 0, 0x11, 1, 0, 0, 0, 8, 0, 0, 0, 0, 0, 0, 0, 0, 0,
 ];
 
-// The first slave gets its station address: APWR of 0x1001 to register 0x0010 at position 0, and the number 9.
-const ADDRESS: &[u8] = &[
-    0x1a, 0x10, 2, 0, 0, 0, 0x10, 0, 2, 0x80, 0, 0, 1, 0x10, 0, 0, 0, 0, 9, 0, 0, 0, 0, 0, 0, 0, 0,
-    0,
+// Aliases are left: BWR of a byte 0 to register 0x0103, and the number 9.
+const LEAVE: &[u8] = &[
+    0x19, 0x10, 8, 0, 0, 0, 3, 1, 1, 0x80, 0, 0, 0, 0, 0, 0, 0, 9, 0, 0, 0, 0, 0, 0, 0, 0, 0,
 ];
 
-const ADDRESSED: &[u8] = &[
-    0x1a, 0x10, 2, 0, 0, 0, 0x10, 0, 2, 0x80, 0, 0, 1, 0x10, 1, 0, 0, 0, 9, 0, 0, 0, 0, 0, 0, 0, 0,
-    0,
+const LEFT: &[u8] = &[
+    0x19, 0x10, 8, 0, 0, 0, 3, 1, 1, 0x80, 0, 0, 0, 1, 0, 0, 0, 9, 0, 0, 0, 0, 0, 0, 0, 0, 0,
 ];
 
 // Which way a frame goes, and its bytes.
@@ -116,42 +120,32 @@ type Noted = (&'static [u8], &'static [u8]);
 const CASES: &[(Fate, &[Noted])] = &[
     (
         Fate::Passes,
-        &[
-            (OUT, COUNT),
-            (BACK, COUNTED),
-            (OUT, ADDRESS),
-            (BACK, ADDRESSED),
-        ],
+        &[(OUT, COUNT), (BACK, COUNTED), (OUT, LEAVE), (BACK, LEFT)],
     ),
     (
         Fate::LostBefore,
-        &[(OUT, COUNT), (OUT, COUNT), (BACK, COUNTED), (OUT, ADDRESS)],
+        &[(OUT, COUNT), (OUT, COUNT), (BACK, COUNTED), (OUT, LEAVE)],
     ),
     (
         Fate::LostBehind,
-        &[(OUT, COUNT), (OUT, COUNT), (BACK, COUNTED), (OUT, ADDRESS)],
+        &[(OUT, COUNT), (OUT, COUNT), (BACK, COUNTED), (OUT, LEAVE)],
     ),
     (
         Fate::Doubled,
-        &[
-            (OUT, COUNT),
-            (BACK, COUNTED),
-            (OUT, ADDRESS),
-            (BACK, COUNTED),
-        ],
+        &[(OUT, COUNT), (BACK, COUNTED), (OUT, LEAVE), (BACK, COUNTED)],
     ),
     (
         Fate::Turned(0, 1),
         &[(OUT, COUNT), (BACK, SHORTER), (OUT, COUNT), (BACK, COUNTED)],
     ),
-    (Fate::Turned(13, 1), &[(OUT, COUNT), (BACK, COUNT)]),
+    (Fate::Turned(13, 1), &[(OUT, COUNT), (BACK, UNCOUNTED)]),
 ];
 
 // A wire with one slave, whose first frame has this fate.
-fn wire_with(alloc: Global, fate: Fate) -> Option<PracticeWire> {
+fn wire_with<'f>(alloc: Global, clock: &'f PracticeClock, fate: Fate) -> Option<PracticeWire<'f>> {
     let plant = Vec::from_array(alloc, [zero_words(alloc)?]).ok()?;
     let line = PracticeLine::power_up(alloc, &plant, 1).ok()?;
-    let mut wire = PracticeWire::new(line);
+    let mut wire = PracticeWire::new(line, clock);
     wire.plan(Mishap {
         passing: 0,
         failing: 1,
@@ -164,8 +158,15 @@ fn wire_with(alloc: Global, fate: Fate) -> Option<PracticeWire> {
 fn capture_in(rt: &impl Wait, alloc: Global, fate: Fate, bytes: &[AtomicU8]) -> Option<bool> {
     let capture = Capture::begin(Front { bytes }).ok()?;
     let still = Still { _handle: rt };
-    let wire = CapturedWire::new(wire_with(alloc, fate)?, Some(&capture), &still);
-    let _found = bring_up(alloc, &mut NumberedWire::new(wire, 7)).is_ok();
+    let clock = PracticeClock::new();
+    let wire = CapturedWire::new(wire_with(alloc, &clock, fate)?, Some(&capture), &still);
+    let _found = bring_up(
+        alloc,
+        &mut NumberedWire::new(wire, 7),
+        &clock,
+        &Sizes::unknown(),
+    )
+    .is_ok();
     Some(capture.end().is_ok())
 }
 

@@ -10,15 +10,15 @@ use site_file::{FileDevice, OpenFiles, RandomAccessFile};
 use site_mem::{Parts, Pattern};
 use site_shadow::ShadowSite;
 use site_wire::{
-    Difference, Fate, LineFault, Mishap, NumberedWire, PracticeLine, PracticeWire, StopReason,
-    WireDevice, WireSite, bring_up,
+    Difference, LineFault, NumberedWire, Sizes, StopReason, WireDevice, WireSite, bring_up,
 };
 use std::alloc::Global;
 use std::io;
+use wire_practice::{Fate, Mishap, PracticeClock, PracticeLine, PracticeWire};
 
 // A journal that nobody uses.
 #[derive(Drop)]
-struct NoFile;
+pub(super) struct NoFile;
 
 impl RandomAccessFile for NoFile {
     fn len(&self) -> io::Result<u64> {
@@ -65,10 +65,6 @@ enum Act {
 const GOES_ON: Option<StopReason> = None;
 
 const SILENT: Option<StopReason> = Some(StopReason::Silent);
-
-const FAILED: Option<StopReason> = Some(StopReason::WordFailed { slave: 0 });
-
-const UNCONFIRMED: Option<StopReason> = Some(StopReason::Unconfirmed { slave: 0 });
 
 const DATAGRAM: Option<StopReason> = Some(StopReason::Differs {
     slave: 0,
@@ -117,8 +113,8 @@ const CASES: &[Case] = &[
     (Act::Write, 3, 0, 3, Fate::LostBehind, SILENT, NEW),
     (Act::Write, 3, 1, 2, Fate::LostBehind, GOES_ON, NEW),
     (Act::Write, 3, 1, 3, Fate::LostBefore, SILENT, NEW),
-    // The slave was at rest before it was seen busy.
-    (Act::Write, 1, 0, 1, Fate::LostBehind, UNCONFIRMED, NEW),
+    // The slave was at rest before it was seen busy, and is told again.
+    (Act::Write, 1, 0, 1, Fate::LostBehind, GOES_ON, NEW),
     (Act::Write, 3, 0, 9, Fate::Doubled, GOES_ON, NEW),
     (Act::Write, 3, 0, 9, Fate::SentTwice, GOES_ON, NEW),
     (Act::Write, 3, 0, 1, Fate::Delayed, GOES_ON, NEW),
@@ -148,8 +144,8 @@ const CASES: &[Case] = &[
     (Act::Write, 3, 1, 1, Fate::Turned(14, 1), COUNTER, NEW),
     // Busy, and bits 13 and 14 of a poll that finds it idle.
     (Act::Write, 0, 1, 1, Fate::Turned(13, 0x80), GOES_ON, NEW),
-    (Act::Write, 0, 1, 1, Fate::Turned(13, 0x20), FAILED, NEW),
-    (Act::Write, 0, 1, 1, Fate::Turned(13, 0x40), FAILED, NEW),
+    (Act::Write, 0, 1, 1, Fate::Turned(13, 0x20), GOES_ON, NEW),
+    (Act::Write, 0, 1, 1, Fate::Turned(13, 0x40), GOES_ON, NEW),
     // The words that were read, and who has access.
     (Act::Read, 0, 3, 1, Fate::Turned(12, 1), WORDS, OLD),
     (Act::Read, 0, 3, 1, Fate::Turned(15, 0x80), WORDS, OLD),
@@ -259,18 +255,22 @@ const BROUGHT_UP: &[(Mishap, Result<usize, LineFault>)] = &[
 ];
 
 // A wire with one slave, which stays busy for so many datagrams.
-fn new_wire(alloc: Global, delay: u32) -> Option<NumberedWire<PracticeWire>> {
+fn new_wire<'f>(
+    alloc: Global,
+    clock: &'f PracticeClock,
+    delay: u32,
+) -> Option<NumberedWire<PracticeWire<'f>>> {
     let plant = Vec::from_array(alloc, [zero_words(alloc)?]).ok()?;
     let line = PracticeLine::power_up(alloc, &plant, delay).ok()?;
-    Some(NumberedWire::new(PracticeWire::new(line), 7))
+    Some(NumberedWire::new(PracticeWire::new(line, clock), 7))
 }
 
 // The wire with this mishap, and with a power cut in the midst of a word.
-fn planned(
-    mut wire: NumberedWire<PracticeWire>,
+fn planned<'f>(
+    mut wire: NumberedWire<PracticeWire<'f>>,
     mishap: Mishap,
     cut: Option<(u32, Pattern)>,
-) -> NumberedWire<PracticeWire> {
+) -> NumberedWire<PracticeWire<'f>> {
     let under = wire.wire();
     under.plan(mishap);
     match cut {
@@ -281,7 +281,7 @@ fn planned(
 }
 
 // The parts of a line of a slave with these words.
-fn parts_of(alloc: Global, words: Words) -> Option<Parts> {
+pub(super) fn parts_of(alloc: Global, words: Words) -> Option<Parts> {
     let sizes = Vec::from_array(alloc, [words.len() as u16]).ok()?;
     let half = RomHalf::power_up(words, 0x1001, 1);
     let halves = Vec::from_array(alloc, [Some(half)]).ok()?;
@@ -294,8 +294,13 @@ fn parts_of(alloc: Global, words: Words) -> Option<Parts> {
 }
 
 // The words of the only slave, as the line is brought up.
-fn words_found(alloc: Global, wire: &mut NumberedWire<PracticeWire>) -> Option<Words> {
-    let mut plant = bring_up(alloc, wire).ok()?;
+fn words_found(
+    alloc: Global,
+    clock: &PracticeClock,
+    wire: &mut NumberedWire<PracticeWire<'_>>,
+) -> Option<Words> {
+    let line = bring_up(alloc, wire, clock, &Sizes::unknown()).ok()?;
+    let mut plant = line.into_words(alloc).ok()?;
     let words = plant.pop();
     drop(plant);
     words
@@ -305,18 +310,19 @@ fn words_found(alloc: Global, wire: &mut NumberedWire<PracticeWire>) -> Option<W
 fn site_on<'f>(
     alloc: Global,
     files: &'f OpenFiles<NoFile>,
+    clock: &'f PracticeClock,
     delay: u32,
     mishap: Mishap,
     cut: Option<(u32, Pattern)>,
-) -> Option<WireSite<'f, PracticeWire, NoFile>> {
-    let mut wire = new_wire(alloc, delay)?;
-    let found = words_found(alloc, &mut wire)?;
+) -> Option<WireSite<'f, PracticeWire<'f>, NoFile, PracticeClock>> {
+    let mut wire = new_wire(alloc, clock, delay)?;
+    let found = words_found(alloc, clock, &mut wire)?;
     let parts = parts_of(alloc, found)?;
     if !parts.is_whole() {
         return None;
     }
     let wire = planned(wire, mishap, cut);
-    let device = WireDevice::new(wire, FileDevice::new(files));
+    let device = WireDevice::new(wire, clock, FileDevice::new(files));
     Some(ShadowSite::of_parts(alloc, parts, device))
 }
 
@@ -360,15 +366,16 @@ fn cut_of(act: Act) -> Option<(u32, Pattern)> {
 }
 
 // Why the site has stopped, if it has, and the words that a wire without mishaps finds then.
-fn left_by(
+fn left_by<'f>(
     alloc: Global,
-    site: WireSite<'_, PracticeWire, NoFile>,
+    clock: &PracticeClock,
+    site: WireSite<'f, PracticeWire<'f>, NoFile, PracticeClock>,
 ) -> Option<(Option<StopReason>, Words)> {
     let (parts, device) = site.into_parts();
     drop(parts);
     let reason = device.reason();
     let mut wire = planned(device.into_wire(), WELL, None);
-    Some((reason, words_found(alloc, &mut wire)?))
+    Some((reason, words_found(alloc, clock, &mut wire)?))
 }
 
 // Whether a mishap ends so.
@@ -383,9 +390,10 @@ fn ends_so(alloc: Global, case: &Case) -> Option<bool> {
         journal: NoFile,
         images: Vec::new(alloc),
     };
-    let mut site = site_on(alloc, &files, delay, mishap, cut_of(act))?;
+    let clock = PracticeClock::new();
+    let mut site = site_on(alloc, &files, &clock, delay, mishap, cut_of(act))?;
     let is_done = is_done(alloc, &mut site, act);
-    let (found, words) = left_by(alloc, site)?;
+    let (found, words) = left_by(alloc, &clock, site)?;
     let is_left = words.as_slice().get(4..7) == Some(&left);
     Some(is_done == reason.is_none() && found == reason && is_left)
 }
@@ -399,10 +407,11 @@ fn mishaps_end_well_or_stop(rt: HostRuntime) {
 
 // How many slaves are found where frames have this fate. None where memory is wanted.
 fn brought_up(alloc: Global, mishap: Mishap) -> Option<Result<usize, LineFault>> {
-    let wire = new_wire(alloc, 2)?;
+    let clock = PracticeClock::new();
+    let wire = new_wire(alloc, &clock, 2)?;
     let mut wire = planned(wire, mishap, None);
-    match bring_up(alloc, &mut wire) {
-        Ok(plant) => Some(Ok(plant.len())),
+    match bring_up(alloc, &mut wire, &clock, &Sizes::unknown()) {
+        Ok(line) => Some(Ok(line.slaves.len())),
         Err(LineFault::Memory) => None,
         Err(fault) => Some(Err(fault)),
     }

@@ -5,12 +5,12 @@ use crate::alone::runs::{End, SERVED, UNOPENED, Way, ended_on, kept_by};
 use crate::alone::sites::recovered;
 use crate::alone::stops::PATTERNS;
 use crate::alone::wires::{
-    JournalFile, NO_TROUBLE, Trouble, files_of, is_found_on, site_on, taken_off, wire_of,
+    Bench, NO_TROUBLE, Trouble, bench_of, is_found_on, site_on, taken_off, wire_of,
 };
-use site_file::OpenFiles;
 use site_mem::Pattern;
-use site_wire::{Fate, Mishap, NumberedWire, PracticeWire, StopReason};
+use site_wire::{NumberedWire, StopReason};
 use std::alloc::Global;
+use wire_practice::{Fate, Mishap, PracticeWire};
 
 /// Why a site may stop.
 #[derive(Clone, Copy, PartialEq)]
@@ -24,8 +24,8 @@ pub(crate) enum Why {
 
 /// What a run has left.
 #[derive(Drop)]
-struct Outcome {
-    wire: NumberedWire<PracticeWire>,
+struct Outcome<'f> {
+    wire: NumberedWire<PracticeWire<'f>>,
     end: End,
     reason: Option<StopReason>,
     /// How many frames it sent, once the line was brought up.
@@ -64,13 +64,8 @@ pub(crate) fn may_stop(why: Why, reason: StopReason) -> bool {
 }
 
 /// A run with this trouble. None: memory was refused.
-fn ended(
-    alloc: Global,
-    files: &OpenFiles<JournalFile>,
-    way: Way,
-    trouble: &Trouble,
-) -> Option<Outcome> {
-    let site = site_on(alloc, files, wire_of(alloc, &THREE)?, trouble)?;
+fn ended<'f>(alloc: Global, bench: &'f Bench, way: Way, trouble: &Trouble) -> Option<Outcome<'f>> {
+    let site = site_on(alloc, bench, wire_of(alloc, bench, &THREE)?, trouble)?;
     let (before, _again) = site.device().frames();
     let (site, end) = ended_on(alloc, site, way);
     let (wire, reason, frames) = taken_off(site);
@@ -83,13 +78,13 @@ fn ended(
 }
 
 /// Whether a recovery with this trouble completes. The wire comes back, with the reason for which its site has stopped.
-fn recovers(
+fn recovers<'f>(
     alloc: Global,
-    files: &OpenFiles<JournalFile>,
-    wire: NumberedWire<PracticeWire>,
+    bench: &'f Bench,
+    wire: NumberedWire<PracticeWire<'f>>,
     trouble: &Trouble,
-) -> Option<(NumberedWire<PracticeWire>, Result<(), StopReason>)> {
-    let (site, came) = recovered(alloc, site_on(alloc, files, wire, trouble)?);
+) -> Option<(NumberedWire<PracticeWire<'f>>, Result<(), StopReason>)> {
+    let (site, came) = recovered(alloc, site_on(alloc, bench, wire, trouble)?);
     let (wire, reason, _frames) = taken_off(site);
     match (came, reason) {
         (Ok(_), None) => Some((wire, Ok(()))),
@@ -99,14 +94,14 @@ fn recovers(
 }
 
 /// Whether a recovery without trouble completes, and then the slaves have aliases of one of these rows, and nothing is live.
-pub(crate) fn is_mended(
+pub(crate) fn is_mended<'f>(
     alloc: Global,
-    files: &OpenFiles<JournalFile>,
-    wire: NumberedWire<PracticeWire>,
+    bench: &'f Bench,
+    wire: NumberedWire<PracticeWire<'f>>,
     kept: &[[u16; 3]],
 ) -> bool {
-    match recovers(alloc, files, wire, &NO_TROUBLE) {
-        Some((wire, Ok(()))) => is_found_on(alloc, files, wire, kept),
+    match recovers(alloc, bench, wire, &NO_TROUBLE) {
+        Some((wire, Ok(()))) => is_found_on(alloc, bench, wire, kept),
         Some((wire, Err(_))) => {
             drop(wire);
             false
@@ -118,18 +113,18 @@ pub(crate) fn is_mended(
 /// Whether a site stops in a run with this trouble. None if it stops for a reason for which it may not, or isn't served otherwise, or sends a
 /// command to a busy slave, or a recovery doesn't find the slaves as a prefix of the commands leaves them, with each acknowledged one in it.
 fn is_stopped(alloc: Global, way: Way, trouble: &Trouble, why: Why) -> Option<bool> {
-    let files = files_of(alloc, &THREE)?;
+    let bench = bench_of(alloc, &THREE)?;
     let Outcome {
         mut wire,
         end,
         reason,
         ..
-    } = ended(alloc, &files, way, trouble)?;
+    } = ended(alloc, &bench, way, trouble)?;
     if wire.wire().disturbing() > 0 {
         drop(wire);
         return None;
     }
-    if !is_mended(alloc, &files, wire, kept_by(way, end.status[1])) {
+    if !is_mended(alloc, &bench, wire, kept_by(way, end.status[1])) {
         return None;
     }
     match reason {
@@ -141,8 +136,8 @@ fn is_stopped(alloc: Global, way: Way, trouble: &Trouble, why: Why) -> Option<bo
 
 /// How many frames a run without trouble sends.
 pub(crate) fn frames_of(alloc: Global, way: Way) -> Option<u64> {
-    let files = files_of(alloc, &THREE)?;
-    let ended = ended(alloc, &files, way, &NO_TROUBLE)?;
+    let bench = bench_of(alloc, &THREE)?;
+    let ended = ended(alloc, &bench, way, &NO_TROUBLE)?;
     if ended.end == SERVED {
         Some(ended.frames)
     } else {
@@ -194,10 +189,10 @@ pub(crate) fn cut(words: u32, left: Pattern) -> Trouble {
 
 /// Whether the recovery of a run that was cut in this word is cut in that one. None if it fails otherwise, or a second one doesn't complete it.
 fn is_cut_again(alloc: Global, way: Way, first: &Trouble, second: &Trouble) -> Option<bool> {
-    let files = files_of(alloc, &THREE)?;
-    let Outcome { wire, end, .. } = ended(alloc, &files, way, first)?;
-    let (wire, came) = recovers(alloc, &files, wire, second)?;
-    if !is_mended(alloc, &files, wire, kept_by(way, end.status[1])) {
+    let bench = bench_of(alloc, &THREE)?;
+    let Outcome { wire, end, .. } = ended(alloc, &bench, way, first)?;
+    let (wire, came) = recovers(alloc, &bench, wire, second)?;
+    if !is_mended(alloc, &bench, wire, kept_by(way, end.status[1])) {
         return None;
     }
     match came {
@@ -247,8 +242,8 @@ const REFUSED: &[Line] = &[
 
 /// How many words the slaves of a line have begun to write once it was neither recovered nor opened. None: it was.
 fn words_of_a_refused(alloc: Global, line: &Line) -> Option<u32> {
-    let files = files_of(alloc, line)?;
-    let site = site_on(alloc, &files, wire_of(alloc, line)?, &NO_TROUBLE)?;
+    let bench = bench_of(alloc, line)?;
+    let site = site_on(alloc, &bench, wire_of(alloc, &bench, line)?, &NO_TROUBLE)?;
     let (site, came) = recovered(alloc, site);
     let (site, end) = ended_on(alloc, site, Way::Queued);
     let (mut wire, reason, _frames) = taken_off(site);

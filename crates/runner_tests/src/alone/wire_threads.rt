@@ -7,19 +7,19 @@ use crate::alone::runs::{ASKS, Way, kept_by};
 use crate::alone::sites::open;
 use crate::alone::stops::PATTERNS;
 use crate::alone::wire_runs::{MISHAPS, Why, cut, frames_of, is_mended, may_stop};
-use crate::alone::wires::{JournalFile, Trouble, files_of, locked_on, shared_on, wire_of};
+use crate::alone::wires::{Bench, Trouble, bench_of, locked_on, shared_on, wire_of};
 use crate::asks::command;
 use script_session::serve_by_threads;
 use sii_edit::Command;
 use site_core::Site;
-use site_file::OpenFiles;
 use site_mem::Pattern;
 use site_shadow::{Device, ShadowSite};
-use site_wire::{Fate, Mishap, NumberedWire, PracticeWire, StopReason};
+use site_wire::{NumberedWire, StopReason};
 use station_alone::Alone;
 use std::alloc::Global;
 use std::sync::Wait;
 use std::thread::Threads;
+use wire_practice::{Fate, Mishap, PracticeWire};
 
 /// What a run without trouble prints.
 const ANSWERS: &str = "command 0 accepted 0
@@ -33,8 +33,8 @@ const LAST: u64 = 120;
 
 /// What a run by threads has left.
 #[derive(Drop)]
-struct Outcome {
-    wire: NumberedWire<PracticeWire>,
+struct Outcome<'f> {
+    wire: NumberedWire<PracticeWire<'f>>,
     /// What it printed.
     text: Vec<u8>,
     reason: Option<StopReason>,
@@ -79,16 +79,16 @@ fn run<D: Device + Copy + Send, R: Wait + Threads + Sync>(
 }
 
 /// A run with this trouble. None: memory was refused.
-fn ended<R: Wait + Threads + Sync>(
+fn ended<'f, R: Wait + Threads + Sync>(
     rt: &R,
     alloc: Global,
-    files: &OpenFiles<JournalFile>,
+    bench: &'f Bench,
     trouble: &Trouble,
-) -> Option<Outcome> {
+) -> Option<Outcome<'f>> {
     let commands = commands(alloc)?;
     let mut text = Vec::new(alloc);
-    let (parts, locked) = locked_on(alloc, files, wire_of(alloc, &THREE)?, trouble)?;
-    let site = shared_on(rt, alloc, files, parts, &locked)?;
+    let (parts, locked) = locked_on(alloc, bench, wire_of(alloc, bench, &THREE)?, trouble)?;
+    let site = shared_on(rt, alloc, bench, parts, &locked)?;
     run(rt, alloc, site, commands, &mut text)?;
     let reason = locked.reason(rt);
     let wire = locked.into_line().into_wire();
@@ -119,19 +119,19 @@ fn is_stopped<R: Wait + Threads + Sync>(
     trouble: &Trouble,
     why: Why,
 ) -> Option<bool> {
-    let files = files_of(alloc, &THREE)?;
+    let bench = bench_of(alloc, &THREE)?;
     let Outcome {
         mut wire,
         text,
         reason,
-    } = ended(rt, alloc, &files, trouble)?;
+    } = ended(rt, alloc, &bench, trouble)?;
     if wire.wire().disturbing() > 0 {
         drop(wire);
         return None;
     }
     if !is_mended(
         alloc,
-        &files,
+        &bench,
         wire,
         kept_by(Way::OneByOne, durable_in(&text)),
     ) {

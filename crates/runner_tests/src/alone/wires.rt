@@ -6,14 +6,15 @@ use site_file::{FileDevice, OpenFiles, RandomAccessFile};
 use site_mem::{Parts, Pattern};
 use site_shadow::ShadowSite;
 use site_wire::{
-    Fate, LiveLine, LockedLine, Mishap, NumberedWire, PracticeLine, PracticeWire, SharedSite,
-    StopReason, WireDevice, WireSite, bring_up,
+    LiveLine, LockedLine, NumberedWire, SharedSite, Sizes, StopReason, WireDevice, WireSite,
+    bring_up,
 };
 use std::alloc::Global;
 use std::io;
 use std::sync::Wait;
 use std::sync::atomic::AtomicU8;
 use std::sync::atomic::Ordering::SeqCst;
+use wire_practice::{Fate, Mishap, PracticeClock, PracticeLine, PracticeWire};
 
 /// For how many datagrams a slave stays busy with a command.
 const DELAY: u32 = 3;
@@ -25,10 +26,17 @@ pub(crate) struct JournalFile {
 }
 
 /// A line on a wire, and its journal.
-pub(crate) type Wired<'f> = WireSite<'f, PracticeWire, JournalFile>;
+pub(crate) type Wired<'f> = WireSite<'f, PracticeWire<'f>, JournalFile, PracticeClock>;
 
 /// A line on a wire that threads share, and its journal.
-pub(crate) type Shared<'f, R> = SharedSite<'f, R, PracticeWire, JournalFile>;
+pub(crate) type Shared<'f, 'c, R> = SharedSite<'f, R, PracticeWire<'c>, JournalFile, PracticeClock>;
+
+/// What a line on a wire rests on: its journal's file, and a clock.
+#[derive(Drop)]
+pub(crate) struct Bench {
+    files: OpenFiles<JournalFile>,
+    clock: PracticeClock,
+}
 
 /// What goes wrong on a wire, from the moment on at which its line is brought up.
 #[derive(Clone, Copy)]
@@ -96,26 +104,37 @@ impl RandomAccessFile for JournalFile {
 }
 
 /// A wire with the slaves of this line, just switched on. None: memory was refused.
-pub(crate) fn wire_of(alloc: Global, line: &Line) -> Option<NumberedWire<PracticeWire>> {
+pub(crate) fn wire_of<'f>(
+    alloc: Global,
+    bench: &'f Bench,
+    line: &Line,
+) -> Option<NumberedWire<PracticeWire<'f>>> {
     let plant = plant_of(alloc, line.slaves)?;
     let slaves = PracticeLine::power_up(alloc, &plant, DELAY).ok()?;
-    Some(NumberedWire::new(PracticeWire::new(slaves), 7))
+    let wire = PracticeWire::new(slaves, &bench.clock);
+    Some(NumberedWire::new(wire, 7))
 }
 
-/// The file of the line's journal. None: memory was refused.
-pub(crate) fn files_of(alloc: Global, line: &Line) -> Option<OpenFiles<JournalFile>> {
+/// The file of the line's journal, and a clock. None: memory was refused.
+pub(crate) fn bench_of(alloc: Global, line: &Line) -> Option<Bench> {
     let mut bytes = Vec::new(alloc);
     for byte in disk(alloc, line)?.iter() {
         bytes.push(AtomicU8::new(*byte)).ok()?;
     }
-    Some(OpenFiles {
-        journal: JournalFile { bytes },
-        images: Vec::new(alloc),
+    Some(Bench {
+        files: OpenFiles {
+            journal: JournalFile { bytes },
+            images: Vec::new(alloc),
+        },
+        clock: PracticeClock::new(),
     })
 }
 
 /// The wire with this trouble from now on, in the place of any other.
-fn troubled(mut wire: NumberedWire<PracticeWire>, trouble: &Trouble) -> NumberedWire<PracticeWire> {
+fn troubled<'f>(
+    mut wire: NumberedWire<PracticeWire<'f>>,
+    trouble: &Trouble,
+) -> NumberedWire<PracticeWire<'f>> {
     let under = wire.wire();
     under.plan(trouble.mishap);
     match trouble.cut {
@@ -129,38 +148,43 @@ fn troubled(mut wire: NumberedWire<PracticeWire>, trouble: &Trouble) -> Numbered
 /// if the line isn't brought up, or memory was refused.
 pub(crate) fn site_on<'f>(
     alloc: Global,
-    files: &'f OpenFiles<JournalFile>,
-    wire: NumberedWire<PracticeWire>,
+    bench: &'f Bench,
+    wire: NumberedWire<PracticeWire<'f>>,
     trouble: &Trouble,
 ) -> Option<Wired<'f>> {
     let mut wire = troubled(wire, &NO_TROUBLE);
-    let parts = parts_on(alloc, files, &mut wire)?;
+    let parts = parts_on(alloc, bench, &mut wire)?;
     if !parts.is_whole() {
         return None;
     }
-    let device = WireDevice::new(troubled(wire, trouble), FileDevice::new(files));
+    let device = WireDevice::new(
+        troubled(wire, trouble),
+        &bench.clock,
+        FileDevice::new(&bench.files),
+    );
     Some(ShadowSite::of_parts(alloc, parts, device))
 }
 
 /// Brings up the line on this wire. Gives its parts, with the bytes of the journal's file.
 fn parts_on(
     alloc: Global,
-    files: &OpenFiles<JournalFile>,
-    wire: &mut NumberedWire<PracticeWire>,
+    bench: &Bench,
+    wire: &mut NumberedWire<PracticeWire<'_>>,
 ) -> Option<Parts> {
-    let plant = bring_up(alloc, wire).ok()?;
-    parts_with(alloc, &plant, files.journal.bytes(alloc)?)
+    let line = bring_up(alloc, wire, &bench.clock, &Sizes::unknown()).ok()?;
+    let plant = line.into_words(alloc).ok()?;
+    parts_with(alloc, &plant, bench.files.journal.bytes(alloc)?)
 }
 
 /// Brings up the line on this wire without trouble. Gives its parts, and the line under a lock, with this trouble from then on.
-pub(crate) fn locked_on(
+pub(crate) fn locked_on<'f>(
     alloc: Global,
-    files: &OpenFiles<JournalFile>,
-    wire: NumberedWire<PracticeWire>,
+    bench: &'f Bench,
+    wire: NumberedWire<PracticeWire<'f>>,
     trouble: &Trouble,
-) -> Option<(Parts, LockedLine<PracticeWire>)> {
+) -> Option<(Parts, LockedLine<PracticeWire<'f>>)> {
     let mut wire = troubled(wire, &NO_TROUBLE);
-    let parts = parts_on(alloc, files, &mut wire)?;
+    let parts = parts_on(alloc, bench, &mut wire)?;
     Some((
         parts,
         LockedLine::new(LiveLine::new(troubled(wire, trouble))),
@@ -168,22 +192,28 @@ pub(crate) fn locked_on(
 }
 
 /// The site of these parts on this line, for threads.
-pub(crate) fn shared_on<'f, R: Wait>(
+pub(crate) fn shared_on<'f, 'c, R: Wait>(
     rt: &'f R,
     alloc: Global,
-    files: &'f OpenFiles<JournalFile>,
+    bench: &'f Bench,
     parts: Parts,
-    locked: &'f LockedLine<PracticeWire>,
-) -> Option<Shared<'f, R>> {
+    locked: &'f LockedLine<PracticeWire<'c>>,
+) -> Option<Shared<'f, 'c, R>> {
     if !parts.is_whole() {
         return None;
     }
-    let device = WireDevice::shared(locked.shared(rt), FileDevice::new(files));
+    let device = WireDevice::shared(
+        locked.shared(rt),
+        &bench.clock,
+        FileDevice::new(&bench.files),
+    );
     Some(ShadowSite::of_parts(alloc, parts, device))
 }
 
 /// The wire of a site, why the site has stopped, if it has, and how many frames it sent.
-pub(crate) fn taken_off(site: Wired<'_>) -> (NumberedWire<PracticeWire>, Option<StopReason>, u64) {
+pub(crate) fn taken_off<'f>(
+    site: Wired<'f>,
+) -> (NumberedWire<PracticeWire<'f>>, Option<StopReason>, u64) {
     let (parts, device) = site.into_parts();
     drop(parts);
     let reason = device.reason();
@@ -192,13 +222,13 @@ pub(crate) fn taken_off(site: Wired<'_>) -> (NumberedWire<PracticeWire>, Option<
 }
 
 /// Whether nothing is live in the journal's file, and the aliases of the slaves of a wire are one of these rows. The line is brought up for it.
-pub(crate) fn is_found_on(
+pub(crate) fn is_found_on<'f>(
     alloc: Global,
-    files: &OpenFiles<JournalFile>,
-    wire: NumberedWire<PracticeWire>,
+    bench: &'f Bench,
+    wire: NumberedWire<PracticeWire<'f>>,
     kept: &[[u16; 3]],
 ) -> bool {
-    let Some(site) = site_on(alloc, files, wire, &NO_TROUBLE) else {
+    let Some(site) = site_on(alloc, bench, wire, &NO_TROUBLE) else {
         return false;
     };
     let (parts, device) = site.into_parts();

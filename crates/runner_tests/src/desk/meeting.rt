@@ -39,6 +39,8 @@ impl<'a, C: Clock> Meeting<'a, C> {
 }
 
 impl<'a, C: Clock> Hook for Meeting<'a, C> {
+    ghost may_hold = { λ _. Unit {0} };
+
     fn pass(&self, slave: u16) -> bool {
         match slave {
             0 => {

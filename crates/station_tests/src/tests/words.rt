@@ -62,7 +62,7 @@ const WRONG: &[&str] = &[
     "station explain 79",
     "station explain 83",
     "station explain 89",
-    "station explain 96",
+    "station explain 97",
     "station explain 99",
     "station explain 15 16",
 ];

@@ -1,10 +1,16 @@
-use Rattle.std.proofs.Common.{◌≡◌, ◌<◌, ◌^◌, true, false, Some, ap, ◌∙◌, arith, rules}
+use Rattle.std.proofs.Common.{◌≡◌, ◌<◌, ◌^◌, true, false, Some, None, ap, ◌∙◌, arith, rules}
 use Rattle.std.proofs.lemmas.Grind.{common_steps}
 use Rattle.esc_model.specs.Orders.{read_order}
 use Rattle.esc_rom.specs.Runs.{Wrote, Waited}
 use Rattle.esc_rom.specs.WordPairs.{Fetched, TriesRead}
 use Rattle.esc_rom.proofs.Runs.{Ran-told, Ran-cut, IsCut-more, cut_as}
 use Rattle.esc_rom.proofs.ReadPairs.{read_bytes, read_bytes_gentle, command_fails, asked, try_dead, error_fails, fetched, words_fail, pair_read}
+use Rattle.esc_rom.specs.declared.poll.Rested.TheVariants.{Well, Failed}
+use Rattle.esc_rom.specs.declared.reading.Tried.TheVariants as tried
+use Rattle.esc_rom.specs.Courses.{Ends}
+use Rattle.esc_rom.specs.Sent.{WritesBy, WaitsBy, FetchesBy, FetchesBehind, WaitsBehind, tried_of}
+use Rattle.esc_rom.proofs.Courses.{takes-none, takes-value, takes-then, takes-cut}
+use Rattle.esc_rom.proofs.SentLaws.{read-command}
 use Rattle.esc_rom.proofs.reading.try_pair.Goals as goal
 
 pub write-requires-clause-gentle : goal.write-requires-clause-gentle
@@ -65,3 +71,78 @@ returns-clause-runs g c =
     let ask = asked c.requires.1 fits (Ran-told (Wrote (read_order c.args.slave c.args.word)) yes (read_bytes c.args.word _ c.read_content-content.ensures c.in_ok-write.ensures.runs)) in
     let fetch = fetched c.requires.1 fits ask (Ran-told (λ old. Waited old c.args.slave) (c.in-Some.is ∙ ap Some c.in-Well.is) c.in_ok-rested.ensures.runs) in
     pair_read c.requires.1 fits fetch (Ran-told (λ old. Fetched old c.args.slave) c.in-Some-2.is c.in_ok-pair.ensures.runs)
+
+pub returns-in_err-write-clause-frames : goal.returns-in_err-write-clause-frames
+returns-in_err-write-clause-frames g c =
+    let slave = c.args.slave in
+    takes-cut (WritesBy slave (read_order slave c.args.word)) (WaitsBehind slave) c.from_residual.result c.from_residual.ensures.0
+    (read-command slave c.args.word c.read_content-content.ensures c.in_err-write.ensures.frames)
+
+pub returns-then-not-branch-clause-frames : goal.returns-then-not-branch-clause-frames
+returns-then-not-branch-clause-frames g c =
+    let slave = c.args.slave in
+    let command = WritesBy slave (read_order slave c.args.word) in
+    let not : c.in_ok-write.field-0 ≡ false = first_of ((cc), search rules, grind (arith, common_steps)) in
+    takes-then command (WaitsBehind slave) false (takes-value command not (read-command slave c.args.word c.read_content-content.ensures c.in_ok-write.ensures.frames))
+    (takes-none tried.Failed (g.S.Site.seen c.write.new.site))
+
+pub returns-in_err-rested-clause-frames : goal.returns-in_err-rested-clause-frames
+returns-in_err-rested-clause-frames g c =
+    let slave = c.args.slave in
+    let command = WritesBy slave (read_order slave c.args.word) in
+    let yes : c.in_ok-write.field-0 ≡ true = first_of ((cc), search rules, grind (arith, common_steps)) in
+    let ask = takes-value command yes (read-command slave c.args.word c.read_content-content.ensures c.in_ok-write.ensures.frames) in
+    takes-then command (WaitsBehind slave) true ask
+    (takes-cut (WaitsBy slave) (FetchesBehind slave) c.from_residual-in_err-rested.result c.from_residual-in_err-rested.ensures.0 c.in_err-rested.ensures.frames)
+
+pub returns-in_default-clause-frames : goal.returns-in_default-clause-frames
+returns-in_default-clause-frames g c =
+    let slave = c.args.slave in
+    let command = WritesBy slave (read_order slave c.args.word) in
+    let yes : c.in_ok-write.field-0 ≡ true = first_of ((cc), search rules, grind (arith, common_steps)) in
+    let ask = takes-value command yes (read-command slave c.args.word c.read_content-content.ensures c.in_ok-write.ensures.frames) in
+    takes-then command (WaitsBehind slave) true ask
+    (takes-then (WaitsBy slave) (FetchesBehind slave) None (takes-value (WaitsBy slave) c.in_default.is c.in_ok-rested.ensures.frames)
+    (takes-none tried.Dead (g.S.Site.seen c.wait_idle.new.site)))
+
+pub returns-in_default-rested-clause-frames : goal.returns-in_default-rested-clause-frames
+returns-in_default-rested-clause-frames g c =
+    let slave = c.args.slave in
+    let command = WritesBy slave (read_order slave c.args.word) in
+    let yes : c.in_ok-write.field-0 ≡ true = first_of ((cc), search rules, grind (arith, common_steps)) in
+    let ask = takes-value command yes (read-command slave c.args.word c.read_content-content.ensures c.in_ok-write.ensures.frames) in
+    takes-then command (WaitsBehind slave) true ask
+    (takes-then (WaitsBy slave) (FetchesBehind slave) (Some Failed) (takes-value (WaitsBy slave) (c.in-Some.is ∙ ap Some c.in_default-rested.is) c.in_ok-rested.ensures.frames)
+    (takes-none tried.Failed (g.S.Site.seen c.wait_idle.new.site)))
+
+pub returns-in_err-pair-clause-frames : goal.returns-in_err-pair-clause-frames
+returns-in_err-pair-clause-frames g c =
+    let slave = c.args.slave in
+    let command = WritesBy slave (read_order slave c.args.word) in
+    let yes : c.in_ok-write.field-0 ≡ true = first_of ((cc), search rules, grind (arith, common_steps)) in
+    let ask = takes-value command yes (read-command slave c.args.word c.read_content-content.ensures c.in_ok-write.ensures.frames) in
+    takes-then command (WaitsBehind slave) true ask
+    (takes-then (WaitsBy slave) (FetchesBehind slave) (Some Well) (takes-value (WaitsBy slave) (c.in-Some.is ∙ ap Some c.in-Well.is) c.in_ok-rested.ensures.frames)
+    (takes-cut (FetchesBy slave) (λ pair. Ends (tried_of pair)) c.from_residual-in_err-pair.result c.from_residual-in_err-pair.ensures.0 c.in_err-pair.ensures.frames))
+
+pub returns-in_default-2-clause-frames : goal.returns-in_default-2-clause-frames
+returns-in_default-2-clause-frames g c =
+    let slave = c.args.slave in
+    let command = WritesBy slave (read_order slave c.args.word) in
+    let yes : c.in_ok-write.field-0 ≡ true = first_of ((cc), search rules, grind (arith, common_steps)) in
+    let ask = takes-value command yes (read-command slave c.args.word c.read_content-content.ensures c.in_ok-write.ensures.frames) in
+    takes-then command (WaitsBehind slave) true ask
+    (takes-then (WaitsBy slave) (FetchesBehind slave) (Some Well) (takes-value (WaitsBy slave) (c.in-Some.is ∙ ap Some c.in-Well.is) c.in_ok-rested.ensures.frames)
+    (takes-then (FetchesBy slave) (λ pair. Ends (tried_of pair)) None (takes-value (FetchesBy slave) c.in_default-2.is c.in_ok-pair.ensures.frames)
+    (takes-none tried.Failed (g.S.Site.seen c.fetch.new.site))))
+
+pub returns-clause-frames : goal.returns-clause-frames
+returns-clause-frames g c =
+    let slave = c.args.slave in
+    let command = WritesBy slave (read_order slave c.args.word) in
+    let yes : c.in_ok-write.field-0 ≡ true = first_of ((cc), search rules, grind (arith, common_steps)) in
+    let ask = takes-value command yes (read-command slave c.args.word c.read_content-content.ensures c.in_ok-write.ensures.frames) in
+    takes-then command (WaitsBehind slave) true ask
+    (takes-then (WaitsBy slave) (FetchesBehind slave) (Some Well) (takes-value (WaitsBy slave) (c.in-Some.is ∙ ap Some c.in-Well.is) c.in_ok-rested.ensures.frames)
+    (takes-then (FetchesBy slave) (λ pair. Ends (tried_of pair)) (Some c.in-Some-2.pair) (takes-value (FetchesBy slave) c.in-Some-2.is c.in_ok-pair.ensures.frames)
+    (takes-none (tried.Read c.in-Some-2.pair) (g.S.Site.seen c.fetch.new.site))))

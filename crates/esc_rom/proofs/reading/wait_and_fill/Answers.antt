@@ -1,9 +1,12 @@
-use Rattle.std.proofs.Common.{◌≡◌, ℕ, ◌+◌, ◌*◌, ◌%◌, ◌<◌, List, length, length-set, slice_set, refl, sym, ap, subst, ◌∙◌, arith}
+use Rattle.std.proofs.Common.{◌≡◌, ℕ, ◌+◌, ◌*◌, ◌%◌, ◌<◌, ◌/◌, true, false, Some, None, Ok, is_some, List, length, length-set, slice_set, refl, sym, ap, subst, ◌∙◌, arith}
 use Rattle.site_core.specs.Line.{Line, Owns}
 use Rattle.esc_rom.specs.Runs.{Ran, Waited}
 use Rattle.esc_rom.specs.WordPairs.{ReadsPair, ReadsAll}
 use Rattle.esc_rom.proofs.Runs.{Ran-told, Ran-cut, IsCut-more, cut_as}
 use Rattle.esc_rom.proofs.AllWords.{Filled, filled_none, filled_more, filled_not, filled_all, never_rests}
+use Rattle.esc_rom.specs.Courses.{Ends, OnlyIf, UpTo}
+use Rattle.esc_rom.specs.Sent.{WaitsBy, ReadsPairBy, ReadsNext}
+use Rattle.esc_rom.proofs.Courses.{takes-none, takes-value, takes-then, takes-cut, rounds-none, rounds-more, rounds-all, rounds-end, rounds-err}
 use Rattle.esc_rom.proofs.reading.wait_and_fill.Goals as goal
 
 pub returns-in_err-_rested-clause-runs : goal.returns-in_err-_rested-clause-runs
@@ -13,7 +16,17 @@ pub returns-in_default-clause-runs : goal.returns-in_default-clause-runs
 returns-in_default-clause-runs g c = never_rests c.args.words.now (omega arith) (Ran-told (λ old. Waited old c.args.slave) c.in_default.is c.in_ok-_rested.ensures.runs)
 
 pub loop-pair-init : goal.loop-pair-init
-loop-pair-init g c = record { ran = filled_none c.in-Some._rested (Ran-told (λ old. Waited old c.args.slave) c.in-Some.is c.in_ok-_rested.ensures.runs); length = refl; line = c.in_ok-_rested.ensures.line }
+loop-pair-init g c = record {
+  ran = filled_none c.in-Some._rested (Ran-told (λ old. Waited old c.args.slave) c.in-Some.is c.in_ok-_rested.ensures.runs);
+  length = refl;
+  frames = record {
+    rested = c.in-Some._rested;
+    mid = g.S.Site.seen c.wait_idle.new.site;
+    waits = takes-value (WaitsBy c.args.slave) c.in-Some.is c.in_ok-_rested.ensures.frames;
+    rounds = rounds-none (ReadsNext c.args.slave) true (g.S.Site.seen c.wait_idle.new.site);
+  };
+  line = c.in_ok-_rested.ensures.line;
+}
 
 pub read_pair-requires : goal.read_pair-requires
 read_pair-requires g c = subst (λ (line : Line). Owns line c.args.slave) (sym c.loop-pair.invariant.line) c.requires
@@ -53,6 +66,13 @@ loop-pair-preserved g c =
       ran = subst (λ (w : List ℕ). Ran (Filled c.args.slave w (2 * (i + 1))) a c.args.slave (10000 + 30006 * (i + 1)) d) (sym set)
           (subst (λ (n : ℕ). Ran (Filled c.args.slave both n) a c.args.slave (10000 + 30006 * (i + 1)) d) next more);
       length = ap length set ∙ length-set (slice_set words (2 * i) found.first) (2 * i + 1) found.second ∙ length-set words (2 * i) found.first ∙ c.loop-pair.invariant.length;
+      frames = let so = c.loop-pair.invariant.frames in record {
+        rested = so.rested;
+        mid = so.mid;
+        waits = so.waits;
+        rounds = rounds-more (ReadsNext c.args.slave) true i refl so.rounds
+            (takes-then (ReadsPairBy c.args.slave (2 * c.loop-pair.pair)) (λ words. Ends (is_some words)) (Some found) (takes-value (ReadsPairBy c.args.slave (2 * i)) c.in-Some-2.is c.in_ok-found.ensures.frames) (takes-none true d));
+      };
       line = c.in_ok-found.ensures.line ∙ c.loop-pair.invariant.line;
     }
 
@@ -63,3 +83,42 @@ returns-clause-runs g c =
     let same_long : length c.loop-pair.words ≡ length c.args.words.now = c.loop-pair.invariant.length in
     let even : length c.args.words.now % 64 ≡ 0 = size.2 in
     filled_all (omega arith) (omega arith) c.loop-pair.invariant.ran
+
+pub returns-in_err-_rested-clause-frames : goal.returns-in_err-_rested-clause-frames
+returns-in_err-_rested-clause-frames g c = takes-cut (WaitsBy c.args.slave) (λ found. OnlyIf (is_some found) (UpTo (length c.args.words.now / 2) (ReadsNext c.args.slave) true)) c.from_residual.result c.from_residual.ensures.0 c.in_err-_rested.ensures.frames
+
+pub returns-in_default-clause-frames : goal.returns-in_default-clause-frames
+returns-in_default-clause-frames g c =
+    takes-then (WaitsBy c.args.slave) (λ found. OnlyIf (is_some found) (UpTo (length c.args.words.now / 2) (ReadsNext c.args.slave) true)) None (takes-value (WaitsBy c.args.slave) c.in_default.is c.in_ok-_rested.ensures.frames)
+    (takes-none false (g.S.Site.seen c.wait_idle.new.site))
+
+pub returns-in_err-found-clause-frames : goal.returns-in_err-found-clause-frames
+returns-in_err-found-clause-frames g c =
+    let size = c.len-pair-end.ensures.size in
+    let long : c.len-pair-end.result ≡ length c.args.words.now = c.len-pair-end.ensures.len in
+    let same_long : length c.loop-pair.words ≡ length c.args.words.now = c.loop-pair.invariant.length in
+    let so = c.loop-pair.invariant.frames in
+    let result = c.from_residual-in_err-found.result in
+    takes-then (WaitsBy c.args.slave) (λ found. OnlyIf (is_some found) (UpTo (length c.args.words.now / 2) (ReadsNext c.args.slave) true)) (Some so.rested) so.waits
+    (rounds-err (ReadsNext c.args.slave) true (length c.args.words.now / 2) c.loop-pair.pair result (omega arith) c.from_residual-in_err-found.ensures.0 so.rounds
+    (takes-cut (ReadsPairBy c.args.slave (2 * c.loop-pair.pair)) (λ words. Ends (is_some words)) result c.from_residual-in_err-found.ensures.0 c.in_err-found.ensures.frames))
+
+pub returns-in_default-2-clause-frames : goal.returns-in_default-2-clause-frames
+returns-in_default-2-clause-frames g c =
+    let size = c.len-pair-end.ensures.size in
+    let long : c.len-pair-end.result ≡ length c.args.words.now = c.len-pair-end.ensures.len in
+    let same_long : length c.loop-pair.words ≡ length c.args.words.now = c.loop-pair.invariant.length in
+    let so = c.loop-pair.invariant.frames in
+    takes-then (WaitsBy c.args.slave) (λ found. OnlyIf (is_some found) (UpTo (length c.args.words.now / 2) (ReadsNext c.args.slave) true)) (Some so.rested) so.waits
+    (rounds-end (ReadsNext c.args.slave) true (length c.args.words.now / 2) c.loop-pair.pair (Ok false) (omega arith) (λ e. absurd cc) so.rounds
+    (takes-then (ReadsPairBy c.args.slave (2 * c.loop-pair.pair)) (λ words. Ends (is_some words)) None (takes-value (ReadsPairBy c.args.slave (2 * c.loop-pair.pair)) c.in_default-2.is c.in_ok-found.ensures.frames)
+    (takes-none false (g.S.Site.seen c.read_pair.new.site))))
+
+pub returns-clause-frames : goal.returns-clause-frames
+returns-clause-frames g c =
+    let size = c.len-pair-end.ensures.size in
+    let long : c.len-pair-end.result ≡ length c.args.words.now = c.len-pair-end.ensures.len in
+    let same_long : length c.loop-pair.words ≡ length c.args.words.now = c.loop-pair.invariant.length in
+    let so = c.loop-pair.invariant.frames in
+    takes-then (WaitsBy c.args.slave) (λ found. OnlyIf (is_some found) (UpTo (length c.args.words.now / 2) (ReadsNext c.args.slave) true)) (Some so.rested) so.waits
+    (rounds-all (ReadsNext c.args.slave) true (length c.args.words.now / 2) c.loop-pair.pair (omega arith) so.rounds)

@@ -1,4 +1,4 @@
-use Rattle.std.proofs.Common.{refl, sym, subst, ◌∙◌, arith}
+use Rattle.std.proofs.Common.{true, false, Ok, refl, sym, subst, ◌∙◌, arith}
 use Rattle.ecat_frame.specs.Frame.{sent}
 use Rattle.ecat_frame.specs.declared.command.Command.TheVariants.{Fpwr}
 use Rattle.site_core.specs.Line.{Line, Owns}
@@ -6,11 +6,14 @@ use Rattle.esc_model.specs.Orders.{address_of}
 use Rattle.esc_rom.specs.Runs.{Wrote, Insists}
 use Rattle.esc_rom.proofs.Runs.{none, some, so_then, so_cut, cut_as, Ran-value}
 use Rattle.esc_rom.proofs.Writes.{uncounted, tried_none, tried_more, insist_took, insist_failed}
+use Rattle.esc_rom.specs.Sent.{WritesBy}
+use Rattle.esc_rom.proofs.Courses.{takes-value, rounds-none, rounds-more, rounds-all, rounds-end, rounds-cut}
 use Rattle.esc_rom.proofs.write.insist.Goals as goal
 
 pub loop-try-init : goal.loop-try-init
 loop-try-init g c = record {
   so = none (record { no_calls = refl; same = refl; stays = tried_none (sent Fpwr 0 (address_of c.args.slave c.args.register) c.args.content.now) (g.S.Site.seen c.args.site.now) c.args.slave });
+  frames = rounds-none (λ try. WritesBy c.args.slave (sent Fpwr 0 (address_of c.args.slave c.args.register) c.args.content.now)) false (g.S.Site.seen c.args.site.now);
   line = refl;
 }
 
@@ -40,9 +43,23 @@ loop-try-preserved g c =
     record {
       so = some (so_then (omega arith) (tried_more order old mid new c.args.slave c.loop-try._try c.in_ok-write.ensures.runs.quiet.follows) c.loop-try.invariant.so
           (uncounted order (Ran-value (Wrote order mid new) c.if-branch.false c.in_ok-write.ensures.runs)));
+      frames = rounds-more (λ try. WritesBy c.args.slave (sent Fpwr 0 (address_of c.args.slave c.args.register) c.args.content.now)) false c.loop-try._try c.if-branch.false c.loop-try.invariant.frames c.in_ok-write.ensures.frames;
       line = c.in_ok-write.ensures.line ∙ c.loop-try.invariant.line;
     }
 
 pub returns-clause-runs : goal.returns-clause-runs
 returns-clause-runs g c =
     insist_failed (sent Fpwr 0 (address_of c.args.slave c.args.register) c.args.content.now) (g.S.Site.seen c.args.site.now) c.args.slave (g.S.Site.seen c.loop-try.site) c.loop-try._try (omega arith) c.loop-try.invariant.so
+
+pub returns-in_err-write-clause-frames : goal.returns-in_err-write-clause-frames
+returns-in_err-write-clause-frames g c =
+    rounds-cut (λ try. WritesBy c.args.slave (sent Fpwr 0 (address_of c.args.slave c.args.register) c.args.content.now)) false 3 c.loop-try._try c.from_residual.result c.in_err-write.field-0.0 (omega arith) c.from_residual.ensures.1
+    c.loop-try.invariant.frames c.in_err-write.ensures.frames
+
+pub returns-then-branch-clause-frames : goal.returns-then-branch-clause-frames
+returns-then-branch-clause-frames g c =
+    rounds-end (λ try. WritesBy c.args.slave (sent Fpwr 0 (address_of c.args.slave c.args.register) c.args.content.now)) false 3 c.loop-try._try (Ok true) (omega arith) (λ e. absurd cc) c.loop-try.invariant.frames
+    (takes-value (WritesBy c.args.slave (sent Fpwr 0 (address_of c.args.slave c.args.register) c.args.content.now)) c.if-branch.true c.in_ok-write.ensures.frames)
+
+pub returns-clause-frames : goal.returns-clause-frames
+returns-clause-frames g c = rounds-all (λ try. WritesBy c.args.slave (sent Fpwr 0 (address_of c.args.slave c.args.register) c.args.content.now)) false 3 c.loop-try._try (omega arith) c.loop-try.invariant.frames

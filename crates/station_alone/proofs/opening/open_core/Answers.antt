@@ -2,7 +2,10 @@ use Rattle.std.proofs.Common.{◌+◌, ◌<◌, ◌^◌, List, length, sym, subs
 use Rattle.sii_edit.specs.Fitting.{PlantFits}
 use Rattle.jrn_format.specs.declared.journal.Batch.{Batch}
 use Rattle.book_model.specs.Entries.{entries_of}
-use Rattle.station_alone.proofs.OpenLaws.{few-found, live-found, opened-stands}
+use Rattle.station_alone.specs.declared.fault.OpenFault.{OpenFault}
+use Rattle.station_alone.specs.declared.fault.OpenFault.TheVariants as faults
+use Rattle.station_alone.specs.Opening.{FailsToOpen}
+use Rattle.station_alone.proofs.OpenLaws.{err-exit, fails-at-book, few-found, live-found, opened-stands}
 use Rattle.station_alone.proofs.opening.open_core.Goals as goal
 
 pub count_found-found-requires : goal.count_found-found-requires
@@ -23,3 +26,12 @@ returns-clause-stands g c =
     let new = g.S.Site.seen c.read_found.new.site in
     opened-stands its old c.in_ok-reading.reading new c.in_ok-reading.ensures.reads c.in_ok-core.core c.in_ok-core.ensures (g.S.Site.line c.read_found.new.site) c.requires.disk c.requires.slaves c.in_ok-reading.ensures.line
     (subst PlantFits c.contents.ensures c.plant_fits.ensures)
+
+pub returns-in_err-core-clause-fails : goal.returns-in_err-core-clause-fails
+returns-in_err-core-clause-fails g c =
+    let its = g.S.Site.line c.args.site.now in
+    let old = g.S.Site.seen c.args.site.now in
+    let later = g.S.Site.line c.read_found.new.site in
+    let new = g.S.Site.seen c.read_found.new.site in
+    err-exit c.from_residual-in_err-core.result faults.Memory (λ (fault : OpenFault). FailsToOpen its old fault later new) c.from_residual-in_err-core.ensures.1
+    (fails-at-book its later old c.in_ok-reading.reading new c.in_ok-reading.ensures.line c.in_ok-reading.ensures.reads)

@@ -1,4 +1,4 @@
-use Rattle.station_alone.proofs.EndLaws.{opened-works, opened-small, came-keeps, came-calls, came-counts, came-recovered, came-begins}
+use Rattle.station_alone.proofs.EndLaws.{opened-works, opened-small, came-keeps, came-calls, came-counts, came-by_steps, came-recovered, came-begins}
 use Rattle.station_alone.proofs.recovery.recover.Goals as goal
 
 pub finish-requires-clause-working : goal.finish-requires-clause-working
@@ -23,6 +23,10 @@ returns-in-Ok-clause-few_calls g c =
 pub returns-in-Ok-clause-counts : goal.returns-in-Ok-clause-counts
 returns-in-Ok-clause-counts g c =
     came-counts g.S.Site.line g.S.Site.seen (g.S.Site.line c.args.site) (g.S.Site.seen c.args.site) c.in-Ok.station c.in-Ok.found c.in-Ok.ensures.opens c.finish.result (c.finish.ensures.done, c.finish.ensures.left)
+
+pub returns-in-Ok-clause-steps : goal.returns-in-Ok-clause-steps
+returns-in-Ok-clause-steps g c =
+    came-by_steps g.S.Site.line g.S.Site.seen (g.S.Site.line c.args.site) (g.S.Site.seen c.args.site) c.in-Ok.station c.in-Ok.found c.in-Ok.ensures.opens c.finish.result (c.finish.ensures.done, c.finish.ensures.left)
 
 pub returns-in-Ok-clause-recovered : goal.returns-in-Ok-clause-recovered
 returns-in-Ok-clause-recovered g c =

@@ -10,3 +10,4 @@ invariant-loop g l =
     DoneInTurn DoesAction (g.D.Dispatch.log l.dispatch) (g.S.Site.seen l.start.value) (g.S.Site.seen l.site)
     × ((action : DiskNext) → g.D.Dispatch.may_hand l.dispatch action → CanBegin action (g.S.Site.seen l.site).state.disk)
     × (g.S.Site.line l.site ≡ g.S.Site.line l.start.value) × IsTrue (g.S.Site.line l.start.value).has_disk
+    × (g.D.Dispatch.has_ended l.dispatch → g.D.Dispatch.has_ended l.initial.dispatch)

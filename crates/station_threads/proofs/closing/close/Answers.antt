@@ -54,9 +54,9 @@ returns-then-not-is_served-clause-kept g c = λ unserved.
 pub returns-clause-turns : goal.returns-clause-turns
 returns-clause-turns g c =
     let all = c.all_match.ensures.matches.0 c.if-not-all_match.false in
-    turns-of g.T.Tickets.opened c.audit_all.new.book.calls c.is_served.ensures.answered c.args.ends.cycle all.ended.cycle
+    turns-of g.T.Tickets.opened c.audit_all.new.book.calls c.desk.invariant c.is_served.ensures.answered c.args.ends.cycle all.ended.cycle
 
 pub returns-then-not-is_served-clause-turns_kept : goal.returns-then-not-is_served-clause-turns_kept
 returns-then-not-is_served-clause-turns_kept g c = λ unserved.
     let all = c.all_match.ensures.matches.0 c.if-not-all_match.false in
-    turns-of g.T.Tickets.opened c.audit_all.new.book.calls c.is_served.ensures.answered c.args.ends.cycle all.ended.cycle
+    turns-of g.T.Tickets.opened c.audit_all.new.book.calls c.desk.invariant c.is_served.ensures.answered c.args.ends.cycle all.ended.cycle

@@ -36,3 +36,7 @@ returns-clause-goes_on g c =
 pub returns-clause-keeps : goal.returns-clause-keeps
 returns-clause-keeps g c =
     (ran-whole c.args.choices.now c.loop-choice.choice-index c.loop-choice.answers.items c.args.self.now c.loop-choice.self c.loop-choice-test.false c.loop-choice.invariant.ran).keeps
+
+pub returns-clause-in_order : goal.returns-clause-in_order
+returns-clause-in_order g c =
+    (ran-whole c.args.choices.now c.loop-choice.choice-index c.loop-choice.answers.items c.args.self.now c.loop-choice.self c.loop-choice-test.false c.loop-choice.invariant.ran).in_order

@@ -1,0 +1,5 @@
+pub mod BytesLaws
+pub mod EditLaws
+pub mod Judged
+pub mod AliasSet
+pub mod EditRefusals

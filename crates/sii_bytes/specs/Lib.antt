@@ -1,0 +1,6 @@
+pub mod Codes
+pub mod Bytes
+pub mod Head
+pub mod Judging
+pub mod Category
+pub mod Editing

@@ -1,0 +1,17 @@
+//! Calls on EEPROM images as bytes, whose answers are code numbers: what a program in another language can call.
+#![tactic(auto)]
+
+mod alias;
+mod category;
+mod codes;
+mod editing;
+mod head;
+mod judging;
+mod reading;
+
+pub use alias::set_alias;
+pub use category::{CategoryPlace, find_category};
+pub use codes::{DONE, MEMORY, NO_SUCH_CATEGORY, cause_code, words_code};
+pub use editing::{edit_category, edit_image};
+pub use head::{Head, read_head};
+pub use judging::judge_image;

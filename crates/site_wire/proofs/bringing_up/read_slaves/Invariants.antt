@@ -1,5 +1,0 @@
-use Rattle.std.specs.Prelude.{◌≡◌, length}
-use Rattle.site_wire.proofs.bringing_up.read_slaves.Given as goal
-
-abbrev pub invariant-loop-slave : goal.invariant-loop-slave
-invariant-loop-slave g l = length l.plant.items ≡ l.slave

@@ -1,0 +1,209 @@
+//! What a device sends of its own to a slave whose shadow is busy: a command again that the slave has not carried out, and the read of a
+//! word that it shows as written.
+ghost use Rattle.std.specs.Prelude.{◌≡◌, ◌+◌, ◌<◌, ◌≤◌, ◌∷◌, ◌++◌, [], Some, length};
+ghost use Rattle.std.specs.Int.{w16, w32, to_le_bytes};
+ghost use Rattle.ecat_frame.specs.Frame.{sent};
+ghost use Rattle.ecat_frame.specs.declared.command.Command.TheVariants.{Fprd, Fpwr};
+ghost use Rattle.esc_model.specs.Orders.{address_of};
+ghost use Rattle.esc_model.specs.SlaveHalf.{in_flight};
+
+use crate::answers::{Answer, Shown, state_shown};
+use crate::pace::{ATTEMPTS, Pace};
+use crate::reach::Reach;
+use ecat_frame::{Command, Frame, fp};
+use esc_model::{RomHalf, WordWrite, station_address};
+use esc_rom::{CONTENT, CONTROL, POLLS, write_content};
+use std::rt::Clock;
+
+/// The outcome of one try to read two words.
+#[derive(Clone, Copy)]
+enum Tried {
+    Read([u8; 4]),
+    Refused,
+}
+
+/// A frame of one datagram for a slave.
+fn frame_for(slave: u16, command: Command, register: u16, content: &[u8]) -> Frame
+    requires slave { slave < 64 }
+    requires short { length content.now ≤ 16 }
+    ensures { result ≡ sent command 0 (address_of slave register) content.now ∷ [] }
+{
+    let mut frame = Frame::new();
+    match frame.push(command, 0, fp(station_address(slave), register), content) {
+        Ok(()) => frame,
+        Err(_) => unreachable!(),
+    }
+}
+
+/// Command 000, which clears the errors of a slave.
+fn clear_frame(slave: u16) -> Frame
+    requires { slave < 64 }
+    ensures { result ≡ sent Fpwr 0 (address_of slave 0x0502) (0 ∷ 0 ∷ []) ∷ [] }
+{
+    frame_for(slave, Command::Fpwr, CONTROL, &[0, 0])
+}
+
+/// The content of the datagram that reads a word and the next one, and puts `held` where they come to stand.
+fn read_content(word: u16, held: u16) -> [u8; 10]
+    ensures { result ≡ to_le_bytes w16 0x0100 ++ to_le_bytes w32 word ++ to_le_bytes w16 held ++ to_le_bytes w16 held }
+{
+    let [a, b, c, d] = u32::from(word).to_le_bytes();
+    let [low, high] = held.to_le_bytes();
+    [0x00, 0x01, a, b, c, d, low, high, low, high]
+}
+
+/// The command to read a word and the next one.
+fn read_frame(slave: u16, word: u16, held: u16) -> Frame
+    requires { slave < 64 }
+    ensures { result ≡ sent Fpwr 0 (address_of slave 0x0502) (to_le_bytes w16 0x0100 ++ to_le_bytes w32 word ++ to_le_bytes w16 held ++ to_le_bytes w16 held) ∷ [] }
+{
+    frame_for(slave, Command::Fpwr, CONTROL, &read_content(word, held))
+}
+
+/// The command to write a word.
+fn write_frame(slave: u16, write: WordWrite) -> Frame
+    requires { slave < 64 }
+    ensures { result ≡ sent Fpwr 0 (address_of slave 0x0502) (to_le_bytes w16 0x0201 ++ to_le_bytes w32 write.word ++ to_le_bytes w16 write.value) ∷ [] }
+{
+    frame_for(
+        slave,
+        Command::Fpwr,
+        CONTROL,
+        &write_content(write.word, write.value),
+    )
+}
+
+/// Clears the errors of a slave. None where the line has stopped.
+#[tactic(auto, using(crate::proofs::Due::clear_due))]
+fn clear<L: Reach>(line: &mut L, slave: u16, half: &RomHalf) -> Option<Answer>
+    requires { slave < 64 }
+{
+    line.pass(half, &clear_frame(slave))
+}
+
+/// Clears the errors of a slave, and issues the command again with which its half is busy: to write the word in flight, or to read `word`
+/// and the next one. Tells whether the slave took it. None where the line has stopped.
+pub(crate) fn issue_again<L: Reach>(
+    line: &mut L,
+    slave: u16,
+    half: &RomHalf,
+    word: u16,
+) -> Option<bool>
+    requires { slave < 64 }
+{
+    let _cleared = clear(line, slave, half)?;
+    match half.in_flight() {
+        Some(write) => write_again(line, slave, half, write.word, write.value),
+        None if usize::from(word) + 1 < half.words().len() => read_again(line, slave, half, word),
+        None => Some(false),
+    }
+}
+
+/// Tells a slave to write the word in flight, which is this one with this value. Tells whether it took that. None where the line has stopped.
+fn write_again<L: Reach>(
+    line: &mut L,
+    slave: u16,
+    half: &RomHalf,
+    word: u16,
+    value: u16,
+) -> Option<bool>
+    requires slave { slave < 64 }
+    requires flying { in_flight half.now.activity ≡ Some (record { word = word; value = value }) }
+    requires inside { word < length half.now.words }
+{
+    let answer = line.pass(half, &write_frame(slave, WordWrite { word, value }))?;
+    Some(answer.counter == 1)
+}
+
+/// Tells a slave to read a word and the next one. Tells whether it took that. None where the line has stopped.
+fn read_again<L: Reach>(line: &mut L, slave: u16, half: &RomHalf, word: u16) -> Option<bool>
+    requires slave { slave < 64 }
+    requires inside { word + 1 < length half.now.words }
+{
+    let answer = line.pass(half, &read_frame(slave, word, 0))?;
+    Some(answer.counter == 1)
+}
+
+/// Polls a slave until it shows that it is idle, and gives what it shows. `Nothing` where it doesn't. None where the line has stopped.
+#[tactic(auto, using(crate::proofs::Due::read_due))]
+fn wait_idle<L: Reach, C: Clock>(
+    line: &mut L,
+    clock: &C,
+    slave: u16,
+    half: &RomHalf,
+) -> Option<Shown>
+    requires { slave < 64 }
+{
+    let poll = frame_for(slave, Command::Fprd, CONTROL, &[0, 0]);
+    let mut pace = Pace::of_polls();
+    for _poll in 0..POLLS {
+        match state_shown(&line.pass(half, &poll)?) {
+            Shown::Nothing | Shown::Busy => pace.pause(clock),
+            shown => return Some(shown),
+        }
+    }
+    Some(Shown::Nothing)
+}
+
+/// Tries once to read a word and the next one. None where the line has stopped.
+#[tactic(auto, using(crate::proofs::Due::read_due))]
+fn try_pair<L: Reach, C: Clock>(
+    line: &mut L,
+    clock: &C,
+    slave: u16,
+    half: &RomHalf,
+    word: u16,
+    held: u16,
+) -> Option<Tried>
+    requires slave { slave < 64 }
+    requires inside { word + 1 < length half.now.words }
+{
+    let taken = line.pass(half, &read_frame(slave, word, held))?;
+    let shown = wait_idle(line, clock, slave, half)?;
+    if taken.counter != 1 || shown != Shown::Well {
+        return Some(Tried::Refused);
+    }
+    let fetch = frame_for(slave, Command::Fprd, CONTENT, &[0, 0, 0, 0]);
+    let fetched = line.pass(half, &fetch)?;
+    Some(match fetched.words_read() {
+        Some(pair) => Tried::Read(pair),
+        None => Tried::Refused,
+    })
+}
+
+/// Of two neighbouring words the one with this number.
+fn word_in(pair: [u8; 4], word: u16) -> u16 {
+    let [a, b, c, d] = pair;
+    if word % 2 == 0 {
+        u16::from_le_bytes([a, b])
+    } else {
+        u16::from_le_bytes([c, d])
+    }
+}
+
+/// Reads the word in flight back from a slave that shows it as written. A try that isn't acknowledged is followed by command 000 and a
+/// pause; they take half a second. None where the word can't be read, or the line has stopped.
+pub(crate) fn read_back<L: Reach, C: Clock>(
+    line: &mut L,
+    clock: &C,
+    slave: u16,
+    half: &RomHalf,
+    write: WordWrite,
+) -> Option<u16>
+    requires { slave < 64 }
+{
+    let first = write.word - write.word % 2;
+    if usize::from(first) + 1 >= half.words().len() {
+        return None;
+    }
+    let mut pace = Pace::of_tries();
+    for _try in 0..ATTEMPTS {
+        let tried = try_pair(line, clock, slave, half, first, !write.value)?;
+        if let Tried::Read(pair) = tried {
+            return Some(word_in(pair, write.word));
+        }
+        let _cleared = clear(line, slave, half)?;
+        pace.pause(clock);
+    }
+    None
+}

@@ -1,0 +1,330 @@
+//! Datagrams to slaves that have no shadow yet, and their replies.
+ghost use Rattle.std.specs.Prelude.{◌≡◌, ◌<◌, ◌≤◌, length};
+ghost use Rattle.site_wire.specs.declared.asking.Hitch.TheVariants as hitch;
+
+use crate::faults::Sighting;
+use crate::numbered::NumberedWire;
+use crate::pace::{ATTEMPTS, Pace};
+use crate::registers::{APRD, BRD, STATION};
+use crate::wire::Wire;
+use ecat_frame::{Command, Frame, fp};
+use esc_model::station_address;
+use esc_rom::{CONTENT, CONTROL, POLLS, TRIES};
+use std::alloc::{AllocError, AllocFailed};
+use std::rt::Clock;
+
+/// After how many polls in a row that no slave counts, or several do, a slave is given up.
+const UNCOUNTED: u32 = 100;
+
+/// What came back of a datagram.
+#[derive(Clone, Copy)]
+pub(crate) struct Reply {
+    /// The first bytes of its content.
+    pub(crate) content: [u8; 4],
+    pub(crate) counter: u16,
+}
+
+/// The last datagram to a slave that doesn't do what it is asked to, and what came back.
+#[derive(Clone, Copy)]
+pub struct Last {
+    pub(crate) command: Command,
+    pub(crate) register: u16,
+    /// None where it didn't come back.
+    pub(crate) counter: Option<u16>,
+    /// The high byte of control and status, as it was read last.
+    pub(crate) status: Option<u8>,
+}
+
+/// Why a slave can't be asked further.
+#[derive(Clone, Copy)]
+pub(crate) enum Hitch {
+    Memory,
+    /// A frame doesn't come back.
+    Silent,
+    /// The slave doesn't do what it is asked to.
+    Stuck(Last),
+}
+
+impl From<AllocError> for Hitch {
+    ghost from_gives = { λ _ fault. fault ≡ hitch.Memory };
+
+    fn from(_: AllocError) -> Self {
+        Hitch::Memory
+    }
+}
+
+impl<T: Drop> From<AllocFailed<T>> for Hitch {
+    ghost from_gives = { λ _ fault. fault ≡ hitch.Memory };
+
+    fn from(_: AllocFailed<T>) -> Self {
+        Hitch::Memory
+    }
+}
+
+impl Last {
+    /// Whether the slave is idle, and shows that it has not carried out the last command: bit 13 or 14 of control and status.
+    pub(crate) fn is_refusal(&self) -> bool {
+        match self.status {
+            Some(status) => self.counter == Some(1) && status < 0x80 && status >= 0x20,
+            None => false,
+        }
+    }
+}
+
+/// A frame of one datagram.
+fn frame_of(command: Command, address: u32, content: &[u8]) -> Frame
+    requires { length content.now ≤ 16 }
+{
+    let mut frame = Frame::new();
+    match frame.push(command, 0, address, content) {
+        Ok(()) => frame,
+        Err(_) => unreachable!(),
+    }
+}
+
+/// The first four bytes of these, and zeros where there are fewer.
+fn front_of(bytes: &[u8]) -> [u8; 4] {
+    let mut front = [0u8; 4];
+    let count = bytes.len().min(4);
+    front[..count].copy_from_slice(&bytes[..count]);
+    front
+}
+
+/// The reply in a frame that came back. Another datagram than this command, with so many bytes, counts as not taken.
+fn reply_in(frame: &Frame, command: Command, count: usize) -> Reply {
+    if let Some(answer) = frame.datagrams().next() {
+        if answer.command == command && answer.content.len() == count {
+            return Reply {
+                content: front_of(answer.content),
+                counter: answer.counter,
+            };
+        }
+    }
+    Reply {
+        content: [0; 4],
+        counter: 0,
+    }
+}
+
+/// Sends one datagram. None where its frame doesn't come back.
+pub(crate) fn ask<W: Wire>(
+    wire: &mut NumberedWire<W>,
+    command: Command,
+    address: u32,
+    content: &[u8],
+) -> Option<Reply>
+    requires { length content.now ≤ 16 }
+{
+    let frame = frame_of(command, address, content);
+    let returned = wire.pass(&frame)?;
+    Some(reply_in(&returned.frame, command, content.len()))
+}
+
+/// Sends one datagram to the slave that has this station address.
+fn tell<W: Wire>(
+    wire: &mut NumberedWire<W>,
+    slave: u16,
+    command: Command,
+    register: u16,
+    content: &[u8],
+) -> Result<Reply, Hitch>
+    requires slave { slave < 64 }
+    requires short { length content.now ≤ 16 }
+{
+    let address = fp(station_address(slave), register);
+    ask(wire, command, address, content).ok_or(Hitch::Silent)
+}
+
+/// Reads two bytes of registers of a slave. None where it isn't the only one that counts the datagram.
+pub(crate) fn read_register<W: Wire>(
+    wire: &mut NumberedWire<W>,
+    slave: u16,
+    register: u16,
+) -> Result<Option<u16>, Hitch>
+    requires { slave < 64 }
+{
+    let reply = tell(wire, slave, Command::Fprd, register, &[0, 0])?;
+    if reply.counter != 1 {
+        return Ok(None);
+    }
+    let [low, high, _, _] = reply.content;
+    Ok(Some(u16::from_le_bytes([low, high])))
+}
+
+/// Polls a slave once. Gives what came back.
+fn poll<W: Wire>(wire: &mut NumberedWire<W>, slave: u16) -> Result<Last, Hitch>
+    requires { slave < 64 }
+{
+    let reply = tell(wire, slave, Command::Fprd, CONTROL, &[0, 0])?;
+    let [_, status, _, _] = reply.content;
+    Ok(Last {
+        command: Command::Fprd,
+        register: CONTROL,
+        counter: Some(reply.counter),
+        status: if reply.counter == 1 {
+            Some(status)
+        } else {
+            None
+        },
+    })
+}
+
+/// Polls a slave until it is idle, and gives the last poll.
+fn wait_idle<W: Wire, C: Clock>(
+    wire: &mut NumberedWire<W>,
+    clock: &C,
+    slave: u16,
+) -> Result<Last, Hitch>
+    requires { slave < 64 }
+{
+    let mut pace = Pace::of_polls();
+    let mut last = poll(wire, slave)?;
+    let mut uncounted = 0u32;
+    for _poll in 0..POLLS {
+        match last.status {
+            Some(status) if status < 0x80 => return Ok(last),
+            Some(_) => uncounted = 0,
+            None => uncounted = uncounted.saturating_add(1),
+        }
+        if uncounted >= UNCOUNTED {
+            return Err(Hitch::Stuck(last));
+        }
+        pace.pause(clock);
+        last = poll(wire, slave)?;
+    }
+    Err(Hitch::Stuck(last))
+}
+
+/// Writes to a register of a slave until the slave takes it, three times at most.
+pub(crate) fn put<W: Wire, C: Clock>(
+    wire: &mut NumberedWire<W>,
+    clock: &C,
+    slave: u16,
+    register: u16,
+    content: &[u8],
+) -> Result<(), Hitch>
+    requires slave { slave < 64 }
+    requires short { length content.now ≤ 16 }
+{
+    let mut counter = None;
+    for _try in 0..TRIES {
+        let reply = tell(wire, slave, Command::Fpwr, register, content)?;
+        if reply.counter == 1 {
+            return Ok(());
+        }
+        counter = Some(reply.counter);
+        let _idle = wait_idle(wire, clock, slave)?;
+    }
+    Err(Hitch::Stuck(Last {
+        command: Command::Fpwr,
+        register,
+        counter,
+        status: None,
+    }))
+}
+
+/// Waits until the slave is idle, and clears its errors: command 000.
+pub(crate) fn clear<W: Wire, C: Clock>(
+    wire: &mut NumberedWire<W>,
+    clock: &C,
+    slave: u16,
+) -> Result<(), Hitch>
+    requires { slave < 64 }
+{
+    let _idle = wait_idle(wire, clock, slave)?;
+    put(wire, clock, slave, CONTROL, &[0, 0])
+}
+
+/// The outcome of one try to read two words.
+#[derive(Clone, Copy)]
+enum Tried {
+    Read([u8; 4]),
+    Refused(Last),
+}
+
+/// Tries once to read a word and the next one.
+fn try_pair<W: Wire, C: Clock>(
+    wire: &mut NumberedWire<W>,
+    clock: &C,
+    slave: u16,
+    word: u16,
+) -> Result<Tried, Hitch>
+    requires { slave < 64 }
+{
+    let [low, high] = word.to_le_bytes();
+    put(wire, clock, slave, CONTROL, &[0x00, 0x01, low, high, 0, 0])?;
+    let last = wait_idle(wire, clock, slave)?;
+    if last.is_refusal() {
+        return Ok(Tried::Refused(last));
+    }
+    let reply = tell(wire, slave, Command::Fprd, CONTENT, &[0, 0, 0, 0])?;
+    if reply.counter == 1 {
+        return Ok(Tried::Read(reply.content));
+    }
+    Ok(Tried::Refused(Last {
+        command: Command::Fprd,
+        register: CONTENT,
+        counter: Some(reply.counter),
+        status: last.status,
+    }))
+}
+
+/// Reads a word and the next one. A try that isn't acknowledged is followed by command 000, which clears the error, and a pause; they are
+/// tried for half a second.
+pub(crate) fn read_pair<W: Wire, C: Clock>(
+    wire: &mut NumberedWire<W>,
+    clock: &C,
+    slave: u16,
+    word: u16,
+) -> Result<[u8; 4], Hitch>
+    requires { slave < 64 }
+{
+    read_in_tries(wire, clock, slave, word, ATTEMPTS)
+}
+
+/// The same, in so many tries.
+pub(crate) fn read_in_tries<W: Wire, C: Clock>(
+    wire: &mut NumberedWire<W>,
+    clock: &C,
+    slave: u16,
+    word: u16,
+    tries: u32,
+) -> Result<[u8; 4], Hitch>
+    requires { slave < 64 }
+{
+    let mut pace = Pace::of_tries();
+    let mut refused = None;
+    for _try in 0..tries {
+        match try_pair(wire, clock, slave, word)? {
+            Tried::Read(pair) => return Ok(pair),
+            Tried::Refused(last) => refused = Some(last),
+        }
+        clear(wire, clock, slave)?;
+        pace.pause(clock);
+    }
+    match refused {
+        Some(last) => Err(Hitch::Stuck(last)),
+        None => Err(Hitch::Silent),
+    }
+}
+
+/// Looks around on the line, behind a datagram that a slave didn't take: how many slaves answer, and whether one does at its place.
+pub(crate) fn sight<W: Wire>(wire: &mut NumberedWire<W>, slave: u16, last: Last) -> Sighting {
+    let answering = ask(wire, BRD, 0, &[0]);
+    let place = fp(0u16.wrapping_sub(slave), STATION);
+    let station = ask(wire, APRD, place, &[0, 0]);
+    Sighting {
+        command: last.command.code(),
+        register: last.register,
+        counter: last.counter,
+        status: last.status,
+        answering: answering.map(|reply| reply.counter),
+        station: match station {
+            Some(reply) if reply.counter == 1 => {
+                let [low, high, _, _] = reply.content;
+                Some(u16::from_le_bytes([low, high]))
+            }
+            _ => None,
+        },
+    }
+}

@@ -1,0 +1,42 @@
+use Rattle.std.proofs.Common.{subst}
+use Rattle.std.specs.List.{AllZip}
+use Rattle.station_files.specs.Files.{Known}
+use Rattle.station_text.specs.ScriptText.{SpellsScriptFile}
+use Rattle.station_files.specs.ScriptFiles.{LoadsCommand, RefusesScript}
+use Rattle.station_files.proofs.Loaded.{handed_on, of_held}
+use Rattle.station_files.proofs.ScriptFaults.{script_images_refused, text_refused}
+use Rattle.station_files.proofs.script.load_script_files.Goals as goal
+
+pub returns-clause-commands : goal.returns-clause-commands
+returns-clause-commands g c =
+    let old = g.S.Store.files c.args.store.now in
+    let script = c.in_ok-script.script.items in
+    let P : Known → Type 0 = λ files. AllZip (LoadsCommand files) script c.in_ok-commands.commands.items in
+    record {
+      script = script;
+      spelt = of_held (λ text. SpellsScriptFile text script) old c.args.name.now c.in_ok-bytes.bytes.items c.in_ok-bytes.ensures.bytes (rw c.deref.ensures.value at c.in_ok-script.ensures.script);
+      loaded = subst P c.read_file.ensures.same (rw c.deref-3.ensures.value at c.in_ok-commands.ensures.commands);
+    }
+
+pub returns-clause-images : goal.returns-clause-images
+returns-clause-images g c =
+    let old = g.S.Store.files c.args.store.now in
+    let script = c.in_ok-script.script.items in
+    record {
+      script = script;
+      spelt = of_held (λ text. SpellsScriptFile text script) old c.args.name.now c.in_ok-bytes.bytes.items c.in_ok-bytes.ensures.bytes (rw c.deref.ensures.value at c.in_ok-script.ensures.script);
+      named = rw c.deref-2.ensures.value at c.in_ok-images.ensures;
+    }
+
+pub returns-in_err-script-clause-refused : goal.returns-in_err-script-clause-refused
+returns-in_err-script-clause-refused g c =
+    let fault = c.in_err-script.field-0.0 in
+    handed_on (RefusesScript (g.S.Store.files c.args.store.now) c.args.name.now) c.from_residual-in_err-script.result fault c.from_residual-in_err-script.ensures.1
+    (text_refused (g.S.Store.files c.args.store.now) c.args.name.now c.in_ok-bytes.bytes.items fault c.in_ok-bytes.ensures.bytes (rw c.deref.ensures.value at c.in_err-script.ensures.refused))
+
+pub returns-in_err-commands-clause-refused : goal.returns-in_err-commands-clause-refused
+returns-in_err-commands-clause-refused g c =
+    let fault = c.in_err-commands.field-0.0 in
+    handed_on (RefusesScript (g.S.Store.files c.args.store.now) c.args.name.now) c.from_residual-in_err-commands.result fault c.from_residual-in_err-commands.ensures.1
+    (script_images_refused (g.S.Store.files c.args.store.now) (g.S.Store.files c.read_file.new.store) c.args.name.now c.in_ok-bytes.bytes.items c.in_ok-script.script.items fault
+    c.in_ok-bytes.ensures.bytes (rw c.deref.ensures.value at c.in_ok-script.ensures.script) c.read_file.ensures.same (rw c.deref-3.ensures.value at c.in_err-commands.ensures.refused))

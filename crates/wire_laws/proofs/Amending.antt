@@ -1,0 +1,241 @@
+-- What a device does of its own keeps the real slave one of which a power cut leaves no more than of its shadow.
+use Rattle.std.proofs.Common.{◌≡◌, ◌⊎◌, ℕ, ◌+◌, ◌-◌, ◌*◌, ◌/◌, ◌%◌, ◌^◌, ◌<◌, ◌≤◌, ◌&&◌, Bool, true, false, nat_le, List, length, slice_index, slice_set, refl, sym, ap, subst, ◌∙◌, inl, inr, arith}
+use Rattle.std.specs.Prelude.{◌==◌, if◌then◌else◌}
+use Rattle.std.proofs.lemmas.List.{set-set, set-get_or}
+use Rattle.std.proofs.lemmas.Bool.{le-leb}
+use Rattle.ecat_frame.specs.Command.{command_of}
+use Rattle.ecat_frame.specs.Frame.{Pdu}
+use Rattle.esc_model.specs.Bytes.{register_of}
+use Rattle.esc_model.specs.Registers.{access_byte}
+use Rattle.esc_model.specs.SlaveHalf.{SlaveHalf, Activity, Idle, Reading, Writing, is_busy, with_stored, settled, with_errors, MayEnd, MayRest, MayHold, written}
+use Rattle.esc_model.specs.Datagrams.{served_datagram}
+use Rattle.esc_model.proofs.Resting.{MayHold-same, MayLeave-same, MayRest-station, MayRest-leaves}
+use Rattle.esc_model.proofs.Status.{idle_not_busy}
+use Rattle.esc_model.proofs.WordTaking.{number_back}
+use Rattle.wire_laws.specs.Due.{IsOwn, clears, reads, writes}
+use Rattle.wire_laws.specs.Likeness.{IsLike}
+use Rattle.wire_laws.specs.Amending.{IsAmended, start, next, PossibleIsAmended, AmendedStays, AmendedLeavesNoMore, BusyIsPossible, ReadBackIsPossible, OtherIsKept}
+use Rattle.wire_laws.proofs.Liking.{MayHold-then, like_is_possible}
+use Rattle.wire_laws.proofs.Storing.{after_before}
+use Rattle.wire_laws.proofs.Stored.{offered_is, forced_is, command_given}
+use Rattle.wire_laws.proofs.Judged.{judged, Doing, Nothing, Fetches, Writes, doing_of, done, begun_is, writes_command}
+use Rattle.wire_laws.proofs.Taking.{true_or_false, writes_here, served_other, served_write, written_idle, written_ignored, judges}
+use Rattle.wire_laws.proofs.Showing.{reads_only}
+
+-- WHAT A HALF MAY HOLD, THROUGH WHAT THE REAL SLAVE DOES
+
+abbrev DoesNoMore : Activity → Activity → Type 0
+DoesNoMore shadow real = (real ≡ Idle) ⊎ ((real ≡ Reading) ⊎ (real ≡ shadow))
+
+holds_same : (activity : Activity) (a b : List ℕ) → b ≡ a → MayHold activity a b
+holds_same activity a b same = subst (MayHold activity a) (sym same) (MayHold-same activity a)
+
+-- what it leaves of its words is what the shadow may hold
+holds_through : (shadow real : Activity) (a b c : List ℕ) → DoesNoMore shadow real → MayHold shadow a b → MayHold real b c → MayHold shadow a c
+holds_through shadow real a b c (inl idle) f g =
+    let same : c ≡ b = subst (λ (t : Activity). MayHold t b c) idle g in subst (MayHold shadow a) (sym same) f
+holds_through shadow real a b c (inr (inl reading)) f g =
+    let same : c ≡ b = subst (λ (t : Activity). MayHold t b c) reading g in subst (MayHold shadow a) (sym same) f
+holds_through shadow real a b c (inr (inr same)) f g = MayHold-then shadow a b c f (subst (λ (t : Activity). MayHold t b c) same g)
+
+pub amended_leaves_no_more : AmendedLeavesNoMore
+amended_leaves_no_more shadow real left am leaves = holds_through shadow.activity real.activity shadow.words real.words left am.activity am.words leaves
+
+-- RESTING
+
+-- what a half is once it has ended: idle, and with the same access
+ended_idle : (activity : Activity) (half later : SlaveHalf) → MayEnd activity half later
+    → (later.activity ≡ Idle) × (later.registers.offered ≡ half.registers.offered) × (later.registers.forced ≡ half.registers.forced)
+ended_idle Idle half later ends = absurd ends
+ended_idle Reading half later (inl well) = (ap (λ (h : SlaveHalf). h.activity) well, ap (λ (h : SlaveHalf). h.registers.offered) well, ap (λ (h : SlaveHalf). h.registers.forced) well)
+ended_idle Reading half later (inr fails) =
+    (ap (λ (h : SlaveHalf). h.activity) fails.rested_is, ap (λ (h : SlaveHalf). h.registers.offered) fails.rested_is, ap (λ (h : SlaveHalf). h.registers.forced) fails.rested_is)
+ended_idle (Writing word value) half later (inl well) =
+    (ap (λ (h : SlaveHalf). h.activity) well, ap (λ (h : SlaveHalf). h.registers.offered) well, ap (λ (h : SlaveHalf). h.registers.forced) well)
+ended_idle (Writing word value) half later (inr fails) = (
+  ap (λ (h : SlaveHalf). h.activity) fails.ends.rested_is,
+  ap (λ (h : SlaveHalf). h.registers.offered) fails.ends.rested_is,
+  ap (λ (h : SlaveHalf). h.registers.forced) fails.ends.rested_is,
+)
+
+amended_rests : (shadow real later : SlaveHalf) → IsAmended shadow real → MayRest real later → IsAmended shadow later
+amended_rests shadow real later am (inl same) = subst (IsAmended shadow) (sym same) am
+amended_rests shadow real later am (inr ends) =
+    let e = ended_idle real.activity real later ends in
+    record {
+      station = MayRest-station real later (inr ends) ∙ am.station;
+      offered = e.1 ∙ am.offered;
+      forced = e.2 ∙ am.forced;
+      words = holds_through shadow.activity real.activity shadow.words real.words later.words am.activity am.words
+          (MayRest-leaves real later later.words (inr ends) (MayLeave-same later));
+      activity = inl e.0;
+    }
+
+-- a half that is like it
+amended_like : (shadow real later : SlaveHalf) → IsAmended shadow real → IsLike real later → IsAmended shadow later
+amended_like shadow real later am like = record {
+  station = like.station ∙ am.station;
+  offered = like.registers.offered ∙ am.offered;
+  forced = like.registers.forced ∙ am.forced;
+  words = holds_through shadow.activity real.activity shadow.words real.words later.words am.activity am.words like.words;
+  activity = subst (DoesNoMore shadow.activity) (sym like.activity) am.activity;
+}
+
+-- TAKING
+
+offered_bit : (offered forced : Bool) → (((if offered then 1 else 0) + (if forced then 2 else 0)) % 2 == 1) ≡ offered
+offered_bit true true = refl
+offered_bit true false = refl
+offered_bit false true = refl
+offered_bit false false = refl
+
+forced_bit : (offered forced : Bool) → (((if offered then 1 else 0) + (if forced then 2 else 0)) / 2 % 2 == 1) ≡ forced
+forced_bit true true = refl
+forced_bit true false = refl
+forced_bit false true = refl
+forced_bit false false = refl
+
+-- a write from control and status on keeps the access
+module _ (half : SlaveHalf) (over : List ℕ) where
+  offered_kept : (with_stored half 2 over).registers.offered ≡ half.registers.offered
+  offered_kept =
+      offered_is half 2 over ∙ ap (λ (n : ℕ). n % 2 == 1) (after_before (access_byte half.registers) 2 0 over (omega arith))
+      ∙ offered_bit half.registers.offered half.registers.forced
+
+  forced_kept : (with_stored half 2 over).registers.forced ≡ half.registers.forced
+  forced_kept =
+      forced_is half 2 over ∙ ap (λ (n : ℕ). n / 2 % 2 == 1) (after_before (access_byte half.registers) 2 0 over (omega arith))
+      ∙ forced_bit half.registers.offered half.registers.forced
+
+  -- what it begins is no more than what the shadow does
+  begins : (shadow : SlaveHalf) → half.activity ≡ Idle → IsAmended shadow half
+      → (doing_of (judged half 2 over) ≡ Writes → Writing (judged half 2 over).registers.address (judged half 2 over).registers.first ≡ shadow.activity)
+      → (d : Doing) → doing_of (judged half 2 over) ≡ d → IsAmended shadow (done d (judged half 2 over))
+  begins shadow idle am same Nothing is =
+      record { station = am.station; offered = offered_kept ∙ am.offered; forced = forced_kept ∙ am.forced; words = am.words; activity = inl idle }
+  begins shadow idle am same Fetches is =
+      record { station = am.station; offered = offered_kept ∙ am.offered; forced = forced_kept ∙ am.forced; words = am.words; activity = inr (inl refl) }
+  begins shadow idle am same Writes is =
+      record { station = am.station; offered = offered_kept ∙ am.offered; forced = forced_kept ∙ am.forced; words = am.words; activity = inr (inr (same is)) }
+
+value_back : (value : ℕ) → value < 2 ^ 16 → value % 256 + 256 * (value / 256 % 256) ≡ value
+value_back value small = omega arith
+
+-- what the device sends of its own names no other word
+own_write : (shadow half : SlaveHalf) (d : Pdu) → IsOwn shadow d → doing_of (judged half 2 d.content) ≡ Writes
+    → Writing (judged half 2 d.content).registers.address (judged half 2 d.content).registers.first ≡ shadow.activity
+own_write shadow half d (clears at is) does =
+    absurd (let e : slice_index d.content 1 % 8 ≡ 2 = sym (command_given half half 2 d.content refl (let n : length d.content ≡ 2 = ap length is in omega arith)) ∙ writes_command (judged half 2 d.content) does in
+    let z : slice_index d.content 1 % 8 ≡ 0 = ap (λ (l : List ℕ). slice_index l 1 % 8) is in omega arith)
+own_write shadow half d (reads word rest at is) does =
+    absurd (let e : slice_index d.content 1 % 8 ≡ 2 = sym (command_given half half 2 d.content refl (let n : 2 ≤ length d.content = subst (λ (l : List ℕ). 2 ≤ length l) (sym is) (omega arith) in n)) ∙ writes_command (judged half 2 d.content) does in
+    let z : slice_index d.content 1 % 8 ≡ 1 = ap (λ (l : List ℕ). slice_index l 1 % 8) is in omega arith)
+own_write shadow half d (writes word value flying small fits at is) does =
+    let address : (judged half 2 d.content).registers.address ≡ word = ap (λ (l : List ℕ). (judged half 2 l).registers.address) is ∙ number_back word small in
+    let first : (judged half 2 d.content).registers.first ≡ value = ap (λ (l : List ℕ). (judged half 2 l).registers.first) is ∙ value_back value fits in
+    writing_is address first ∙ sym flying
+  where
+    writing_is : {p q r s : ℕ} → p ≡ q → r ≡ s → Writing p r ≡ Writing q s
+    writing_is e f = cc
+
+own_place : (shadow : SlaveHalf) (d : Pdu) → IsOwn shadow d → (register_of d.address ≡ 0x0502) × (2 ≤ length d.content)
+own_place shadow d (clears at is) = (at, let n : length d.content ≡ 2 = ap length is in omega arith)
+own_place shadow d (reads word rest at is) = (at, subst (λ (l : List ℕ). 2 ≤ length l) (sym is) (omega arith))
+own_place shadow d (writes word value flying small fits at is) = (at, subst (λ (l : List ℕ). 2 ≤ length l) (sym is) (omega arith))
+
+module _ (shadow half : SlaveHalf) (d : Pdu) (am : IsAmended shadow half) where
+  unchanged : writes_here half (command_of d.command) d.address d.content ≡ false → IsAmended shadow (served_datagram half d).half
+  unchanged other = subst (IsAmended shadow) (sym (served_other half (command_of d.command) d.address d.content other)) am
+
+  own_written : IsOwn shadow d → writes_here half (command_of d.command) d.address d.content ≡ true → IsAmended shadow (served_datagram half d).half
+  own_written own here = by (true_or_false (is_busy half.activity))
+    where
+      at : register_of d.address - 0x0500 ≡ 2
+      at = let e = (own_place shadow d own).0 in omega arith
+
+      is_written : (served_datagram half d).half ≡ (written half 2 d.content).half
+      is_written =
+          served_write half (command_of d.command) d.address d.content here ∙ ap (λ (n : ℕ). (written half n d.content).half) at
+
+      covers : (nat_le 2 2 && nat_le 4 (2 + length d.content)) ≡ true
+      covers = let e = (own_place shadow d own).1 in rw (le-leb 2 2 (omega arith), le-leb 4 (2 + length d.content) (omega arith)) refl
+
+      by : (is_busy half.activity ≡ true) ⊎ (is_busy half.activity ≡ false) → IsAmended shadow (served_datagram half d).half
+      by (inl busy) =
+          let e = (own_place shadow d own).1 in
+          subst (IsAmended shadow) (sym (is_written ∙ written_ignored half 2 d.content busy (omega arith))) am
+      by (inr free) =
+          let idle : half.activity ≡ Idle = idle_not_busy half.activity free in
+          subst (IsAmended shadow)
+          (sym (is_written ∙ written_idle half 2 d.content idle ∙ judges half 2 d.content covers ∙ begun_is (judged half 2 d.content)))
+          (begins half d.content shadow idle am (own_write shadow half d own) (doing_of (judged half 2 d.content)) refl)
+
+  served_amended : (d.command ≡ 4) ⊎ ((d.command ≡ 5) × IsOwn shadow d) → IsAmended shadow (served_datagram half d).half
+  served_amended (inl read) = unchanged (reads_only half d read)
+  served_amended (inr own) = elim (true_or_false (writes_here half (command_of d.command) d.address d.content)) [
+    | inl here ↦ own_written own.1 here
+    | inr other ↦ unchanged other
+  ]
+
+pub amended_stays : AmendedStays
+amended_stays shadow real later am start = am
+amended_stays shadow real later am (next d found mid _ before own takes) =
+    amended_like shadow (served_datagram takes.rested d).half later
+    (served_amended shadow takes.rested d (amended_rests shadow mid takes.rested (amended_stays shadow real mid am before) takes.rests) own)
+    takes.half
+
+-- FROM AND TO WHAT THE SHADOW MAY BE
+
+like_amended : (shadow real : SlaveHalf) → IsLike shadow real → IsAmended shadow real
+like_amended shadow real like = record {
+  station = like.station;
+  offered = like.registers.offered;
+  forced = like.registers.forced;
+  words = like.words;
+  activity = inr (inr like.activity);
+}
+
+pub possible_is_amended : PossibleIsAmended
+possible_is_amended shadow real busy be =
+    amended_like shadow be.rested real (amended_rests shadow shadow be.rested (like_amended shadow shadow (like_itself shadow)) be.rests) be.like
+  where
+    like_itself : (half : SlaveHalf) → IsLike half half
+    like_itself half = record {
+      station = refl;
+      activity = refl;
+      registers = record { offered = refl; forced = refl; command_error = refl; enable_error = refl };
+      words = MayHold-same half.activity half.words;
+    }
+
+pub busy_is_possible : BusyIsPossible
+busy_is_possible shadow real at_work am same command_error enable_error = like_is_possible shadow real (record {
+  station = am.station;
+  activity = same;
+  registers = record {
+    offered = am.offered;
+    forced = am.forced;
+    command_error = command_error ∙ sym at_work.command_error;
+    enable_error = enable_error ∙ sym at_work.enable_error;
+  };
+  words = am.words;
+})
+
+-- the words of a slave whose word in flight holds this
+held_is : (shadow real : SlaveHalf) (word value : ℕ) → IsAmended shadow real → shadow.activity ≡ Writing word value
+    → real.words ≡ slice_set shadow.words word (slice_index real.words word)
+held_is shadow real word value am flying =
+    let h : MayHold (Writing word value) shadow.words real.words = subst (λ (t : Activity). MayHold t shadow.words real.words) flying am.words in
+    sym (set-get_or real.words word 0) ∙ ap (λ (w : List ℕ). slice_set w word (slice_index real.words word)) h.1
+    ∙ set-set shadow.words word h.0 (slice_index real.words word)
+
+pub other_is_kept : OtherIsKept
+other_is_kept shadow real word value am flying = held_is shadow real word value am flying
+
+pub read_back_is_possible : ReadBackIsPossible
+read_back_is_possible shadow real word value am flying idle command_error enable_error holds =
+    like_is_possible (with_errors (settled shadow word value) false false) real (record {
+      station = am.station;
+      activity = idle;
+      registers = record { offered = am.offered; forced = am.forced; command_error = command_error; enable_error = enable_error };
+      words = held_is shadow real word value am flying ∙ ap (λ (n : ℕ). slice_set shadow.words word n) holds;
+    })

@@ -1,0 +1,72 @@
+//! The arguments that say how large EEPROMs are, and what is allowed on a line.
+
+use clap::{Arg, ArgAction, ArgMatches};
+use std::alloc::Global;
+use wire_session::Allowed;
+
+/// The help text on sizes.
+const WORDS: &str =
+    "How many words the EEPROMs of slaves have, as their data sheets say it: 64 to 4096, a
+multiple of 64. It is needed for blank EEPROMs, whose size can't be told. Later
+calls take the size of each slave from its image file.
+
+Example:
+  launch eth0 2000 sii_wire backup line.toml --words 0=512,3=1024";
+
+/// The description of the argument with the sizes of EEPROMs.
+pub(crate) fn words_argument<'a>(alloc: Global) -> Arg<'a> {
+    Arg::new(alloc, "words")
+        .long("words")
+        .value_name("SLAVE=N,..")
+        .help("How many words the EEPROMs of these slaves have")
+        .long_help(WORDS)
+}
+
+/// The description of a flag.
+fn flag<'a>(alloc: Global, name: &'a str, help: &'a str) -> Arg<'a> {
+    Arg::new(alloc, name)
+        .long(name)
+        .help(help)
+        .action(ArgAction::SetTrue)
+}
+
+pub(crate) fn trust_argument<'a>(alloc: Global) -> Arg<'a> {
+    flag(
+        alloc,
+        "trust-images",
+        "Goes by the size of an image file even where the EEPROM is found to be smaller",
+    )
+}
+
+pub(crate) fn force_argument<'a>(alloc: Global) -> Arg<'a> {
+    flag(
+        alloc,
+        "force",
+        "Works on slaves above Pre-Operational too, and takes EEPROMs that their PDI has",
+    )
+}
+
+pub(crate) fn resize_argument<'a>(alloc: Global) -> Arg<'a> {
+    flag(
+        alloc,
+        "resize",
+        "Lets commands make word 0x3e tell another size than the EEPROM has",
+    )
+}
+
+/// What the flags of `run` allow.
+pub(crate) fn allowed_of(matches: &ArgMatches<'_>) -> Allowed {
+    Allowed {
+        trusts_images: matches.get_flag("trust-images"),
+        is_forced: matches.get_flag("force"),
+        resizes: matches.get_flag("resize"),
+    }
+}
+
+/// What the one flag of `init` and `recover` allows.
+pub(crate) fn trust_of(matches: &ArgMatches<'_>) -> Allowed {
+    Allowed {
+        trusts_images: matches.get_flag("trust-images"),
+        ..Allowed::nothing()
+    }
+}

@@ -1,0 +1,134 @@
+//! What is looked at once a line is found, before a word is written.
+ghost use Rattle.std.specs.Prelude.{◌≡◌, ◌≤◌, length, IfOk};
+
+use crate::allowances::Allowed;
+use crate::faults::WireFault;
+use sii_edit::{Cause, Command, apply};
+use sii_words::{Plant, Words};
+use site_wire::{FoundLine, SlaveState};
+use std::alloc::{AllocError, Global};
+
+/// The word that states the size of an EEPROM in KiBit, less one (ETG.1000.6).
+const SIZE: usize = 0x3e;
+
+/// The most words of an EEPROM that are worked on. A larger one may say any size from this one on.
+const MOST: u32 = 4096;
+
+/// The words of the slaves of a line that was found, of which the line file names so many.
+///
+/// # Errors
+///
+/// `Line` for the first slave that can't be worked on; then `OtherCount` where the line has another number of slaves.
+pub(crate) fn judge_slaves(
+    alloc: Global,
+    found: FoundLine,
+    wanted: usize,
+) -> Result<Vec<Words>, WireFault>
+    ensures count { IfOk result (λ slaves. length slaves.items ≡ wanted) }
+    ensures found { IfOk result (λ slaves. length slaves.items ≡ length found.slaves.items) }
+{
+    let slaves = found.into_words(alloc)?;
+    let count = slaves.len();
+    if count == wanted {
+        Ok(slaves)
+    } else {
+        Err(WireFault::OtherCount { slaves: count })
+    }
+}
+
+/// Looks whether a run may begin on slaves in these states.
+///
+/// # Errors
+///
+/// For the first slave of so many: `Running` where it is in Safe-Operational or Operational, and `Held` where its PDI has the EEPROM or is
+/// offered it.
+pub(crate) fn judge_states(states: &[SlaveState], slaves: usize) -> Result<(), WireFault> {
+    for (slave, state) in states.iter().enumerate() {
+        if slave < slaves {
+            judge_state(slave, *state)?;
+        }
+    }
+    Ok(())
+}
+
+fn judge_state(slave: usize, state: SlaveState) -> Result<(), WireFault> {
+    if state.is_above_preop() {
+        return Err(WireFault::Running { slave });
+    }
+    if state.is_with_pdi() {
+        return Err(WireFault::Held { slave });
+    }
+    Ok(())
+}
+
+/// Looks whether the commands leave word 0x3E alone, or make it tell the size that the slave's EEPROM has. A command that is refused changes
+/// nothing.
+///
+/// # Errors
+///
+/// `OtherSize` for the first command that makes it tell another size; `Memory`.
+pub(crate) fn judge_commands(
+    alloc: Global,
+    slaves: &[Words],
+    commands: &[Command],
+) -> Result<(), WireFault>
+    requires some { 1 ≤ length slaves.now }
+    requires most { length slaves.now ≤ 64 }
+{
+    let mut plant = copy_of(alloc, slaves)?;
+    for command in 0..commands.len() {
+        match apply(alloc, &plant, &commands[command]) {
+            Ok((next, _runs)) => {
+                judge_change(&plant, &next, command)?;
+                plant = next;
+            }
+            Err(refusal) if refusal.cause == Cause::Memory => return Err(WireFault::memory()),
+            Err(_) => {}
+        }
+    }
+    Ok(())
+}
+
+/// A copy of the slaves' words, as the contents of a line.
+fn copy_of(alloc: Global, slaves: &[Words]) -> Result<Plant, AllocError>
+    requires some { 1 ≤ length slaves.now }
+    requires most { length slaves.now ≤ 64 }
+{
+    let copies = copies_of(alloc, slaves)?;
+    Ok(Plant::of(copies))
+}
+
+/// A copy of the slaves' words.
+fn copies_of(alloc: Global, slaves: &[Words]) -> Result<Vec<Words>, AllocError>
+    ensures { IfOk result (λ copies. length copies.items ≡ length slaves.now) }
+{
+    let mut copies = Vec::new(alloc);
+    for words in slaves {
+        copies.push(words.try_copy()?)?;
+    }
+    Ok(copies)
+}
+
+/// Looks at what a command changes.
+fn judge_change(before: &Plant, after: &Plant, command: usize) -> Result<(), WireFault> {
+    for slave in 0..before.len().min(after.len()) {
+        if let Some(words) = other_size(before.slave(slave), after.slave(slave)) {
+            return Err(WireFault::OtherSize {
+                command,
+                slave,
+                words,
+            });
+        }
+    }
+    Ok(())
+}
+
+/// The size that word 0x3E tells after a change, if it was changed and the EEPROM has another one.
+fn other_size(before: &Words, after: &Words) -> Option<u32> {
+    let said = *after.as_slice().get(SIZE)?;
+    let words = 64 * (u32::from(said) + 1);
+    if before.as_slice().get(SIZE) == Some(&said) || words.min(MOST) as usize == after.len() {
+        return None;
+    }
+    Some(words)
+}
