@@ -3,3 +3,5 @@ pub mod EditLaws
 pub mod Judged
 pub mod AliasSet
 pub mod EditRefusals
+pub mod LineRead
+pub mod LineWritten
