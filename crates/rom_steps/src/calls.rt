@@ -99,7 +99,12 @@ fn byte(content: &[u8], at: usize) -> u8
 fn first_four(content: &[u8]) -> [u8; 4]
     ensures { result ≡ first_four content.now }
 {
-    [byte(content, 0), byte(content, 1), byte(content, 2), byte(content, 3)]
+    [
+        byte(content, 0),
+        byte(content, 1),
+        byte(content, 2),
+        byte(content, 3),
+    ]
 }
 
 /// Takes in the frame that came back: the working counter and the content of the datagram. It answers 0; or a code, and nothing is

@@ -10,8 +10,8 @@ pub mod calls;
 mod datagram;
 mod opening;
 mod reading;
-mod settling;
 mod registers;
+mod settling;
 mod step;
 mod taking;
 

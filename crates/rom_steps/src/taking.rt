@@ -25,7 +25,12 @@ fn after(step: Step, back: Back) -> Step
         Step::WaitsToClear { more } => waited_to_clear(more, read_rest(back)),
         Step::Clears { more } => cleared(more, is_counted(back)),
         Step::Commands { word, tries } => commanded(word, tries, is_counted(back)),
-        Step::WaitsToFetch { word, tries, more } => waited_to_fetch(word, tries, more, read_rest(back)),
+        Step::WaitsToFetch { word, tries, more } => waited_to_fetch(
+            word,
+            tries,
+            more,
+            read_rest(back),
+        ),
         Step::Fetches { word, tries } => fetched(word, tries, read_pair(back)),
         Step::Issues { .. } => Step::Ended(End::Issued(read_issued(back))),
         Step::WaitsToSettle { taken, more } => waited_to_settle(taken, more, read_rest(back)),

@@ -5,3 +5,4 @@ pub mod AliasSet
 pub mod EditRefusals
 pub mod LineRead
 pub mod LineWritten
+pub mod LinePlaced

@@ -1,7 +1,7 @@
 -- The slaves of a line, one behind the other.
-use Rattle.std.proofs.Common.{◌≡◌, ◌⊎◌, ℕ, suc, ◌+◌, ◌<◌, List, [], ◌∷◌, ◌++◌, length, map, take, drop, get_or, Result, Ok, Err, refl, sym, ap, subst, ◌∙◌, inl, inr, arith, drop-cons}
-use Rattle.std.specs.List.{All, sum}
-use Rattle.std.proofs.lemmas.List.{append_assoc, append-nil}
+use Rattle.std.proofs.Common.{◌≡◌, ◌⊎◌, ℕ, ◌+◌, ◌-◌, ◌<◌, ◌≤◌, List, [], ◌∷◌, ◌++◌, length, map, take, drop, get_or, Result, Ok, Err, refl, sym, ap, subst, ◌∙◌, inl, inr, arith}
+use Rattle.std.specs.List.{All, fold, sum}
+use Rattle.std.proofs.lemmas.List.{append_assoc, append-nil, drop_all, drop_more, length-drop, length-map}
 use Rattle.std.proofs.lemmas.List.Elements.{All-cons}
 use Rattle.sii_words.specs.Words.{IsDeviceSize}
 use Rattle.sii_bytes.specs.Bytes.{AreRefused, AreWords, words_in}
@@ -30,12 +30,19 @@ reads-one : (piece words : List ℕ) (others : List (List ℕ)) (rest : Result (
 reads-one piece words others (Ok plant) are is reads = (All-cons (AreWords IsDeviceSize) piece others are reads.0, (let all = reads.1 in cc))
 reads-one piece words others (Err code) are is reads = inr (are, reads)
 
+fold-from : (a : ℕ) (xs : List ℕ) → fold ◌+◌ a xs ≡ a + fold ◌+◌ 0 xs
+fold-from a [] = omega arith
+fold-from a (x ∷ xs) = let one = fold-from (a + x) xs in let two = fold-from (0 + x) xs in omega arith
+
+sum-cons : (x : ℕ) (xs : List ℕ) → sum (x ∷ xs) ≡ x + sum xs
+sum-cons x xs = let all : fold ◌+◌ (0 + x) xs ≡ 0 + x + fold ◌+◌ 0 xs = fold-from (0 + x) xs in omega arith
+
 module _ (lengths : List ℕ) (i d : ℕ) (within : i < length lengths) where
   pub next-length : drop i lengths ≡ get_or lengths i d ∷ drop (i + 1) lengths
-  next-length = drop-cons lengths i d within ∙ ap (λ (n : ℕ). get_or lengths i d ∷ drop n lengths) (omega arith)
+  next-length = drop_more lengths i d within
 
   pub next-sum : sum (drop i lengths) ≡ get_or lengths i d + sum (drop (i + 1) lengths)
-  next-sum = ap sum next-length
+  next-sum = ap sum next-length ∙ sum-cons (get_or lengths i d) (drop (i + 1) lengths)
 
   module _ (slaves : List (List ℕ)) (left bytes first behind : List ℕ) (onward : Onward slaves (drop i lengths) left lengths bytes)
       (front : first ≡ take (get_or lengths i d) left) (back : behind ≡ drop (get_or lengths i d) left) where
@@ -57,3 +64,24 @@ pub onward-ends : (slaves : List (List ℕ)) (behind left lengths bytes : List �
 onward-ends slaves behind left lengths bytes none onward =
     subst (λ (l : List (List ℕ)). ReadsEach (pieces lengths bytes) (Ok l)) (append-nil slaves)
     (onward (Ok []) (subst (λ (b : List ℕ). ReadsEach (pieces b left) (Ok [])) (sym none) ((λ k d few. absurd (omega arith)), refl)))
+
+pub whole-more : (lengths left behind : List ℕ) (i d : ℕ) → i < length lengths → sum (drop i lengths) ≡ length left → behind ≡ drop (get_or lengths i d) left
+    → sum (drop (i + 1) lengths) ≡ length behind
+whole-more lengths left behind i d within whole back =
+    let next = next-sum lengths i d within in
+    let long : length behind ≡ length left - get_or lengths i d = ap length back ∙ length-drop (get_or lengths i d) left in
+    omega arith
+
+pub onward-as : (slaves now : List (List ℕ)) (behind left lengths bytes : List ℕ) → now ≡ slaves → Onward slaves behind left lengths bytes → Onward now behind left lengths bytes
+onward-as slaves now behind left lengths bytes is onward = subst (λ (l : List (List ℕ)). Onward l behind left lengths bytes) (sym is) onward
+
+pub nothing-left : (lengths : List ℕ) (i : ℕ) → length lengths ≤ i → drop i lengths ≡ []
+nothing-left lengths i all = drop_all i lengths all
+
+piece-count : (lengths bytes : List ℕ) → length (pieces lengths bytes) ≡ length lengths
+piece-count [] bytes = refl
+piece-count (count ∷ lengths) bytes = let rest = piece-count lengths (drop count bytes) in omega arith
+
+-- there is a slave for each length
+pub slave-count : (lengths bytes : List ℕ) (slaves : List (List ℕ)) → slaves ≡ map words_in (pieces lengths bytes) → length slaves ≡ length lengths
+slave-count lengths bytes slaves are = ap length are ∙ length-map (pieces lengths bytes) words_in ∙ piece-count lengths bytes
