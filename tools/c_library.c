@@ -416,9 +416,10 @@ static void compare_edits(const uint8_t *image, size_t length) {
 }
 
 static void compare_line(void) {
-    static uint8_t all[8 * MOST_BYTES], *devices[64];
-    size_t lengths[64], length = 0, slaves = 1 + chance(5), room = chance(20) ? 40 : chance(6);
-    pz_segment mine[40], theirs[40];
+    static uint8_t all[64 * MOST_BYTES], *devices[64];
+    static pz_segment mine[512], theirs[512];
+    int many = chance(100) == 0;
+    size_t lengths[64], length = 0, slaves = many ? 30 + chance(35) : 1 + chance(5), room = chance(20) ? 512 : chance(6);
     pz_image_sizes my_sizes, their_sizes;
     memset(mine, 0xAA, sizeof mine);
     memset(theirs, 0xAA, sizeof theirs);
@@ -427,7 +428,8 @@ static void compare_line(void) {
     for (size_t i = 0; i < slaves; i++) {
         devices[i] = all + length;
         lengths[i] = image_by_chance(devices[i]);
-        if (chance(20)) lengths[i] = lengths[i] / 128 * 128;
+        if (many || chance(20)) lengths[i] = lengths[i] / 128 * 128;
+        if (many && lengths[i] == 0) lengths[i] = 128;
         length += lengths[i];
     }
     size_t more = chance(30) ? 0 : 1;

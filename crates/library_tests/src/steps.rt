@@ -24,24 +24,74 @@ enum Came {
 /// What is begun, what comes back for each datagram, and the codes: of the last one that came back, and of what is next.
 const RUNS: &[(Begun, &[Came], u32, u32)] = &[
     (Begun::Nothing, &[Came::Loss], 110, 110),
-    (Begun::Opening, &[Came::Answer(1, &[2]), Came::Answer(1, &[0]), Came::Answer(1, &[0, 0]), Came::Answer(1, &[0, 0])], 0, 101),
-    (Begun::Opening, &[Came::Loss, Came::Answer(0, &[2]), Came::Loss], 0, 43),
+    (
+        Begun::Opening,
+        &[
+            Came::Answer(1, &[2]),
+            Came::Answer(1, &[0]),
+            Came::Answer(1, &[0, 0]),
+            Came::Answer(1, &[0, 0]),
+        ],
+        0,
+        101,
+    ),
+    (
+        Begun::Opening,
+        &[Came::Loss, Came::Answer(0, &[2]), Came::Loss],
+        0,
+        43,
+    ),
     (Begun::Opening, &[Came::Answer(1, &[2, 0])], 111, 100),
     (Begun::Opening, &[Came::Loss, Came::Stop], 0, 42),
     (
         Begun::Reading,
-        &[Came::Answer(1, &[0, 1, 8, 0, 0, 0]), Came::Answer(1, &[0, 0x80]), Came::Answer(1, &[0, 0]), Came::Answer(1, &[1, 2, 3, 4])],
+        &[
+            Came::Answer(1, &[0, 1, 8, 0, 0, 0]),
+            Came::Answer(1, &[0, 0x80]),
+            Came::Answer(1, &[0, 0]),
+            Came::Answer(1, &[1, 2, 3, 4]),
+        ],
         0,
         102,
     ),
-    (Begun::Reading, &[Came::Loss, Came::Answer(0, &[0, 1, 8, 0, 0, 0]), Came::Loss], 0, 43),
-    (Begun::Issuing, &[Came::Answer(1, &[1, 2, 4, 0, 0, 0, 7, 0])], 0, 103),
-    (Begun::Issuing, &[Came::Answer(0, &[1, 2, 4, 0, 0, 0, 7, 0])], 0, 104),
+    (
+        Begun::Reading,
+        &[Came::Loss, Came::Answer(0, &[0, 1, 8, 0, 0, 0]), Came::Loss],
+        0,
+        43,
+    ),
+    (
+        Begun::Issuing,
+        &[Came::Answer(1, &[1, 2, 4, 0, 0, 0, 7, 0])],
+        0,
+        103,
+    ),
+    (
+        Begun::Issuing,
+        &[Came::Answer(0, &[1, 2, 4, 0, 0, 0, 7, 0])],
+        0,
+        104,
+    ),
     (Begun::Issuing, &[Came::Loss], 0, 41),
     (Begun::Settling(true), &[Came::Answer(1, &[0, 0])], 0, 105),
-    (Begun::Settling(true), &[Came::Answer(1, &[0, 0x20]), Came::Answer(1, &[0, 0])], 0, 106),
-    (Begun::Settling(false), &[Came::Answer(1, &[0, 0]), Came::Loss], 0, 106),
-    (Begun::Settling(true), &[Came::Answer(1, &[0, 0]), Came::Loss], 110, 105),
+    (
+        Begun::Settling(true),
+        &[Came::Answer(1, &[0, 0x20]), Came::Answer(1, &[0, 0])],
+        0,
+        106,
+    ),
+    (
+        Begun::Settling(false),
+        &[Came::Answer(1, &[0, 0]), Came::Loss],
+        0,
+        106,
+    ),
+    (
+        Begun::Settling(true),
+        &[Came::Answer(1, &[0, 0]), Came::Loss],
+        110,
+        105,
+    ),
 ];
 
 fn begin(begun: Begun) -> Access {

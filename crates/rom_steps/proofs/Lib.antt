@@ -5,3 +5,4 @@ pub mod Moving
 pub mod Stopping
 pub mod Stepping
 pub mod Numbered
+pub mod WholeLaws

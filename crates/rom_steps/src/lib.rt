@@ -8,6 +8,7 @@ mod access;
 mod back;
 pub mod calls;
 mod datagram;
+pub mod laws;
 mod opening;
 mod reading;
 mod registers;
