@@ -1,11 +1,11 @@
 /*
  * Pilzhoon: EtherCAT EEPROM images (SII), judged, read and changed.
  *
- * The library keeps no state, prints nothing, opens nothing and starts no thread. A call that works on an image takes memory by
+ * The library keeps no state, prints nothing, opens nothing and starts no thread. A call that works on images takes memory by
  * malloc while it runs, a few times what it is given, and gives all of it back before it returns. So it may be called from several threads at once,
  * on different images, but not from a signal handler, nor from a task that must not wait for malloc.
  *
- * Every call answers a code, PZ_OK or one of the refusals below. A refused call changes nothing of what it was given.
+ * Every call that can be refused answers a code, PZ_OK or one of those below. A refused call changes nothing of what it was given.
  *
  * Bytes are those of an EEPROM image file: 16-bit words in order, the low byte first (ETG.1000.6, slave information interface).
  * No pointer may be NULL, except that of an array whose length is 0. Arrays that a call writes to may not overlap its other
@@ -35,6 +35,21 @@ extern "C" {
 #define PZ_BAD_CHAIN 18u          /* the chain of categories of the device can't be read */
 #define PZ_IMAGE_OVER_LIMIT 19u   /* the process image would have more than 1,486 bytes, or a slave more than 8 segments */
 #define PZ_MEMORY 20u             /* malloc refused memory; it may come in place of any other answer */
+#define PZ_LOST 41u               /* a frame was lost */
+#define PZ_STOPPED 42u            /* the line has stopped */
+#define PZ_DEAD 43u               /* the slave is given up */
+/* Codes of this library alone. */
+#define PZ_SEND 100u              /* a datagram is to be sent */
+#define PZ_OPENED 101u            /* the slave is open */
+#define PZ_READ 102u              /* two words were read */
+#define PZ_TAKEN 103u             /* the slave took the command that writes a word */
+#define PZ_NOT_TAKEN 104u         /* it didn't take it */
+#define PZ_WRITTEN 105u           /* the word is written */
+#define PZ_AGAIN 106u             /* the word isn't known to be written, and has to be issued again */
+#define PZ_NO_STEP 110u           /* no access was begun here, or it has ended */
+#define PZ_OTHER_LENGTH 111u      /* the content isn't as long as that of the datagram that was sent */
+#define PZ_BAD_LINE 112u          /* there is no slave, or there are more than 64, or their lengths don't make up the bytes */
+#define PZ_NO_SPACE 113u          /* there is no room for the segments */
 
 /* The head of an image (ETG.1000.6, words 0 to 15). */
 typedef struct {
@@ -132,6 +147,102 @@ uint32_t pz_edit_category(uint8_t *device, size_t length, uint16_t kind, const u
  * or PZ_MEMORY.
  */
 uint32_t pz_edit_image(uint8_t *device, size_t length, const uint8_t *image, size_t image_length);
+
+/* The process data of one sync manager in a process image (ETG.1000.6 and ETG.2010, SyncM, TXPDO and RXPDO categories). */
+typedef struct {
+    uint32_t slave;   /* number of the slave, from 0 in the order of the line */
+    uint32_t manager; /* number of its sync manager, 0 to 15 */
+    uint32_t output;  /* 1: outputs, sent by the master; 0: inputs */
+    uint32_t offset;  /* offset in the process image, in bytes */
+    uint32_t size;    /* size in bytes */
+    uint32_t bits;    /* length in bits */
+    uint32_t start;   /* physical start address of the sync manager */
+    uint32_t control; /* control register of the sync manager */
+} pz_segment;
+
+/* The sizes of a process image of at most 1,486 bytes: the outputs of all slaves, then their inputs. */
+typedef struct {
+    size_t segments;  /* number of segments */
+    uint32_t outputs; /* size of all outputs in bytes */
+    uint32_t inputs;  /* size of all inputs in bytes */
+    uint32_t counter; /* working counter of a cycle: for each slave 2 if it has outputs, and 1 if it has inputs */
+} pz_image_sizes;
+
+/*
+ * Places the process data of a line, as the categories of its slaves describe them. `devices` is the whole EEPROM of each slave, one
+ * behind the other in the order of the line, `length` bytes together; `lengths` is how many bytes each of the `slaves` slaves has.
+ *
+ * Answers PZ_OK: the segments are in the first places of `segments`, outputs first, in both by slave and then by sync manager; the other
+ * places stay. Or the first that applies:
+ *   PZ_BAD_LINE          1 to 64 slaves, whose lengths add up to `length`
+ *   PZ_ODD_LENGTH        of the first slave that isn't a device
+ *   PZ_BAD_SIZE          of that slave: not 64 to 4,096 words, a multiple of 64
+ *   PZ_IMAGE_OVER_LIMIT
+ *   PZ_NO_SPACE          `room` is less than the number of segments; 8 for each slave are always enough
+ * or PZ_MEMORY. A slave whose categories can't be read has no process data.
+ */
+uint32_t pz_place_line(const uint8_t *devices, size_t length, const size_t *lengths, size_t slaves, pz_segment *segments, size_t room,
+                       pz_image_sizes *sizes);
+
+/*
+ * Word access in steps (ETG.1000.4, slave information interface). A call begins an access, pz_next says which datagram is to be sent, and
+ * pz_take, pz_lose or pz_stop says what came back for it; so on until pz_next says how the access ended. These calls take no memory, don't
+ * wait and take bounded time, so a cyclic task may make them. A pz_access belongs to one access of one slave, and to one call at a time.
+ */
+typedef struct {
+    uint32_t phase, more, tries; /* of the library */
+    uint16_t first, second;      /* of the library; behind PZ_READ the two words */
+} pz_access;
+
+/* A datagram that is to be sent to the slave, with a working counter of 0 (ETG.1000.4). */
+typedef struct {
+    uint8_t command;    /* 4, FPRD: read; or 5, FPWR: write. By the slave's place in the line it is 1, APRD, or 2, APWR */
+    uint8_t length;     /* number of bytes of its content, 1 to 8 */
+    uint16_t ado;       /* address of the register, 0x0500 to 0x0508 */
+    uint8_t content[8]; /* its content; the bytes behind `length` are 0 */
+} pz_datagram;
+
+/*
+ * Begins to open a slave: takes its EEPROM from the PDI, waits until it is idle and clears its errors. Ends with PZ_OPENED; or PZ_DEAD: a
+ * datagram was sent three times and never counted, or 10,000 polls didn't see the slave idle. At most 10,009 datagrams are sent.
+ */
+void pz_open(pz_access *access);
+
+/*
+ * Begins to read word `word` and the next one of an open slave. Ends with PZ_READ, and the words are in `first` and `second`; or PZ_DEAD:
+ * three tries failed, or 10,000 polls didn't see the slave idle. At most 30,006 datagrams are sent.
+ */
+void pz_read(pz_access *access, uint16_t word);
+
+/*
+ * Begins to issue a word to an open slave: sends the command that writes it, once. Ends with PZ_TAKEN, PZ_NOT_TAKEN or PZ_LOST. Behind
+ * each of them the word may hold anything until pz_settle says PZ_WRITTEN.
+ */
+void pz_issue(pz_access *access, uint16_t word, uint16_t value);
+
+/*
+ * Begins to wait for a word that was issued. `taken` isn't 0 where that ended with PZ_TAKEN. Ends with PZ_WRITTEN: the word has its value;
+ * PZ_AGAIN: issue it again; or PZ_DEAD: 10,000 polls didn't see the slave idle. At most 10,001 datagrams are sent.
+ */
+void pz_settle(pz_access *access, uint32_t taken);
+
+/*
+ * Answers PZ_SEND and writes the datagram that is to be sent. Where the access has ended it answers how, PZ_STOPPED behind pz_stop, and
+ * *datagram stays. Answers PZ_NO_STEP where no access was begun (all bytes 0, or others that the library didn't write).
+ */
+uint32_t pz_next(const pz_access *access, pz_datagram *datagram);
+
+/*
+ * Takes in the datagram that came back: its working counter and its content. Answers PZ_OK, PZ_NO_STEP (nothing was to be sent) or
+ * PZ_OTHER_LENGTH (`length` isn't that of the datagram). With another answer than PZ_OK nothing is changed.
+ */
+uint32_t pz_take(pz_access *access, uint16_t counter, const uint8_t *content, size_t length);
+
+/* Takes in that the frame was lost: the slave may have taken the datagram or not. Answers PZ_OK, or PZ_NO_STEP, and nothing is changed. */
+uint32_t pz_lose(pz_access *access);
+
+/* Takes in that the line has stopped for good. Answers PZ_OK, or PZ_NO_STEP, and nothing is changed. */
+uint32_t pz_stop(pz_access *access);
 
 #ifdef __cplusplus
 }

@@ -123,7 +123,7 @@ static uint32_t judge(const uint8_t *bytes, size_t length, size_t *detail) {
 
 /* A sync manager with process data. */
 typedef struct {
-    unsigned manager, bits;
+    unsigned manager, bits, output, start, control;
 } row;
 
 static unsigned bits_of(view v, const chain *all, unsigned kind, unsigned manager) {
@@ -157,7 +157,7 @@ static int rows_of(view v, row *rows) {
         unsigned bits = c[7] == 3 ? bits_of(v, &all, 51, m) : c[7] == 4 ? bits_of(v, &all, 50, m) : 0;
         if (!bits) continue;
         if (count == 8) return -1;
-        rows[count++] = (row){m, bits};
+        rows[count++] = (row){m, bits, c[7] == 3, c[0] | c[1] << 8, c[4]};
     }
     return count;
 }
@@ -235,6 +235,45 @@ static uint32_t edit_image(uint8_t *device, size_t length, const uint8_t *image,
     return code;
 }
 
+/* The process image of a line: its segments, outputs first. */
+static uint32_t place(uint8_t **devices, const size_t *lengths, size_t slaves, size_t room, pz_segment *segments, pz_image_sizes *sizes) {
+    static row rows[64][8];
+    int counts[64];
+    pz_image_sizes made = {0, 0, 0, 0};
+    for (size_t i = 0; i < slaves; i++) {
+        uint32_t code = judge_length(lengths[i], 1);
+        if (code) return code;
+    }
+    for (size_t i = 0; i < slaves; i++) {
+        counts[i] = rows_of((view){devices[i], lengths[i] / 2}, rows[i]);
+        if (counts[i] < 0) return PZ_IMAGE_OVER_LIMIT;
+    }
+    for (size_t i = 0; i < slaves; i++) {
+        int both[2] = {0, 0};
+        for (int r = 0; r < counts[i]; r++) {
+            *(rows[i][r].output ? &made.outputs : &made.inputs) += (rows[i][r].bits + 7) / 8;
+            both[rows[i][r].output] = 1;
+            made.segments++;
+        }
+        made.counter += 2u * (unsigned)both[1] + (unsigned)both[0];
+    }
+    if (made.outputs + made.inputs > 1486) return PZ_IMAGE_OVER_LIMIT;
+    if (room < made.segments) return PZ_NO_SPACE;
+    uint32_t offset = 0;
+    for (unsigned output = 2; output-- > 0;) {
+        for (size_t i = 0; i < slaves; i++) {
+            for (int r = 0; r < counts[i]; r++) {
+                row it = rows[i][r];
+                if (it.output != output) continue;
+                *segments++ = (pz_segment){(uint32_t)i, it.manager, output, offset, (it.bits + 7) / 8, it.bits, it.start, it.control};
+                offset += (it.bits + 7) / 8;
+            }
+        }
+    }
+    *sizes = made;
+    return PZ_OK;
+}
+
 /* ---- images by chance */
 
 static size_t content_by_chance(unsigned kind, uint8_t *c, size_t most) {
@@ -295,7 +334,7 @@ static size_t image_by_chance(uint8_t *image) {
 
 /* ---- the comparison */
 
-static unsigned long codes[6][128];
+static unsigned long codes[7][128];
 static unsigned long made;
 
 static void same(const char *what, int holds) {
@@ -376,8 +415,34 @@ static void compare_edits(const uint8_t *image, size_t length) {
     codes[5][code]++;
 }
 
+static void compare_line(void) {
+    static uint8_t all[64 * MOST_BYTES], *devices[64];
+    static pz_segment mine[512], theirs[512];
+    int many = chance(100) == 0;
+    size_t lengths[64], length = 0, slaves = many ? 30 + chance(35) : 1 + chance(5), room = chance(20) ? 512 : chance(6);
+    pz_image_sizes my_sizes, their_sizes;
+    memset(mine, 0xAA, sizeof mine);
+    memset(theirs, 0xAA, sizeof theirs);
+    memset(&my_sizes, 0xAA, sizeof my_sizes);
+    memset(&their_sizes, 0xAA, sizeof their_sizes);
+    for (size_t i = 0; i < slaves; i++) {
+        devices[i] = all + length;
+        lengths[i] = image_by_chance(devices[i]);
+        if (many || chance(20)) lengths[i] = lengths[i] / 128 * 128;
+        if (many && lengths[i] == 0) lengths[i] = 128;
+        length += lengths[i];
+    }
+    size_t more = chance(30) ? 0 : 1;
+    uint32_t code = pz_place_line(all, length + more, lengths, slaves, theirs, room, &their_sizes);
+    uint32_t expected = more ? PZ_BAD_LINE : place(devices, lengths, slaves, room, mine, &my_sizes);
+    same("the code of pz_place_line", code == expected);
+    same("pz_place_line", memcmp(mine, theirs, sizeof mine) == 0 && my_sizes.segments == their_sizes.segments &&
+                              my_sizes.outputs == their_sizes.outputs && my_sizes.inputs == their_sizes.inputs && my_sizes.counter == their_sizes.counter);
+    codes[6][code]++;
+}
+
 int main(int count, char **words) {
-    static const char *names[6] = {"pz_judge", "pz_read_head", "pz_category", "pz_set_alias", "pz_edit_category", "pz_edit_image"};
+    static const char *names[7] = {"pz_judge", "pz_read_head", "pz_category", "pz_set_alias", "pz_edit_category", "pz_edit_image", "pz_place_line"};
     unsigned long images = count > 1 ? strtoul(words[1], NULL, 10) : 1000;
     state = count > 2 ? strtoul(words[2], NULL, 10) : 1;
     static uint8_t image[MOST_BYTES];
@@ -391,8 +456,9 @@ int main(int count, char **words) {
         free(copy);
         compare_alias(image, length);
         compare_edits(image, length);
+        compare_line();
     }
-    for (int call = 0; call < 6; call++) {
+    for (int call = 0; call < 7; call++) {
         printf("%-17s", names[call]);
         for (unsigned code = 0; code < 128; code++) {
             if (codes[call][code]) printf(" %u: %lu", code, codes[call][code]);

@@ -1,4 +1,5 @@
-//! The calls of `pilzhoon.h` that this example needs, for Rust. Link with `-L PREFIX/lib`.
+//! The calls of `pilzhoon.h` that the examples need, for Rust. Link with `-L PREFIX/lib`.
+#![allow(dead_code)] // each example uses some of the calls
 
 /// The head of an image.
 #[repr(C)]
@@ -14,14 +15,60 @@ pub struct Head {
     pub serial: u32,
 }
 
+/// A word access.
+#[repr(C)]
+#[derive(Clone, Copy, Debug, Default)]
+pub struct Access {
+    phase: u32,
+    more: u32,
+    tries: u32,
+    /// Behind `End::Read` the word.
+    pub first: u16,
+    /// Behind `End::Read` the next word.
+    pub second: u16,
+}
+
+/// A datagram that is to be sent.
+#[repr(C)]
+#[derive(Clone, Copy, Debug, Default)]
+pub struct Datagram {
+    pub command: u8,
+    pub length: u8,
+    pub ado: u16,
+    pub content: [u8; 8],
+}
+
+/// What is to be done next, or how an access ended.
+#[derive(Clone, Copy, Debug, PartialEq, Eq)]
+pub enum End {
+    Send,
+    Opened,
+    Read,
+    Taken,
+    NotTaken,
+    Lost,
+    Written,
+    Again,
+}
+
+/// The code of a word that wasn't written.
+pub const AGAIN: u32 = 106;
+
 mod raw {
-    use super::Head;
+    use super::{Access, Datagram, Head};
 
     #[link(name = "pilzhoon", kind = "static")]
     extern "C" {
         pub fn pz_read_head(image: *const u8, length: usize, head: *mut Head) -> u32;
         pub fn pz_set_alias(image: *mut u8, length: usize, alias: u16) -> u32;
         pub fn pz_judge(image: *const u8, length: usize, detail: *mut usize) -> u32;
+        pub fn pz_open(access: *mut Access);
+        pub fn pz_read(access: *mut Access, word: u16);
+        pub fn pz_issue(access: *mut Access, word: u16, value: u16);
+        pub fn pz_settle(access: *mut Access, taken: u32);
+        pub fn pz_next(access: *const Access, datagram: *mut Datagram) -> u32;
+        pub fn pz_take(access: *mut Access, counter: u16, content: *const u8, length: usize) -> u32;
+        pub fn pz_lose(access: *mut Access) -> u32;
     }
 }
 
@@ -58,4 +105,68 @@ pub fn judge(image: &[u8]) -> Result<(), Refused> {
     // SAFETY: as above.
     let code = unsafe { raw::pz_judge(image.as_ptr(), image.len(), &mut detail) };
     outcome(code, ())
+}
+
+fn done(code: u32) -> Result<(), u32> {
+    if code == 0 {
+        Ok(())
+    } else {
+        Err(code)
+    }
+}
+
+// SAFETY of the calls below: the pointers come from references, and no call keeps one.
+impl Access {
+    /// Begins to open a slave.
+    pub fn open() -> Access {
+        let mut access = Access::default();
+        unsafe { raw::pz_open(&mut access) };
+        access
+    }
+
+    /// Begins to read a word and the next one.
+    pub fn read(word: u16) -> Access {
+        let mut access = Access::default();
+        unsafe { raw::pz_read(&mut access, word) };
+        access
+    }
+
+    /// Begins to issue a word.
+    pub fn issue(word: u16, value: u16) -> Access {
+        let mut access = Access::default();
+        unsafe { raw::pz_issue(&mut access, word, value) };
+        access
+    }
+
+    /// Begins to wait for a word that was issued.
+    pub fn settle(taken: bool) -> Access {
+        let mut access = Access::default();
+        unsafe { raw::pz_settle(&mut access, u32::from(taken)) };
+        access
+    }
+
+    /// Tells what is to be done next. The error is the code of any other end.
+    pub fn next(&self, datagram: &mut Datagram) -> Result<End, u32> {
+        match unsafe { raw::pz_next(self, datagram) } {
+            100 => Ok(End::Send),
+            101 => Ok(End::Opened),
+            102 => Ok(End::Read),
+            103 => Ok(End::Taken),
+            104 => Ok(End::NotTaken),
+            41 => Ok(End::Lost),
+            105 => Ok(End::Written),
+            AGAIN => Ok(End::Again),
+            code => Err(code),
+        }
+    }
+
+    /// Takes in the datagram that came back.
+    pub fn take(&mut self, counter: u16, content: &[u8]) -> Result<(), u32> {
+        done(unsafe { raw::pz_take(self, counter, content.as_ptr(), content.len()) })
+    }
+
+    /// Takes in that the frame was lost.
+    pub fn lose(&mut self) -> Result<(), u32> {
+        done(unsafe { raw::pz_lose(self) })
+    }
 }

@@ -1,6 +1,6 @@
 //! What C calls. `include/pilzhoon.h` says it in C's words.
 
-ghost use Rattle.std.specs.Prelude.{◌≡◌};
+ghost use Rattle.std.specs.Prelude.{◌≡◌, ◌==◌, not, Err};
 ghost use Rattle.sii_words.specs.CheckByte.{IsChecked};
 ghost use Rattle.sii_words.specs.Words.{IsDeviceSize, IsImageSize, bytes_of};
 ghost use Rattle.sii_edit.specs.Alias.{with_alias};
@@ -9,8 +9,13 @@ ghost use Rattle.sii_bytes.specs.Category.{HasCategory, LacksCategory};
 ghost use Rattle.sii_bytes.specs.Editing.{Edits, RefusesCategory, RefusesImage, category_edit, image_edit};
 ghost use Rattle.sii_bytes.specs.Head.{IsHead};
 ghost use Rattle.sii_bytes.specs.Judging.{Judges};
+ghost use Rattle.sii_bytes.specs.Line.{PlacesLine};
+ghost use Rattle.rom_steps.specs.Calls.{Starts, Steps, StepsWith, TellsNext};
+ghost use Rattle.rom_steps.specs.Remaining.{IssueCourse, OpenCourse, ReadCourse, SettleCourse};
+ghost use Rattle.site_core.specs.declared.fault.DeviceFault.TheVariants as device;
 
-use sii_bytes::{CategoryPlace, Head};
+use rom_steps::{Access, ToSend};
+use sii_bytes::{CategoryPlace, Head, ImageSizes, PlacedSegment};
 use std::alloc::Global;
 
 /// Reads the head of an image, as `sii_bytes::read_head` does.
@@ -73,4 +78,82 @@ pub extern "C" fn pz_edit_image(alloc: Global, device: &mut [u8], image: &[u8]) 
         (λ words. RefusesImage words image.now result) (device.new ≡ device.old) }
 {
     sii_bytes::edit_image(alloc, device, image)
+}
+
+/// Places the process data of a line, as `sii_bytes::place_line` does.
+#[unsafe(no_mangle)]
+pub extern "C" fn pz_place_line(
+    alloc: Global,
+    devices: &[u8],
+    lengths: &[usize],
+    segments: &mut [PlacedSegment],
+    sizes: &mut ImageSizes,
+) -> u32
+    ensures { PlacesLine lengths.now devices.now segments.old result segments.new sizes.new ((segments.new ≡ segments.old) × (sizes.new ≡ sizes.old)) }
+{
+    sii_bytes::place_line(alloc, devices, lengths, segments, sizes)
+}
+
+/// Begins to open a slave, as `rom_steps::calls::open` does.
+#[unsafe(no_mangle)]
+pub extern "C" fn pz_open(access: &mut Access)
+    ensures { Starts OpenCourse 10009 access.new }
+{
+    rom_steps::calls::open(access)
+}
+
+/// Begins to read a word and the next one, as `rom_steps::calls::read` does.
+#[unsafe(no_mangle)]
+pub extern "C" fn pz_read(access: &mut Access, word: u16)
+    ensures { Starts (λ slave. ReadCourse slave word) 30006 access.new }
+{
+    rom_steps::calls::read(access, word)
+}
+
+/// Begins to issue a word, as `rom_steps::calls::issue` does.
+#[unsafe(no_mangle)]
+pub extern "C" fn pz_issue(access: &mut Access, word: u16, value: u16)
+    ensures { Starts (λ slave. IssueCourse slave word value) 1 access.new }
+{
+    rom_steps::calls::issue(access, word, value)
+}
+
+/// Begins to settle a word, as `rom_steps::calls::settle` does.
+#[unsafe(no_mangle)]
+pub extern "C" fn pz_settle(access: &mut Access, taken: u32)
+    ensures { Starts (λ slave. SettleCourse slave (not (taken == 0))) 10001 access.new }
+{
+    rom_steps::calls::settle(access, taken != 0)
+}
+
+/// Tells what is to be done next, as `rom_steps::calls::next` does.
+#[unsafe(no_mangle)]
+pub extern "C" fn pz_next(access: &Access, datagram: &mut ToSend) -> u32
+    ensures { TellsNext access.now result datagram.new (datagram.new ≡ datagram.old) }
+{
+    rom_steps::calls::next(access, datagram)
+}
+
+/// Takes in the frame that came back, as `rom_steps::calls::take_answer` does.
+#[unsafe(no_mangle)]
+pub extern "C" fn pz_take(access: &mut Access, counter: u16, content: &[u8]) -> u32
+    ensures { StepsWith access.old result access.new counter content.now }
+{
+    rom_steps::calls::take_answer(access, counter, content)
+}
+
+/// Takes in that the frame was lost, as `rom_steps::calls::take_loss` does.
+#[unsafe(no_mangle)]
+pub extern "C" fn pz_lose(access: &mut Access) -> u32
+    ensures { Steps access.old result access.new (λ came. came ≡ Err device.Lost) }
+{
+    rom_steps::calls::take_loss(access)
+}
+
+/// Takes in that the line has stopped, as `rom_steps::calls::take_stop` does.
+#[unsafe(no_mangle)]
+pub extern "C" fn pz_stop(access: &mut Access) -> u32
+    ensures { Steps access.old result access.new (λ came. came ≡ Err device.Stopped) }
+{
+    rom_steps::calls::take_stop(access)
 }

@@ -4,3 +4,4 @@ pub mod Head
 pub mod Judging
 pub mod Category
 pub mod Editing
+pub mod Line

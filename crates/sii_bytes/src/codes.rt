@@ -21,8 +21,17 @@ pub const BAD_CHECK: u32 = 15;
 /// There is no such category.
 pub const NO_SUCH_CATEGORY: u32 = 16;
 
+/// There is no process image.
+pub const OVER_LIMIT: u32 = 19;
+
 /// Memory was refused.
 pub const MEMORY: u32 = 20;
+
+/// There are no such slaves: none, or more than 64, or their lengths don't make up the bytes.
+pub const BAD_LINE: u32 = 112;
+
+/// There is no room for the segments.
+pub const NO_SPACE: u32 = 113;
 
 /// The code of bytes that can't be read as words.
 pub fn words_code(fault: WordsFault) -> u32
@@ -51,7 +60,7 @@ pub fn cause_code(cause: Cause) -> u32
         Cause::NoSuchCategory => NO_SUCH_CATEGORY,
         Cause::SeveralCategories => 17,
         Cause::BadChain => 18,
-        Cause::ImageOverLimit => 19,
+        Cause::ImageOverLimit => OVER_LIMIT,
         Cause::Memory => MEMORY,
         Cause::WrongIdentity => 21,
     }

@@ -7,11 +7,15 @@ mod codes;
 mod editing;
 mod head;
 mod judging;
+mod line;
 mod reading;
 
 pub use alias::set_alias;
 pub use category::{CategoryPlace, find_category};
-pub use codes::{DONE, MEMORY, NO_SUCH_CATEGORY, cause_code, words_code};
+pub use codes::{
+    BAD_LINE, DONE, MEMORY, NO_SPACE, NO_SUCH_CATEGORY, OVER_LIMIT, cause_code, words_code,
+};
 pub use editing::{edit_category, edit_image};
 pub use head::{Head, read_head};
 pub use judging::judge_image;
+pub use line::{ImageSizes, PlacedSegment, place_line};

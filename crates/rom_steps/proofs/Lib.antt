@@ -1,0 +1,8 @@
+pub mod Again
+pub mod Following
+pub mod Heard
+pub mod Moving
+pub mod Stopping
+pub mod Stepping
+pub mod Numbered
+pub mod WholeLaws

@@ -1,0 +1,69 @@
+//! The datagram that is sent next.
+
+ghost use Rattle.std.specs.Prelude.{◌≡◌, ℕ, [], ◌∷◌, MatchOption};
+ghost use Rattle.rom_steps.specs.Remaining.{IsNext, IsOver, pdu_to};
+
+use crate::registers::{ACCESS, CONTENT, CONTROL, read_content, write_content};
+use crate::step::Step;
+
+/// A datagram that is to be sent to a slave, with a working counter of 0 (ETG.1000.4).
+#[repr(C)]
+#[derive(Clone, Copy)]
+pub struct ToSend {
+    /// The code of its command: 4 (configured address physical read) or 5 (configured address physical write).
+    pub command: u8,
+    /// The number of bytes of its content, 1 to 8.
+    pub length: u8,
+    /// The address of the register: ADO.
+    pub register: u16,
+    /// Its content, and 0 behind it.
+    pub content: [u8; 8],
+}
+
+/// The command configured address physical read.
+const FPRD: u8 = 4;
+
+/// The command configured address physical write.
+const FPWR: u8 = 5;
+
+fn reads(register: u16, length: u8) -> ToSend
+    ensures { result ≡ record { command = 4; length = length; register = register; content = 0 ∷ 0 ∷ 0 ∷ 0 ∷ 0 ∷ 0 ∷ 0 ∷ 0 ∷ [] } }
+{
+    ToSend {
+        command: FPRD,
+        length,
+        register,
+        content: [0; 8],
+    }
+}
+
+fn writes(register: u16, length: u8, content: [u8; 8]) -> ToSend
+    ensures { result ≡ record { command = 5; length = length; register = register; content = content } }
+{
+    ToSend {
+        command: FPWR,
+        length,
+        register,
+        content,
+    }
+}
+
+/// The datagram that is sent next; `None` where the access has ended.
+pub fn next_of(step: Step) -> Option<ToSend>
+    ensures { MatchOption result (IsOver step) (λ datagram. (slave : ℕ) → IsNext slave step (pdu_to slave datagram)) }
+{
+    match step {
+        Step::Forces { .. } => Some(writes(ACCESS, 1, [2, 0, 0, 0, 0, 0, 0, 0])),
+        Step::Frees { .. } => Some(writes(ACCESS, 1, [0; 8])),
+        Step::WaitsToClear { .. } => Some(reads(CONTROL, 2)),
+        Step::Clears { .. } => Some(writes(CONTROL, 2, [0; 8])),
+        Step::Commands { word, .. } => Some(writes(CONTROL, 6, read_content(word))),
+        Step::WaitsToFetch { .. } => Some(reads(CONTROL, 2)),
+        Step::Fetches { .. } => Some(reads(CONTENT, 4)),
+        Step::Issues { word, value } => Some(writes(CONTROL, 8, write_content(word, value))),
+        Step::WaitsToSettle { .. } => Some(reads(CONTROL, 2)),
+        Step::Tidies => Some(writes(CONTROL, 2, [0; 8])),
+        Step::Ended(_) => None,
+        Step::Stopped => None,
+    }
+}

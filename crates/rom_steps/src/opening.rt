@@ -1,0 +1,65 @@
+//! Opening: what comes behind each of its datagrams.
+
+ghost use Rattle.std.specs.Prelude.{◌≡◌};
+ghost use Rattle.rom_steps.specs.After.{cleared, forced, freed, waited_to_clear};
+
+use crate::back::Rested;
+use crate::step::{End, Step};
+
+/// Behind the datagram that forces ECAT access.
+#[tactic(auto, using(crate::proofs::Again::again_none, crate::proofs::Again::again_more))]
+pub(crate) fn forced(more: u32, counted: bool) -> Step
+    ensures { result ≡ forced more counted }
+{
+    if counted {
+        return Step::Frees { more: 2 };
+    }
+    if more == 0 {
+        return Step::Ended(End::Dead);
+    }
+    Step::Forces { more: more - 1 }
+}
+
+/// Behind the datagram that ends forcing.
+#[tactic(auto, using(crate::proofs::Again::again_none, crate::proofs::Again::again_more))]
+pub(crate) fn freed(more: u32, counted: bool) -> Step
+    ensures { result ≡ freed more counted }
+{
+    if counted {
+        return Step::WaitsToClear { more: 9999 };
+    }
+    if more == 0 {
+        return Step::Ended(End::Dead);
+    }
+    Step::Frees { more: more - 1 }
+}
+
+/// Behind a poll.
+#[tactic(auto, using(crate::proofs::Again::again_none, crate::proofs::Again::again_more))]
+pub(crate) fn waited_to_clear(more: u32, found: Option<Rested>) -> Step
+    ensures { result ≡ waited_to_clear more found }
+{
+    match found {
+        Some(_) => Step::Clears { more: 2 },
+        None => {
+            if more == 0 {
+                return Step::Ended(End::Dead);
+            }
+            Step::WaitsToClear { more: more - 1 }
+        }
+    }
+}
+
+/// Behind the datagram that clears errors.
+#[tactic(auto, using(crate::proofs::Again::again_none, crate::proofs::Again::again_more))]
+pub(crate) fn cleared(more: u32, counted: bool) -> Step
+    ensures { result ≡ cleared more counted }
+{
+    if counted {
+        return Step::Ended(End::Opened);
+    }
+    if more == 0 {
+        return Step::Ended(End::Dead);
+    }
+    Step::Clears { more: more - 1 }
+}
