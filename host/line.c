@@ -6,6 +6,9 @@
 //   --read US        how long a read takes (500 us)             --write US       how long a write takes (3000 us)
 //   --program US     how long the chip programs on behind the write: it acknowledges no command meanwhile (0)
 //   --nack N         each Nth command isn't acknowledged by the chip (0: none)
+//   --first N        nor are the first N (0)
+//   --stuck N        the controller stays busy with the Nth command for ever (0: with none)
+//   --ends           a command for a word behind the end of the chip isn't acknowledged, as where a processor emulates the EEPROM
 //   --block          a pending error blocks commands, until command 0 clears it
 //   --busy-counts    a write to the EEPROM registers of a busy slave is counted, though it does nothing
 //   --eight          reads fetch eight bytes, not four
@@ -13,6 +16,7 @@
 //   --alias-on       the slave answers to its alias as station address from the start
 //   --address N      its station address at power-up, as of a former master (0)
 //   --pdi            its own processor holds the EEPROM at power-up, until access is forced
+//   --state N        its AL status at power-up (1: Init)
 // and these for the whole line:
 //   --cut K          the power fails in the midst of the Kth word that is written, and the program ends
 //   --left W         what the torn word then holds (0)
@@ -58,7 +62,7 @@ struct slave {
     struct { int kind, start, bits; } wanted[MANAGER_COUNT];
     int64_t outputs_at;
     // How it behaves.
-    int read_us, write_us, program_us, nack, block, busy_counts, eight, alias_on, address, pdi;
+    int read_us, write_us, program_us, nack, first, stuck, ends, block, busy_counts, eight, alias_on, address, pdi, state;
 };
 
 static struct slave *slaves[MAX_SLAVES];
@@ -142,9 +146,10 @@ static void begin_command(struct slave *it, int enabled) {
     if (command == WRITE && !enabled) set_status(it, ENABLE_ERROR, 0);
     if (!is_known || (command == WRITE && !enabled)) return;
     it->commands++;
-    it->acknowledged = !it->programming && !(it->nack && it->commands % (unsigned)it->nack == 0);
+    it->acknowledged = !it->programming && it->commands > (unsigned)it->first && !(it->nack && it->commands % (unsigned)it->nack == 0);
+    if (it->ends && get32(it->memory + SII_ADDRESS) >= (uint32_t)it->words) it->acknowledged = 0;
     it->command = (int)command;
-    it->idle_at = now + (command == WRITE ? it->write_us : it->read_us);
+    it->idle_at = it->commands == (unsigned)it->stuck ? INT64_MAX / 2 : now + (command == WRITE ? it->write_us : it->read_us);
     set_status(it, BUSY | command << 8, 0);
     if (it->programming) return;
     it->at = get32(it->memory + SII_ADDRESS);
@@ -370,7 +375,7 @@ static void power_up(struct slave *it) {
     it->memory[SII_ACCESS] = it->memory[SII_PDI] = it->pdi & 1;
     load(it);
     read_categories(it);
-    enter(it, INIT, 0);
+    enter(it, it->state ? (unsigned)it->state : INIT, 0);
 }
 
 static int open_wire(const char *name) {
@@ -418,6 +423,7 @@ int main(int argc, char **argv) {
     for (int k = 1; k + 1 < argc; k++) {
         const struct { const char *name; int *to, is_flag; } options[] = {
             { "--read", &form.read_us, 0 }, { "--write", &form.write_us, 0 }, { "--program", &form.program_us, 0 }, { "--nack", &form.nack, 0 },
+            { "--first", &form.first, 0 }, { "--stuck", &form.stuck, 0 }, { "--ends", &form.ends, 1 }, { "--state", &form.state, 0 },
             { "--block", &form.block, 1 }, { "--busy-counts", &form.busy_counts, 1 }, { "--eight", &form.eight, 1 }, { "--chip", &form.chip, 0 },
             { "--alias-on", &form.alias_on, 1 }, { "--address", &form.address, 0 }, { "--pdi", &form.pdi, 1 }, { "--lose", &lose, 0 },
             { "--watchdog", &watchdog_ms, 0 },

@@ -8,7 +8,6 @@ mod recorder;
 mod rom_half;
 mod sent;
 mod site_faults;
-mod wire;
 
 use ecat_frame::{Command, Frame, FrameFault, fp};
 use esc_model::{ProcessHalf, RomHalf};

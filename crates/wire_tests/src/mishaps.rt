@@ -1,52 +1,16 @@
 //! A line on a wire that loses, doubles, delays and falsifies frames, and slaves that lose their power.
 
-use super::access::{Access, TAKEN, WRITTEN, ZERO_WORDS, all_come};
-use super::zero_words;
+use crate::bench::{
+    Bench, Content, NO_TROUBLE, Slave, TestWire, Trouble, WELL, settled, site_on, taken_off,
+    troubled, wire_of,
+};
 use ecat_frame::{Command, Frame, fp};
-use esc_model::RomHalf;
-use sii_words::Words;
-use site_core::{Issued, Site};
-use site_file::{FileDevice, OpenFiles, RandomAccessFile};
-use site_mem::{Parts, Pattern};
-use site_shadow::ShadowSite;
-use site_wire::{
-    Difference, LineFault, NumberedWire, Sizes, StopReason, WireDevice, WireSite, bring_up,
-};
+use esc_rom::read_all;
+use site_core::{Settled, Site};
+use site_shadow::Pattern;
+use site_wire::{Difference, LineFault, Sizes, StopReason, bring_up};
 use std::alloc::Global;
-use std::io;
-use wire_practice::{Fate, Mishap, PracticeClock, PracticeLine, PracticeWire};
-
-// A journal that nobody uses.
-#[derive(Drop)]
-pub(super) struct NoFile;
-
-impl RandomAccessFile for NoFile {
-    fn len(&self) -> io::Result<u64> {
-        Ok(0)
-    }
-
-    fn read_exact_at(&self, _bytes: &mut [u8], _at: u64) -> io::Result<()> {
-        Err(io::Error::other("no file"))
-    }
-
-    fn write_all_at(&self, _bytes: &[u8], _at: u64) -> io::Result<()> {
-        Err(io::Error::other("no file"))
-    }
-
-    fn set_len(&self, _length: u64) -> io::Result<()> {
-        Err(io::Error::other("no file"))
-    }
-
-    fn sync_data(&self) -> io::Result<()> {
-        Err(io::Error::other("no file"))
-    }
-}
-
-const WELL: Mishap = Mishap {
-    passing: 0,
-    failing: 0,
-    fate: Fate::Passes,
-};
+use wire_practice::{Fate, Mishap, NO_QUIRKS, Quirks};
 
 // What is done with a line on a wire.
 #[derive(Clone, Copy)]
@@ -254,76 +218,14 @@ const BROUGHT_UP: &[(Mishap, Result<usize, LineFault>)] = &[
     ),
 ];
 
-// A wire with one slave, which stays busy for so many datagrams.
-fn new_wire<'f>(
-    alloc: Global,
-    clock: &'f PracticeClock,
-    delay: u32,
-) -> Option<NumberedWire<PracticeWire<'f>>> {
-    let plant = Vec::from_array(alloc, [zero_words(alloc)?]).ok()?;
-    let line = PracticeLine::power_up(alloc, &plant, delay).ok()?;
-    Some(NumberedWire::new(PracticeWire::new(line, clock), 7))
-}
-
-// The wire with this mishap, and with a power cut in the midst of a word.
-fn planned<'f>(
-    mut wire: NumberedWire<PracticeWire<'f>>,
-    mishap: Mishap,
-    cut: Option<(u32, Pattern)>,
-) -> NumberedWire<PracticeWire<'f>> {
-    let under = wire.wire();
-    under.plan(mishap);
-    match cut {
-        Some((words, left)) => under.cut_behind(words, left),
-        None => under.keep_power(),
+// A slave of 64 words, all 0, which stays busy for so many datagrams.
+fn slave_of(delay: u32) -> Slave {
+    Slave {
+        words: 64,
+        content: Content::Filled(0),
+        alias: 0,
+        quirks: Quirks { delay, ..NO_QUIRKS },
     }
-    wire
-}
-
-// The parts of a line of a slave with these words.
-pub(super) fn parts_of(alloc: Global, words: Words) -> Option<Parts> {
-    let sizes = Vec::from_array(alloc, [words.len() as u16]).ok()?;
-    let half = RomHalf::power_up(words, 0x1001, 1);
-    let halves = Vec::from_array(alloc, [Some(half)]).ok()?;
-    Some(Parts {
-        sizes,
-        disk: None,
-        halves,
-        process: None,
-    })
-}
-
-// The words of the only slave, as the line is brought up.
-fn words_found(
-    alloc: Global,
-    clock: &PracticeClock,
-    wire: &mut NumberedWire<PracticeWire<'_>>,
-) -> Option<Words> {
-    let line = bring_up(alloc, wire, clock, &Sizes::unknown()).ok()?;
-    let mut plant = line.into_words(alloc).ok()?;
-    let words = plant.pop();
-    drop(plant);
-    words
-}
-
-// A site on the wire, once its line is brought up, with these plans from then on.
-fn site_on<'f>(
-    alloc: Global,
-    files: &'f OpenFiles<NoFile>,
-    clock: &'f PracticeClock,
-    delay: u32,
-    mishap: Mishap,
-    cut: Option<(u32, Pattern)>,
-) -> Option<WireSite<'f, PracticeWire<'f>, NoFile, PracticeClock>> {
-    let mut wire = new_wire(alloc, clock, delay)?;
-    let found = words_found(alloc, clock, &mut wire)?;
-    let parts = parts_of(alloc, found)?;
-    if !parts.is_whole() {
-        return None;
-    }
-    let wire = planned(wire, mishap, cut);
-    let device = WireDevice::new(wire, clock, FileDevice::new(files));
-    Some(ShadowSite::of_parts(alloc, parts, device))
 }
 
 // Whether the station is seen to have access.
@@ -337,23 +239,34 @@ fn has_access(site: &mut impl Site) -> bool {
         && frame.as_bytes().get(12) == Some(&0)
 }
 
-// Words 4, 5 and 6 become 1, 2 and 3.
-const THREE_WORDS: &[Access] = &[
-    TAKEN,
-    WRITTEN,
-    Access::Issue(0, 5, 2, Ok(Issued::Taken)),
-    WRITTEN,
-    Access::Issue(0, 6, 3, Ok(Issued::Taken)),
-    WRITTEN,
-];
+// Whether words 4, 5 and so on become 1, 2 and so on.
+fn is_written(site: &mut impl Site, words: u16) -> bool {
+    for place in 0..words.min(3) {
+        if settled(site, 4 + place, 1 + place) != Some(Settled::Written) {
+            return false;
+        }
+    }
+    true
+}
+
+// Whether all words of slave 0 are read as 0.
+fn is_read(alloc: Global, site: &mut impl Site) -> bool {
+    if !site.owns(0) {
+        return false;
+    }
+    match read_all(alloc, site, 0) {
+        Ok(words) => words.as_slice() == [0u16; 64].as_slice(),
+        Err(_) => false,
+    }
+}
 
 // Whether it is done as on a line in memory.
 fn is_done(alloc: Global, site: &mut impl Site, act: Act) -> bool {
     match act {
-        Act::Write => all_come(alloc, site, &[TAKEN, WRITTEN]),
-        Act::Read => all_come(alloc, site, &[Access::Read(Ok(ZERO_WORDS))]),
+        Act::Write => is_written(site, 1),
+        Act::Read => is_read(alloc, site),
         Act::Look => has_access(site),
-        Act::Cut(..) => all_come(alloc, site, THREE_WORDS),
+        Act::Cut(..) => is_written(site, 3),
     }
 }
 
@@ -365,17 +278,14 @@ fn cut_of(act: Act) -> Option<(u32, Pattern)> {
     }
 }
 
-// Why the site has stopped, if it has, and the words that a wire without mishaps finds then.
-fn left_by<'f>(
-    alloc: Global,
-    clock: &PracticeClock,
-    site: WireSite<'f, PracticeWire<'f>, NoFile, PracticeClock>,
-) -> Option<(Option<StopReason>, Words)> {
-    let (parts, device) = site.into_parts();
-    drop(parts);
-    let reason = device.reason();
-    let mut wire = planned(device.into_wire(), WELL, None);
-    Some((reason, words_found(alloc, clock, &mut wire)?))
+// Words 4, 5 and 6 of the slave, once its line is brought up on a good wire.
+fn left_on<'f>(alloc: Global, bench: &'f Bench, wire: TestWire<'f>) -> Option<[u16; 3]> {
+    let (site, _states) = site_on(alloc, bench, wire, &NO_TROUBLE)?;
+    let (mut wire, _reason) = taken_off(site);
+    match wire.wire().line().words(0)? {
+        [_, _, _, _, a, b, c, ..] => Some([*a, *b, *c]),
+        _ => None,
+    }
 }
 
 // Whether a mishap ends so.
@@ -386,16 +296,16 @@ fn ends_so(alloc: Global, case: &Case) -> Option<bool> {
         failing,
         fate,
     };
-    let files = OpenFiles {
-        journal: NoFile,
-        images: Vec::new(alloc),
+    let trouble = Trouble {
+        mishap,
+        cut: cut_of(act),
     };
-    let clock = PracticeClock::new();
-    let mut site = site_on(alloc, &files, &clock, delay, mishap, cut_of(act))?;
+    let bench = Bench::new(alloc);
+    let wire = wire_of(alloc, &bench, &[slave_of(delay)], None)?;
+    let (mut site, _states) = site_on(alloc, &bench, wire, &trouble)?;
     let is_done = is_done(alloc, &mut site, act);
-    let (found, words) = left_by(alloc, &clock, site)?;
-    let is_left = words.as_slice().get(4..7) == Some(&left);
-    Some(is_done == reason.is_none() && found == reason && is_left)
+    let (wire, found) = taken_off(site);
+    Some(is_done == reason.is_none() && found == reason && left_on(alloc, &bench, wire)? == left)
 }
 
 #[test]
@@ -407,10 +317,10 @@ fn mishaps_end_well_or_stop(rt: HostRuntime) {
 
 // How many slaves are found where frames have this fate. None where memory is wanted.
 fn brought_up(alloc: Global, mishap: Mishap) -> Option<Result<usize, LineFault>> {
-    let clock = PracticeClock::new();
-    let wire = new_wire(alloc, &clock, 2)?;
-    let mut wire = planned(wire, mishap, None);
-    match bring_up(alloc, &mut wire, &clock, &Sizes::unknown()) {
+    let bench = Bench::new(alloc);
+    let wire = wire_of(alloc, &bench, &[slave_of(2)], None)?;
+    let mut wire = troubled(wire, &Trouble { mishap, cut: None });
+    match bring_up(alloc, &mut wire, &bench.clock, &Sizes::unknown()) {
         Ok(line) => Some(Ok(line.slaves.len())),
         Err(LineFault::Memory) => None,
         Err(fault) => Some(Err(fault)),

@@ -1,0 +1,219 @@
+//! Lines on a wire in memory, and words that are written to them.
+
+use esc_model::{RomHalf, station_address};
+use esc_rom::{issue, settle};
+use sii_words::Words;
+use site_core::{Issued, Settled, Site};
+use site_file::{FileDevice, OpenFiles, RandomAccessFile};
+use site_shadow::{Parts, Pattern, ShadowSite};
+use site_wire::{NumberedWire, Sizes, SlaveState, StopReason, WireDevice, WireSite, bring_up};
+use std::alloc::Global;
+use std::io;
+use wire_practice::{
+    Cable, Fate, Mishap, PracticeClock, PracticeLine, PracticeSlave, PracticeWire, Quirks,
+};
+
+/// A journal that nobody uses.
+#[derive(Drop)]
+pub(crate) struct NoFile;
+
+impl RandomAccessFile for NoFile {
+    fn len(&self) -> io::Result<u64> {
+        Ok(0)
+    }
+
+    fn read_exact_at(&self, _bytes: &mut [u8], _at: u64) -> io::Result<()> {
+        Err(io::Error::other("no file"))
+    }
+
+    fn write_all_at(&self, _bytes: &[u8], _at: u64) -> io::Result<()> {
+        Err(io::Error::other("no file"))
+    }
+
+    fn set_len(&self, _length: u64) -> io::Result<()> {
+        Err(io::Error::other("no file"))
+    }
+
+    fn sync_data(&self) -> io::Result<()> {
+        Err(io::Error::other("no file"))
+    }
+}
+
+/// A clock, and the files of a line that has none.
+#[derive(Drop)]
+pub(crate) struct Bench {
+    files: OpenFiles<NoFile>,
+    pub(crate) clock: PracticeClock,
+}
+
+/// The wire of a test.
+pub(crate) type TestWire<'f> = NumberedWire<PracticeWire<'f>>;
+
+/// The site of a test.
+pub(crate) type TestSite<'f> = WireSite<'f, PracticeWire<'f>, NoFile, PracticeClock>;
+
+/// A slave.
+#[derive(Clone, Copy)]
+pub(crate) struct Slave {
+    /// How many words its image has.
+    pub words: usize,
+    pub content: Content,
+    /// Word 4. 0: as the content has it.
+    pub alias: u16,
+    pub quirks: Quirks,
+}
+
+/// What the words of an image are.
+#[derive(Clone, Copy)]
+pub(crate) enum Content {
+    /// All are this one.
+    Filled(u16),
+    /// Each is its own number, which begins anew after so many words; but word 0x3E is this one.
+    Numbers(usize, u16),
+}
+
+/// What goes wrong on a wire.
+#[derive(Clone, Copy)]
+pub(crate) struct Trouble {
+    pub mishap: Mishap,
+    /// How many words are begun before the power of the slaves is cut in the midst of the next one, and what that leaves of it.
+    pub cut: Option<(u32, Pattern)>,
+}
+
+pub(crate) const WELL: Mishap = Mishap {
+    passing: 0,
+    failing: 0,
+    fate: Fate::Passes,
+};
+
+pub(crate) const NO_TROUBLE: Trouble = Trouble {
+    mishap: WELL,
+    cut: None,
+};
+
+impl Bench {
+    pub(crate) fn new(alloc: Global) -> Bench {
+        Bench {
+            files: OpenFiles {
+                journal: NoFile,
+                images: Vec::new(alloc),
+            },
+            clock: PracticeClock::new(),
+        }
+    }
+}
+
+// A word of a slave.
+fn word_at(slave: &Slave, place: usize) -> u16 {
+    if place == 4 && slave.alias != 0 {
+        return slave.alias;
+    }
+    match slave.content {
+        Content::Filled(word) => word,
+        Content::Numbers(period, says) => match place.checked_rem(period) {
+            None | Some(0x3e) => says,
+            Some(number) => (number % 65536) as u16,
+        },
+    }
+}
+
+// A slave that is just switched on. None: memory was refused.
+fn switched_on(alloc: Global, slave: &Slave) -> Option<PracticeSlave> {
+    let mut image = Vec::new(alloc);
+    for place in 0..slave.words {
+        image.push(word_at(slave, place)).ok()?;
+    }
+    PracticeSlave::switched_on(alloc, &image, slave.quirks).ok()
+}
+
+/// A wire with these slaves, and with a cable that is pulled, if there is one. None: memory was refused.
+pub(crate) fn wire_of<'f>(
+    alloc: Global,
+    bench: &'f Bench,
+    slaves: &[Slave],
+    cable: Option<Cable>,
+) -> Option<TestWire<'f>> {
+    let mut switched = Vec::new(alloc);
+    for slave in slaves {
+        switched.push(switched_on(alloc, slave)?).ok()?;
+    }
+    let line = PracticeLine::of(switched, cable);
+    Some(NumberedWire::new(PracticeWire::new(line, &bench.clock), 7))
+}
+
+/// The wire with this trouble from now on, in the place of any other.
+pub(crate) fn troubled<'f>(mut wire: TestWire<'f>, trouble: &Trouble) -> TestWire<'f> {
+    let under = wire.wire();
+    under.plan(trouble.mishap);
+    match trouble.cut {
+        Some((words, left)) => under.cut_behind(words, left),
+        None => under.keep_power(),
+    }
+    wire
+}
+
+// The parts of a line of slaves with these words. None: memory was refused.
+fn parts_of(alloc: Global, plant: Vec<Words>) -> Option<Parts> {
+    let mut sizes = Vec::new(alloc);
+    let mut halves = Vec::new(alloc);
+    let mut slave = 0u16;
+    for words in plant {
+        if slave >= 64 {
+            return None;
+        }
+        sizes.push(words.len() as u16).ok()?;
+        halves
+            .push(Some(RomHalf::power_up(words, station_address(slave), 1)))
+            .ok()?;
+        slave += 1;
+    }
+    Some(Parts {
+        sizes,
+        disk: None,
+        halves,
+        process: None,
+    })
+}
+
+/// Brings up the line on this wire without trouble, and makes a site of it, with this trouble from then on. Gives what the slaves were in too.
+/// None if the line isn't brought up, or memory was refused.
+pub(crate) fn site_on<'f>(
+    alloc: Global,
+    bench: &'f Bench,
+    wire: TestWire<'f>,
+    trouble: &Trouble,
+) -> Option<(TestSite<'f>, [SlaveState; 64])> {
+    let mut wire = troubled(wire, &NO_TROUBLE);
+    let line = bring_up(alloc, &mut wire, &bench.clock, &Sizes::unknown()).ok()?;
+    let states = line.states();
+    let parts = parts_of(alloc, line.into_words(alloc).ok()?)?;
+    if !parts.is_whole() {
+        return None;
+    }
+    let device = WireDevice::new(
+        troubled(wire, trouble),
+        &bench.clock,
+        FileDevice::new(&bench.files),
+    );
+    Some((ShadowSite::of_parts(alloc, parts, device), states))
+}
+
+/// The wire of a site, and why the site has stopped, if it has.
+pub(crate) fn taken_off<'f>(site: TestSite<'f>) -> (TestWire<'f>, Option<StopReason>) {
+    let (parts, device) = site.into_parts();
+    drop(parts);
+    let reason = device.reason();
+    (device.into_wire(), reason)
+}
+
+/// Issues a word of slave 0 once, and tells what comes of it. None: the site has stopped.
+pub(crate) fn settled(site: &mut impl Site, word: u16, value: u16) -> Option<Settled> {
+    if !site.owns(0) {
+        return None;
+    }
+    let issued = issue(site, 0, word, value).ok()?;
+    if !site.owns(0) {
+        return None;
+    }
+    settle(site, 0, issued == Issued::Taken).ok()
+}
