@@ -4,8 +4,8 @@
 // and counts how well that went. LAYOUT is what `sii_station layout LINE` prints, in a file, or - for standard input. Where sync managers
 // lie in a slave's memory isn't said there, so it is read from the slave's EEPROM.
 //
-// Meanwhile it lends the wire to a station that it starts. The station's standard input is one end of a socket pair, of which each message
-// is an EtherCAT frame, from its header on, or an Ethernet frame around one. Its datagrams ride in the next cyclic frame, behind the
+// Meanwhile it lends the wire to a station that it starts (`sii_wire .. --beside`; docs/EMBEDDING.md says what both may do). The station's
+// standard input is one end of a socket pair, of which each message is an Ethernet frame around an EtherCAT frame. Its datagrams ride in the next cyclic frame, behind the
 // master's own, or in a frame between two cycles, and come back as a message of the same form. Where the frame is lost, or a datagram in it
 // could disturb the line, no message comes back.
 //   --period US      how long a cycle takes (1000)
@@ -38,7 +38,7 @@ enum { ETHERNET = 14, LONGEST = 1514, SHORTEST = 60, HEADER = 10, COUNTER = 2, M
 enum { SPARE_NS = 300000 };  // so long before a cycle no other frame goes out
 enum { NOP = 0, APRD = 1, APWR = 2, FPRD = 4, FPWR = 5, BRD = 7, BWR = 8, LRW = 12 };
 enum { ADDRESS = 0x0010, AL_CONTROL = 0x0120, AL_STATUS = 0x0130, AL_CODE = 0x0134, SII_ACCESS = 0x0500, SII_CONTROL = 0x0502, SII_DATA = 0x0508,
-       SII_END = 0x0510, FMMUS = 0x0600, MANAGERS = 0x0800, FIRST_ADDRESS = 0x1001, MAX_ROWS = 1024 };
+       SII_END = 0x0510, FMMUS = 0x0600, MANAGERS = 0x0800, FIRST_ADDRESS = 1001, MAX_ROWS = 1024 };
 enum { INIT = 1, PRE_OPERATIONAL = 2, SAFE_OPERATIONAL = 4, OPERATIONAL = 8, ACKNOWLEDGE = 0x10 };
 
 // A sync manager in the process image, as a line of the layout says.
@@ -228,26 +228,26 @@ static void read_layout(const char *name) {
 
 // ---- The wire that is lent
 
-// A message of the station: its bytes, and how many stand before the EtherCAT header.
-struct ride { uint8_t bytes[LONGEST]; size_t length, header; };
+// A message of the station, an Ethernet frame: its bytes, up to the end of its datagrams.
+struct ride { uint8_t bytes[LONGEST]; size_t length; };
 
-// Whether a datagram of the station leaves the running line as it is: reads, and writes of the EEPROM's registers. The address that a slave
-// has may be given to it again.
+// Whether a datagram of the station leaves the running line as it is: it counts the slaves, reads a station address, or is for the registers
+// of an EEPROM.
 static int is_harmless(const uint8_t *at, size_t size) {
     unsigned offset = get16(at + 4);
-    if (at[0] == NOP || at[0] == APRD || at[0] == FPRD || at[0] == BRD) return 1;
-    if (at[0] == APWR && offset == ADDRESS && size == 2) return get16(at + HEADER) == FIRST_ADDRESS + (-get16(at + 2) & 0xffff);
-    return (at[0] == APWR || at[0] == FPWR) && offset >= SII_ACCESS && offset + size <= SII_END;
+    if (at[0] == NOP) return 1;
+    if (at[0] == BRD) return offset == 0 && size == 1;
+    if (at[0] == APRD) return offset == ADDRESS && size == 2;
+    return (at[0] == FPRD || at[0] == FPWR) && offset >= SII_ACCESS && offset + size <= SII_END;
 }
 
 // Takes a message of the station, if one is there, and all its datagrams are whole and harmless.
 static int take_message(int lent, struct ride *ride) {
     ssize_t length = recv(lent, ride->bytes, sizeof ride->bytes, MSG_DONTWAIT);
-    if (length < 2) return 0;
-    ride->header = length >= ETHERNET + 2 && ride->bytes[12] == 0x88 && ride->bytes[13] == 0xa4 && ride->bytes[1] >> 4 != 1 ? ETHERNET : 0;
-    ride->length = ride->header + 2 + (get16(ride->bytes + ride->header) & 0x7ff);
+    if (length < ETHERNET + 2 || ride->bytes[12] != 0x88 || ride->bytes[13] != 0xa4) return 0;
+    ride->length = ETHERNET + 2 + (get16(ride->bytes + ETHERNET) & 0x7ff);
     if (ride->length > (size_t)length) return 0;
-    size_t at = ride->header + 2;
+    size_t at = ETHERNET + 2;
     for (unsigned more = 1; more; more = get16(ride->bytes + at + 6) & MORE, at += HEADER + (get16(ride->bytes + at + 6) & 0x7ff) + COUNTER) {
         if (at + HEADER + COUNTER > ride->length) return 0;
         size_t size = get16(ride->bytes + at + 6) & 0x7ff;
@@ -259,16 +259,16 @@ static int take_message(int lent, struct ride *ride) {
 
 // Puts the datagrams of a message behind those of the frame. Gives where they stand, or 0 where they don't fit.
 static size_t put_ride(struct frame *frame, const struct ride *ride) {
-    size_t size = ride->length - ride->header - 2, at = frame->length;
+    size_t size = ride->length - ETHERNET - 2, at = frame->length;
     if (at + size > LONGEST) return 0;
-    memcpy(frame->bytes + at, ride->bytes + ride->header + 2, size);
+    memcpy(frame->bytes + at, ride->bytes + ETHERNET + 2, size);
     frame->length += size;
     return at;
 }
 
 // Hands the datagrams back as they came.
 static void hand_back(int lent, struct ride *ride, const struct frame *frame, size_t at) {
-    memcpy(ride->bytes + ride->header + 2, frame->bytes + at, ride->length - ride->header - 2);
+    memcpy(ride->bytes + ETHERNET + 2, frame->bytes + at, ride->length - ETHERNET - 2);
     if (send(lent, ride->bytes, ride->length, MSG_DONTWAIT | MSG_NOSIGNAL) == (ssize_t)ride->length) count.rides++;
 }
 

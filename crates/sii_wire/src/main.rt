@@ -90,15 +90,9 @@ fn serve_task<
     faults: &mut E,
 ) -> u8 {
     let mut files = FileStore::new(alloc, rt);
-    let Arguments {
-        task,
-        capture,
-        is_verbose,
-        ..
-    } = arguments;
-    let is_told = is_verbose || faults.is_terminal();
+    let is_told = arguments.is_verbose || faults.is_terminal();
     let status = serve(
-        rt, alloc, task, capture, is_told, wire, number, &mut files, text, faults,
+        rt, alloc, &arguments, is_told, wire, number, &mut files, text, faults,
     );
     status as u8
 }

@@ -12,7 +12,7 @@ use Rattle.esc_model.proofs.WordTaking.{number_back}
 use Rattle.wire_laws.specs.Due.{WritesControl, is_command, NamesInside, none, reads, writes, IsFit, IsOwn, clears, IsDue}
 use Rattle.wire_laws.specs.Due as due
 
-register_is : (slave register : ℕ) → slave < 64 → register_of (address_of slave register) ≡ register
+pub register_is : (slave register : ℕ) → slave < 64 → register_of (address_of slave register) ≡ register
 register_is slave register near = omega (arith, near)
 
 -- a read of registers

@@ -1,2 +1,4 @@
+mod Apart
 mod Only
 mod Due
+mod Sending

@@ -1,2 +1,4 @@
+pub mod Access
 pub mod Answering
 pub mod Numbers
+pub mod Sending

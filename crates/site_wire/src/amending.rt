@@ -74,7 +74,7 @@ fn write_frame(slave: u16, write: WordWrite) -> Frame
 }
 
 /// Clears the errors of a slave. None where the line has stopped.
-#[tactic(auto, using(crate::proofs::Due::clear_due))]
+#[tactic(auto, using(crate::proofs::Due::clear_due, crate::proofs::Sending::clear_eeprom))]
 fn clear<L: Reach>(line: &mut L, slave: u16, half: &RomHalf) -> Option<Answer>
     requires { slave < 64 }
 {
@@ -125,7 +125,7 @@ fn read_again<L: Reach>(line: &mut L, slave: u16, half: &RomHalf, word: u16) -> 
 }
 
 /// Polls a slave until it shows that it is idle, and gives what it shows. `Nothing` where it doesn't. None where the line has stopped.
-#[tactic(auto, using(crate::proofs::Due::read_due))]
+#[tactic(auto, using(crate::proofs::Due::read_due, crate::proofs::Sending::poll_eeprom))]
 fn wait_idle<L: Reach, C: Clock>(
     line: &mut L,
     clock: &C,
@@ -146,7 +146,7 @@ fn wait_idle<L: Reach, C: Clock>(
 }
 
 /// Tries once to read a word and the next one. None where the line has stopped.
-#[tactic(auto, using(crate::proofs::Due::read_due))]
+#[tactic(auto, using(crate::proofs::Due::read_due, crate::proofs::Sending::fetch_eeprom))]
 fn try_pair<L: Reach, C: Clock>(
     line: &mut L,
     clock: &C,

@@ -7,8 +7,10 @@ ghost use Rattle.site_wire.specs.declared.answers.Comparison.TheVariants.{Alike,
 
 use crate::asking::Last;
 use crate::faults::Difference;
-use crate::fitting::{FPWR, register_of, waits_for_rest};
-use ecat_frame::{Command, Datagram, Frame};
+use crate::fitting::{FPRD, FPWR, register_of, waits_for_rest};
+use crate::numbered::Returned;
+use crate::stations::address_back;
+use ecat_frame::{Command, Datagram};
 use esc_model::RomHalf;
 
 /// The byte that says who has access to the EEPROM (ETG.1000.4, slave information interface).
@@ -20,11 +22,8 @@ const STATUS: usize = 0x0503;
 /// The two words that were read, four bytes.
 const WORDS: usize = 0x0508;
 
-/// The code of FPRD (ETG.1000.4).
-const FPRD: u8 = 4;
-
 /// The most bytes of a datagram for a slave: the registers of the EEPROM have so many.
-pub(crate) const LONGEST: usize = 16;
+const LONGEST: usize = 16;
 
 /// What came back of a frame for one slave.
 #[derive(Clone, Copy)]
@@ -42,13 +41,13 @@ pub struct Answer {
 }
 
 impl Answer {
-    /// The first datagram of a frame that came back. One that isn't the answer to that of the frame that was sent counts as not taken.
-    pub(crate) fn of(sent: &Frame, frame: &Frame, again: bool) -> Option<Answer> {
-        let asked = sent.datagrams().next()?;
-        let found = frame.datagrams().next()?;
+    /// The first datagram of a frame that came back. One that isn't the answer to this one counts as not taken.
+    pub(crate) fn of(asked: Datagram<'_>, returned: &Returned) -> Option<Answer> {
+        let found = returned.frame.datagrams().next()?;
+        let address = address_back(asked.address, returned.address, found.address);
         let is_to = asked.command.code() == found.command.code()
             && asked.index == found.index
-            && asked.address == found.address
+            && asked.address == address
             && asked.content.len() == found.content.len();
         let length = found.content.len();
         let mut front = [0u8; LONGEST];
@@ -57,11 +56,11 @@ impl Answer {
         Some(Answer {
             command: found.command,
             index: found.index,
-            address: found.address,
+            address,
             counter: if is_to { found.counter } else { 0 },
             length,
             front,
-            again,
+            again: returned.again,
         })
     }
 

@@ -1,5 +1,8 @@
 //! Datagrams to slaves that have no shadow yet, and their replies.
-ghost use Rattle.std.specs.Prelude.{◌≡◌, ◌<◌, ◌≤◌, length};
+ghost use Rattle.std.specs.Prelude.{◌≡◌, ◌⊎◌, ◌<◌, ◌≤◌, true, length};
+ghost use Rattle.ecat_frame.specs.Frame.{sent};
+ghost use Rattle.ecat_frame.specs.declared.command.Command.TheVariants.{Fprd, Fpwr};
+ghost use Rattle.site_wire.specs.Sending.{InEeprom, LeavesRunning};
 ghost use Rattle.site_wire.specs.declared.asking.Hitch.TheVariants as hitch;
 
 use crate::faults::Sighting;
@@ -7,9 +10,9 @@ use crate::numbered::NumberedWire;
 use crate::pace::{ATTEMPTS, Pace};
 use crate::registers::{APRD, BRD, STATION};
 use crate::wire::Wire;
-use ecat_frame::{Command, Frame, fp};
+use ecat_frame::{Command, Datagram, Frame, fp};
 use esc_model::station_address;
-use esc_rom::{CONTENT, CONTROL, POLLS, TRIES};
+use esc_rom::{ACCESS, CONTENT, CONTROL, POLLS, TRIES};
 use std::alloc::{AllocError, AllocFailed};
 use std::rt::Clock;
 
@@ -43,6 +46,8 @@ pub(crate) enum Hitch {
     Silent,
     /// The slave doesn't do what it is asked to.
     Stuck(Last),
+    /// Its PDI has the EEPROM, and doesn't lose it unless by force.
+    Held,
 }
 
 impl From<AllocError> for Hitch {
@@ -71,14 +76,15 @@ impl Last {
     }
 }
 
-/// A frame of one datagram.
-fn frame_of(command: Command, address: u32, content: &[u8]) -> Frame
-    requires { length content.now ≤ 16 }
-{
-    let mut frame = Frame::new();
-    match frame.push(command, 0, address, content) {
-        Ok(()) => frame,
-        Err(_) => unreachable!(),
+impl Reply {
+    /// The two bytes that one slave answered. None where it isn't one that counted the datagram.
+    pub(crate) fn word(&self) -> Option<u16> {
+        let [low, high, _, _] = self.content;
+        if self.counter == 1 {
+            Some(u16::from_le_bytes([low, high]))
+        } else {
+            None
+        }
     }
 }
 
@@ -113,15 +119,22 @@ pub(crate) fn ask<W: Wire>(
     address: u32,
     content: &[u8],
 ) -> Option<Reply>
-    requires { length content.now ≤ 16 }
+    requires may { wire.old.is_lent ≡ true → LeavesRunning (sent command 0 address content.now) }
+    ensures lent { wire.new.is_lent ≡ wire.old.is_lent }
 {
-    let frame = frame_of(command, address, content);
-    let returned = wire.pass(&frame)?;
+    let datagram = Datagram {
+        command: Command::from(command.code()),
+        index: 0,
+        address,
+        content,
+        counter: 0,
+    };
+    let returned = wire.pass(datagram)?;
     Some(reply_in(&returned.frame, command, content.len()))
 }
 
-/// Sends one datagram to the slave that has this station address.
-fn tell<W: Wire>(
+/// Reads or writes registers of a slave's EEPROM.
+pub(crate) fn tell<W: Wire>(
     wire: &mut NumberedWire<W>,
     slave: u16,
     command: Command,
@@ -129,26 +142,24 @@ fn tell<W: Wire>(
     content: &[u8],
 ) -> Result<Reply, Hitch>
     requires slave { slave < 64 }
-    requires short { length content.now ≤ 16 }
+    requires command { (command ≡ Fprd) ⊎ (command ≡ Fpwr) }
+    requires eeprom { InEeprom register (length content.now) }
+    ensures lent { wire.new.is_lent ≡ wire.old.is_lent }
 {
     let address = fp(station_address(slave), register);
     ask(wire, command, address, content).ok_or(Hitch::Silent)
 }
 
-/// Reads two bytes of registers of a slave. None where it isn't the only one that counts the datagram.
-pub(crate) fn read_register<W: Wire>(
+/// Reads who has the EEPROM of a slave: 0x0500 and 0x0501. None where it isn't the only one that counts the datagram.
+pub(crate) fn read_access<W: Wire>(
     wire: &mut NumberedWire<W>,
     slave: u16,
-    register: u16,
 ) -> Result<Option<u16>, Hitch>
     requires { slave < 64 }
+    ensures lent { wire.new.is_lent ≡ wire.old.is_lent }
 {
-    let reply = tell(wire, slave, Command::Fprd, register, &[0, 0])?;
-    if reply.counter != 1 {
-        return Ok(None);
-    }
-    let [low, high, _, _] = reply.content;
-    Ok(Some(u16::from_le_bytes([low, high])))
+    let reply = tell(wire, slave, Command::Fprd, ACCESS, &[0, 0])?;
+    Ok(reply.word())
 }
 
 /// Polls a slave once. Gives what came back.
@@ -195,7 +206,7 @@ fn wait_idle<W: Wire, C: Clock>(
     Err(Hitch::Stuck(last))
 }
 
-/// Writes to a register of a slave until the slave takes it, three times at most.
+/// Writes to registers of a slave's EEPROM until the slave takes it, three times at most.
 pub(crate) fn put<W: Wire, C: Clock>(
     wire: &mut NumberedWire<W>,
     clock: &C,
@@ -204,7 +215,7 @@ pub(crate) fn put<W: Wire, C: Clock>(
     content: &[u8],
 ) -> Result<(), Hitch>
     requires slave { slave < 64 }
-    requires short { length content.now ≤ 16 }
+    requires eeprom { InEeprom register (length content.now) }
 {
     let mut counter = None;
     for _try in 0..TRIES {
@@ -309,10 +320,11 @@ pub(crate) fn read_in_tries<W: Wire, C: Clock>(
 }
 
 /// Looks around on the line, behind a datagram that a slave didn't take: how many slaves answer, and whether one does at its place.
-pub(crate) fn sight<W: Wire>(wire: &mut NumberedWire<W>, slave: u16, last: Last) -> Sighting {
-    let answering = ask(wire, BRD, 0, &[0]);
-    let place = fp(0u16.wrapping_sub(slave), STATION);
-    let station = ask(wire, APRD, place, &[0, 0]);
+pub(crate) fn sight<W: Wire>(wire: &mut NumberedWire<W>, slave: u16, last: Last) -> Sighting
+    ensures lent { wire.new.is_lent ≡ wire.old.is_lent }
+{
+    let answering = count_answers(wire);
+    let station = read_station(wire, slave);
     Sighting {
         command: last.command.code(),
         register: last.register,
@@ -320,11 +332,24 @@ pub(crate) fn sight<W: Wire>(wire: &mut NumberedWire<W>, slave: u16, last: Last)
         status: last.status,
         answering: answering.map(|reply| reply.counter),
         station: match station {
-            Some(reply) if reply.counter == 1 => {
-                let [low, high, _, _] = reply.content;
-                Some(u16::from_le_bytes([low, high]))
-            }
-            _ => None,
+            Some(reply) => reply.word(),
+            None => None,
         },
+        given: wire.stations().get(slave),
     }
+}
+
+/// Sends a broadcast, which each slave counts.
+pub(crate) fn count_answers<W: Wire>(wire: &mut NumberedWire<W>) -> Option<Reply>
+    ensures lent { wire.new.is_lent ≡ wire.old.is_lent }
+{
+    ask(wire, BRD, 0, &[0])
+}
+
+/// Reads the station address of the slave at this place of the line.
+pub(crate) fn read_station<W: Wire>(wire: &mut NumberedWire<W>, slave: u16) -> Option<Reply>
+    ensures lent { wire.new.is_lent ≡ wire.old.is_lent }
+{
+    let place = fp(0u16.wrapping_sub(slave), STATION);
+    ask(wire, APRD, place, &[0, 0])
 }

@@ -1,12 +1,15 @@
 //! Finding the slaves of a line and reading their EEPROMs, before there is a shadow to compare with.
-ghost use Rattle.std.specs.Prelude.{◌≡◌, ◌<◌, ◌≤◌, length, IfOk};
+ghost use Rattle.std.specs.Prelude.{◌≡◌, ◌<◌, ◌≤◌, false, true, length, IfOk};
 
-use crate::asking::{Hitch, ask, clear, put, read_pair, read_register, sight};
+use crate::asking::{
+    Hitch, Last, ask, clear, count_answers, put, read_access, read_pair, read_station, sight, tell,
+};
 use crate::faults::{LineFault, SlaveFault};
 use crate::found::{FoundLine, FoundSlave, Sizes, SlaveState};
 use crate::numbered::NumberedWire;
-use crate::registers::{AL_STATUS, APWR, BRD, BWR, DL_ALIAS, STATION};
+use crate::registers::{AL_STATUS, APRD, APWR, BWR, DL_ALIAS, STATION};
 use crate::sizing::{Block, Measured, SizeFound, judge_size, measure};
+use crate::stations::Stations;
 use crate::wire::Wire;
 use ecat_frame::{Command, fp};
 use esc_model::station_address;
@@ -17,9 +20,10 @@ use std::rt::Clock;
 
 /// How many slaves take a broadcast: 1 to 64.
 fn count_slaves<W: Wire>(wire: &mut NumberedWire<W>) -> Result<u16, LineFault>
-    ensures { IfOk result (λ slaves. (1 ≤ slaves) × (slaves ≤ 64)) }
+    ensures count { IfOk result (λ slaves. (1 ≤ slaves) × (slaves ≤ 64)) }
+    ensures lent { wire.new.is_lent ≡ wire.old.is_lent }
 {
-    match ask(wire, BRD, 0, &[0]) {
+    match count_answers(wire) {
         None => Err(LineFault::Silent),
         Some(reply) => match reply.counter {
             0 => Err(LineFault::NoSlaves),
@@ -30,7 +34,10 @@ fn count_slaves<W: Wire>(wire: &mut NumberedWire<W>) -> Result<u16, LineFault>
 }
 
 /// All slaves answer to their station addresses alone, and not to their aliases.
-fn leave_aliases<W: Wire>(wire: &mut NumberedWire<W>) -> Result<(), LineFault> {
+fn leave_aliases<W: Wire>(wire: &mut NumberedWire<W>) -> Result<(), LineFault>
+    requires own { wire.old.is_lent ≡ false }
+    ensures own { wire.new.is_lent ≡ false }
+{
     match ask(wire, BWR, fp(0, DL_ALIAS), &[0]) {
         Some(_) => Ok(()),
         None => Err(LineFault::Silent),
@@ -39,7 +46,9 @@ fn leave_aliases<W: Wire>(wire: &mut NumberedWire<W>) -> Result<(), LineFault> {
 
 /// Gives the slave at this place of the line its station address. One that doesn't take it is found later.
 fn give_address<W: Wire>(wire: &mut NumberedWire<W>, slave: u16) -> Result<(), LineFault>
-    requires { slave < 64 }
+    requires slave { slave < 64 }
+    requires own { wire.old.is_lent ≡ false }
+    ensures own { wire.new.is_lent ≡ false }
 {
     let place = 0u16.wrapping_sub(slave);
     let station = station_address(slave).to_le_bytes();
@@ -55,29 +64,147 @@ fn give_address<W: Wire>(wire: &mut NumberedWire<W>, slave: u16) -> Result<(), L
 
 /// Gives each of so many slaves its station address.
 fn give_addresses<W: Wire>(wire: &mut NumberedWire<W>, slaves: u16) -> Result<(), LineFault>
-    requires { slaves ≤ 64 }
+    requires slaves { slaves ≤ 64 }
+    requires own { wire.old.is_lent ≡ false }
+    ensures own { wire.new.is_lent ≡ false }
 {
+    leave_aliases(wire)?;
     for slave in 0..slaves {
         give_address(wire, slave)?;
     }
     Ok(())
 }
 
+/// Reads the station address that the master gave the slave at this place of the line.
+fn found_address<W: Wire>(wire: &mut NumberedWire<W>, slave: u16) -> Result<u16, LineFault> {
+    let mut counter = 0;
+    for _try in 0..TRIES {
+        let Some(reply) = read_station(wire, slave) else {
+            return Err(LineFault::Silent);
+        };
+        if let Some(station) = reply.word() {
+            return Ok(station);
+        }
+        counter = reply.counter;
+    }
+    let last = Last {
+        command: APRD,
+        register: STATION,
+        counter: Some(counter),
+        status: None,
+    };
+    let why = SlaveFault::Dead(sight(wire, slave, last));
+    Err(LineFault::Slave { slave, why })
+}
+
+/// Reads the station addresses of so many slaves, which have to be there and apart, and reaches the slaves by them from then on.
+fn find_addresses<W: Wire>(wire: &mut NumberedWire<W>, slaves: u16) -> Result<(), LineFault>
+    requires { slaves ≤ 64 }
+{
+    let mut stations = Stations::unknown();
+    for slave in 0..slaves {
+        stations.set(slave, found_address(wire, slave)?);
+    }
+    stations.judge(slaves)?;
+    wire.address_by(stations);
+    Ok(())
+}
+
+/// The slaves get station addresses, or keep those that they have on a wire that is lent.
+fn settle_addresses<W: Wire>(wire: &mut NumberedWire<W>, slaves: u16) -> Result<(), LineFault>
+    requires { slaves ≤ 64 }
+{
+    if wire.is_lent() {
+        find_addresses(wire, slaves)
+    } else {
+        give_addresses(wire, slaves)
+    }
+}
+
+/// Reads AL status of a slave. None where it doesn't answer, or the wire is lent and so it isn't asked.
+fn read_al_status<W: Wire>(wire: &mut NumberedWire<W>, slave: u16) -> Result<Option<u16>, Hitch>
+    requires { slave < 64 }
+{
+    if wire.is_lent() {
+        return Ok(None);
+    }
+    let address = fp(station_address(slave), AL_STATUS);
+    match ask(wire, Command::Fprd, address, &[0, 0]) {
+        Some(reply) => Ok(reply.word()),
+        None => Err(Hitch::Silent),
+    }
+}
+
 /// What a slave is in, before its EEPROM is taken.
 fn look_at<W: Wire>(wire: &mut NumberedWire<W>, slave: u16) -> Result<SlaveState, Hitch>
     requires { slave < 64 }
 {
-    let al_status = read_register(wire, slave, AL_STATUS)?;
-    let access = read_register(wire, slave, ACCESS)?;
+    let al_status = read_al_status(wire, slave)?;
+    let access = read_access(wire, slave)?;
     Ok(SlaveState { al_status, access })
 }
 
-/// Takes the EEPROM from the PDI, waits until the slave is idle, and clears its errors.
-fn open<W: Wire, C: Clock>(wire: &mut NumberedWire<W>, clock: &C, slave: u16) -> Result<(), Hitch>
-    requires { slave < 64 }
+/// What so many slaves are in.
+fn look_at_all<W: Wire>(
+    wire: &mut NumberedWire<W>,
+    slaves: u16,
+) -> Result<[SlaveState; 64], LineFault>
+    requires { slaves ≤ 64 }
+{
+    let mut states = [SlaveState::unknown(); 64];
+    for slave in 0..slaves {
+        match look_at(wire, slave) {
+            Ok(state) => states[usize::from(slave)] = state,
+            Err(_) => return Err(LineFault::Silent),
+        }
+    }
+    Ok(states)
+}
+
+/// Takes the EEPROM from the PDI by force.
+fn force<W: Wire, C: Clock>(wire: &mut NumberedWire<W>, clock: &C, slave: u16) -> Result<(), Hitch>
+    requires slave { slave < 64 }
+    requires allowed { wire.old.is_lent ≡ true → wire.old.is_forced ≡ true }
 {
     put(wire, clock, slave, ACCESS, &[0x02])?;
+    put(wire, clock, slave, ACCESS, &[0x00])
+}
+
+/// Takes the EEPROM back that was offered to the PDI, unless that one has it and isn't to lose it.
+fn ask_for<W: Wire, C: Clock>(
+    wire: &mut NumberedWire<W>,
+    clock: &C,
+    slave: u16,
+) -> Result<(), Hitch>
+    requires { slave < 64 }
+{
     put(wire, clock, slave, ACCESS, &[0x00])?;
+    let access = read_access(wire, slave)?;
+    let left = SlaveState {
+        al_status: None,
+        access,
+    };
+    if left.is_with_pdi() {
+        return Err(Hitch::Held);
+    }
+    Ok(())
+}
+
+/// Takes the EEPROM, waits until the slave is idle, and clears its errors. On a wire that is lent nothing is done to take an EEPROM that
+/// isn't the PDI's.
+fn open<W: Wire, C: Clock>(
+    wire: &mut NumberedWire<W>,
+    clock: &C,
+    slave: u16,
+    state: SlaveState,
+) -> Result<(), Hitch>
+    requires { slave < 64 }
+{
+    if !wire.is_lent() || (wire.is_forced() && !state.is_ours()) {
+        force(wire, clock, slave)?;
+    } else if !state.is_ours() {
+        ask_for(wire, clock, slave)?;
+    }
     clear(wire, clock, slave)
 }
 
@@ -112,10 +239,11 @@ fn open_and_measure<W: Wire, C: Clock>(
     wire: &mut NumberedWire<W>,
     clock: &C,
     slave: u16,
+    state: SlaveState,
 ) -> Result<Measured, Hitch>
     requires { slave < 64 }
 {
-    open(wire, clock, slave)?;
+    open(wire, clock, slave, state)?;
     measure(wire, clock, slave)
 }
 
@@ -130,6 +258,11 @@ fn given_up<W: Wire>(
     match hitch {
         Hitch::Memory => Err(LineFault::Memory),
         Hitch::Silent => Err(LineFault::Silent),
+        Hitch::Held => Ok(FoundSlave {
+            state,
+            size,
+            words: Err(SlaveFault::Held),
+        }),
         Hitch::Stuck(last) => Ok(FoundSlave {
             state,
             size,
@@ -144,15 +277,12 @@ fn find_slave<W: Wire, C: Clock>(
     wire: &mut NumberedWire<W>,
     clock: &C,
     slave: u16,
+    state: SlaveState,
     sizes: &Sizes,
 ) -> Result<FoundSlave, LineFault>
     requires { slave < 64 }
 {
-    let state = match look_at(wire, slave) {
-        Ok(state) => state,
-        Err(hitch) => return given_up(wire, slave, SlaveState::unknown(), None, hitch),
-    };
-    let measured = match open_and_measure(wire, clock, slave) {
+    let measured = match open_and_measure(wire, clock, slave, state) {
         Ok(measured) => measured,
         Err(hitch) => return given_up(wire, slave, state, None, hitch),
     };
@@ -182,6 +312,7 @@ fn find_slaves<W: Wire, C: Clock>(
     wire: &mut NumberedWire<W>,
     clock: &C,
     slaves: u16,
+    states: &[SlaveState; 64],
     sizes: &Sizes,
 ) -> Result<Vec<FoundSlave>, LineFault>
     requires { slaves ≤ 64 }
@@ -189,7 +320,8 @@ fn find_slaves<W: Wire, C: Clock>(
 {
     let mut found = Vec::new(alloc);
     for slave in 0..slaves {
-        found.push(find_slave(alloc, wire, clock, slave, sizes)?)?;
+        let state = states[usize::from(slave)];
+        found.push(find_slave(alloc, wire, clock, slave, state, sizes)?)?;
     }
     Ok(found)
 }
@@ -198,13 +330,17 @@ fn find_slaves<W: Wire, C: Clock>(
 /// its EEPROM from the PDI, finds how large that is, and reads its words. Gives the slaves in the order of the line. Each whose words were
 /// read is idle then, with bits 13 and 14 of control and status clear.
 ///
+/// On a wire that is lent the slaves keep their addresses, also those by alias, and their AL states aren't read. An EEPROM that its PDI has is
+/// taken by force only where that is allowed, and else it is one that can't be worked on.
+///
 /// A command that a slave doesn't acknowledge is tried again for half a second, its error cleared before. Polls of a busy slave have
 /// pauses. Nothing is written to an EEPROM.
 ///
 /// # Errors
 ///
-/// `Silent` where a frame doesn't come back; `NoSlaves` and `TooManySlaves` where the line hasn't 1 to 64 slaves; `Memory`. Of a slave
-/// that can't be worked on the others are found all the same.
+/// `Silent` where a frame doesn't come back; `NoSlaves` and `TooManySlaves` where the line hasn't 1 to 64 slaves; `Memory`. On a wire that is
+/// lent: `Unaddressed` and `SharedAddress` where a slave has no station address of its own, and `Slave` for the first one whose address can't
+/// be read. The EEPROMs are handed back then. Of a slave that can't be worked on the others are found all the same.
 pub fn bring_up<W: Wire, C: Clock>(
     alloc: Global,
     wire: &mut NumberedWire<W>,
@@ -215,19 +351,23 @@ pub fn bring_up<W: Wire, C: Clock>(
     ensures most { IfOk result (λ line. length line.slaves.items ≤ 64) }
 {
     let slaves = count_slaves(wire)?;
-    leave_aliases(wire)?;
-    give_addresses(wire, slaves)?;
-    let slaves = find_slaves(alloc, wire, clock, slaves, sizes)?;
-    Ok(FoundLine { slaves })
+    settle_addresses(wire, slaves)?;
+    let states = look_at_all(wire, slaves)?;
+    match find_slaves(alloc, wire, clock, slaves, &states, sizes) {
+        Ok(slaves) => Ok(FoundLine { slaves }),
+        Err(fault) => {
+            hand_back(wire, &states);
+            Err(fault)
+        }
+    }
 }
 
-/// Hands the EEPROMs of a line back as they were found: 0x0500 of each slave is written as it was, where it was read and offered the
-/// EEPROM to the PDI. A slave that doesn't take it is passed over, and a line on which no frame comes back is left.
+/// Hands the EEPROMs of a line back as they were found: bits 0 and 1 of 0x0500 of each slave are written as they were, where they were read
+/// and one of them was set. A slave that doesn't take it is passed over, and a line on which no frame comes back is left.
 pub fn hand_back<W: Wire>(wire: &mut NumberedWire<W>, states: &[SlaveState; 64]) {
     for slave in 0..64u16 {
-        if states[usize::from(slave)].was_offered() {
-            let address = fp(station_address(slave), ACCESS);
-            if ask(wire, Command::Fpwr, address, &[0x01]).is_none() {
+        if let Some(access) = states[usize::from(slave)].access_to_restore() {
+            if tell(wire, slave, Command::Fpwr, ACCESS, &[access]).is_err() {
                 return;
             }
         }

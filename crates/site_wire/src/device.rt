@@ -7,12 +7,13 @@ ghost use Rattle.site_shadow.specs.declared.device.Resting.TheVariants as restin
 ghost use Rattle.site_wire.specs.declared.answers.Shown.TheVariants as shown_as;
 ghost use Rattle.wire_laws.specs.Answers.{shown_status};
 ghost use Rattle.site_wire.specs.Answering.{found_of, shown_by, next_by, AgreesWith};
+ghost use Rattle.site_wire.specs.Sending.{IsForEeprom};
 
 use crate::amending::{issue_again, read_back};
-use crate::answers::{Answer, Comparison, LONGEST, Shown, compared_with, state_shown};
+use crate::answers::{Answer, Comparison, Shown, compared_with, state_shown};
 use crate::asking::Last;
 use crate::faults::{Difference, Sighting, StopReason};
-use crate::fitting::{is_fit, waits_for_rest, word_named};
+use crate::fitting::{is_fit, is_for_eeprom, only_datagram, waits_for_rest, word_named};
 use crate::numbered::NumberedWire;
 use crate::pace::{ATTEMPTS, Pace};
 use crate::reach::{LiveLine, Reach, SharedLine};
@@ -255,12 +256,13 @@ impl<'f, L: Reach, F: RandomAccessFile, C: Clock> WireDevice<'f, L, F, C> {
         }
     }
 
-    /// Sends a frame of one short datagram, unless the half is busy and takes nothing of it. Where the half is busy, a pause comes first, and
+    /// Sends a frame of one datagram, unless the half is busy and takes nothing of it. Where the half is busy, a pause comes first, and
     /// then it rests as the answer shows.
     fn send(&mut self, slave: u16, half: &RomHalf, sent: Datagram<'_>, frame: &Frame)
         requires slave { slave < 64 }
         requires frame { frame.now ≡ pdu sent ∷ [] }
         requires fits { IsFit half.now (pdu sent) }
+        requires eeprom { IsForEeprom (pdu sent) }
         requires stays { self.old.resting ≡ resting.Stays }
     {
         let place = usize::from(slave);
@@ -280,10 +282,11 @@ impl<'f, L: Reach, F: RandomAccessFile, C: Clock> WireDevice<'f, L, F, C> {
     }
 
     /// Sends a frame of one datagram that the half takes.
-    #[tactic(auto, using(crate::proofs::Due::sent_due))]
+    #[tactic(auto, using(crate::proofs::Due::sent_due, crate::proofs::Sending::all_of_one))]
     fn pass(&mut self, half: &RomHalf, sent: Datagram<'_>, frame: &Frame)
         requires frame { frame.now ≡ pdu sent ∷ [] }
         requires fits { IsFit half.now (pdu sent) }
+        requires eeprom { IsForEeprom (pdu sent) }
         requires quiet { IsTrue (is_busy half.now.activity) → ¬ WritesControl (pdu sent) }
         ensures { self.new.resting ≡ self.old.resting }
     {
@@ -388,27 +391,14 @@ fn ended_with(write: WordWrite, value: u16) -> Resting
     }
 }
 
-/// The datagram of a frame that has just one, of 16 bytes at most.
-fn only_datagram(frame: &Frame) -> Option<Datagram<'_>>
-    ensures { IfSome result (λ datagram. frame.now ≡ pdu datagram ∷ []) }
-{
-    if frame.count() != 1 {
-        return None;
-    }
-    let datagram = frame.datagram(0);
-    if datagram.content.len() > LONGEST {
-        return None;
-    }
-    Some(datagram)
-}
-
-/// The datagram of a frame that has just one, of 16 bytes at most, if its command is one for this half.
+/// The datagram of a frame that has just one, if that is for registers of the EEPROM, and its command is one for this half.
 fn fit_datagram<'a>(half: &RomHalf, frame: &'a Frame) -> Option<Datagram<'a>>
     ensures one { IfSome result (λ datagram. frame.now ≡ pdu datagram ∷ []) }
     ensures fits { IfSome result (λ datagram. IsFit half.now (pdu datagram)) }
+    ensures eeprom { IfSome result (λ datagram. IsForEeprom (pdu datagram)) }
 {
     match only_datagram(frame) {
-        Some(datagram) if is_fit(half, datagram) => Some(datagram),
+        Some(datagram) if is_for_eeprom(datagram) && is_fit(half, datagram) => Some(datagram),
         _ => None,
     }
 }

@@ -2,7 +2,6 @@
 ghost use Rattle.std.specs.Prelude.{◌≡◌};
 ghost use Rattle.site_wire.specs.declared.faults.LineFault.TheVariants as line;
 
-use esc_model::FIRST_STATION;
 use std::alloc::{AllocError, AllocFailed};
 use thiserror::Error;
 
@@ -21,6 +20,8 @@ pub struct Sighting {
     pub answering: Option<u16>,
     /// The station address that the slave at this place of the line had then. None: no slave answered there.
     pub station: Option<u16>,
+    /// The one that it should have.
+    pub given: u16,
 }
 
 /// What is the matter with a slave that doesn't do what it is asked to.
@@ -51,7 +52,7 @@ pub enum Cause {
 
 impl Sighting {
     /// What is the matter with this slave, as far as was seen.
-    pub fn cause(&self, slave: u16) -> Cause {
+    pub fn cause(&self) -> Cause {
         let Some(counter) = self.counter else {
             return Cause::Silence;
         };
@@ -59,7 +60,7 @@ impl Sighting {
             return Cause::Shared;
         }
         if counter == 0 {
-            return cause_uncounted(self.station, FIRST_STATION.wrapping_add(slave));
+            return cause_uncounted(self.station, self.given);
         }
         let status = self.status.unwrap_or(0);
         if status >= 0x80 {
@@ -87,6 +88,9 @@ pub enum SlaveFault {
     /// It doesn't do what it is asked to.
     #[error("it doesn't do what it is asked to")]
     Dead(Sighting),
+    /// Its PDI has the EEPROM, and doesn't lose it unless by force.
+    #[error("its PDI has the EEPROM")]
+    Held,
     /// Its EEPROM is sure to have fewer words than it was said to have.
     #[error("it has {found} words, and was said to have {given}")]
     Smaller { given: u16, found: u16 },
@@ -106,10 +110,27 @@ pub enum LineFault {
     NoSlaves,
     /// The line has more than 64 slaves.
     #[error("the line has {slaves} slaves, more than 64")]
-    TooManySlaves { slaves: u16 },
+    TooManySlaves {
+        slaves: u16,
+    },
+    /// The slave at this place has no station address from the master whose line it is.
+    #[error("slave {slave} has no station address")]
+    Unaddressed {
+        slave: u16,
+    },
+    /// Two slaves have the same station address.
+    #[error("slaves {other} and {slave} have the station address 0x{station:04x}")]
+    SharedAddress {
+        slave: u16,
+        other: u16,
+        station: u16,
+    },
     /// The slave at this place of the line can't be worked on.
     #[error("slave {slave}: {why}")]
-    Slave { slave: u16, why: SlaveFault },
+    Slave {
+        slave: u16,
+        why: SlaveFault,
+    },
 }
 
 impl From<AllocError> for LineFault {
@@ -166,7 +187,7 @@ pub enum StopReason {
     /// A command was sent again and not counted, and the slave wasn't seen busy with it then: it may never have taken it.
     #[error("slave {slave} may not have taken a command")]
     Unconfirmed { slave: usize },
-    /// A frame for one slave hasn't just one datagram, of 16 bytes at most. It wasn't sent.
+    /// A frame for one slave hasn't just one datagram, or that isn't for registers of the EEPROM. It wasn't sent.
     #[error("a frame for slave {slave} hasn't just one short datagram")]
     NotOneDatagram { slave: usize },
     /// The journal's file can't be read, written or synced, or has other bytes.

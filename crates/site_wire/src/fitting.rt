@@ -1,11 +1,15 @@
 //! Which datagrams go to a slave.
-ghost use Rattle.std.specs.Prelude.{◌≡◌, ◌<◌, ◌/◌, ◌↔◌, IsTrue};
+ghost use Rattle.std.specs.Prelude.{◌≡◌, ◌<◌, ◌/◌, ◌↔◌, ◌∷◌, [], IsTrue, IfSome};
 ghost use Rattle.ecat_frame.specs.Frame.{pdu};
 ghost use Rattle.wire_laws.specs.Due.{WritesControl, IsFit, NamesInside, is_command};
+ghost use Rattle.site_wire.specs.Sending.{IsForEeprom};
 
-use ecat_frame::Datagram;
+use ecat_frame::{Datagram, Frame};
 use esc_model::RomHalf;
-use esc_rom::CONTROL;
+use esc_rom::{ACCESS, CONTROL};
+
+/// The code of FPRD (ETG.1000.4).
+pub(crate) const FPRD: u8 = 4;
 
 /// The code of FPWR (ETG.1000.4).
 pub(crate) const FPWR: u8 = 5;
@@ -34,6 +38,27 @@ fn is_command(datagram: Datagram<'_>) -> bool
     datagram.command.code() == FPWR
         && register <= usize::from(CONTROL)
         && register + datagram.content.len() >= usize::from(CONTROL) + 2
+}
+
+/// Whether the datagram reads or writes registers of the EEPROM of one slave: 0x0500 to 0x050F.
+pub(crate) fn is_for_eeprom(datagram: Datagram<'_>) -> bool
+    ensures { IsTrue result ↔ IsForEeprom (pdu datagram.entry) }
+{
+    let code = datagram.command.code();
+    let register = register_of(datagram.address);
+    (code == FPRD || code == FPWR)
+        && register >= usize::from(ACCESS)
+        && register + datagram.content.len() <= usize::from(ACCESS) + 16
+}
+
+/// The datagram of a frame that has just one.
+pub(crate) fn only_datagram(frame: &Frame) -> Option<Datagram<'_>>
+    ensures { IfSome result (λ datagram. frame.now ≡ pdu datagram ∷ []) }
+{
+    if frame.count() != 1 {
+        return None;
+    }
+    Some(frame.datagram(0))
 }
 
 /// The word that a command names. 0 where it names none.

@@ -1,5 +1,6 @@
 //! A line that was brought up.
 ghost use Rattle.std.specs.Prelude.{◌≡◌, ◌<◌, length, IfOk};
+ghost use Rattle.site_wire.specs.Access.{is_with_pdi, restored};
 
 use crate::faults::{LineFault, SlaveFault};
 use crate::sizing::SizeFound;
@@ -80,16 +81,25 @@ impl SlaveState {
         }
     }
 
-    /// Whether the EEPROM was offered to the PDI: bit 0 of 0x0500.
-    pub fn was_offered(self) -> bool {
-        match self.access {
-            Some(access) => access % 2 == 1,
-            None => false,
+    /// Bits 0 and 1 of 0x0500, where they are known and one of them is set: what is to be written so that they are as they were.
+    pub(crate) fn access_to_restore(self) -> Option<u8>
+        ensures { result ≡ restored self.access }
+    {
+        match self.access? % 4 {
+            0 => None,
+            access => Some(access as u8),
         }
     }
 
+    /// Whether ECAT has the EEPROM, and it wasn't offered to the PDI, as far as is known.
+    pub(crate) fn is_ours(self) -> bool {
+        !self.is_with_pdi() && self.access_to_restore().is_none()
+    }
+
     /// Whether the PDI was offered the EEPROM or has it.
-    pub fn is_with_pdi(self) -> bool {
+    pub fn is_with_pdi(self) -> bool
+        ensures { result ≡ is_with_pdi self.access }
+    {
         match self.access {
             Some(access) => access % 2 == 1 || access / 256 % 2 == 1,
             None => false,

@@ -15,6 +15,7 @@ mod pace;
 mod reach;
 mod registers;
 mod sizing;
+mod stations;
 mod wire;
 
 pub use asking::Last;

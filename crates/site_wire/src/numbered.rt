@@ -1,9 +1,13 @@
 //! Frames that are sent until they come back.
-ghost use Rattle.std.specs.Prelude.{◌≡◌, length, IfSome};
+ghost use Rattle.std.specs.Prelude.{◌≡◌, ◌/◌, ◌^◌, length, true, false, IfSome};
+ghost use Rattle.ecat_frame.specs.Command.{code_of};
+ghost use Rattle.ecat_frame.specs.Frame.{pdu};
 ghost use Rattle.site_wire.specs.Numbers.{HasNumber};
+ghost use Rattle.site_wire.specs.Sending.{LeavesRunning, OnlyEeprom};
 
+use crate::stations::Stations;
 use crate::wire::Wire;
-use ecat_frame::{Command, Frame, MAX_LEN};
+use ecat_frame::{Command, Datagram, Frame, MAX_LEN};
 use std::io;
 
 /// How often a frame is sent at most.
@@ -19,29 +23,61 @@ const NOP: Command = Command::Other(0);
 #[derive(Drop)]
 pub(crate) struct Returned {
     pub(crate) frame: Frame,
+    /// The address that its datagram was sent to.
+    pub(crate) address: u32,
     /// Whether it was sent more than once. Then the slaves may have taken it before.
     pub(crate) again: bool,
 }
 
-/// A wire on which each frame has a number of its own. It stands behind the frame's datagrams, as the address of one that no slave
+/// A wire on which each frame has a number of its own. It stands behind the frame's datagram, as the address of one that no slave
 /// takes, so that late answers to earlier frames are told apart and dropped.
+///
+/// A wire that is lent belongs to a master, which keeps its line running. On it slaves keep the station addresses that the master gave
+/// them, and no other datagram is sent than reads and writes of the EEPROM's registers, reads of station addresses, and those that count the
+/// slaves.
 #[derive(Drop)]
 pub struct NumberedWire<W> {
     wire: W,
     number: u32,
     sent: u64,
     resent: u64,
+    /// Whether it is lent.
+    is_lent: bool,
+    /// Whether EEPROMs are taken by force.
+    is_forced: bool,
+    stations: Stations,
 }
 
 impl<W: Wire> NumberedWire<W> {
-    /// The first frame has the number behind this one, then they go on by one. Who used the wire before should have used others, so
-    /// the time in nanoseconds is a good one.
-    pub fn new(wire: W, number: u32) -> NumberedWire<W> {
+    /// A wire that the station has for itself. The first frame has the number behind this one, then they go on by one. Who used the wire
+    /// before should have used others, so the time in nanoseconds is a good one.
+    pub fn new(wire: W, number: u32) -> NumberedWire<W>
+        ensures { result.is_lent ≡ false }
+    {
         NumberedWire {
             wire,
             number,
             sent: 0,
             resent: 0,
+            is_lent: false,
+            is_forced: true,
+            stations: Stations::own(),
+        }
+    }
+
+    /// The same, but for a wire that a master lends. Only if `is_forced` an EEPROM is taken from a PDI that has it.
+    pub fn lent(wire: W, number: u32, is_forced: bool) -> NumberedWire<W>
+        ensures lent { result.is_lent ≡ true }
+        ensures forced { result.is_forced ≡ is_forced }
+    {
+        NumberedWire {
+            wire,
+            number,
+            sent: 0,
+            resent: 0,
+            is_lent: true,
+            is_forced,
+            stations: Stations::unknown(),
         }
     }
 
@@ -60,30 +96,76 @@ impl<W: Wire> NumberedWire<W> {
         &mut self.wire
     }
 
-    /// Sends a frame until it comes back, three times at most. None where it doesn't. A frame of more than 1,488 bytes has no room
-    /// for its number, and isn't sent.
-    pub(crate) fn pass(&mut self, frame: &Frame) -> Option<Returned> {
-        let numbered = self.numbered(frame)?;
+    /// Whether a master lends it.
+    pub fn is_lent(&self) -> bool
+        ensures { result ≡ self.now.is_lent }
+    {
+        self.is_lent
+    }
+
+    /// Whether EEPROMs are taken by force.
+    pub(crate) fn is_forced(&self) -> bool
+        ensures { result ≡ self.now.is_forced }
+    {
+        self.is_forced
+    }
+
+    /// The station addresses of the slaves.
+    pub(crate) fn stations(&self) -> &Stations {
+        &self.stations
+    }
+
+    /// From now on the slaves have these station addresses.
+    pub(crate) fn address_by(&mut self, stations: Stations)
+        ensures { self.new.is_lent ≡ self.old.is_lent }
+    {
+        self.stations = stations;
+    }
+
+    /// Sends a frame of this datagram until it comes back, three times at most. None where it doesn't. One of more than 1,474 bytes leaves no
+    /// room for the number, and isn't sent.
+    pub(crate) fn pass(&mut self, sent: Datagram<'_>) -> Option<Returned>
+        requires may { self.old.is_lent ≡ true → LeavesRunning (pdu sent) }
+        ensures lent { self.new.is_lent ≡ self.old.is_lent }
+    {
+        let address = self.stations.translated(sent);
+        let numbered = self.numbered(sent, address)?;
         for sending in 0..SENDINGS {
             let again = sending > 0;
             self.send(&numbered, again);
             if let Some(frame) = self.receive(numbered.count()) {
-                return Some(Returned { frame, again });
+                return Some(Returned {
+                    frame,
+                    address,
+                    again,
+                });
             }
         }
         None
     }
 
-    /// The frame with its number behind it.
-    fn numbered(&mut self, frame: &Frame) -> Option<Frame> {
+    /// A frame of the datagram, sent to this address, and the next number behind it.
+    fn numbered(&mut self, sent: Datagram<'_>, address: u32) -> Option<Frame>
+        requires register { address / 2 ^ 16 ≡ sent.address / 2 ^ 16 }
+        requires broadcast { code_of sent.command ≡ 7 → address ≡ sent.address }
+        requires may { self.old.is_lent ≡ true → LeavesRunning (pdu sent) }
+        ensures may { IfSome result (λ frame. self.old.is_lent ≡ true → OnlyEeprom frame) }
+        ensures lent { self.new.is_lent ≡ self.old.is_lent }
+    {
         self.number = self.number.wrapping_add(1);
-        let mut numbered = Frame::parse(frame.as_bytes()).ok()?;
+        let mut numbered = Frame::new();
+        numbered
+            .push(sent.command, sent.index, address, sent.content)
+            .ok()?;
         numbered.push(NOP, 0, self.number, &[]).ok()?;
         Some(numbered)
     }
 
     /// Sends the frame once. One that can't be sent doesn't come back, and that is enough to know.
-    fn send(&mut self, numbered: &Frame, again: bool) {
+    fn send(&mut self, numbered: &Frame, again: bool)
+        requires may { self.old.is_lent ≡ true → OnlyEeprom numbered.now }
+        ensures lent { self.new.is_lent ≡ self.old.is_lent }
+    {
         self.sent = self.sent.saturating_add(1);
         if again {
             self.resent = self.resent.saturating_add(1);
@@ -95,6 +177,7 @@ impl<W: Wire> NumberedWire<W> {
     fn receive(&mut self, count: usize) -> Option<Frame>
         ensures numbered { IfSome result (λ frame. HasNumber frame self.new.number) }
         ensures count { IfSome result (λ frame. length frame ≡ count) }
+        ensures lent { self.new.is_lent ≡ self.old.is_lent }
     {
         let mut bytes = [0u8; MAX_LEN];
         for _other in 0..OTHERS {

@@ -1,23 +1,27 @@
 //! How a device reaches the slaves of a wire.
+ghost use Rattle.std.specs.List.{All};
 ghost use Rattle.wire_laws.specs.Due.{IsDue};
+ghost use Rattle.site_wire.specs.Sending.{IsForEeprom};
 
 use crate::answers::Answer;
 use crate::asking::{Last, sight};
 use crate::faults::{Sighting, StopReason};
+use crate::fitting::only_datagram;
 use crate::numbered::NumberedWire;
 use crate::wire::Wire;
-use ecat_frame::Frame;
+use ecat_frame::{Datagram, Frame};
 use esc_model::{FIRST_STATION, RomHalf};
 use std::alloc::AllocError;
 use std::sync::{Mutex, Wait};
 
 /// A wire on which a line was brought up, as the devices reach it that work on its slaves.
 pub trait Reach {
-    /// Sends a frame to the slave of this half until it comes back, three times at most. A command names words that the half has. While the
-    /// half is busy, of what writes to control and status only that is sent which clears errors, reads words, or issues the word in flight
+    /// Sends a frame to the slave of this half until it comes back, three times at most. It reads or writes registers of the EEPROM. A command
+    /// names words that the half has. While the half is busy, of what writes to control and status only that is sent which clears errors, reads words, or issues the word in flight
     /// again. None where it doesn't come back, and the line stops then; or where it has stopped, and nothing is sent.
     fn pass(&mut self, half: &RomHalf, frame: &Frame) -> Option<Answer>
-        requires due { IsDue half.now frame.now };
+        requires due { IsDue half.now frame.now }
+        requires eeprom { All IsForEeprom frame.now };
 
     /// Why the line has stopped, if it has.
     fn reason(&self) -> Option<StopReason>;
@@ -65,11 +69,12 @@ impl<W: Wire> Reach for LiveLine<W> {
         if self.reason.is_some() {
             return None;
         }
-        let Some(returned) = self.wire.pass(frame) else {
-            self.stop(StopReason::Silent, unanswered(frame));
+        let asked = only_datagram(frame)?;
+        let Some(returned) = self.wire.pass(asked) else {
+            self.stop(StopReason::Silent, Some(unanswered(asked)));
             return None;
         };
-        Answer::of(frame, &returned.frame, returned.again)
+        Answer::of(asked, &returned)
     }
 
     fn reason(&self) -> Option<StopReason> {
@@ -91,9 +96,8 @@ impl<W: Wire> Reach for LiveLine<W> {
     }
 }
 
-/// The slave to which a frame went that didn't come back.
-fn unanswered(frame: &Frame) -> Option<(u16, Last)> {
-    let sent = frame.datagrams().next()?;
+/// The slave to which a datagram went that didn't come back.
+fn unanswered(sent: Datagram<'_>) -> (u16, Last) {
     let station = (sent.address % 65536) as u16;
     let last = Last {
         command: sent.command,
@@ -101,7 +105,7 @@ fn unanswered(frame: &Frame) -> Option<(u16, Last)> {
         counter: None,
         status: None,
     };
-    Some((station.wrapping_sub(FIRST_STATION), last))
+    (station.wrapping_sub(FIRST_STATION), last)
 }
 
 /// A line on a wire under a lock of its own, for the devices of several threads. The lock is held while one frame is exchanged.

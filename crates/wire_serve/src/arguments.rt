@@ -4,7 +4,8 @@ use crate::capture_argument::{capture_argument, capture_of};
 use crate::practice::{PowerCut, Practice};
 use crate::quirks::QuirkList;
 use crate::session_arguments::{
-    allowed_of, force_argument, resize_argument, trust_argument, trust_of, words_argument,
+    Tenure, allowed_of, beside_argument, force_argument, resize_argument, take_argument, tenure_of,
+    trust_argument, trust_of, words_argument,
 };
 use crate::sizes::sizes_of;
 use clap::error::ErrorKind;
@@ -20,6 +21,8 @@ pub struct Arguments<'a> {
     pub text: Option<&'a str>,
     /// The name of the file that each frame is written to, if there is one.
     pub capture: Option<&'a str>,
+    /// Whose the wire is.
+    pub tenure: Tenure,
     /// Whether faults have a second line where standard error is no terminal, too.
     pub is_verbose: bool,
     /// What is asked for.
@@ -181,11 +184,13 @@ fn arguments_of<'a>(
 ) -> Result<Arguments<'a>, Error> {
     let text = matches.get_str("text");
     let capture = capture_of(matches);
+    let tenure = tenure_of(matches);
     let is_verbose = matches.get_flag("verbose");
     match task_of(command, matches) {
         Ok(task) => Ok(Arguments {
             text,
             capture,
+            tenure,
             is_verbose,
             task,
         }),
@@ -353,6 +358,8 @@ fn scan_command<'a>(alloc: Global) -> Result<Command<'a>, AllocError> {
         .after_help("Example:\n  sii_wire -i eth0 scan")
         .after_long_help(SCAN_ANSWERS)
         .arg(words_argument(alloc))?
+        .arg(beside_argument(alloc))?
+        .arg(take_argument(alloc)?)?
         .arg(capture_argument(alloc))
 }
 
@@ -372,6 +379,8 @@ fn backup_command<'a>(alloc: Global) -> Result<Command<'a>, AllocError> {
         .after_long_help(BACKUP_FILES)
         .arg(line_argument(alloc))?
         .arg(words_argument(alloc))?
+        .arg(beside_argument(alloc))?
+        .arg(take_argument(alloc)?)?
         .arg(capture_argument(alloc))
 }
 
@@ -384,6 +393,8 @@ fn init_command<'a>(alloc: Global) -> Result<Command<'a>, AllocError> {
         .after_help("Example:\n  sii_wire -i eth0 init line.toml")
         .after_long_help(INIT_ANSWERS)
         .arg(line_argument(alloc))?
+        .arg(beside_argument(alloc))?
+        .arg(take_argument(alloc)?)?
         .arg(trust_argument(alloc))?
         .arg(capture_argument(alloc))
 }
@@ -402,6 +413,7 @@ fn run_command<'a>(alloc: Global) -> Result<Command<'a>, AllocError> {
         .after_long_help(RUN_ANSWERS)
         .arg(line_argument(alloc))?
         .arg(script_argument(alloc))?
+        .arg(beside_argument(alloc))?
         .arg(force_argument(alloc))?
         .arg(trust_argument(alloc))?
         .arg(resize_argument(alloc))?
@@ -417,6 +429,8 @@ fn recover_command<'a>(alloc: Global) -> Result<Command<'a>, AllocError> {
         .after_help("Example:\n  sii_wire -i eth0 recover line.toml")
         .after_long_help(RECOVER_ANSWERS)
         .arg(line_argument(alloc))?
+        .arg(beside_argument(alloc))?
+        .arg(take_argument(alloc)?)?
         .arg(trust_argument(alloc))?
         .arg(capture_argument(alloc))
 }

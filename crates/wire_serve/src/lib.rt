@@ -14,4 +14,5 @@ pub use arguments::{Arguments, Task, read_arguments};
 pub use practice::{PowerCut, Practice, serve_slaves};
 pub use quirks::QuirkList;
 pub use serving::{refuse_text, refuse_words, serve, show_usage};
+pub use session_arguments::Tenure;
 pub use station_files::FileStore;

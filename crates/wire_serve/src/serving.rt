@@ -1,8 +1,9 @@
 //! The program as a function of its arguments and streams.
 
-use crate::arguments::Task;
+use crate::arguments::{Arguments, Task};
 use crate::explain::explain;
 use crate::practice::serve_slaves;
+use crate::session_arguments::Tenure;
 use clap::Error;
 use clap::error::ErrorKind;
 use site_wire::{EthernetWire, NumberedWire, Wire};
@@ -17,11 +18,11 @@ use std::thread::Threads;
 use wire_capture::CapturedWire;
 use wire_session::{WireFault, backup_line, init_on_wire, recover_line, run_script, scan_line};
 
-/// Carries out a task on the wire that is read and written by these two, and returns the exit status: `Done`; `Refused` where a command was
+/// Carries out what the arguments ask for on the wire that is read and written by these two, and returns the exit status: `Done`; `Refused` where a command was
 /// refused; `File` for a file or its form; `Device` for the line; or `Memory`. The frames are numbered from the one behind `number` on.
 /// Faults are printed to `faults`, those of the line with a second line behind if `is_told`.
 ///
-/// Each frame is written down in the file `capture`, if one is named, once it is sent or received. Where the capture can't begin, no frame
+/// Each frame is written down in the capture file, if one is named, once it is sent or received. Where the capture can't begin, no frame
 /// is sent and nothing is read or written. If it can't be written further, the work goes on as without it, and the fault is printed behind
 /// all others.
 pub fn serve<
@@ -34,8 +35,7 @@ pub fn serve<
 >(
     rt: &H,
     alloc: Global,
-    task: Task<'_>,
-    capture: Option<&str>,
+    arguments: &Arguments<'_>,
     is_told: bool,
     wire: EthernetWire<R, W>,
     number: u32,
@@ -43,12 +43,12 @@ pub fn serve<
     output: &mut O,
     faults: &mut E,
 ) -> ExitStatus {
-    match begin_capture(capture, store) {
+    match begin_capture(arguments.capture, store) {
         Ok(begun) => {
             let captured = CapturedWire::new(wire, begun.as_ref(), rt);
-            let numbered = NumberedWire::new(captured, number);
+            let numbered = numbered_wire(captured, number, arguments.tenure);
             let status = status_of(
-                do_task(rt, alloc, task, numbered, store, output),
+                do_task(rt, alloc, arguments.task, numbered, store, output),
                 is_told,
                 faults,
             );
@@ -58,6 +58,14 @@ pub fn serve<
             drop(wire);
             report_fault(fault, faults)
         }
+    }
+}
+
+/// The wire, as it is to be used.
+fn numbered_wire<W: Wire>(wire: W, number: u32, tenure: Tenure) -> NumberedWire<W> {
+    match tenure {
+        Tenure::Own => NumberedWire::new(wire, number),
+        Tenure::Lent { is_forced } => NumberedWire::lent(wire, number, is_forced),
     }
 }
 

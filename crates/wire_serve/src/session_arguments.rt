@@ -1,7 +1,7 @@
 //! The arguments that say how large EEPROMs are, and what is allowed on a line.
 
 use clap::{Arg, ArgAction, ArgMatches};
-use std::alloc::Global;
+use std::alloc::{AllocError, Global};
 use wire_session::Allowed;
 
 /// The help text on sizes.
@@ -44,6 +44,51 @@ pub(crate) fn force_argument<'a>(alloc: Global) -> Arg<'a> {
         "force",
         "Works on slaves above Pre-Operational too, and takes EEPROMs that their PDI has",
     )
+}
+
+/// The help text on work beside a master.
+const BESIDE: &str =
+    "A master keeps the line running, and lends the wire. Slaves keep the station addresses
+that it gave them, and nothing is written but registers 0x0500 to 0x050f, those of the
+EEPROM. An EEPROM that was offered to a PDI is asked for, and is handed back at the end.";
+
+/// The description of the flag for work beside a master.
+pub(crate) fn beside_argument<'a>(alloc: Global) -> Arg<'a> {
+    flag(
+        alloc,
+        "beside",
+        "Works beside a master that lends the wire, and leaves its line running",
+    )
+    .long_help(BESIDE)
+}
+
+/// The description of the flag that takes EEPROMs beside a master.
+pub(crate) fn take_argument<'a>(alloc: Global) -> Result<Arg<'a>, AllocError> {
+    flag(
+        alloc,
+        "force",
+        "Takes EEPROMs that their PDI has beside a master too",
+    )
+    .requires_arg("beside")
+}
+
+/// Whose the wire is.
+#[derive(Clone, Copy)]
+pub enum Tenure {
+    /// The station has it for itself.
+    Own,
+    /// A master lends it. EEPROMs are taken by force from PDIs that have them, or aren't.
+    Lent { is_forced: bool },
+}
+
+/// Whose the wire is, as the flags of the subcommand say.
+pub(crate) fn tenure_of(matches: &ArgMatches<'_>) -> Tenure {
+    match matches.subcommand() {
+        Some((_name, subcommand)) if subcommand.get_flag("beside") => Tenure::Lent {
+            is_forced: subcommand.get_flag("force"),
+        },
+        _ => Tenure::Own,
+    }
 }
 
 pub(crate) fn resize_argument<'a>(alloc: Global) -> Arg<'a> {

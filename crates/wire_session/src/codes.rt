@@ -32,10 +32,12 @@ pub enum WireCode {
     Held = 111,
     /// A command makes word 0x3E tell another size than the EEPROM has.
     OtherSize = 112,
+    /// A slave has no station address of its own.
+    StationAddress = 113,
 }
 
 /// All codes of a wire, in the order of their numbers.
-pub const WIRE_CODES: [WireCode; 13] = [
+pub const WIRE_CODES: [WireCode; 14] = [
     WireCode::Silent,
     WireCode::NoSlaves,
     WireCode::TooManySlaves,
@@ -49,6 +51,7 @@ pub const WIRE_CODES: [WireCode; 13] = [
     WireCode::Running,
     WireCode::Held,
     WireCode::OtherSize,
+    WireCode::StationAddress,
 ];
 
 impl WireCode {
@@ -73,6 +76,7 @@ impl WireCode {
             WireCode::Running => &RUNNING,
             WireCode::Held => &HELD,
             WireCode::OtherSize => &OTHER_SIZE,
+            WireCode::StationAddress => &STATION_ADDRESS,
         }
     }
 }
@@ -176,4 +180,11 @@ const OTHER_SIZE: CodeEntry = CodeEntry {
     meaning: "A command makes word 0x3E tell another size than the EEPROM has.",
     reason: "The command with this number in the script changes word 0x3E, by which masters and tools tell the size of an EEPROM.",
     remedy: "Correct word 0x3E in the image of that command. If it is to be so, say --resize. Nothing was written.",
+};
+
+const STATION_ADDRESS: CodeEntry = CodeEntry {
+    name: "StationAddress",
+    meaning: "A slave has no station address of its own.",
+    reason: "Beside a master slaves keep the station addresses that it gave them. The slave with this number has 0, or that of an earlier one.",
+    remedy: "Have the master give each slave an address before it starts the station. Without a master leave --beside out. Nothing was written.",
 };

@@ -63,6 +63,13 @@ fn code_of_line(fault: LineFault) -> (WireCode, Option<usize>) {
     match fault {
         LineFault::NoSlaves => (WireCode::NoSlaves, None),
         LineFault::TooManySlaves { slaves } => (WireCode::TooManySlaves, Some(usize::from(slaves))),
+        LineFault::Unaddressed { slave } | LineFault::SharedAddress { slave, .. } => {
+            (WireCode::StationAddress, Some(usize::from(slave)))
+        }
+        LineFault::Slave {
+            slave,
+            why: SlaveFault::Held,
+        } => (WireCode::Held, Some(usize::from(slave))),
         LineFault::Slave { slave, .. } => (WireCode::SmallerChip, Some(usize::from(slave))),
         _ => (WireCode::Silent, None),
     }

@@ -39,7 +39,8 @@ pub(crate) struct Found<L> {
 /// # Errors
 ///
 /// As for `load_line`; `Busy` where another station has locked the journal, `File` where it is absent or the system can't lock it; as for
-/// `keep_apart`; as for `sizes_of_images`; as for `bring_up`; as for `judge_slaves`, and, unless slaves in any state are allowed, as for `judge_states`; `File`
+/// `keep_apart`; as for `sizes_of_images`; as for `bring_up`; as for `judge_slaves`, and, unless slaves in any state are allowed or the wire is
+/// lent, as for `judge_states`; `File`
 /// where the journal can't be read. `Memory` may come at any point.
 pub(crate) fn find_line<W: Wire, C: Clock, S: Store>(
     alloc: Global,
@@ -54,6 +55,11 @@ pub(crate) fn find_line<W: Wire, C: Clock, S: Store>(
     ensures most { IfOk result (λ found. length found.slaves.items ≤ 64) }
     ensures same { S.files store.new ≡ S.files store.old }
 {
+    // On a wire that is lent slaves may be in any state, and who has their EEPROMs is judged as they are opened.
+    let allowed = Allowed {
+        is_forced: allowed.is_forced || wire.is_lent(),
+        ..allowed
+    };
     let line = load_line(alloc, name, store)?;
     let lock = lock_journal(alloc, name, &line, store)?;
     let sizes = sizes_of_images(alloc, &line.images, allowed.trusts_images, store)?;

@@ -81,7 +81,7 @@ fn write_answering<W: fmt::Write>(
 fn write_seen<W: fmt::Write>(f: &mut fmt::Formatter<W>, slave: u16, seen: Sighting) -> fmt::Result {
     let way = way_of(seen.command);
     let register = seen.register;
-    let cause = seen.cause(slave);
+    let cause = seen.cause();
     write!(
         f,
         "slave {slave}: {cause}; register 0x{register:04x} was {way}, "
@@ -101,6 +101,14 @@ fn write_seen<W: fmt::Write>(f: &mut fmt::Formatter<W>, slave: u16, seen: Sighti
     write!(f, "; {remedy}")
 }
 
+/// Tells that the PDI of a slave has the EEPROM.
+fn write_held<W: fmt::Write>(f: &mut fmt::Formatter<W>, slave: usize) -> fmt::Result {
+    write!(
+        f,
+        "slave {slave}: its PDI has the EEPROM (0x0500, 0x0501): bring it to Init, or say --force"
+    )
+}
+
 /// Tells why a line can't be brought up.
 fn write_line<W: fmt::Write>(f: &mut fmt::Formatter<W>, fault: LineFault) -> fmt::Result {
     match fault {
@@ -114,6 +122,22 @@ fn write_line<W: fmt::Write>(f: &mut fmt::Formatter<W>, fault: LineFault) -> fmt
         } => write!(
             f,
             "slave {slave}: its image file has {given} words, and its EEPROM {found}: make the backup anew, or say --trust-images"
+        ),
+        LineFault::Slave {
+            slave,
+            why: SlaveFault::Held,
+        } => write_held(f, usize::from(slave)),
+        LineFault::Unaddressed { slave } => write!(
+            f,
+            "slave {slave} has the station address 0: the master gives it one before it starts the station"
+        ),
+        LineFault::SharedAddress {
+            slave,
+            other,
+            station,
+        } => write!(
+            f,
+            "slaves {other} and {slave} have the station address 0x{station:04x}: the master gives each one of its own before it starts the station"
         ),
         LineFault::Silent => write!(
             f,
@@ -164,10 +188,7 @@ impl fmt::Display for Told {
                 f,
                 "slave {slave} is in Safe-Operational or Operational (0x0130): bring it to Init, or say --force"
             ),
-            WireFault::Held { slave } => write!(
-                f,
-                "slave {slave}: its PDI has the EEPROM (0x0500, 0x0501): bring it to Init, or say --force"
-            ),
+            WireFault::Held { slave } => write_held(f, slave),
             WireFault::OtherSize {
                 command,
                 slave,

@@ -1,0 +1,5 @@
+use Rattle.std.specs.Prelude.{◌≡◌}
+use Rattle.site_wire.proofs.numbered.NumberedWire.receive.Given as goal
+
+abbrev pub invariant-loop-other : goal.invariant-loop-other
+invariant-loop-other g l = l.self.is_lent ≡ l.fn.self.is_lent
