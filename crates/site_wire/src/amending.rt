@@ -8,6 +8,7 @@ ghost use Rattle.esc_model.specs.Orders.{address_of};
 ghost use Rattle.esc_model.specs.SlaveHalf.{in_flight};
 
 use crate::answers::{Answer, Shown, state_shown};
+use crate::asking::UNCOUNTED;
 use crate::pace::{ATTEMPTS, Pace};
 use crate::reach::Reach;
 use ecat_frame::{Command, Frame, fp};
@@ -20,6 +21,8 @@ use std::rt::Clock;
 enum Tried {
     Read([u8; 4]),
     Refused,
+    /// The slave isn't seen idle.
+    Unseen,
 }
 
 /// A frame of one datagram for a slave.
@@ -124,7 +127,8 @@ fn read_again<L: Reach>(line: &mut L, slave: u16, half: &RomHalf, word: u16) -> 
     Some(answer.counter == 1)
 }
 
-/// Polls a slave until it shows that it is idle, and gives what it shows. `Nothing` where it doesn't. None where the line has stopped.
+/// Polls a slave until it shows that it is idle, and gives what it shows. `Nothing` where none of 10,000 polls sees that, or a hundred in a
+/// row aren't counted. None where the line has stopped.
 #[tactic(auto, using(crate::proofs::Due::read_due, crate::proofs::Sending::poll_eeprom))]
 fn wait_idle<L: Reach, C: Clock>(
     line: &mut L,
@@ -136,11 +140,17 @@ fn wait_idle<L: Reach, C: Clock>(
 {
     let poll = frame_for(slave, Command::Fprd, CONTROL, &[0, 0]);
     let mut pace = Pace::of_polls();
+    let mut uncounted = 0u32;
     for _poll in 0..POLLS {
         match state_shown(&line.pass(half, &poll)?) {
-            Shown::Nothing | Shown::Busy => pace.pause(clock),
+            Shown::Nothing => uncounted = uncounted.saturating_add(1),
+            Shown::Busy => uncounted = 0,
             shown => return Some(shown),
         }
+        if uncounted >= UNCOUNTED {
+            return Some(Shown::Nothing);
+        }
+        pace.pause(clock);
     }
     Some(Shown::Nothing)
 }
@@ -160,6 +170,9 @@ fn try_pair<L: Reach, C: Clock>(
 {
     let taken = line.pass(half, &read_frame(slave, word, held))?;
     let shown = wait_idle(line, clock, slave, half)?;
+    if shown == Shown::Nothing {
+        return Some(Tried::Unseen);
+    }
     if taken.counter != 1 || shown != Shown::Well {
         return Some(Tried::Refused);
     }
@@ -182,7 +195,7 @@ fn word_in(pair: [u8; 4], word: u16) -> u16 {
 }
 
 /// Reads the word in flight back from a slave that shows it as written. A try that isn't acknowledged is followed by command 000 and a
-/// pause; they take half a second. None where the word can't be read, or the line has stopped.
+/// pause; they take half a second. None where the word can't be read, the slave isn't seen idle, or the line has stopped.
 pub(crate) fn read_back<L: Reach, C: Clock>(
     line: &mut L,
     clock: &C,
@@ -198,9 +211,10 @@ pub(crate) fn read_back<L: Reach, C: Clock>(
     }
     let mut pace = Pace::of_tries();
     for _try in 0..ATTEMPTS {
-        let tried = try_pair(line, clock, slave, half, first, !write.value)?;
-        if let Tried::Read(pair) = tried {
-            return Some(word_in(pair, write.word));
+        match try_pair(line, clock, slave, half, first, !write.value)? {
+            Tried::Read(pair) => return Some(word_in(pair, write.word)),
+            Tried::Unseen => return None,
+            Tried::Refused => {}
         }
         let _cleared = clear(line, slave, half)?;
         pace.pause(clock);

@@ -17,7 +17,7 @@ use std::alloc::{AllocError, AllocFailed};
 use std::rt::Clock;
 
 /// After how many polls in a row that no slave counts, or several do, a slave is given up.
-const UNCOUNTED: u32 = 100;
+pub(crate) const UNCOUNTED: u32 = 100;
 
 /// What came back of a datagram.
 #[derive(Clone, Copy)]

@@ -326,6 +326,30 @@ fn find_slaves<W: Wire, C: Clock>(
     Ok(found)
 }
 
+/// What the slaves of a line are in, before their EEPROMs are taken.
+#[derive(Clone, Copy)]
+pub struct LineStates {
+    /// How many slaves there are, 1 to 64.
+    pub slaves: u16,
+    /// What each is in, in the order of the line. Nothing is known behind the last one.
+    pub states: [SlaveState; 64],
+}
+
+/// Looks what the slaves of a line are in: counts them, and settles their station addresses, as `bring_up` does. No EEPROM is taken.
+///
+/// # Errors
+///
+/// As for `bring_up`, but for those of a slave that can't be worked on.
+pub fn look_along<W: Wire>(wire: &mut NumberedWire<W>) -> Result<LineStates, LineFault>
+    ensures some { IfOk result (λ line. 1 ≤ line.slaves) }
+    ensures most { IfOk result (λ line. line.slaves ≤ 64) }
+{
+    let slaves = count_slaves(wire)?;
+    settle_addresses(wire, slaves)?;
+    let states = look_at_all(wire, slaves)?;
+    Ok(LineStates { slaves, states })
+}
+
 /// Brings up a line (ETG.1000.4): counts its slaves, ends addressing by alias, gives each its station address, looks what it is in, takes
 /// its EEPROM from the PDI, finds how large that is, and reads its words. Gives the slaves in the order of the line. Each whose words were
 /// read is idle then, with bits 13 and 14 of control and status clear.
@@ -350,9 +374,7 @@ pub fn bring_up<W: Wire, C: Clock>(
     ensures some { IfOk result (λ line. 1 ≤ length line.slaves.items) }
     ensures most { IfOk result (λ line. length line.slaves.items ≤ 64) }
 {
-    let slaves = count_slaves(wire)?;
-    settle_addresses(wire, slaves)?;
-    let states = look_at_all(wire, slaves)?;
+    let LineStates { slaves, states } = look_along(wire)?;
     match find_slaves(alloc, wire, clock, slaves, &states, sizes) {
         Ok(slaves) => Ok(FoundLine { slaves }),
         Err(fault) => {

@@ -19,7 +19,7 @@ mod stations;
 mod wire;
 
 pub use asking::Last;
-pub use bringing_up::{bring_up, hand_back};
+pub use bringing_up::{LineStates, bring_up, hand_back, look_along};
 pub use device::{SharedSite, WireDevice, WireSite};
 pub use ethernet::EthernetWire;
 pub use faults::{Cause, Difference, LineFault, Sighting, SlaveFault, StopReason};

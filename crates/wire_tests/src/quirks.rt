@@ -1,4 +1,4 @@
-//! Words that are written to slaves with the quirks of real ones, and the power of these cut at each word.
+//! Words that are written to slaves with the quirks of real ones, and the power of these cut at each word and at each frame.
 
 use crate::bench::{
     Bench, Content, NO_TROUBLE, Slave, TestWire, Trouble, WELL, settled, site_on, taken_off,
@@ -8,7 +8,7 @@ use site_core::{Settled, Site};
 use site_shadow::Pattern;
 use site_wire::hand_back;
 use std::alloc::Global;
-use wire_practice::{NO_QUIRKS, Quirks};
+use wire_practice::{NO_QUIRKS, PowerLoss, Quirks};
 
 // What a slave does, and whether it is found above Pre-Operational, and with its PDI.
 type Case = (Quirks, bool, bool);
@@ -295,5 +295,63 @@ fn is_recovered(alloc: Global, quirks: Quirks) -> bool {
 fn cuts_in_each_word_are_recovered_from(rt: HostRuntime) {
     for (quirks, _, _) in CASES {
         assert!(rt; is_recovered(rt.alloc(), *quirks));
+    }
+}
+
+// How many frames are sent to this slave before the first word is written, and up to the end, where the power stays.
+fn frames_of(alloc: Global, slave: Slave) -> Option<(u32, u32)> {
+    let bench = Bench::new(alloc);
+    let wire = wire_of(alloc, &bench, &[slave], None)?;
+    let (mut site, _states) = site_on(alloc, &bench, wire, &NO_TROUBLE)?;
+    let (from, _again) = site.device().frames();
+    let _count = count_written(&mut site);
+    let (to, _again) = site.device().frames();
+    drop(site);
+    Some((u32::try_from(from).ok()?, u32::try_from(to).ok()?))
+}
+
+// Whether a power loss of a slave behind any frame of a run is recovered from. The word in flight is left as 0xdead.
+fn is_always_recovered(alloc: Global, quirks: Quirks) -> bool {
+    let [kept, _other] = slaves_of(quirks);
+    let Some((from, to)) = frames_of(alloc, kept) else {
+        return false;
+    };
+    for frame in from..to {
+        let cut = Quirks {
+            loss: PowerLoss::Behind(frame),
+            left: Pattern::Fill(0xdead),
+            ..quirks
+        };
+        let [slave, _other] = slaves_of(cut);
+        match outcome_of(alloc, &[slave], &NO_TROUBLE) {
+            Some(outcome) if outcome.is_kept && outcome.is_completed => {}
+            _ => return false,
+        }
+    }
+    true
+}
+
+// A slave as the definition says, one whose chip misses each second command and ignores others until its error is cleared, and one whose chip
+// programs on.
+const LOST: &[Quirks] = &[
+    Quirks {
+        delay: 1,
+        ..NO_QUIRKS
+    },
+    Quirks {
+        each_missed: 2,
+        is_blocked_by_errors: true,
+        ..NO_QUIRKS
+    },
+    Quirks {
+        programs_on: 5_000,
+        ..NO_QUIRKS
+    },
+];
+
+#[test]
+fn losses_behind_each_frame_are_recovered_from(rt: HostRuntime) {
+    for quirks in LOST {
+        assert!(rt; is_always_recovered(rt.alloc(), *quirks));
     }
 }
