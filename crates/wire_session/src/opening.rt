@@ -11,7 +11,7 @@ use crate::judging::{judge_slaves, judge_states};
 use crate::sizes::sizes_of_images;
 use sii_words::Words;
 use site_file::OpenFiles;
-use site_wire::{FoundLine, NumberedWire, SlaveState, Wire, bring_up, hand_back};
+use site_wire::{FoundLine, NumberedWire, SlaveState, Wire, bring_up, hand_back, look_along};
 use station_files::{Fault, Store, load_line, read_file};
 use station_session::keep_apart;
 use station_text::LineFile;
@@ -39,9 +39,8 @@ pub(crate) struct Found<L> {
 /// # Errors
 ///
 /// As for `load_line`; `Busy` where another station has locked the journal, `File` where it is absent or the system can't lock it; as for
-/// `keep_apart`; as for `sizes_of_images`; as for `bring_up`; as for `judge_slaves`, and, unless slaves in any state are allowed or the wire is
-/// lent, as for `judge_states`; `File`
-/// where the journal can't be read. `Memory` may come at any point.
+/// `keep_apart`; as for `sizes_of_images`; unless slaves in any state are allowed or the wire is lent, as for `judge_states`, before an EEPROM is
+/// taken; as for `bring_up`; as for `judge_slaves`; `File` where the journal can't be read. `Memory` may come at any point.
 pub(crate) fn find_line<W: Wire, C: Clock, S: Store>(
     alloc: Global,
     wire: &mut NumberedWire<W>,
@@ -63,9 +62,13 @@ pub(crate) fn find_line<W: Wire, C: Clock, S: Store>(
     let line = load_line(alloc, name, store)?;
     let lock = lock_journal(alloc, name, &line, store)?;
     let sizes = sizes_of_images(alloc, &line.images, allowed.trusts_images, store)?;
+    if !allowed.is_forced {
+        let seen = look_along(wire)?;
+        judge_states(&seen.states, usize::from(seen.slaves))?;
+    }
     let found = bring_up(alloc, wire, clock, &sizes)?;
     let states = found.states();
-    match read_found(alloc, &line, found, allowed, store) {
+    match read_found(alloc, &line, found, store) {
         Ok((slaves, journal)) => Ok(Found {
             line,
             slaves,
@@ -85,7 +88,6 @@ fn read_found<S: Store>(
     alloc: Global,
     line: &LineFile,
     found: FoundLine,
-    allowed: Allowed,
     store: &mut S,
 ) -> Result<(Vec<Words>, Vec<u8>), WireFault>
     ensures count { IfOk result (λ read. length read.0.items ≡ length line.now.images.items) }
@@ -93,11 +95,7 @@ fn read_found<S: Store>(
     ensures journal { IfOk result (λ read. HasBytes (S.files store.old) (string_bytes line.now.journal) read.1.items) }
     ensures same { S.files store.new ≡ S.files store.old }
 {
-    let states = found.states();
     let slaves = judge_slaves(alloc, found, line.images.len())?;
-    if !allowed.is_forced {
-        judge_states(&states, slaves.len())?;
-    }
     let journal = read_file(alloc, line.journal.as_str(), store)?;
     Ok((slaves, journal))
 }

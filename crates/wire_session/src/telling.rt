@@ -2,7 +2,8 @@
 
 use crate::faults::WireFault;
 use esc_rom::TRIES;
-use site_wire::{Cause, LineFault, Sighting, SlaveFault, StopReason};
+use site_wire::{Cause, Difference, LineFault, Sighting, SlaveFault, StopReason};
+use station_files::Fault;
 use std::fmt;
 
 /// A fault, as its second line tells it.
@@ -47,6 +48,7 @@ impl WireFault {
     /// What there is to tell of the fault beside its code, for its second line. None where there is nothing more than `explain` says.
     pub fn told(self) -> Option<Told> {
         match self {
+            WireFault::Station(Fault::SlaveDead { .. }) => Some(Told { fault: self }),
             WireFault::Station(_)
             | WireFault::Line(LineFault::Memory)
             | WireFault::Stopped {
@@ -162,6 +164,16 @@ fn write_stop<W: fmt::Write>(
     seen: Option<Sighting>,
 ) -> fmt::Result {
     match (reason, seen) {
+        (
+            StopReason::Differs {
+                slave,
+                what: Difference::Words,
+            },
+            _,
+        ) => write!(
+            f,
+            "slave {slave}: other words came back than it had: its EEPROM is smaller than its image file, or somebody else writes it: scan the line"
+        ),
         (StopReason::Differs { slave, .. }, Some(seen))
         | (StopReason::WordFailed { slave }, Some(seen))
         | (StopReason::Unconfirmed { slave }, Some(seen)) => {
@@ -196,6 +208,10 @@ impl fmt::Display for Told {
             } => write!(
                 f,
                 "command {command} makes word 0x3e of slave {slave} say {words} words, and its EEPROM has others: correct it, or say --resize"
+            ),
+            WireFault::Station(Fault::SlaveDead { slave }) => write!(
+                f,
+                "slave {slave}: it stays busy, or its EEPROM doesn't acknowledge: switch it off and on, and recover the line"
             ),
             WireFault::Station(_) => Ok(()),
         }

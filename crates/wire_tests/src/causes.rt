@@ -69,10 +69,10 @@ fn slave_of(quirks: Quirks) -> Slave {
     }
 }
 
-// What is told of a slave at this place of the line.
-fn cause_of(found: &FoundSlave, slave: u16) -> Option<Cause> {
+// What is told of a slave that does nothing.
+fn cause_of(found: &FoundSlave) -> Option<Cause> {
     match found.words {
-        Err(SlaveFault::Dead(sighting)) => Some(sighting.cause(slave)),
+        Err(SlaveFault::Dead(sighting)) => Some(sighting.cause()),
         _ => None,
     }
 }
@@ -84,7 +84,7 @@ fn is_told(alloc: Global, case: &Case) -> Option<bool> {
     let mut wire = wire_of(alloc, &bench, &[slave_of(first), slave_of(second)], cable)?;
     let line = bring_up(alloc, &mut wire, &bench.clock, &Sizes::unknown()).ok()?;
     match line.slaves.as_slice() {
-        [first, second] => Some(cause_of(first, 0) == of_first && cause_of(second, 1) == of_second),
+        [first, second] => Some(cause_of(first) == of_first && cause_of(second) == of_second),
         _ => None,
     }
 }
