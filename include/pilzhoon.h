@@ -2,10 +2,11 @@
  * Pilzhoon: EtherCAT EEPROM images (SII), judged, read and changed.
  *
  * The library keeps no state, prints nothing, opens nothing and starts no thread. A call that works on images takes memory by
- * malloc while it runs, a few times what it is given, and gives all of it back before it returns. So it may be called from several threads at once,
- * on different images, but not from a signal handler, nor from a task that must not wait for malloc.
+ * malloc while it runs, a few times what it is given, and gives all of it back before it returns. So it may be called from several
+ * threads at once, on different images, but not from a signal handler, nor from a task that must not wait for malloc.
  *
- * Every call that can be refused answers a code, PZ_OK or one of those below. A refused call changes nothing of what it was given.
+ * Every call that can be refused answers a code, PZ_OK or one of those below. A refused call changes nothing of what it was given, but
+ * for the detail of pz_judge.
  *
  * Bytes are those of an EEPROM image file: 16-bit words in order, the low byte first (ETG.1000.6, slave information interface).
  * No pointer may be NULL, except that of an array whose length is 0. Arrays that a call writes to may not overlap its other
@@ -108,9 +109,9 @@ uint32_t pz_category(const uint8_t *image, size_t length, size_t number, pz_cate
 uint32_t pz_set_alias(uint8_t *image, size_t length, uint16_t alias);
 
 /*
- * Replaces the content of the one category of type `kind` of a device, or adds the category last if there is none. With
- * `content_length` 0 it is removed (`content` may be NULL then). The categories behind it move up or down, the word behind the last
- * one becomes 0xFFFF, and all words behind that stay.
+ * Replaces the content of the one category of type `kind` of a device (ETG.1000.6, slave information interface categories), or adds the
+ * category last if there is none. With `content_length` 0 it is removed (`content` may be NULL then). The categories behind it move up or
+ * down, the word behind the last one becomes 0xFFFF, and all words behind that stay.
  *
  * `device` is the whole EEPROM: `length` bytes, 64 to 4,096 words, a multiple of 64. `content` is `content_length` bytes, and holds
  * words as the image does.
@@ -130,7 +131,7 @@ uint32_t pz_set_alias(uint8_t *image, size_t length, uint16_t alias);
 uint32_t pz_edit_category(uint8_t *device, size_t length, uint16_t kind, const uint8_t *content, size_t content_length);
 
 /*
- * Writes an image over the first words of a device; the words behind it stay.
+ * Writes an image over the first words of a device (ETG.1000.6, slave information interface); the words behind it stay.
  *
  * `device` is the whole EEPROM: `length` bytes, 64 to 4,096 words, a multiple of 64. `image` is `image_length` bytes, 64 to 4,096 words.
  *
@@ -150,22 +151,22 @@ uint32_t pz_edit_image(uint8_t *device, size_t length, const uint8_t *image, siz
 
 /* The process data of one sync manager in a process image (ETG.1000.6 and ETG.2010, SyncM, TXPDO and RXPDO categories). */
 typedef struct {
-    uint32_t slave;   /* number of the slave, from 0 in the order of the line */
+    uint32_t slave;   /* number of the slave, 0 to 63 in the order of the line */
     uint32_t manager; /* number of its sync manager, 0 to 15 */
     uint32_t output;  /* 1: outputs, sent by the master; 0: inputs */
-    uint32_t offset;  /* offset in the process image, in bytes */
-    uint32_t size;    /* size in bytes */
-    uint32_t bits;    /* length in bits */
-    uint32_t start;   /* physical start address of the sync manager */
-    uint32_t control; /* control register of the sync manager */
+    uint32_t offset;  /* offset in the process image, in bytes. offset + size is at most 1,486 */
+    uint32_t size;    /* size in bytes: bits / 8, rounded up */
+    uint32_t bits;    /* length in bits, above 0 */
+    uint32_t start;   /* physical start address of the sync manager, 0 to 65,535 */
+    uint32_t control; /* control register of the sync manager, 0 to 255 */
 } pz_segment;
 
 /* The sizes of a process image of at most 1,486 bytes: the outputs of all slaves, then their inputs. */
 typedef struct {
-    size_t segments;  /* number of segments */
+    size_t segments;  /* number of segments, at most 8 for each slave */
     uint32_t outputs; /* size of all outputs in bytes */
     uint32_t inputs;  /* size of all inputs in bytes */
-    uint32_t counter; /* working counter of a cycle: for each slave 2 if it has outputs, and 1 if it has inputs */
+    uint32_t counter; /* working counter of a cycle, 0 to 192: for each slave 2 if it has outputs, and 1 if it has inputs */
 } pz_image_sizes;
 
 /*
@@ -188,6 +189,10 @@ uint32_t pz_place_line(const uint8_t *devices, size_t length, const size_t *leng
  * Word access in steps (ETG.1000.4, slave information interface). A call begins an access, pz_next says which datagram is to be sent, and
  * pz_take, pz_lose or pz_stop says what came back for it; so on until pz_next says how the access ended. These calls take no memory, don't
  * wait and take bounded time, so a cyclic task may make them. A pz_access belongs to one access of one slave, and to one call at a time.
+ *
+ * Leave a pause between datagrams that read control and status (ado 0x0502) of one slave, as a cycle of the master: 10,000 of them in a
+ * row that don't see the slave idle end an access. `word` is any number, since an access doesn't know the size of the EEPROM: of a word
+ * behind its end a slave may say anything.
  */
 typedef struct {
     uint32_t phase, more, tries; /* of the library */
@@ -197,8 +202,8 @@ typedef struct {
 /* A datagram that is to be sent to the slave, with a working counter of 0 (ETG.1000.4). */
 typedef struct {
     uint8_t command;    /* 4, FPRD: read; or 5, FPWR: write. By the slave's place in the line it is 1, APRD, or 2, APWR */
-    uint8_t length;     /* number of bytes of its content, 1 to 8 */
-    uint16_t ado;       /* address of the register, 0x0500 to 0x0508 */
+    uint8_t length;     /* number of bytes of its content: 1, 2, 4, 6 or 8 */
+    uint16_t ado;       /* address of the register: 0x0500, 0x0502 or 0x0508 */
     uint8_t content[8]; /* its content; the bytes behind `length` are 0 */
 } pz_datagram;
 
@@ -215,8 +220,8 @@ void pz_open(pz_access *access);
 void pz_read(pz_access *access, uint16_t word);
 
 /*
- * Begins to issue a word to an open slave: sends the command that writes it, once. Ends with PZ_TAKEN, PZ_NOT_TAKEN or PZ_LOST. Behind
- * each of them the word may hold anything until pz_settle says PZ_WRITTEN.
+ * Begins to issue a word to an open slave: sends the command that writes it, in one datagram. Ends with PZ_TAKEN, PZ_NOT_TAKEN or PZ_LOST.
+ * Behind each of them the word may hold anything until pz_settle says PZ_WRITTEN.
  */
 void pz_issue(pz_access *access, uint16_t word, uint16_t value);
 

@@ -16,9 +16,9 @@ use Rattle.site_core.specs.State.{Seen, clock}
 use Rattle.site_core.proofs.Times.{Follows-clock}
 use Rattle.esc_rom.specs.declared.poll.Rested.TheVariants.{Well, Failed}
 use Rattle.esc_rom.specs.declared.reading.WordPair.{WordPair}
-use Rattle.esc_rom.specs.declared.reading.Tried.TheVariants as tried
 use Rattle.esc_rom.specs.Past.{Refuses, HalfAt, EndsTry, still_busy, command_lost, in_error, words_lost, FailTries, no_try, one_more_try}
 use Rattle.esc_rom.specs.Runs.{Ran, Waited, WasLost, Wrote}
+use Rattle.esc_rom.specs.WordPairs.Tried.{words_read, try_failed, not_seen_idle}
 use Rattle.esc_rom.specs.WordPairs.{pair_of, Fetched, IsRead, TriesRead, ReadsPair}
 use Rattle.esc_rom.proofs.Runs.{Ran-then, Ran-weaker, SoFar, so_then, so_over, so_clock}
 use Rattle.esc_rom.proofs.Past.{HalfAt-now, HalfAt-then, never_idle, NeverIdle-behind, FailTries-stays}
@@ -129,7 +129,7 @@ module _ (slave word : ℕ) (near : slave < 64) (word_fits : word < 2 ^ 16) wher
       ]
 
 module _ {a : Seen} {slave word : ℕ} (near : slave < 64) (word_fits : word < 2 ^ 16) where
-  pub command_fails : {b : Seen} → Ran (Wrote (read_order slave word) a b false) a slave 1 b → Ran (TriesRead a slave word b tried.Failed) a slave 10002 b
+  pub command_fails : {b : Seen} → Ran (Wrote (read_order slave word) a b false) a slave 1 b → Ran (TriesRead a slave word b try_failed) a slave 10002 b
   command_fails {b} ran = Ran-weaker (omega arith) (λ half later here there wrote. (
     elim (wrote_receives (read_order slave word) a b false half later wrote) [ inl same ↦ subst (λ (h : SlaveHalf). OnlyRests half h) (sym same) (OnlyRests-same half) | inr receives ↦ receives_only slave word near word_fits half later receives ],
     λ at. elim wrote [ inl lost ↦ command_lost lost.1 lost.2 | inr refuses ↦ ends_refused slave word near word_fits a b half later at refuses ],
@@ -150,11 +150,11 @@ module _ {a : Seen} {slave word : ℕ} (near : slave < 64) (word_fits : word < 2
             ];
           }
 
-  pub try_dead : {b d : Seen} → Ran (HasAsked slave word) a slave 1 b → Ran (Waited b slave d None) b slave 10000 d → Ran (TriesRead a slave word d tried.Dead) a slave 10002 d
+  pub try_dead : {b d : Seen} → Ran (HasAsked slave word) a slave 1 b → Ran (Waited b slave d None) b slave 10000 d → Ran (TriesRead a slave word d not_seen_idle) a slave 10002 d
   try_dead {b} {d} ran more =
       Ran-then (omega arith) (λ half mid later has waited. (OnlyRests-then half mid later has.only (MayRest-only mid later waited.0), never_idle a b d slave (Follows-clock a b ran.quiet.follows) waited.1)) ran more
 
-  pub error_fails : {b d : Seen} → Ran (HasAsked slave word) a slave 1 b → Ran (Waited b slave d (Some Failed)) b slave 10000 d → Ran (TriesRead a slave word d tried.Failed) a slave 10002 d
+  pub error_fails : {b d : Seen} → Ran (HasAsked slave word) a slave 1 b → Ran (Waited b slave d (Some Failed)) b slave 10000 d → Ran (TriesRead a slave word d try_failed) a slave 10002 d
   error_fails {b} {d} ran more =
       Ran-then (omega arith) (λ half mid later has waited. (
         OnlyRests-then half mid later has.only (MayRest-only mid later waited.0),
@@ -181,7 +181,7 @@ module _ {a : Seen} {slave word : ℕ} (near : slave < 64) (word_fits : word < 2
             }
       ]
 
-  pub words_fail : {d e : Seen} → Ran (HasFetched slave word) a slave 10001 d → Ran (Fetched d slave e None) d slave 1 e → Ran (TriesRead a slave word e tried.Failed) a slave 10002 e
+  pub words_fail : {d e : Seen} → Ran (HasFetched slave word) a slave 10001 d → Ran (Fetched d slave e None) d slave 1 e → Ran (TriesRead a slave word e try_failed) a slave 10002 e
   words_fail {d} {e} ran more = Ran-then (omega arith) (λ half mid later has so. (
     OnlyRests-then half mid later has.only (MayRest-only mid later so.0),
     λ at. elim so.1 [
@@ -190,7 +190,7 @@ module _ {a : Seen} {slave word : ℕ} (near : slave < 64) (word_fits : word < 2
     ],
   )) ran more
 
-  pub pair_read : {d e : Seen} {pair : WordPair} → Ran (HasFetched slave word) a slave 10001 d → Ran (Fetched d slave e (Some pair)) d slave 1 e → Ran (TriesRead a slave word e (tried.Read pair)) a slave 10002 e
+  pub pair_read : {d e : Seen} {pair : WordPair} → Ran (HasFetched slave word) a slave 10001 d → Ran (Fetched d slave e (Some pair)) d slave 1 e → Ran (TriesRead a slave word e (words_read pair)) a slave 10002 e
   pair_read {pair = pair} ran more = Ran-then (omega arith) (λ half mid later has so. subst (λ (h : SlaveHalf). IsRead pair word half h) (sym (MayRest-idle mid later has.well.idle so.0)) (record {
     only = has.only;
     idle = has.well.idle;
@@ -218,12 +218,12 @@ pub record FailedSo (a : Seen) (slave word times : ℕ) (b : Seen) (half later :
 pub failed_none : (a : Seen) (slave word : ℕ) (half : SlaveHalf) → FailedSo a slave word 0 a half half
 failed_none a slave word half = record { only = OnlyRests-same half; tries = λ at. no_try }
 
-pub failed_more : {a b c : Seen} {slave word times : ℕ} → Ran (TriesRead b slave word c tried.Failed) b slave 10002 c → SoFar (FailedSo a slave word times b) a slave (10002 * times) b
+pub failed_more : {a b c : Seen} {slave word times : ℕ} → Ran (TriesRead b slave word c try_failed) b slave 10002 c → SoFar (FailedSo a slave word times b) a slave (10002 * times) b
     → Ran (FailedSo a slave word (times + 1) c) a slave (10002 * (times + 1)) c
 failed_more {a} {b} {c} {slave} {word} {times} ran so =
     so_then {n = 10002} (omega arith) both so (Ran-weaker (omega arith) (λ half later here there goes. (HalfAt-then b c slave half ran.quiet.follows here, HalfAt-now c slave (clock c) later refl there, goes)) ran)
   where
-    both : (half mid later : SlaveHalf) → FailedSo a slave word times b half mid → HalfAt c slave (clock b) mid × HalfAt c slave (clock c) later × TriesRead b slave word c tried.Failed mid later
+    both : (half mid later : SlaveHalf) → FailedSo a slave word times b half mid → HalfAt c slave (clock b) mid × HalfAt c slave (clock c) later × TriesRead b slave word c try_failed mid later
         → FailedSo a slave word (times + 1) c half later
     both half mid later failed one = record {
       only = OnlyRests-then half mid later failed.only one.2.0;
@@ -234,12 +234,12 @@ failed_more {a} {b} {c} {slave} {word} {times} ran so =
       });
     }
 
-pub pair_behind : {a b c : Seen} {slave word times : ℕ} {pair : WordPair} → times < 3 → SoFar (FailedSo a slave word times b) a slave (10002 * times) b → Ran (TriesRead b slave word c (tried.Read pair)) b slave 10002 c
+pub pair_behind : {a b c : Seen} {slave word times : ℕ} {pair : WordPair} → times < 3 → SoFar (FailedSo a slave word times b) a slave (10002 * times) b → Ran (TriesRead b slave word c (words_read pair)) b slave 10002 c
     → Ran (ReadsPair a slave word c (Some pair)) a slave 30006 c
 pair_behind few so ran =
     so_then (omega arith) (λ half mid later failed read. record { only = OnlyRests-then half mid later failed.only read.only; idle = read.idle; first = read.first; second = read.second }) so ran
 
-pub dead_behind : {a b c : Seen} {slave word times : ℕ} → times < 3 → SoFar (FailedSo a slave word times b) a slave (10002 * times) b → Ran (TriesRead b slave word c tried.Dead) b slave 10002 c
+pub dead_behind : {a b c : Seen} {slave word times : ℕ} → times < 3 → SoFar (FailedSo a slave word times b) a slave (10002 * times) b → Ran (TriesRead b slave word c not_seen_idle) b slave 10002 c
     → Ran (ReadsPair a slave word c None) a slave 30006 c
 dead_behind {a} {b} {c} {slave} few so ran =
     so_then (omega arith) (λ half mid later failed dead. (OnlyRests-then half mid later failed.only dead.0, inl (NeverIdle-behind a b c slave (so_clock so) dead.1))) so ran

@@ -1,5 +1,5 @@
 -- The courses of word access, by how they end.
-use Rattle.std.proofs.Common.{◌≡◌, ◌≢◌, ℕ, ◌+◌, ◌*◌, ◌==◌, ◌<◌, Bool, true, false, List, [], ◌∷◌, ◌++◌, length, slice_index, Option, Some, None, Result, Ok, Err, IsErr, IsErrAnd, IfErr, IsTrue, refl, sym, ap, subst, inl, inr}
+use Rattle.std.proofs.Common.{◌≡◌, ℕ, ◌+◌, ◌==◌, ◌<◌, Bool, true, false, List, [], ◌++◌, length, slice_index, Some, Result, Ok, Err, IfErr, IsTrue, refl, sym, subst, inl, inr}
 use Rattle.std.specs.Int.{w16, w32, to_le_bytes}
 use Rattle.ecat_frame.specs.Frame.{Pdu, sent}
 use Rattle.ecat_frame.specs.declared.command.Command.TheVariants.{Fpwr}
@@ -15,9 +15,9 @@ use Rattle.esc_rom.specs.declared.poll.Rested.{Rested}
 use Rattle.esc_rom.specs.declared.poll.Rested.TheVariants.{Well, Failed}
 use Rattle.esc_rom.specs.Access.{OpensSlave, ReadsWords}
 use Rattle.esc_rom.specs.Reading.{ReadsInParts, KeepsFirst}
-use Rattle.esc_rom.specs.Courses.{Asked, AskedInTurn, Takes, Ends, Then, UpTo}
-use Rattle.esc_rom.specs.Sent.{WritesBy, WaitsBy, issued_by, SettlesBehind, ReadsNext, FillsBy, OpensBy, OpensSlaveBy, ReadsAllBy, OpensAndReads, ReadsSlaveBy, FirstReadBy, no_slave, one_more_slave, ReadsLineBy}
-use Rattle.esc_rom.proofs.Courses.{asked-then, takes-none, takes-then, RoundsSo}
+use Rattle.esc_rom.specs.Courses.{Asked, AskedInTurn, Takes, Ends, Then}
+use Rattle.esc_rom.specs.Sent.{WritesBy, WaitsBy, issued_by, SettlesBehind, ReadsNext, FillsBy, OpensBy, OpensSlaveBy, ReadsAllBy, ReadsSlaveBy, FirstReadBy, no_slave, one_more_slave, ReadsLineBy}
+use Rattle.esc_rom.proofs.Courses.{asked-then, takes-none, RoundsSo}
 
 -- ISSUE
 

@@ -1,5 +1,5 @@
 -- Courses: which frames a call sends, one after another, as what came back for each decides, and how it ends.
-use Rattle.std.specs.Prelude.{◌≡◌, ◌≢◌, ◌⊎◌, ℕ, ◌+◌, ◌<◌, ◌==◌, Bool, true, false, List, [], ◌∷◌, ◌++◌, Result, Ok, Err, IsErr}
+use Rattle.std.specs.Prelude.{◌≡◌, ◌≢◌, ◌⊎◌, ℕ, ◌+◌, ◌<◌, Bool, true, false, List, [], ◌∷◌, ◌++◌, Result, Ok, Err, IsErr}
 use Rattle.ecat_frame.specs.Frame.{Pdu}
 use Rattle.site_core.specs.declared.fault.DeviceFault.{DeviceFault}
 use Rattle.site_core.specs.declared.fault.DeviceFault.TheVariants as device

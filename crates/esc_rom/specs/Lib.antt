@@ -9,3 +9,4 @@ pub mod Owned
 pub mod Reading
 pub mod Courses
 pub mod Sent
+pub mod Driving

@@ -14,10 +14,9 @@ use Rattle.esc_rom.specs.declared.fault.Stop.{Stop}
 use Rattle.esc_rom.specs.declared.poll.Rested.{Rested}
 use Rattle.esc_rom.specs.declared.poll.Rested.TheVariants.{Well, Failed}
 use Rattle.esc_rom.specs.declared.reading.WordPair.{WordPair}
-use Rattle.esc_rom.specs.declared.reading.Tried.{Tried}
-use Rattle.esc_rom.specs.declared.reading.Tried.TheVariants as tried
 use Rattle.esc_rom.specs.Status.{found_in}
-use Rattle.esc_rom.specs.WordPairs.{pair_of}
+use Rattle.esc_rom.specs.WordPairs.{Tried, pair_of}
+use Rattle.esc_rom.specs.WordPairs.Tried.{words_read, try_failed, not_seen_idle}
 use Rattle.esc_rom.specs.Courses.{Asked, Course, Takes, Asks, Ends, Then, OnlyIf, UpTo, AsCourse}
 
 -- ONE DATAGRAM
@@ -84,17 +83,17 @@ OpensBy slave = Then (InsistsBy slave (access_order slave 2)) (λ forced. OnlyIf
 -- READ
 
 abbrev pub tried_of : Option WordPair → Tried
-tried_of None = tried.Failed
-tried_of (Some pair) = tried.Read pair
+tried_of None = try_failed
+tried_of (Some pair) = words_read pair
 
 -- The slave took the command to read, and the waiting ended so. The words are fetched if it is idle without an error.
 abbrev pub FetchesBehind : (slave : ℕ) → Option Rested → Course Tried
-FetchesBehind slave None = Ends tried.Dead
-FetchesBehind slave (Some Failed) = Ends tried.Failed
+FetchesBehind slave None = Ends not_seen_idle
+FetchesBehind slave (Some Failed) = Ends try_failed
 FetchesBehind slave (Some Well) = Then (FetchesBy slave) (λ pair. Ends (tried_of pair))
 
 abbrev pub WaitsBehind : (slave : ℕ) → (counted : Bool) → Course Tried
-WaitsBehind slave false = Ends tried.Failed
+WaitsBehind slave false = Ends try_failed
 WaitsBehind slave true = Then (WaitsBy slave) (FetchesBehind slave)
 
 -- One try to read a word and the next one: the command to read, and if it is counted the polls and the fetch.
@@ -103,13 +102,13 @@ TriesBy slave word = Then (WritesBy slave (read_order slave word)) (WaitsBehind 
 
 -- a try that gave the two words
 abbrev pub pair_in : Tried → Option WordPair
-pair_in (tried.Read pair) = Some pair
-pair_in tried.Failed = None
-pair_in tried.Dead = None
+pair_in (words_read pair) = Some pair
+pair_in try_failed = None
+pair_in not_seen_idle = None
 
 -- up to three tries, each of which sends its command
 abbrev pub ReadsPairBy : (slave word : ℕ) → Course (Option WordPair)
-ReadsPairBy slave word = Then (UpTo 3 (λ try. TriesBy slave word) tried.Failed) (λ last. Ends (pair_in last))
+ReadsPairBy slave word = Then (UpTo 3 (λ try. TriesBy slave word) try_failed) (λ last. Ends (pair_in last))
 
 -- the words of this pair, and whether they were read
 abbrev pub ReadsNext : (slave pair : ℕ) → Course Bool

@@ -6,9 +6,14 @@ use Rattle.esc_model.specs.WordAccess.{IsAt, IsIdle, OnlyRests}
 use Rattle.site_core.specs.State.{Seen, clock}
 use Rattle.site_core.specs.Times.{FailsAt}
 use Rattle.esc_rom.specs.declared.reading.WordPair.{WordPair}
-use Rattle.esc_rom.specs.declared.reading.Tried.{Tried}
-use Rattle.esc_rom.specs.declared.reading.Tried.TheVariants as tried
 use Rattle.esc_rom.specs.Past.{NeverIdle, EndsTry, FailTries, GivesUpReading}
+
+-- The outcome of one try to read two words: they were read; or a frame was lost, a working counter wasn't 1, or the slave showed an error;
+-- or the slave wasn't seen idle in 10,000 polls.
+pub data Tried : Type 0 where
+  words_read : WordPair → Tried
+  try_failed : Tried
+  not_seen_idle : Tried
 
 -- the two words in an answer, each with its low byte first, if the working counter is 1
 abbrev pub pair_of : Pdu → Option WordPair
@@ -36,10 +41,10 @@ pub record IsRead (pair : WordPair) (word : ℕ) (half later : SlaveHalf) : Type
 
 -- One try: the pair was read, or the try failed, or the half wasn't seen idle in 10,000 polls.
 abbrev pub TriesRead : Seen → (slave word : ℕ) → Seen → Tried → SlaveHalf → SlaveHalf → Type 0
-TriesRead old slave word new (tried.Read pair) half later = IsRead pair word half later
-TriesRead old slave word new tried.Failed half later =
+TriesRead old slave word new (words_read pair) half later = IsRead pair word half later
+TriesRead old slave word new try_failed half later =
     OnlyRests half later × (IsAt slave half → EndsTry new slave word (clock old) (clock new) half later)
-TriesRead old slave word new tried.Dead half later = OnlyRests half later × NeverIdle old slave new
+TriesRead old slave word new not_seen_idle half later = OnlyRests half later × NeverIdle old slave new
 
 -- The pair was read in at most three tries, or the slave is given up.
 abbrev pub ReadsPair : Seen → (slave word : ℕ) → Seen → Option WordPair → SlaveHalf → SlaveHalf → Type 0

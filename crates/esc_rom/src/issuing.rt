@@ -3,12 +3,15 @@
 ghost use Rattle.std.specs.Prelude.{◌≡◌, ◌++◌};
 ghost use Rattle.std.specs.Int.{w16, w32, to_le_bytes};
 ghost use Rattle.site_core.specs.Line.{Owns};
+ghost use Rattle.site_core.specs.declared.answers.Issued.{Issued};
+ghost use Rattle.rom_steps.specs.declared.step.End.TheVariants as ends;
 ghost use Rattle.esc_rom.specs.Access.{IssuesWord};
-ghost use Rattle.esc_rom.specs.Sent.{IssueSends};
+ghost use Rattle.esc_rom.specs.Courses.{Takes};
+ghost use Rattle.esc_rom.specs.Sent.{IssuesBy, IssueSends};
 
-use crate::registers::CONTROL;
-use crate::send::send;
-use ecat_frame::{Command, Frame};
+use crate::driving::drive;
+use crate::fault::Stop;
+use rom_steps::{End, begin_issue};
 use site_core::{DeviceFault, Issued, Site};
 
 /// Control and status: write enable, and the command write.
@@ -23,6 +26,27 @@ pub fn write_content(word: u16, value: u16) -> [u8; 8]
     let [a, b, c, d] = u32::from(word).to_le_bytes();
     let [low, high] = value.to_le_bytes();
     [enable, command, a, b, c, d, low, high]
+}
+
+/// The outcome at the end of an issue.
+fn issued_at(end: End) -> Issued
+    requires { (issued : Issued) × (end ≡ ends.Issued issued) }
+    ensures { end ≡ ends.Issued result }
+{
+    match end {
+        End::Issued(issued) => issued,
+        _ => unreachable!(),
+    }
+}
+
+/// Sends the command that writes a word, once.
+fn command<S: Site>(site: &mut S, slave: u16, word: u16, value: u16) -> Result<Issued, Stop>
+    requires { Owns (S.line site.old) slave }
+    ensures frames { Takes (IssuesBy slave word value) (S.seen site.old) result (S.seen site.new) }
+    ensures line { S.line site.new ≡ S.line site.old }
+{
+    let end = drive(site, slave, begin_issue(word, value))?;
+    Ok(issued_at(end))
 }
 
 /// Sends a slave the command to write one word of its EEPROM (ETG.1000.4, slave information interface), once: one frame with one
@@ -46,13 +70,6 @@ pub fn issue<S: Site>(
     ensures frames { IssueSends slave word value (S.seen site.old) result (S.seen site.new) }
     ensures line { S.line site.new ≡ S.line site.old }
 {
-    let content = write_content(word, value);
-    let mut frame = Frame::new();
-    if !send(site, &mut frame, slave, Command::Fpwr, CONTROL, &content)? {
-        return Ok(Issued::Lost);
-    }
-    if frame.datagram(0).counter == 1 {
-        return Ok(Issued::Taken);
-    }
-    Ok(Issued::NotTaken)
+    let issued = command(site, slave, word, value)?;
+    Ok(issued)
 }

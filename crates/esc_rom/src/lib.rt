@@ -1,6 +1,7 @@
 //! EEPROM words through the slave's registers: opening, reading and writing one slave, and reading all slaves of a line.
 #![tactic(auto)]
 
+mod driving;
 mod fault;
 mod issuing;
 pub mod laws;
@@ -12,7 +13,6 @@ mod reading;
 mod registers;
 mod send;
 mod settling;
-mod write;
 
 pub use fault::RomFault;
 pub use issuing::{issue, write_content};

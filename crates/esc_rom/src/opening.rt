@@ -6,31 +6,32 @@ ghost use Rattle.esc_rom.specs.Runs.{Performs};
 ghost use Rattle.esc_rom.specs.Access.{OpensSlave, BecomesOpen};
 ghost use Rattle.esc_rom.specs.Courses.{Takes};
 ghost use Rattle.esc_rom.specs.Sent.{OpensBy, OpeningSends};
+ghost use Rattle.esc_rom.specs.Driving.{is_open};
 
+use crate::driving::drive;
 use crate::fault::{RomFault, Stop};
-use crate::poll::wait_idle;
-use crate::registers::{ACCESS, CONTROL};
-use crate::write::insist;
-use ecat_frame::Frame;
+use rom_steps::{End, begin_opening};
 use site_core::Site;
 
+/// Whether an opening ended with the slave open.
+fn is_open(end: End) -> bool
+    ensures { result ≡ is_open end }
+{
+    match end {
+        End::Opened => true,
+        _ => false,
+    }
+}
+
 /// Takes the EEPROM from the PDI, waits until the slave is idle, and clears its errors. Returns whether all that succeeded.
-fn take_over<S: Site>(site: &mut S, frame: &mut Frame, slave: u16) -> Result<bool, Stop>
+fn take_over<S: Site>(site: &mut S, slave: u16) -> Result<bool, Stop>
     requires { Owns (S.line site.old) slave }
     ensures runs { Performs (BecomesOpen (S.seen site.old) slave (S.seen site.new)) (S.seen site.old) slave 10009 result (S.seen site.new) }
     ensures frames { Takes (OpensBy slave) (S.seen site.old) result (S.seen site.new) }
     ensures line { S.line site.new ≡ S.line site.old }
 {
-    if !insist(site, frame, slave, ACCESS, &[0x02])? {
-        return Ok(false);
-    }
-    if !insist(site, frame, slave, ACCESS, &[0x00])? {
-        return Ok(false);
-    }
-    let Some(_rested) = wait_idle(site, frame, slave)? else {
-        return Ok(false);
-    };
-    insist(site, frame, slave, CONTROL, &[0, 0])
+    let end = drive(site, slave, begin_opening())?;
+    Ok(is_open(end))
 }
 
 /// Opens the EEPROM of a slave for word access (ETG.1000.4, slave information interface): takes it from the PDI, waits until the slave
@@ -47,8 +48,7 @@ pub fn open_slave<S: Site>(site: &mut S, slave: u16) -> Result<(), RomFault>
     ensures frames { OpeningSends slave (S.seen site.old) result (S.seen site.new) }
     ensures line { S.line site.new ≡ S.line site.old }
 {
-    let mut frame = Frame::new();
-    if take_over(site, &mut frame, slave)? {
+    if take_over(site, slave)? {
         return Ok(());
     }
     Err(RomFault::SlaveDead { slave })

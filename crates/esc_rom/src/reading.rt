@@ -1,28 +1,23 @@
 //! Reading all words of a slave.
 
-ghost use Rattle.std.specs.Prelude.{◌≡◌, ◌+◌, ◌*◌, ◌/◌, ◌++◌, length, slice_index, IfOk, IfErr};
+ghost use Rattle.std.specs.Prelude.{◌≡◌, ◌+◌, ◌*◌, ◌/◌, length, slice_index, IfOk, IfErr};
 ghost use Rattle.sii_words.specs.Words.{IsDeviceSize};
-ghost use Rattle.std.specs.Int.{w16, w32, to_le_bytes};
-ghost use Rattle.ecat_frame.specs.Frame.{pdu};
 ghost use Rattle.site_core.specs.Line.{Owns};
 ghost use Rattle.esc_rom.specs.Runs.{Performs};
-ghost use Rattle.esc_rom.specs.WordPairs.{pair_of, Fetched, TriesRead, ReadsPair, ReadsAll};
+ghost use Rattle.esc_rom.specs.WordPairs.{ReadsPair, ReadsAll};
 ghost use Rattle.esc_rom.specs.Access.{ReadsWords};
 ghost use Rattle.esc_rom.specs.Courses.{Takes};
-ghost use Rattle.esc_rom.specs.Sent.{FetchesBy, TriesBy, ReadsPairBy, FillsBy, ReadingSends};
+ghost use Rattle.esc_rom.specs.Sent.{ReadsPairBy, FillsBy, ReadingSends};
+ghost use Rattle.esc_rom.specs.Driving.{words_at};
 
+use crate::driving::drive;
 use crate::fault::{RomFault, Stop};
-use crate::poll::{Rested, wait_idle};
-use crate::registers::{CONTENT, CONTROL, TRIES};
-use crate::send::send;
-use crate::write::write;
-use ecat_frame::{Command, Datagram, Frame};
+use crate::poll::wait_idle;
+use ecat_frame::Frame;
+use rom_steps::{End, begin_reading};
 use sii_words::{Words, WordsFault};
 use site_core::Site;
 use std::alloc::Global;
-
-/// Control and status: the command read.
-const READ: u16 = 0x0100;
 
 /// Two neighbouring words.
 #[derive(Clone, Copy)]
@@ -31,96 +26,25 @@ pub(crate) struct WordPair {
     second: u16,
 }
 
-/// The outcome of one try to read two words.
-#[derive(Clone, Copy)]
-pub(crate) enum Tried {
-    Read(WordPair),
-    /// A frame was lost, a working counter wasn't 1, or the slave showed an error.
-    Failed,
-    /// The slave was polled 10,000 times and was never seen idle.
-    Dead,
-}
-
-/// The content of the datagram that asks for a word and the next one: the command, and the word's number in 32 bits.
-fn read_content(word: u16) -> [u8; 6]
-    ensures { result ≡ to_le_bytes w16 0x0100 ++ to_le_bytes w32 word }
+/// The words at the end of a reading. None if the slave was given up.
+fn words_at(end: End) -> Option<WordPair>
+    ensures { result ≡ words_at end }
 {
-    let [enable, command] = READ.to_le_bytes();
-    let [a, b, c, d] = u32::from(word).to_le_bytes();
-    [enable, command, a, b, c, d]
-}
-
-/// The two words in an answer. None if its working counter isn't 1.
-fn pair_in(answer: Datagram<'_>) -> Option<WordPair>
-    requires { length answer.content.now ≡ 4 }
-    ensures { result ≡ pair_of (pdu answer.entry) }
-{
-    if answer.counter != 1 {
-        return None;
+    match end {
+        End::Read { first, second } => Some(WordPair { first, second }),
+        _ => None,
     }
-    let content = answer.content;
-    Some(WordPair {
-        first: u16::from(content[0]) + 256 * u16::from(content[1]),
-        second: u16::from(content[2]) + 256 * u16::from(content[3]),
-    })
-}
-
-/// Fetches the two words that a slave has read. None if the frame is lost, or the working counter isn't 1.
-fn fetch<S: Site>(site: &mut S, frame: &mut Frame, slave: u16) -> Result<Option<WordPair>, Stop>
-    requires { Owns (S.line site.old) slave }
-    ensures runs { Performs (Fetched (S.seen site.old) slave (S.seen site.new)) (S.seen site.old) slave 1 result (S.seen site.new) }
-    ensures frames { Takes (FetchesBy slave) (S.seen site.old) result (S.seen site.new) }
-    ensures line { S.line site.new ≡ S.line site.old }
-{
-    if !send(site, frame, slave, Command::Fprd, CONTENT, &[0, 0, 0, 0])? {
-        return Ok(None);
-    }
-    Ok(pair_in(frame.datagram(0)))
-}
-
-/// Tries once to read a word and the next one.
-fn try_pair<S: Site>(site: &mut S, frame: &mut Frame, slave: u16, word: u16) -> Result<Tried, Stop>
-    requires { Owns (S.line site.old) slave }
-    ensures runs { Performs (TriesRead (S.seen site.old) slave word (S.seen site.new)) (S.seen site.old) slave 10002 result (S.seen site.new) }
-    ensures frames { Takes (TriesBy slave word) (S.seen site.old) result (S.seen site.new) }
-    ensures line { S.line site.new ≡ S.line site.old }
-{
-    let content = read_content(word);
-    if !write(site, frame, slave, CONTROL, &content)? {
-        return Ok(Tried::Failed);
-    }
-    let Some(rested) = wait_idle(site, frame, slave)? else {
-        return Ok(Tried::Dead);
-    };
-    let Rested::Well = rested else {
-        return Ok(Tried::Failed);
-    };
-    let Some(pair) = fetch(site, frame, slave)? else {
-        return Ok(Tried::Failed);
-    };
-    Ok(Tried::Read(pair))
 }
 
 /// Reads a word and the next one, in at most three tries. None if the slave is given up.
-fn read_pair<S: Site>(
-    site: &mut S,
-    frame: &mut Frame,
-    slave: u16,
-    word: u16,
-) -> Result<Option<WordPair>, Stop>
+fn read_pair<S: Site>(site: &mut S, slave: u16, word: u16) -> Result<Option<WordPair>, Stop>
     requires { Owns (S.line site.old) slave }
     ensures runs { Performs (ReadsPair (S.seen site.old) slave word (S.seen site.new)) (S.seen site.old) slave 30006 result (S.seen site.new) }
     ensures frames { Takes (ReadsPairBy slave word) (S.seen site.old) result (S.seen site.new) }
     ensures line { S.line site.new ≡ S.line site.old }
 {
-    for _try in 0..TRIES {
-        match try_pair(site, frame, slave, word)? {
-            Tried::Read(pair) => return Ok(Some(pair)),
-            Tried::Dead => return Ok(None),
-            Tried::Failed => {}
-        }
-    }
-    Ok(None)
+    let end = drive(site, slave, begin_reading(word))?;
+    Ok(words_at(end))
 }
 
 /// Waits until a slave is idle, and replaces `words` by the slave's words, read two by two. Returns whether all were read.
@@ -141,7 +65,7 @@ fn wait_and_fill<S: Site>(
         return Ok(false);
     };
     for pair in 0..words.len() / 2 {
-        let Some(found) = read_pair(site, frame, slave, (2 * pair) as u16)? else {
+        let Some(found) = read_pair(site, slave, (2 * pair) as u16)? else {
             return Ok(false);
         };
         words.set(2 * pair, found.first);

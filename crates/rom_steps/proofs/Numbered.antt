@@ -1,5 +1,6 @@
 -- Steps as numbers.
-use Rattle.std.proofs.Common.{◌≡◌, ℕ, List, Some, Result, Ok, Err, refl, sym, ap, subst, ◌∙◌, arith}
+use Rattle.std.proofs.Common.{◌≡◌, ℕ, ◌≤◌, List, length, take, Some, Result, Ok, Err, refl, sym, ap, subst, ◌∙◌, arith}
+use Rattle.std.proofs.lemmas.List.{length-take-le}
 use Rattle.ecat_frame.specs.Frame.{Pdu}
 use Rattle.site_core.specs.declared.fault.DeviceFault.{DeviceFault}
 use Rattle.site_core.specs.declared.fault.DeviceFault.TheVariants as device
@@ -40,3 +41,7 @@ lost-back came is = subst (λ (r : Result Pdu DeviceFault). IsBack Lost r) (sym 
 
 pub moves-as : (slave : ℕ) (step later : Step) (came fault : Result Pdu DeviceFault) → came ≡ fault → Moves slave step fault later → Moves slave step came later
 moves-as slave step later came fault is moves = subst (λ (r : Result Pdu DeviceFault). Moves slave step r later) (sym is) moves
+
+-- the content of a datagram is as long as it says
+pub taken_length : (count : ℕ) (content : List ℕ) → count ≤ 8 → length content ≡ 8 → length (take count content) ≡ count
+taken_length count content few long = length-take-le count content (omega arith)

@@ -9,7 +9,7 @@ use Rattle.rom_steps.specs.declared.step.End.{End}
 use Rattle.rom_steps.specs.declared.step.Step.{Step}
 use Rattle.rom_steps.specs.declared.step.Step.TheVariants.{Ended, Stopped}
 use Rattle.rom_steps.specs.Numbers.{code_of_end, step_in}
-use Rattle.rom_steps.specs.Remaining.{Begins, IsNext, IsOver, Moves, left, pdu_to}
+use Rattle.rom_steps.specs.Remaining.{Begins, IsToSend, IsOver, Moves, left}
 
 -- The numbers are the first step of this course, behind which at most this number of datagrams is sent.
 pub record Starts (course : (slave : ℕ) → Course End) (most : ℕ) (access : Access) : Type 0 where
@@ -21,8 +21,7 @@ pub record Starts (course : (slave : ℕ) → Course End) (most : ℕ) (access :
 -- What is asked for next: 100, this datagram is to be sent; else the code of the end, or 42 where the line has stopped; or 110, the
 -- numbers are no step.
 pub data TellsNext (access : Access) (code : ℕ) (datagram : ToSend) (Unchanged : Type 0) : Type 0 where
-  sends : (step : Step) → code ≡ 100 → step_in access ≡ Some step → ((slave : ℕ) → IsNext slave step (pdu_to slave datagram))
-      → TellsNext access code datagram Unchanged
+  sends : (step : Step) → code ≡ 100 → step_in access ≡ Some step → IsToSend step datagram → TellsNext access code datagram Unchanged
   ended : (end : End) → code ≡ code_of_end end → step_in access ≡ Some (Ended end) → Unchanged → TellsNext access code datagram Unchanged
   stopped : code ≡ 42 → step_in access ≡ Some Stopped → Unchanged → TellsNext access code datagram Unchanged
   no_step : code ≡ 110 → step_in access ≡ None → Unchanged → TellsNext access code datagram Unchanged
@@ -45,9 +44,16 @@ abbrev pub IsAnswer : (counter : ℕ) → List ℕ → Result Pdu DeviceFault �
 IsAnswer counter content (Ok reply) = (reply.counter ≡ counter) × (reply.content ≡ content)
 IsAnswer counter content (Err fault) = ⊥
 
--- The same, or 111: the content isn't as long as that of the datagram, and nothing was changed.
+-- The content is as long as that of the datagram of this step.
+pub record IsAsLong (access : Access) (content : List ℕ) : Type 0 where
+  pub step : Step
+  pub is : step_in access ≡ Some step
+  pub datagram : ToSend
+  pub sends : IsToSend step datagram
+  pub long : length content ≡ datagram.length
+
+-- The same; the content is as long as that of the datagram then. Or 111: it isn't, and nothing was changed.
 pub data StepsWith (old : Access) (code : ℕ) (new : Access) (counter : ℕ) (content : List ℕ) : Type 0 where
-  steps : Steps old code new (IsAnswer counter content) → StepsWith old code new counter content
-  other_length : (step : Step) → (datagram : ToSend) → code ≡ 111 → step_in old ≡ Some step
-      → ((slave : ℕ) → IsNext slave step (pdu_to slave datagram)) → length content ≢ datagram.length → new ≡ old
-      → StepsWith old code new counter content
+  steps : Steps old code new (IsAnswer counter content) → (code ≡ 0 → IsAsLong old content) → StepsWith old code new counter content
+  other_length : (step : Step) → (datagram : ToSend) → code ≡ 111 → step_in old ≡ Some step → IsToSend step datagram
+      → length content ≢ datagram.length → new ≡ old → StepsWith old code new counter content

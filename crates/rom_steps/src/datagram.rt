@@ -1,6 +1,6 @@
 //! The datagram that is sent next.
 
-ghost use Rattle.std.specs.Prelude.{◌≡◌, ℕ, [], ◌∷◌, MatchOption};
+ghost use Rattle.std.specs.Prelude.{◌≡◌, ◌≤◌, ℕ, [], ◌∷◌, length, take, MatchOption, IfSome};
 ghost use Rattle.rom_steps.specs.Remaining.{IsNext, IsOver, pdu_to};
 
 use crate::registers::{ACCESS, CONTENT, CONTROL, read_content, write_content};
@@ -26,23 +26,29 @@ const FPRD: u8 = 4;
 /// The command configured address physical write.
 const FPWR: u8 = 5;
 
-fn reads(register: u16, length: u8) -> ToSend
-    ensures { result ≡ record { command = 4; length = length; register = register; content = 0 ∷ 0 ∷ 0 ∷ 0 ∷ 0 ∷ 0 ∷ 0 ∷ 0 ∷ [] } }
+#[tactic(auto, using(crate::proofs::Numbered::taken_length))]
+fn reads(register: u16, count: u8) -> ToSend
+    requires { count ≤ 8 }
+    ensures long { length (take result.length result.content) ≡ result.length }
+    ensures is { result ≡ record { command = 4; length = count; register = register; content = 0 ∷ 0 ∷ 0 ∷ 0 ∷ 0 ∷ 0 ∷ 0 ∷ 0 ∷ [] } }
 {
     ToSend {
         command: FPRD,
-        length,
+        length: count,
         register,
         content: [0; 8],
     }
 }
 
-fn writes(register: u16, length: u8, content: [u8; 8]) -> ToSend
-    ensures { result ≡ record { command = 5; length = length; register = register; content = content } }
+#[tactic(auto, using(crate::proofs::Numbered::taken_length))]
+fn writes(register: u16, count: u8, content: [u8; 8]) -> ToSend
+    requires { count ≤ 8 }
+    ensures long { length (take result.length result.content) ≡ result.length }
+    ensures is { result ≡ record { command = 5; length = count; register = register; content = content } }
 {
     ToSend {
         command: FPWR,
-        length,
+        length: count,
         register,
         content,
     }
@@ -50,7 +56,8 @@ fn writes(register: u16, length: u8, content: [u8; 8]) -> ToSend
 
 /// The datagram that is sent next; `None` where the access has ended.
 pub fn next_of(step: Step) -> Option<ToSend>
-    ensures { MatchOption result (IsOver step) (λ datagram. (slave : ℕ) → IsNext slave step (pdu_to slave datagram)) }
+    ensures next { MatchOption result (IsOver step) (λ datagram. (slave : ℕ) → IsNext slave step (pdu_to slave datagram)) }
+    ensures long { IfSome result (λ datagram. length (take datagram.length datagram.content) ≡ datagram.length) }
 {
     match step {
         Step::Forces { .. } => Some(writes(ACCESS, 1, [2, 0, 0, 0, 0, 0, 0, 0])),

@@ -1,4 +1,5 @@
 mod Apart
-mod Only
 mod Due
+mod Only
 mod Sending
+mod Came

@@ -1,4 +1,5 @@
 pub mod Access
 pub mod Answering
+pub mod Came
 pub mod Numbers
 pub mod Sending

@@ -1,16 +1,21 @@
 //! Datagrams to slaves that have no shadow yet, and their replies.
-ghost use Rattle.std.specs.Prelude.{◌≡◌, ◌⊎◌, ◌<◌, ◌≤◌, true, length};
-ghost use Rattle.ecat_frame.specs.Frame.{sent};
+ghost use Rattle.std.specs.Prelude.{◌≡◌, ◌≢◌, ◌⊎◌, ◌↔◌, ◌<◌, ◌≤◌, true, length, take, slice_index, None, IfSome, IfOk, OnOk, IsTrue};
+ghost use Rattle.std.specs.Int.{w16, to_le_bytes};
+ghost use Rattle.ecat_frame.specs.Command.{code_of};
+ghost use Rattle.ecat_frame.specs.Frame.{pdu, sent};
 ghost use Rattle.ecat_frame.specs.declared.command.Command.TheVariants.{Fprd, Fpwr};
+ghost use Rattle.esc_model.specs.Orders.{address_of};
+ghost use Rattle.site_wire.specs.Came.{IsReplyTo, IsFrom, IsUncounted, Heard, Unheard, Told, Answered, Looked, read_command, TriedCame, PairCame};
 ghost use Rattle.site_wire.specs.Sending.{InEeprom, LeavesRunning};
 ghost use Rattle.site_wire.specs.declared.asking.Hitch.TheVariants as hitch;
 
 use crate::faults::Sighting;
-use crate::numbered::NumberedWire;
+use crate::fitting::{FPRD, FPWR};
+use crate::numbered::{NumberedWire, Returned};
 use crate::pace::{ATTEMPTS, Pace};
 use crate::registers::{APRD, BRD, STATION};
 use crate::wire::Wire;
-use ecat_frame::{Command, Datagram, Frame, fp};
+use ecat_frame::{Command, Datagram, fp};
 use esc_model::station_address;
 use esc_rom::{ACCESS, CONTENT, CONTROL, POLLS, TRIES};
 use std::alloc::{AllocError, AllocFailed};
@@ -78,7 +83,10 @@ impl Last {
 
 impl Reply {
     /// The two bytes that one slave answered. None where it isn't one that counted the datagram.
-    pub(crate) fn word(&self) -> Option<u16> {
+    pub(crate) fn word(&self) -> Option<u16>
+        ensures none { result ≡ None → self.now.counter ≢ 1 }
+        ensures some { IfSome result (λ word. (self.now.counter ≡ 1) × (take 2 self.now.content ≡ to_le_bytes w16 word)) }
+    {
         let [low, high, _, _] = self.content;
         if self.counter == 1 {
             Some(u16::from_le_bytes([low, high]))
@@ -89,17 +97,34 @@ impl Reply {
 }
 
 /// The first four bytes of these, and zeros where there are fewer.
-fn front_of(bytes: &[u8]) -> [u8; 4] {
+fn front_of(bytes: &[u8]) -> [u8; 4]
+    ensures { length bytes.now ≤ 4 → take (length bytes.now) result ≡ bytes.now }
+{
     let mut front = [0u8; 4];
     let count = bytes.len().min(4);
     front[..count].copy_from_slice(&bytes[..count]);
     front
 }
 
-/// The reply in a frame that came back. Another datagram than this command, with so many bytes, counts as not taken.
-fn reply_in(frame: &Frame, command: Command, count: usize) -> Reply {
-    if let Some(answer) = frame.datagrams().next() {
-        if answer.command == command && answer.content.len() == count {
+/// Whether a datagram that came back is the answer to this one, which went to `address`. What was written comes back as it was.
+fn is_reply(asked: Datagram<'_>, address: u32, answer: Datagram<'_>) -> bool
+    ensures { IsTrue result ↔ IsReplyTo (pdu asked.entry) address (pdu answer.entry) }
+{
+    let code = asked.command.code();
+    answer.command.code() == code
+        && answer.content.len() == asked.content.len()
+        && (answer.address == address || (code != FPRD && code != FPWR))
+        && (answer.content == asked.content || code != FPWR)
+}
+
+/// The reply in a frame that came back. Another datagram than the answer to this one counts as not taken.
+fn reply_in(asked: Datagram<'_>, returned: &Returned) -> Reply
+    ensures counted { result.counter ≡ 1 → IsFrom (pdu asked.entry) returned.now.address returned.now.frame result }
+    ensures uncounted { result.counter ≢ 1 → IsUncounted (pdu asked.entry) returned.now.address returned.now.frame }
+{
+    if returned.frame.count() > 0 {
+        let answer = returned.frame.datagram(0);
+        if is_reply(asked, returned.address, answer) {
             return Reply {
                 content: front_of(answer.content),
                 counter: answer.counter,
@@ -121,6 +146,9 @@ pub(crate) fn ask<W: Wire>(
 ) -> Option<Reply>
     requires may { wire.old.is_lent ≡ true → LeavesRunning (sent command 0 address content.now) }
     ensures lent { wire.new.is_lent ≡ wire.old.is_lent }
+    ensures same { wire.new.stations ≡ wire.old.stations }
+    ensures heard { IfSome result (Heard W.gives wire.old.stations.by_slave (sent command 0 address content.now)) }
+    ensures unheard { IfSome result (Unheard W.gives wire.old.stations.by_slave (sent command 0 address content.now)) }
 {
     let datagram = Datagram {
         command: Command::from(command.code()),
@@ -130,7 +158,7 @@ pub(crate) fn ask<W: Wire>(
         counter: 0,
     };
     let returned = wire.pass(datagram)?;
-    Some(reply_in(&returned.frame, command, content.len()))
+    Some(reply_in(datagram, &returned))
 }
 
 /// Reads or writes registers of a slave's EEPROM.
@@ -145,6 +173,9 @@ pub(crate) fn tell<W: Wire>(
     requires command { (command ≡ Fprd) ⊎ (command ≡ Fpwr) }
     requires eeprom { InEeprom register (length content.now) }
     ensures lent { wire.new.is_lent ≡ wire.old.is_lent }
+    ensures same { wire.new.stations ≡ wire.old.stations }
+    ensures told { IfOk result (Told W.gives (slice_index wire.old.stations.by_slave slave) (code_of command) register content.now) }
+    ensures unheard { IfOk result (Unheard W.gives wire.old.stations.by_slave (sent command 0 (address_of slave register) content.now)) }
 {
     let address = fp(station_address(slave), register);
     ask(wire, command, address, content).ok_or(Hitch::Silent)
@@ -157,6 +188,8 @@ pub(crate) fn read_access<W: Wire>(
 ) -> Result<Option<u16>, Hitch>
     requires { slave < 64 }
     ensures lent { wire.new.is_lent ≡ wire.old.is_lent }
+    ensures same { wire.new.stations ≡ wire.old.stations }
+    ensures read { IfOk result (Looked W.gives wire.old.stations.by_slave slave 0x0500) }
 {
     let reply = tell(wire, slave, Command::Fprd, ACCESS, &[0, 0])?;
     Ok(reply.word())
@@ -165,6 +198,7 @@ pub(crate) fn read_access<W: Wire>(
 /// Polls a slave once. Gives what came back.
 fn poll<W: Wire>(wire: &mut NumberedWire<W>, slave: u16) -> Result<Last, Hitch>
     requires { slave < 64 }
+    ensures { wire.new.stations ≡ wire.old.stations }
 {
     let reply = tell(wire, slave, Command::Fprd, CONTROL, &[0, 0])?;
     let [_, status, _, _] = reply.content;
@@ -187,6 +221,7 @@ fn wait_idle<W: Wire, C: Clock>(
     slave: u16,
 ) -> Result<Last, Hitch>
     requires { slave < 64 }
+    ensures { wire.new.stations ≡ wire.old.stations }
 {
     let mut pace = Pace::of_polls();
     let mut last = poll(wire, slave)?;
@@ -216,6 +251,8 @@ pub(crate) fn put<W: Wire, C: Clock>(
 ) -> Result<(), Hitch>
     requires slave { slave < 64 }
     requires eeprom { InEeprom register (length content.now) }
+    ensures same { wire.new.stations ≡ wire.old.stations }
+    ensures taken { OnOk result (Answered W.gives (slice_index wire.old.stations.by_slave slave) 5 register content.now) }
 {
     let mut counter = None;
     for _try in 0..TRIES {
@@ -241,6 +278,7 @@ pub(crate) fn clear<W: Wire, C: Clock>(
     slave: u16,
 ) -> Result<(), Hitch>
     requires { slave < 64 }
+    ensures { wire.new.stations ≡ wire.old.stations }
 {
     let _idle = wait_idle(wire, clock, slave)?;
     put(wire, clock, slave, CONTROL, &[0, 0])
@@ -253,6 +291,14 @@ enum Tried {
     Refused(Last),
 }
 
+/// The content of the command to read a word and the next one.
+fn read_content(word: u16) -> [u8; 6]
+    ensures { result ≡ read_command word }
+{
+    let [a, b, c, d] = u32::from(word).to_le_bytes();
+    [0x00, 0x01, a, b, c, d]
+}
+
 /// Tries once to read a word and the next one.
 fn try_pair<W: Wire, C: Clock>(
     wire: &mut NumberedWire<W>,
@@ -261,9 +307,10 @@ fn try_pair<W: Wire, C: Clock>(
     word: u16,
 ) -> Result<Tried, Hitch>
     requires { slave < 64 }
+    ensures same { wire.new.stations ≡ wire.old.stations }
+    ensures read { IfOk result (TriedCame W.gives (slice_index wire.old.stations.by_slave slave) word) }
 {
-    let [low, high] = word.to_le_bytes();
-    put(wire, clock, slave, CONTROL, &[0x00, 0x01, low, high, 0, 0])?;
+    put(wire, clock, slave, CONTROL, &read_content(word))?;
     let last = wait_idle(wire, clock, slave)?;
     if last.is_refusal() {
         return Ok(Tried::Refused(last));
@@ -289,6 +336,8 @@ pub(crate) fn read_pair<W: Wire, C: Clock>(
     word: u16,
 ) -> Result<[u8; 4], Hitch>
     requires { slave < 64 }
+    ensures same { wire.new.stations ≡ wire.old.stations }
+    ensures read { IfOk result (PairCame W.gives (slice_index wire.old.stations.by_slave slave) word) }
 {
     read_in_tries(wire, clock, slave, word, ATTEMPTS)
 }
@@ -302,6 +351,8 @@ pub(crate) fn read_in_tries<W: Wire, C: Clock>(
     tries: u32,
 ) -> Result<[u8; 4], Hitch>
     requires { slave < 64 }
+    ensures same { wire.new.stations ≡ wire.old.stations }
+    ensures read { IfOk result (PairCame W.gives (slice_index wire.old.stations.by_slave slave) word) }
 {
     let mut pace = Pace::of_tries();
     let mut refused = None;
@@ -322,6 +373,7 @@ pub(crate) fn read_in_tries<W: Wire, C: Clock>(
 /// Looks around on the line, behind a datagram that a slave didn't take: how many slaves answer, and whether one does at its place.
 pub(crate) fn sight<W: Wire>(wire: &mut NumberedWire<W>, slave: u16, last: Last) -> Sighting
     ensures lent { wire.new.is_lent ≡ wire.old.is_lent }
+    ensures same { wire.new.stations ≡ wire.old.stations }
 {
     let answering = count_answers(wire);
     let station = read_station(wire, slave);
@@ -342,6 +394,7 @@ pub(crate) fn sight<W: Wire>(wire: &mut NumberedWire<W>, slave: u16, last: Last)
 /// Sends a broadcast, which each slave counts.
 pub(crate) fn count_answers<W: Wire>(wire: &mut NumberedWire<W>) -> Option<Reply>
     ensures lent { wire.new.is_lent ≡ wire.old.is_lent }
+    ensures same { wire.new.stations ≡ wire.old.stations }
 {
     ask(wire, BRD, 0, &[0])
 }
@@ -349,6 +402,7 @@ pub(crate) fn count_answers<W: Wire>(wire: &mut NumberedWire<W>) -> Option<Reply
 /// Reads the station address of the slave at this place of the line.
 pub(crate) fn read_station<W: Wire>(wire: &mut NumberedWire<W>, slave: u16) -> Option<Reply>
     ensures lent { wire.new.is_lent ≡ wire.old.is_lent }
+    ensures same { wire.new.stations ≡ wire.old.stations }
 {
     let place = fp(0u16.wrapping_sub(slave), STATION);
     ask(wire, APRD, place, &[0, 0])

@@ -1,5 +1,6 @@
 //! Finding the slaves of a line and reading their EEPROMs, before there is a shadow to compare with.
-ghost use Rattle.std.specs.Prelude.{◌≡◌, ◌<◌, ◌≤◌, false, true, length, IfOk};
+ghost use Rattle.std.specs.Prelude.{◌≡◌, ◌<◌, ◌≤◌, false, true, length, slice_index, IfOk, OnOk, IsErr};
+ghost use Rattle.site_wire.specs.Came.{StatusLooked, StateLooked, AllLooked, BlockCame, WordsCame, FoundCame, AllCame};
 
 use crate::asking::{
     Hitch, Last, ask, clear, count_answers, put, read_access, read_pair, read_station, sight, tell,
@@ -124,6 +125,9 @@ fn settle_addresses<W: Wire>(wire: &mut NumberedWire<W>, slaves: u16) -> Result<
 /// Reads AL status of a slave. None where it doesn't answer, or the wire is lent and so it isn't asked.
 fn read_al_status<W: Wire>(wire: &mut NumberedWire<W>, slave: u16) -> Result<Option<u16>, Hitch>
     requires { slave < 64 }
+    ensures same { wire.new.stations ≡ wire.old.stations }
+    ensures lent { wire.new.is_lent ≡ wire.old.is_lent }
+    ensures read { IfOk result (StatusLooked W.gives wire.old.stations.by_slave wire.old.is_lent slave) }
 {
     if wire.is_lent() {
         return Ok(None);
@@ -138,6 +142,9 @@ fn read_al_status<W: Wire>(wire: &mut NumberedWire<W>, slave: u16) -> Result<Opt
 /// What a slave is in, before its EEPROM is taken.
 fn look_at<W: Wire>(wire: &mut NumberedWire<W>, slave: u16) -> Result<SlaveState, Hitch>
     requires { slave < 64 }
+    ensures same { wire.new.stations ≡ wire.old.stations }
+    ensures lent { wire.new.is_lent ≡ wire.old.is_lent }
+    ensures looked { IfOk result (StateLooked W.gives wire.old.stations.by_slave wire.old.is_lent slave) }
 {
     let al_status = read_al_status(wire, slave)?;
     let access = read_access(wire, slave)?;
@@ -150,13 +157,16 @@ fn look_at_all<W: Wire>(
     slaves: u16,
 ) -> Result<[SlaveState; 64], LineFault>
     requires { slaves ≤ 64 }
+    ensures same { wire.new.stations ≡ wire.old.stations }
+    ensures lent { wire.new.is_lent ≡ wire.old.is_lent }
+    ensures looked { IfOk result (AllLooked W.gives wire.old.stations.by_slave wire.old.is_lent slaves) }
 {
     let mut states = [SlaveState::unknown(); 64];
     for slave in 0..slaves {
-        match look_at(wire, slave) {
-            Ok(state) => states[usize::from(slave)] = state,
-            Err(_) => return Err(LineFault::Silent),
-        }
+        let Ok(state) = look_at(wire, slave) else {
+            return Err(LineFault::Silent);
+        };
+        states[usize::from(slave)] = state;
     }
     Ok(states)
 }
@@ -165,6 +175,7 @@ fn look_at_all<W: Wire>(
 fn force<W: Wire, C: Clock>(wire: &mut NumberedWire<W>, clock: &C, slave: u16) -> Result<(), Hitch>
     requires slave { slave < 64 }
     requires allowed { wire.old.is_lent ≡ true → wire.old.is_forced ≡ true }
+    ensures { wire.new.stations ≡ wire.old.stations }
 {
     put(wire, clock, slave, ACCESS, &[0x02])?;
     put(wire, clock, slave, ACCESS, &[0x00])
@@ -177,6 +188,7 @@ fn ask_for<W: Wire, C: Clock>(
     slave: u16,
 ) -> Result<(), Hitch>
     requires { slave < 64 }
+    ensures { wire.new.stations ≡ wire.old.stations }
 {
     put(wire, clock, slave, ACCESS, &[0x00])?;
     let access = read_access(wire, slave)?;
@@ -199,6 +211,7 @@ fn open<W: Wire, C: Clock>(
     state: SlaveState,
 ) -> Result<(), Hitch>
     requires { slave < 64 }
+    ensures { wire.new.stations ≡ wire.old.stations }
 {
     if !wire.is_lent() || (wire.is_forced() && !state.is_ours()) {
         force(wire, clock, slave)?;
@@ -219,13 +232,16 @@ fn read_words<W: Wire, C: Clock>(
 ) -> Result<Words, Hitch>
     requires slave { slave < 64 }
     requires words { words ≤ 4096 }
+    ensures same { wire.new.stations ≡ wire.old.stations }
+    ensures read { IfOk result (λ words. BlockCame W.gives (slice_index wire.old.stations.by_slave slave) block.now
+        → WordsCame W.gives (slice_index wire.old.stations.by_slave slave) words) }
 {
     let mut bytes = Vec::new(alloc);
     for pair in block {
         bytes.extend_from_slice(pair)?;
     }
-    for pair in 32..words / 2 {
-        let pair = read_pair(wire, clock, slave, 2 * pair)?;
+    for place in 32..words / 2 {
+        let pair = read_pair(wire, clock, slave, 2 * place)?;
         bytes.extend_from_slice(&pair)?;
     }
     match Words::from_bytes(alloc, &bytes) {
@@ -242,6 +258,8 @@ fn open_and_measure<W: Wire, C: Clock>(
     state: SlaveState,
 ) -> Result<Measured, Hitch>
     requires { slave < 64 }
+    ensures same { wire.new.stations ≡ wire.old.stations }
+    ensures read { IfOk result (λ measured. BlockCame W.gives (slice_index wire.old.stations.by_slave slave) measured.block) }
 {
     open(wire, clock, slave, state)?;
     measure(wire, clock, slave)
@@ -254,7 +272,10 @@ fn given_up<W: Wire>(
     state: SlaveState,
     size: Option<SizeFound>,
     hitch: Hitch,
-) -> Result<FoundSlave, LineFault> {
+) -> Result<FoundSlave, LineFault>
+    ensures same { wire.new.stations ≡ wire.old.stations }
+    ensures none { IfOk result (λ found. IsErr found.words) }
+{
     match hitch {
         Hitch::Memory => Err(LineFault::Memory),
         Hitch::Silent => Err(LineFault::Silent),
@@ -281,6 +302,8 @@ fn find_slave<W: Wire, C: Clock>(
     sizes: &Sizes,
 ) -> Result<FoundSlave, LineFault>
     requires { slave < 64 }
+    ensures same { wire.new.stations ≡ wire.old.stations }
+    ensures words { IfOk result (FoundCame W.gives (slice_index wire.old.stations.by_slave slave)) }
 {
     let measured = match open_and_measure(wire, clock, slave, state) {
         Ok(measured) => measured,
@@ -316,7 +339,9 @@ fn find_slaves<W: Wire, C: Clock>(
     sizes: &Sizes,
 ) -> Result<Vec<FoundSlave>, LineFault>
     requires { slaves ≤ 64 }
-    ensures { IfOk result (λ found. length found.items ≡ slaves) }
+    ensures count { IfOk result (λ found. length found.items ≡ slaves) }
+    ensures same { OnOk result (wire.new.stations ≡ wire.old.stations) }
+    ensures words { IfOk result (λ found. AllCame W.gives wire.old.stations.by_slave 0 found.items) }
 {
     let mut found = Vec::new(alloc);
     for slave in 0..slaves {
@@ -343,6 +368,7 @@ pub struct LineStates {
 pub fn look_along<W: Wire>(wire: &mut NumberedWire<W>) -> Result<LineStates, LineFault>
     ensures some { IfOk result (λ line. 1 ≤ line.slaves) }
     ensures most { IfOk result (λ line. line.slaves ≤ 64) }
+    ensures looked { IfOk result (λ line. AllLooked W.gives wire.new.stations.by_slave wire.new.is_lent line.slaves line.states) }
 {
     let slaves = count_slaves(wire)?;
     settle_addresses(wire, slaves)?;
@@ -373,6 +399,7 @@ pub fn bring_up<W: Wire, C: Clock>(
 ) -> Result<FoundLine, LineFault>
     ensures some { IfOk result (λ line. 1 ≤ length line.slaves.items) }
     ensures most { IfOk result (λ line. length line.slaves.items ≤ 64) }
+    ensures words { IfOk result (λ line. AllCame W.gives wire.new.stations.by_slave 0 line.slaves.items) }
 {
     let LineStates { slaves, states } = look_along(wire)?;
     match find_slaves(alloc, wire, clock, slaves, &states, sizes) {

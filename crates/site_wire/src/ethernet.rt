@@ -43,6 +43,8 @@ fn frame_in(packet: &[u8]) -> Option<&[u8]> {
 }
 
 impl<R: Read, W: Write> Wire for EthernetWire<R, W> {
+    ghost gives = { λ _. Unit {0} };
+
     fn send(&mut self, frame: &[u8]) -> io::Result<()> {
         if frame.len() > MAX_LEN {
             return Err(io::Error::other("the frame is too long"));

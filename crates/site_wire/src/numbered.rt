@@ -1,7 +1,8 @@
 //! Frames that are sent until they come back.
-ghost use Rattle.std.specs.Prelude.{◌≡◌, ◌/◌, ◌^◌, length, true, false, IfSome};
+ghost use Rattle.std.specs.Prelude.{◌≡◌, ◌/◌, ◌^◌, length, take, true, false, IfSome, IfOk};
 ghost use Rattle.ecat_frame.specs.Command.{code_of};
-ghost use Rattle.ecat_frame.specs.Frame.{pdu};
+ghost use Rattle.ecat_frame.specs.Frame.{pdu, IsFrame};
+ghost use Rattle.site_wire.specs.Came.{CameOver, Reaches};
 ghost use Rattle.site_wire.specs.Numbers.{HasNumber};
 ghost use Rattle.site_wire.specs.Sending.{LeavesRunning, OnlyEeprom};
 
@@ -127,6 +128,9 @@ impl<W: Wire> NumberedWire<W> {
     pub(crate) fn pass(&mut self, sent: Datagram<'_>) -> Option<Returned>
         requires may { self.old.is_lent ≡ true → LeavesRunning (pdu sent) }
         ensures lent { self.new.is_lent ≡ self.old.is_lent }
+        ensures same { self.new.stations ≡ self.old.stations }
+        ensures came { IfSome result (λ returned. CameOver W.gives returned.frame) }
+        ensures reached { IfSome result (λ returned. Reaches self.old.stations.by_slave (pdu sent.entry) returned.address) }
     {
         let address = self.stations.translated(sent);
         let numbered = self.numbered(sent, address)?;
@@ -151,6 +155,7 @@ impl<W: Wire> NumberedWire<W> {
         requires may { self.old.is_lent ≡ true → LeavesRunning (pdu sent) }
         ensures may { IfSome result (λ frame. self.old.is_lent ≡ true → OnlyEeprom frame) }
         ensures lent { self.new.is_lent ≡ self.old.is_lent }
+        ensures same { self.new.stations ≡ self.old.stations }
     {
         self.number = self.number.wrapping_add(1);
         let mut numbered = Frame::new();
@@ -165,6 +170,7 @@ impl<W: Wire> NumberedWire<W> {
     fn send(&mut self, numbered: &Frame, again: bool)
         requires may { self.old.is_lent ≡ true → OnlyEeprom numbered.now }
         ensures lent { self.new.is_lent ≡ self.old.is_lent }
+        ensures same { self.new.stations ≡ self.old.stations }
     {
         self.sent = self.sent.saturating_add(1);
         if again {
@@ -178,22 +184,41 @@ impl<W: Wire> NumberedWire<W> {
         ensures numbered { IfSome result (λ frame. HasNumber frame self.new.number) }
         ensures count { IfSome result (λ frame. length frame ≡ count) }
         ensures lent { self.new.is_lent ≡ self.old.is_lent }
+        ensures same { self.new.stations ≡ self.old.stations }
+        ensures came { IfSome result (CameOver W.gives) }
     {
-        let mut bytes = [0u8; MAX_LEN];
         for _other in 0..OTHERS {
-            let length = match self.wire.receive(&mut bytes) {
-                Ok(length) => length.min(MAX_LEN),
-                Err(error) if error.kind() == io::ErrorKind::Interrupted => 0,
-                Err(_) => return None,
-            };
-            if let Ok(frame) = Frame::parse(&bytes[..length]) {
-                if frame.count() == count && number_of(&frame) == Some(self.number) {
-                    return Some(frame);
+            match listen(&mut self.wire) {
+                Ok(Some(frame)) => {
+                    if frame.count() == count && number_of(&frame) == Some(self.number) {
+                        return Some(frame);
+                    }
                 }
+                Ok(None) => {}
+                Err(_) => return None,
             }
         }
         None
     }
+}
+
+/// Waits for a frame once. None where what comes isn't one, or the wait was cut short.
+fn listen<W: Wire>(wire: &mut W) -> io::Result<Option<Frame>>
+    ensures { IfOk result (λ heard. IfSome heard (CameOver W.gives)) }
+{
+    let mut bytes = [0u8; MAX_LEN];
+    match wire.receive(&mut bytes) {
+        Ok(length) => return Ok(frame_at_front(&bytes, length)),
+        Err(error) if error.kind() == io::ErrorKind::Interrupted => return Ok(None),
+        Err(error) => return Err(error),
+    }
+}
+
+/// The frame of so many bytes at the front of these, if it is one.
+fn frame_at_front(bytes: &[u8], length: usize) -> Option<Frame>
+    ensures { IfSome result (IsFrame (take length bytes.now)) }
+{
+    Frame::parse(&bytes[..length.min(bytes.len())]).ok()
 }
 
 /// The number behind a frame, if there is one.

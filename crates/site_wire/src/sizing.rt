@@ -1,5 +1,6 @@
 //! How large the EEPROM of a slave is.
-ghost use Rattle.std.specs.Prelude.{◌≡◌, ◌<◌, ◌≤◌, IfOk};
+ghost use Rattle.std.specs.Prelude.{◌≡◌, ◌<◌, ◌≤◌, slice_index, IfOk};
+ghost use Rattle.site_wire.specs.Came.{BlockCame};
 
 use crate::asking::{Hitch, read_in_tries, read_pair};
 use crate::faults::SlaveFault;
@@ -80,6 +81,8 @@ fn read_block<W: Wire, C: Clock>(
     slave: u16,
 ) -> Result<Block, Hitch>
     requires { slave < 64 }
+    ensures same { wire.new.stations ≡ wire.old.stations }
+    ensures read { IfOk result (λ block. BlockCame W.gives (slice_index wire.old.stations.by_slave slave) block) }
 {
     let mut block = [[0u8; 4]; 32];
     for pair in 0..32u16 {
@@ -103,6 +106,7 @@ fn read_beyond<W: Wire, C: Clock>(
     word: u16,
 ) -> Result<Option<[u8; 4]>, Hitch>
     requires { slave < 64 }
+    ensures { wire.new.stations ≡ wire.old.stations }
 {
     match read_in_tries(wire, clock, slave, word, PROBES) {
         Ok(pair) => Ok(Some(pair)),
@@ -121,6 +125,7 @@ fn compare_block<W: Wire, C: Clock>(
 ) -> Result<Compared, Hitch>
     requires slave { slave < 64 }
     requires start { start ≤ 4096 }
+    ensures { wire.new.stations ≡ wire.old.stations }
 {
     for pair in 0..32u16 {
         match read_beyond(wire, clock, slave, start + 2 * pair)? {
@@ -141,6 +146,7 @@ fn is_rolled<W: Wire, C: Clock>(
 ) -> Result<bool, Hitch>
     requires slave { slave < 64 }
     requires words { words ≤ 4096 }
+    ensures { wire.new.stations ≡ wire.old.stations }
 {
     for pair in 0..words / 2 {
         let here = read_pair(wire, clock, slave, 2 * pair)?;
@@ -162,6 +168,7 @@ fn end_between<W: Wire, C: Clock>(
 ) -> Result<u16, Hitch>
     requires slave { slave < 64 }
     requires to { to ≤ 4096 }
+    ensures { wire.new.stations ≡ wire.old.stations }
 {
     for block in 0..64u16 {
         let start = 64 * block;
@@ -182,6 +189,7 @@ fn look_along<W: Wire, C: Clock>(
     block: &Block,
 ) -> Result<Along, Hitch>
     requires { slave < 64 }
+    ensures { wire.new.stations ≡ wire.old.stations }
 {
     let mut along = Along {
         unlike: 0,
@@ -219,6 +227,7 @@ fn find_extent<W: Wire, C: Clock>(
     says: u32,
 ) -> Result<Extent, Hitch>
     requires { slave < 64 }
+    ensures { wire.new.stations ≡ wire.old.stations }
 {
     let along = look_along(wire, clock, slave, block)?;
     if let Some(words) = along.ends {
@@ -253,6 +262,8 @@ pub(crate) fn measure<W: Wire, C: Clock>(
     slave: u16,
 ) -> Result<Measured, Hitch>
     requires { slave < 64 }
+    ensures same { wire.new.stations ≡ wire.old.stations }
+    ensures read { IfOk result (λ measured. BlockCame W.gives (slice_index wire.old.stations.by_slave slave) measured.block) }
 {
     let block = read_block(wire, clock, slave)?;
     let says = said_by(block[31]);

@@ -1,10 +1,15 @@
 //! What a station asks of a wire.
+ghost use Rattle.std.specs.Prelude.{ℕ, List, take, IfOk};
 
 use std::io;
 
 /// A wire with slaves on it, which carries EtherCAT frames (ETG.1000.4). It may lose frames, and double and delay them, but it keeps
-/// their order. No contract says what comes back, so the methods have no clauses.
+/// their order. No contract says which frames come back.
 pub trait Wire {
+    /// The frames that the wire gives: a property of the implementor's choice that each of them has. What is said of frames that came holds
+    /// for any choice, so also for the one by which a wire gives just those that came over it.
+    ghost gives: { List ℕ → Type 0 };
+
     /// Sends a frame of 1,500 bytes at most.
     ///
     /// # Errors
@@ -18,5 +23,6 @@ pub trait Wire {
     /// # Errors
     ///
     /// Where no frame comes within the wire's time-out, which is some milliseconds. `Interrupted` where the wait was cut short.
-    fn receive(&mut self, bytes: &mut [u8]) -> io::Result<usize>;
+    fn receive(&mut self, bytes: &mut [u8]) -> io::Result<usize>
+        ensures { IfOk result (λ length. gives (take length bytes.new)) };
 }

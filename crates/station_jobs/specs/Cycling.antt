@@ -81,6 +81,9 @@ pub record DoneJob : Type 0 where
 abbrev pub noted : DoneJob → CycleNote
 noted done = record { prefix = done.job.plan.prefix; size = done.job.plan.image.outputs + done.job.plan.image.inputs }
 
+abbrev pub outcome_of : DoneJob → CycleOutcome
+outcome_of done = done.outcome
+
 -- These jobs were done one after another, with no other call of the site, and it stopped in none of them. Each began with the line
 -- configured as the job before it left it: from `last` at first to `later` in the end (`None`: not, or not completely).
 abbrev pub TakesJobs : (slaves : ℕ) → List DoneJob → (last : Option Plan) → (old : Seen) → (later : Option Plan) → (new : Seen) → Type 0
@@ -97,10 +100,12 @@ EndsCycling slaves ended (final ∷ []) last old new =
 EndsCycling slaves ended jobs last old new = ⊥
 
 -- The loop did the jobs of the log, from a line that isn't configured. It ended with `ended`, or with the job in which the site stopped.
-pub record Cycles (slaves : ℕ) (ended : Type 0) (log : List CycleNote) (old new : Seen) : Type 0 where
+-- `told` holds of the outcomes of all these jobs, in order.
+pub record Cycles (slaves : ℕ) (ended : Type 0) (told : List CycleOutcome → Type 0) (log : List CycleNote) (old new : Seen) : Type 0 where
   pub done : List DoneJob
   pub final : List DoneJob
   pub log_is : log ≡ map noted (done ++ final)
+  pub reported : told (map outcome_of (done ++ final))
   pub plan : Option Plan
   pub mid : Seen
   pub takes : TakesJobs slaves done None old plan mid

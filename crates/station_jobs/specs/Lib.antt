@@ -1,4 +1,5 @@
 pub mod Dispatch
+pub mod Telling
 pub mod Jobs
 pub mod Left
 pub mod Flushing

@@ -1,6 +1,6 @@
 //! The loop of the process data thread.
 
-ghost use Rattle.std.specs.Prelude.{◌≡◌, ◌≤◌, [], length, replicate, IsTrue};
+ghost use Rattle.std.specs.Prelude.{◌≡◌, ◌≤◌, [], length, replicate, IsTrue, false};
 ghost use Rattle.station_jobs.specs.Cycling.{Cycles};
 ghost use Rattle.station_jobs.specs.Setting.{SetsLine, TakesJob};
 
@@ -59,7 +59,8 @@ fn take_turn<S: Site>(site: &mut S, last: &mut Option<Plan>, job: CycleJob) -> C
 
 /// Exchanges process data, once for each job of the dispatch, until the dispatch answers `Stop` or the site has stopped.
 ///
-/// It reports each outcome to the dispatch, and asks again after `Again`. After a lost frame or a wrong working counter it goes on.
+/// It reports the outcome of each job to the dispatch before it asks for the next one, also where the site stopped in it. It asks again
+/// after `Again`. After a lost frame or a wrong working counter it goes on.
 /// Before each exchange the line is configured for the job's plan: by `reconfigure` if the last configuration succeeded, else by
 /// `configure`. If this fails, nothing is exchanged.
 ///
@@ -72,7 +73,8 @@ pub fn cycle_loop<S: Site, D: Dispatch<CycleLog>, R: Wait>(
     requires process { IsTrue (S.line site).has_process }
     requires fresh { D.log dispatch ≡ [] }
     ensures start { result.start ≡ site }
-    ensures cycles { Cycles (length (S.line site).sizes) (D.has_ended dispatch) result.log (S.seen site) (S.seen result.site) }
+    ensures cycles { Cycles (length (S.line site).sizes) (D.has_ended dispatch)
+        (λ outcomes. D.has_job dispatch ≡ false → D.are_told dispatch outcomes) result.log (S.seen site) (S.seen result.site) }
 {
     let start = Snapshot::of(&site);
     let mut last = None;

@@ -136,6 +136,8 @@ impl<'a, T: Tickets, R: Refusals> Dispatch<DiskLog> for DiskSide<'a, T, R> {
 
     ghost has_ended = { λ _. Unit {0} };
 
+    ghost are_told = { λ _ _. Unit {0} };
+
     /// The answer is `Stop` in place of a write that begins behind the journal's area. It is `Stop` too once memory stayed refused.
     fn next<W: Wait>(&mut self, rt: &W) -> Turn<DiskNext> {
         let desk = self.desk;
@@ -194,6 +196,8 @@ impl<'a, T: Tickets, R: Refusals> Dispatch<RomLog> for RomSide<'a, T, R> {
     ghost may_hand = { λ _ job. is_rom_job job ≡ true };
 
     ghost has_ended = { λ _. Unit {0} };
+
+    ghost are_told = { λ _ _. Unit {0} };
 
     fn next<W: Wait>(&mut self, rt: &W) -> Turn<RomNext> {
         let desk = self.desk;
@@ -257,6 +261,8 @@ impl<'a, T: Tickets, R: Refusals> Dispatch<CycleLog> for CycleSide<'a, T, R> {
     ghost may_hand = { λ _ job. IsBlank job };
 
     ghost has_ended = { λ _. Unit {0} };
+
+    ghost are_told = { λ _ _. Unit {0} };
 
     fn next<W: Wait>(&mut self, rt: &W) -> Turn<CycleJob> {
         let desk = self.desk;

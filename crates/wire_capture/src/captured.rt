@@ -52,6 +52,8 @@ fn frame_in(bytes: &[u8], count: usize) -> &[u8]
 }
 
 impl<'c, W: Wire, F: RandomAccessFile + Drop, R: Wait + Clock> Wire for CapturedWire<'c, W, F, R> {
+    ghost gives = { W.gives };
+
     fn send(&mut self, frame: &[u8]) -> io::Result<()> {
         self.wire.send(frame)?;
         self.note(Way::Out, frame, frame.len());

@@ -4,7 +4,7 @@ use Rattle.esc_rom.specs.declared.fault.RomFault.TheVariants as rom
 use Rattle.esc_rom.specs.Reading.{ReadsSlave, ReadsLine}
 use Rattle.esc_rom.proofs.LineLaws.{FirstRead, first_none, first_more, all_read, line_fails, line_refused}
 use Rattle.esc_rom.proofs.SlaveLaws.{handed_on}
-use Rattle.esc_rom.specs.Reading.{ReadsInParts, KeepsFirst}
+use Rattle.esc_rom.specs.Reading.{ReadsInParts}
 use Rattle.esc_rom.specs.Courses.{Takes}
 use Rattle.esc_rom.specs.Sent.{ReadsSlaveBy, ReadsLineBy}
 use Rattle.esc_rom.proofs.SentLaws.{first-none, first-more, line-breaks, line-no-memory, line-read, kept-as}

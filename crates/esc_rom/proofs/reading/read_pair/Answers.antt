@@ -1,59 +1,43 @@
-use Rattle.std.proofs.Common.{Some, None, Ok, Err, refl, sym, subst, ◌∙◌, arith}
-use Rattle.site_core.specs.Line.{Line, Owns}
-use Rattle.esc_rom.specs.WordPairs.{TriesRead, ReadsPair}
-use Rattle.esc_rom.proofs.Runs.{none, some, so_cut, cut_as, Ran-told}
-use Rattle.esc_rom.proofs.ReadPairs.{failed_none, failed_more, pair_behind, dead_behind, all_failed}
-use Rattle.esc_rom.specs.declared.reading.Tried.TheVariants as tried
-use Rattle.esc_rom.specs.Courses.{Ends, UpTo}
-use Rattle.esc_rom.specs.Sent.{TriesBy, pair_in}
-use Rattle.esc_rom.proofs.Courses.{takes-none, takes-value, takes-then, takes-cut, rounds-none, rounds-more, rounds-all, rounds-end}
+use Rattle.std.proofs.Common.{◌<◌, ◌^◌, Option, Result, Ok, sym, ap, subst, ◌∙◌, arith}
+use Rattle.rom_steps.specs.Accesses as access
+use Rattle.rom_steps.specs.Remaining.{reading_end}
+use Rattle.esc_rom.specs.declared.fault.Stop.{Stop}
+use Rattle.esc_rom.specs.declared.reading.WordPair.{WordPair}
+use Rattle.esc_rom.specs.Courses.{Takes}
+use Rattle.esc_rom.specs.Sent.{ReadsPairBy}
+use Rattle.esc_rom.specs.Driving.{words_at}
+use Rattle.esc_rom.proofs.Courses.{same-stop}
+use Rattle.esc_rom.proofs.Carried.{pair_here, reads-carried, words-are, driven, driven-cut}
+use Rattle.esc_rom.proofs.Going.{reads-runs}
 use Rattle.esc_rom.proofs.reading.read_pair.Goals as goal
 
-pub loop-try-init : goal.loop-try-init
-loop-try-init g c = record { so = none (record { no_calls = refl; same = refl; stays = failed_none (g.S.Site.seen c.args.site.now) c.args.slave c.args.word }); frames = rounds-none (λ try. TriesBy c.args.slave c.args.word) tried.Failed (g.S.Site.seen c.args.site.now); line = refl }
+pub drive-requires-clause-short : goal.drive-requires-clause-short
+drive-requires-clause-short g c = let bound = c.begin_reading.ensures.bounded in omega arith
 
-pub try_pair-requires : goal.try_pair-requires
-try_pair-requires g c = subst (λ (line : Line). Owns line c.args.slave) (sym c.loop-try.invariant.line) c.requires
+pub returns-in_err-end-clause-frames : goal.returns-in_err-end-clause-frames
+returns-in_err-end-clause-frames g c =
+    let slave = c.args.slave in
+    let word = c.args.word in
+    subst (λ (r : Result (Option WordPair) Stop). Takes (ReadsPairBy slave word) (g.S.Site.seen c.args.site.now) r (g.S.Site.seen c.drive.new.site))
+    (sym (same-stop c.from_residual.result c.in_err-end.field-0.0 c.from_residual.ensures.1))
+    (driven-cut pair_here reading_end slave (access.ReadsPairBy slave word) (ReadsPairBy slave word) (reads-carried slave word) c.begin_reading.result (c.begin_reading.ensures.course slave)
+    c.in_err-end.ensures.drives)
 
-pub returns-in_err-pair-clause-runs : goal.returns-in_err-pair-clause-runs
-returns-in_err-pair-clause-runs g c = cut_as (ReadsPair _ c.args.slave c.args.word _) c.args.slave c.from_residual.result c.from_residual.ensures.0 (so_cut (omega arith) c.loop-try.invariant.so c.in_err-pair.ensures.runs)
-
-pub returns-in-Read-clause-runs : goal.returns-in-Read-clause-runs
-returns-in-Read-clause-runs g c = pair_behind (omega arith) c.loop-try.invariant.so (Ran-told (λ old. TriesRead old c.args.slave c.args.word) c.in-Read.is c.in_ok-pair.ensures.runs)
-
-pub returns-in-Dead-clause-runs : goal.returns-in-Dead-clause-runs
-returns-in-Dead-clause-runs g c = dead_behind (omega arith) c.loop-try.invariant.so (Ran-told (λ old. TriesRead old c.args.slave c.args.word) c.in-Dead.is c.in_ok-pair.ensures.runs)
-
-pub loop-try-preserved : goal.loop-try-preserved
-loop-try-preserved g c = record {
-  so = some (failed_more (Ran-told (λ old. TriesRead old c.args.slave c.args.word) c.in-Failed.is c.in_ok-pair.ensures.runs) c.loop-try.invariant.so);
-  frames = rounds-more (λ try. TriesBy c.args.slave c.args.word) tried.Failed c.loop-try._try c.in-Failed.is c.loop-try.invariant.frames c.in_ok-pair.ensures.frames;
-  line = c.in_ok-pair.ensures.line ∙ c.loop-try.invariant.line;
-}
-
-pub returns-clause-runs : goal.returns-clause-runs
-returns-clause-runs g c = all_failed (omega arith) c.loop-try.invariant.so
-
-pub returns-in_err-pair-clause-frames : goal.returns-in_err-pair-clause-frames
-returns-in_err-pair-clause-frames g c =
-    takes-cut (UpTo 3 (λ try. TriesBy c.args.slave c.args.word) tried.Failed) (λ last. Ends (pair_in last)) c.from_residual.result c.from_residual.ensures.0
-    (rounds-end (λ try. TriesBy c.args.slave c.args.word) tried.Failed 3 c.loop-try._try (Err c.in_err-pair.field-0.0) (omega arith) (λ e. absurd cc) c.loop-try.invariant.frames c.in_err-pair.ensures.frames)
-
-pub returns-in-Read-clause-frames : goal.returns-in-Read-clause-frames
-returns-in-Read-clause-frames g c =
-    takes-then (UpTo 3 (λ try. TriesBy c.args.slave c.args.word) tried.Failed) (λ last. Ends (pair_in last)) (tried.Read c.in-Read.pair)
-    (rounds-end (λ try. TriesBy c.args.slave c.args.word) tried.Failed 3 c.loop-try._try (Ok (tried.Read c.in-Read.pair)) (omega arith) (λ e. absurd cc) c.loop-try.invariant.frames
-    (takes-value (TriesBy c.args.slave c.args.word) c.in-Read.is c.in_ok-pair.ensures.frames))
-    (takes-none (Some c.in-Read.pair) (g.S.Site.seen c.try_pair.new.site))
-
-pub returns-in-Dead-clause-frames : goal.returns-in-Dead-clause-frames
-returns-in-Dead-clause-frames g c =
-    takes-then (UpTo 3 (λ try. TriesBy c.args.slave c.args.word) tried.Failed) (λ last. Ends (pair_in last)) tried.Dead
-    (rounds-end (λ try. TriesBy c.args.slave c.args.word) tried.Failed 3 c.loop-try._try (Ok tried.Dead) (omega arith) (λ e. absurd cc) c.loop-try.invariant.frames
-    (takes-value (TriesBy c.args.slave c.args.word) c.in-Dead.is c.in_ok-pair.ensures.frames))
-    (takes-none None (g.S.Site.seen c.try_pair.new.site))
+pub returns-in_err-end-clause-runs : goal.returns-in_err-end-clause-runs
+returns-in_err-end-clause-runs g c =
+    let fits : c.args.word < 2 ^ 16 = omega arith in
+    reads-runs c.args.slave c.args.word c.requires.1 fits (returns-in_err-end-clause-frames g c)
 
 pub returns-clause-frames : goal.returns-clause-frames
 returns-clause-frames g c =
-    takes-then (UpTo 3 (λ try. TriesBy c.args.slave c.args.word) tried.Failed) (λ last. Ends (pair_in last)) tried.Failed
-    (rounds-all (λ try. TriesBy c.args.slave c.args.word) tried.Failed 3 c.loop-try._try (omega arith) c.loop-try.invariant.frames) (takes-none None (g.S.Site.seen c.loop-try.site))
+    let slave = c.args.slave in
+    let word = c.args.word in
+    let end = driven pair_here reading_end slave (access.ReadsPairBy slave word) (ReadsPairBy slave word) (reads-carried slave word) c.begin_reading.result (c.begin_reading.ensures.course slave)
+    c.in_ok-end.ensures.drives in
+    subst (λ (it : Option WordPair). Takes (ReadsPairBy slave word) (g.S.Site.seen c.args.site.now) (Ok it) (g.S.Site.seen c.drive.new.site))
+    (sym (c.words_at.ensures ∙ ap words_at end.is ∙ words-are end.value)) end.takes
+
+pub returns-clause-runs : goal.returns-clause-runs
+returns-clause-runs g c =
+    let fits : c.args.word < 2 ^ 16 = omega arith in
+    reads-runs c.args.slave c.args.word c.requires.1 fits (returns-clause-frames g c)

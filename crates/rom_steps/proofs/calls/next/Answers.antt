@@ -4,9 +4,9 @@ use Rattle.rom_steps.proofs.Numbered.{tells_over}
 use Rattle.rom_steps.proofs.calls.next.Goals as goal
 
 pub returns-in-Some-next_of : goal.returns-in-Some-next_of
-returns-in-Some-next_of c = sends c.in-Some.step refl (sym c.in-Some.ensures) c.in-Some-next_of.ensures
+returns-in-Some-next_of c = sends c.in-Some.step refl (sym c.in-Some.ensures) (record { next = c.in-Some-next_of.ensures.next; long = c.in-Some-next_of.ensures.long })
 
 pub returns-in-None-next_of : goal.returns-in-None-next_of
 returns-in-None-next_of c =
     tells_over c.args.access.now c.args.datagram.now (c.args.datagram.now ≡ c.args.datagram.now) c.in-Some.step c.code_of_over.result (sym c.in-Some.ensures)
-    c.in-None-next_of.ensures c.code_of_over.ensures refl
+    c.in-None-next_of.ensures.next c.code_of_over.ensures refl

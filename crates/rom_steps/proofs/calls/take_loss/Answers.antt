@@ -8,4 +8,4 @@ returns-in-Some-next_of c =
     moved c.in-Some.step c.take.result refl (sym c.in-Some.ensures) c.access_of.ensures (λ slave came is. c.take.ensures slave came (lost-back came is))
 
 pub returns-in-None-next_of : goal.returns-in-None-next_of
-returns-in-None-next_of c = over c.in-Some.step refl (sym c.in-Some.ensures) c.in-None-next_of.ensures refl
+returns-in-None-next_of c = over c.in-Some.step refl (sym c.in-Some.ensures) c.in-None-next_of.ensures.next refl

@@ -10,4 +10,4 @@ returns-in-Some-next_of c =
     (λ slave came is. moves-as slave c.in-Some.step c.stop.result came (Err device.Stopped) is (c.stop.ensures slave))
 
 pub returns-in-None-next_of : goal.returns-in-None-next_of
-returns-in-None-next_of c = over c.in-Some.step refl (sym c.in-Some.ensures) c.in-None-next_of.ensures refl
+returns-in-None-next_of c = over c.in-Some.step refl (sym c.in-Some.ensures) c.in-None-next_of.ensures.next refl

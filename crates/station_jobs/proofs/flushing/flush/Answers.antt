@@ -43,11 +43,11 @@ new-requires-clause-leads g c =
     let log = g.D.Dispatch.log c.loop.dispatch in
     let turn = c.loop.invariant.0 in
     elim c.match-next.branch [
-      | in-None w ↦ rw (c.into_log.ensures, w.dispatch-is, w.site-is) (flushed log start now (led-all DoesAction log start now turn))
-      | in-Some+in-Stop w ↦ rw (c.into_log.ensures, w.dispatch-is, w.site-is, w.in-Stop.ensures.log) (flushed log start now (led-all DoesAction log start now turn))
+      | in-None w ↦ rw (c.into_log.ensures.log, w.dispatch-is, w.site-is) (flushed log start now (led-all DoesAction log start now turn))
+      | in-Some+in-Stop w ↦ rw (c.into_log.ensures.log, w.dispatch-is, w.site-is, w.in-Stop.ensures.log) (flushed log start now (led-all DoesAction log start now turn))
       | in-Some+in-Work+then-eq w ↦
           let new = g.S.Site.seen w.act-result.new.site in
-          rw (c.into_log.ensures, w.dispatch-is, w.site-is, w.done.ensures.log, w.in-Work.ensures.log)
+          rw (c.into_log.ensures.log, w.dispatch-is, w.site-is, w.done.ensures.log, w.in-Work.ensures.log)
           (flushed _ start new (led-told DoesAction log w.in-Work.action w.act-result.result start now new turn w.act-result.ensures.does))
     ]
 
@@ -69,11 +69,11 @@ returns-clause-flushes g c =
     (elim c.match-next.branch [
       | in-None w ↦ absurd (false≢true w.in-None.ensures.steps)
       | in-Some+in-Stop w ↦
-          rw (c.new.ensures.log, c.new.ensures.site, c.into_log.ensures, w.dispatch-is, w.site-is, w.in-Stop.ensures.log)
+          rw (c.new.ensures.log, c.new.ensures.site, c.into_log.ensures.log, w.dispatch-is, w.site-is, w.in-Stop.ensures.log)
           (runs-ended DoesAction IsStop ended ⊥ log start now turn (c.loop.invariant.4 w.in-Stop.ensures.stop))
       | in-Some+in-Work+then-eq w ↦
           let new = g.S.Site.seen w.act-result.new.site in
-          rw (c.new.ensures.log, c.new.ensures.site, c.into_log.ensures, w.dispatch-is, w.site-is, w.done.ensures.log, w.in-Work.ensures.log)
+          rw (c.new.ensures.log, c.new.ensures.site, c.into_log.ensures.log, w.dispatch-is, w.site-is, w.done.ensures.log, w.in-Work.ensures.log)
           (runs-stopped DoesAction IsStop ended ⊥ log w.in-Work.action w.act-result.result start now new turn w.act-result.ensures.does
           (stopped-is _ w.act-result.result (sym w.eq.ensures ∙ w.if-eq.true)))
     ])

@@ -46,15 +46,15 @@ new-requires-clause-leads g c =
     let Does = CallsSlave slave in
     let turn = c.loop.invariant.0 in
     elim c.match-next.branch [
-      | in-None w ↦ rw (c.into_log.ensures, w.dispatch-is, w.site-is) (worked slave log start now (led-all Does log start now turn))
-      | in-Some+in-Stop w ↦ rw (c.into_log.ensures, w.dispatch-is, w.site-is, w.in-Stop.ensures.log) (worked slave log start now (led-all Does log start now turn))
+      | in-None w ↦ rw (c.into_log.ensures.log, w.dispatch-is, w.site-is) (worked slave log start now (led-all Does log start now turn))
+      | in-Some+in-Stop w ↦ rw (c.into_log.ensures.log, w.dispatch-is, w.site-is, w.in-Stop.ensures.log) (worked slave log start now (led-all Does log start now turn))
       | in-Some+in-Work+then-not-pass w ↦
           let new = g.S.Site.seen w.call-outcome.new.site in
-          rw (c.into_log.ensures, w.dispatch-is, w.site-is, w.in-Work.ensures.log)
+          rw (c.into_log.ensures.log, w.dispatch-is, w.site-is, w.in-Work.ensures.log)
           (worked slave _ start new (led-untold Does log w.in-Work.job w.call-outcome.result start now new turn w.call-outcome.ensures.calls))
       | in-Some+in-Work+else-not-pass+then-eq w ↦
           let new = g.S.Site.seen w.call-outcome.new.site in
-          rw (c.into_log.ensures, w.dispatch-is, w.site-is, w.done.ensures.log, w.in-Work.ensures.log)
+          rw (c.into_log.ensures.log, w.dispatch-is, w.site-is, w.done.ensures.log, w.in-Work.ensures.log)
           (worked slave _ start new (led-told Does log w.in-Work.job w.call-outcome.result start now new turn w.call-outcome.ensures.calls))
     ]
 
@@ -78,17 +78,17 @@ returns-clause-works g c =
     (elim c.match-next.branch [
       | in-None w ↦ absurd (false≢true w.in-None.ensures.steps)
       | in-Some+in-Stop w ↦
-          rw (c.new.ensures.log, c.new.ensures.site, c.into_log.ensures, w.dispatch-is, w.site-is, w.in-Stop.ensures.log)
+          rw (c.new.ensures.log, c.new.ensures.site, c.into_log.ensures.log, w.dispatch-is, w.site-is, w.in-Stop.ensures.log)
           (runs-ended Does IsStop ended held log start now turn (c.loop.invariant.4 w.in-Stop.ensures.stop))
       | in-Some+in-Work+then-not-pass w ↦
           let new = g.S.Site.seen w.call-outcome.new.site in
           let then = w.if-not-pass.true in
           let not : w.pass.result ≡ false = first_of ((cc), search rules, grind (arith, common_steps)) in
-          rw (c.new.ensures.log, c.new.ensures.site, c.into_log.ensures, w.dispatch-is, w.site-is, w.in-Work.ensures.log)
+          rw (c.new.ensures.log, c.new.ensures.site, c.into_log.ensures.log, w.dispatch-is, w.site-is, w.in-Work.ensures.log)
           (runs-held Does IsStop ended held log w.in-Work.job w.call-outcome.result start now new turn w.call-outcome.ensures.calls (w.pass.ensures not))
       | in-Some+in-Work+else-not-pass+then-eq w ↦
           let new = g.S.Site.seen w.call-outcome.new.site in
-          rw (c.new.ensures.log, c.new.ensures.site, c.into_log.ensures, w.dispatch-is, w.site-is, w.done.ensures.log, w.in-Work.ensures.log)
+          rw (c.new.ensures.log, c.new.ensures.site, c.into_log.ensures.log, w.dispatch-is, w.site-is, w.done.ensures.log, w.in-Work.ensures.log)
           (runs-stopped Does IsStop ended held log w.in-Work.job w.call-outcome.result start now new turn w.call-outcome.ensures.calls
           (stopped-is w.call-outcome.result (sym w.eq.ensures ∙ w.if-eq.true)))
     ])
