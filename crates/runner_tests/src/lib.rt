@@ -1,12 +1,19 @@
-//! Tests of the station on any line, through public calls, on lines in memory that fail or lose power: `alone` of a station on one thread and
-//! of its recovery, `desk` of a desk and of a line that threads serve from one.
+//! Tests of a station on one thread and of its recovery, through public calls, on lines in memory that fail or lose power.
 #![tactic(auto)]
 
 #[cfg(test)]
-mod alone;
+mod damage;
 #[cfg(test)]
-mod asks;
+mod failures;
 #[cfg(test)]
-mod bytes;
+mod growths;
 #[cfg(test)]
-mod desk;
+mod halves;
+#[cfg(test)]
+mod journals;
+#[cfg(test)]
+mod scripts;
+#[cfg(test)]
+mod stops;
+#[cfg(test)]
+mod story;

@@ -1,6 +1,6 @@
 //! Serves a line by threads.
 
-ghost use Rattle.std.specs.Prelude.{◌≡◌, ◌+◌, ◌≤◌, [], false, length, vec_capacity, IfOk};
+ghost use Rattle.std.specs.Prelude.{◌≡◌, ◌+◌, ◌<◌, ◌≤◌, [], false, length, vec_capacity, IfOk};
 ghost use Rattle.site_shadow.specs.Site.{SiteValue};
 ghost use Rattle.station_threads.specs.Sites.{OwnParts};
 ghost use Rattle.script_session.specs.Asking.{no_counts};
@@ -45,8 +45,8 @@ pub struct Left<S> {
 ///
 /// # Errors
 ///
-/// `Unserved` where the station's site, or what is put together in the end, isn't a line with its disk and `slaves` slaves; `Memory`. The
-/// site is dropped. A fault during the work is no error here: `Left::ending` has it.
+/// `Unserved` where the station's site can't be taken apart, or what is put together in the end isn't a line with its disk and `slaves`
+/// slaves; `Memory`. At the desk nothing fails but for want of memory. The site is dropped. A fault during the work is no error here: `Left::ending` has it.
 pub fn serve_by_threads<D: Device + Copy + Send, O: Write, W: Wait + Threads + Sync>(
     rt: &W,
     alloc: Global,
@@ -150,11 +150,12 @@ fn serve_at_desk<
     sites: Sites<ShadowSite<D>>,
     commands: Vec<Command>,
     output: &'o mut O,
-) -> Result<AtDesk<ShadowSite<D>>, Fault>
+) -> Result<AtDesk<ShadowSite<D>>, AllocError>
     requires core { core ≡ T.opened }
     requires none { core.accepted ≡ [] }
     requires tickets { (tickets.name ≡ T.name) × (tickets.count ≡ T.parts) }
     requires refusals { (refusals.name ≡ R.name) × (refusals.count ≡ R.parts) }
+    requires parts { (1 < tickets.count) × (1 < refusals.count) }
     requires commands { commands.items ≡ C.commands }
     requires owned { OwnParts (λ (s : SiteValue). s.line) sites.disk sites.slaves.items sites.cycle }
     requires long { 8 + core.capacity ≤ length sites.disk.seen.state.disk.bytes }
@@ -162,12 +163,12 @@ fn serve_at_desk<
     ensures ending { IfOk result (λ at. EndsSo T.opened C.commands at.ends at.ending) }
     ensures unserved { IfOk result (λ at. at.ending.is_driven ≡ false → at.unserved.items ≡ C.commands) }
 {
-    match open_desk::<T, R, W>(rt, alloc, core, tickets, refusals) {
+    match open_desk::<T, R>(alloc, core, tickets, refusals) {
         Ok(opened) => serve_opened::<T, R, C, D, O, W>(rt, alloc, opened, sites, commands, output),
-        Err(fault) => {
+        Err(AllocError) => {
             drop(sites);
             drop(commands);
-            Err(fault)
+            Err(AllocError)
         }
     }
 }
@@ -188,7 +189,7 @@ fn serve_opened<
     sites: Sites<ShadowSite<D>>,
     commands: Vec<Command>,
     output: &'o mut O,
-) -> Result<AtDesk<ShadowSite<D>>, Fault>
+) -> Result<AtDesk<ShadowSite<D>>, AllocError>
     requires room { (opened.room.items ≡ []) × (1 ≤ vec_capacity opened.room) }
     requires share { opened.share ≡ no_counts }
     requires commands { commands.items ≡ C.commands }
@@ -226,7 +227,7 @@ fn serve_submitter<
     submitter: Submitter<'_, T, R, C, O>,
     room: Vec<Share<T, R>>,
     sites: Sites<ShadowSite<D>>,
-) -> Result<AtDesk<ShadowSite<D>>, Fault>
+) -> Result<AtDesk<ShadowSite<D>>, AllocError>
     requires room { (room.items ≡ []) × (1 ≤ vec_capacity room) }
     requires owned { OwnParts (λ (s : SiteValue). s.line) sites.disk sites.slaves.items sites.cycle }
     requires long { desk.limit ≤ length sites.disk.seen.state.disk.bytes }
@@ -242,7 +243,7 @@ fn serve_submitter<
             drop(desk);
             drop(submitter);
             drop(room);
-            Err(Fault::Memory)
+            Err(AllocError)
         }
     }
 }
@@ -255,39 +256,23 @@ struct Opened<T: Tickets, R: Refusals> {
     room: Vec<Share<T, R>>,
 }
 
-/// A new desk of this book, with a share for the submitter.
-fn open_desk<T: Tickets, R: Refusals, W: Wait>(
-    rt: &W,
+/// A new desk of this book, with its first share for the submitter and room for that share.
+fn open_desk<T: Tickets, R: Refusals>(
     alloc: Global,
     core: Core,
     tickets: BlankLedger,
     refusals: BlankLedger,
-) -> Result<Opened<T, R>, Fault>
+) -> Result<Opened<T, R>, AllocError>
     requires core { core ≡ T.opened }
     requires none { core.accepted ≡ [] }
     requires tickets { (tickets.name ≡ T.name) × (tickets.count ≡ T.parts) }
     requires refusals { (refusals.name ≡ R.name) × (refusals.count ≡ R.parts) }
+    requires parts { (1 < tickets.count) × (1 < refusals.count) }
     ensures limit { IfOk result (λ opened. opened.desk.limit ≡ 8 + core.capacity) }
     ensures share { IfOk result (λ opened. opened.share ≡ no_counts) }
     ensures room { IfOk result (λ opened. (opened.room.items ≡ []) × (1 ≤ vec_capacity opened.room)) }
 {
-    let desk = Desk::of(alloc, core, tickets, refusals)?;
-    share_of(rt, alloc, desk)
-}
-
-/// This desk, with a share of it and room for the share.
-fn share_of<T: Tickets, R: Refusals, W: Wait>(
-    rt: &W,
-    alloc: Global,
-    desk: Desk<T, R>,
-) -> Result<Opened<T, R>, Fault>
-    ensures limit { IfOk result (λ opened. opened.desk.limit ≡ desk.limit) }
-    ensures share { IfOk result (λ opened. opened.share ≡ no_counts) }
-    ensures room { IfOk result (λ opened. (opened.room.items ≡ []) × (1 ≤ vec_capacity opened.room)) }
-{
-    let Ok(share) = desk.share(rt) else {
-        return Err(Fault::Unserved);
-    };
+    let (desk, share) = Desk::with_share(alloc, core, tickets, refusals)?;
     let room = Vec::with_capacity(alloc, 1)?;
     Ok(Opened { desk, share, room })
 }

@@ -92,7 +92,7 @@ fn serve_task<
     let mut files = FileStore::new(alloc, rt);
     let is_told = arguments.is_verbose || faults.is_terminal();
     let status = serve(
-        rt, alloc, &arguments, is_told, wire, number, &mut files, text, faults,
+        rt, alloc, arguments, is_told, wire, number, &mut files, text, faults,
     );
     status as u8
 }

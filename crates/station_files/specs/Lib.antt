@@ -1,8 +1,10 @@
 pub mod Alias
 pub mod Diff
 pub mod Faults
+pub mod FileNames
 pub mod Files
 pub mod ImageText
 pub mod LineFiles
+pub mod Locations
 pub mod ScriptFiles
 pub mod Show

@@ -1,4 +1,6 @@
 //! Where names of files lead, and which of them lead to the same file.
+ghost use Rattle.std.specs.Prelude.{◌≡◌, ◌↔◌, string_bytes, IfOk, IsTrue};
+ghost use Rattle.station_files.specs.Locations.{AreOne, IsBeside, IsSame, Meets, place_of};
 
 use crate::replacing::name_beside;
 use std::alloc::{AllocError, Global};
@@ -15,6 +17,8 @@ pub struct FileId {
 /// Where a name leads.
 #[derive(Drop)]
 pub struct Location {
+    /// The name.
+    pub name: String,
     /// The file there; `None` where there is none, or where the store doesn't number its files.
     pub id: Option<FileId>,
     /// The file's whole name, in which no link is left.
@@ -31,8 +35,11 @@ impl Location {
     /// # Errors
     ///
     /// Memory was refused.
-    pub fn of_name(alloc: Global, name: &str) -> Result<Location, AllocError> {
+    pub fn of_name(alloc: Global, name: &str) -> Result<Location, AllocError>
+        ensures { IfOk result (λ found. string_bytes found.name ≡ name.now) }
+    {
         Ok(Location {
+            name: String::from_str(alloc, name)?,
             id: None,
             path: String::from_str(alloc, name)?,
             beside: name_beside(alloc, name)?,
@@ -40,24 +47,34 @@ impl Location {
         })
     }
 
-    /// Whether both names lead to the same file.
-    pub fn is_same(&self, other: &Location) -> bool {
-        self.path.as_str() == other.path.as_str() || are_one(self.id, other.id)
+    /// Whether both names are the same, or lead to the same file.
+    pub fn is_same(&self, other: &Location) -> bool
+        ensures { IsTrue result ↔ IsSame (place_of self.now) (place_of other.now) }
+    {
+        self.name.as_str() == other.name.as_str()
+            || self.path.as_str() == other.path.as_str()
+            || are_one(self.id, other.id)
     }
 
     /// Whether one of the two files would be lost where the other is written or replaced: they are the same, or one has the name that the
     /// other takes while it is replaced.
-    pub fn meets(&self, other: &Location) -> bool {
+    pub fn meets(&self, other: &Location) -> bool
+        ensures { IsTrue result ↔ Meets (place_of self.now) (place_of other.now) }
+    {
         self.is_same(other) || self.is_beside(other) || other.is_beside(self)
     }
 
     /// Whether the other file has the name that this one takes while it is replaced.
-    fn is_beside(&self, other: &Location) -> bool {
+    fn is_beside(&self, other: &Location) -> bool
+        ensures { IsTrue result ↔ IsBeside (place_of self.now) (place_of other.now) }
+    {
         self.beside.as_str() == other.path.as_str() || are_one(self.beside_id, other.id)
     }
 }
 
 /// Whether these are the same file, which is there.
-fn are_one(one: Option<FileId>, other: Option<FileId>) -> bool {
+fn are_one(one: Option<FileId>, other: Option<FileId>) -> bool
+    ensures { IsTrue result ↔ AreOne one other }
+{
     one.is_some() && one == other
 }

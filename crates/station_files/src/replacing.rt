@@ -1,4 +1,5 @@
 //! Replaces a file of the operating system as a whole, so that a power cut leaves the old file or the new one.
+ghost use Rattle.std.specs.Prelude.{◌≡◌, string_bytes, IfOk};
 
 use crate::location::{FileId, Location};
 use std::alloc::{AllocError, Global};
@@ -147,7 +148,9 @@ pub(crate) fn locate<R: Files<File = File>>(
     files: &R,
     alloc: Global,
     name: &str,
-) -> io::Result<Location> {
+) -> io::Result<Location>
+    ensures { IfOk result (λ found. string_bytes found.name ≡ name.now) }
+{
     let place = match place_of(files, alloc, name) {
         Ok(place) => place,
         Err(error) if error.kind() == io::ErrorKind::OutOfMemory => return Err(error),
@@ -155,6 +158,7 @@ pub(crate) fn locate<R: Files<File = File>>(
     };
     let Place { path, beside } = place;
     Ok(Location {
+        name: String::from_str(alloc, name)?,
         id: id_of(files, name),
         beside_id: id_of(files, beside.as_str()),
         path,

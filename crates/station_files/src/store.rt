@@ -2,6 +2,7 @@
 ghost use Rattle.std.specs.Prelude.{◌≡◌, ℕ, List, Option, None, option_map, IfOk, IfErr, IfSome, OnOk};
 ghost use Rattle.station_files.specs.Faults.{IsOfLock, IsOfStream};
 ghost use Rattle.station_files.specs.Files.{HasBytes, ChangesOnly};
+ghost use Rattle.station_files.specs.Locations.{Leads, LeadsTo};
 
 use crate::faults::Fault;
 use crate::location::Location;
@@ -19,6 +20,9 @@ pub trait Store {
 
     // The contents of each file, by its name, as far as they are known. None: nothing is known. Some None: there is no such file.
     ghost files: { Self → List ℕ → Option (Option (List ℕ)) } = { λ _ _. None };
+
+    // Where each name leads, as far as that is known and stays so. None: nothing is known.
+    ghost leads: { Leads } = { λ _. None };
 
     /// Reads a whole file; `None` where there is no such file.
     ///
@@ -40,16 +44,14 @@ pub trait Store {
         ensures same { files self.new ≡ files self.old };
 
     /// Finds out where a name leads, so that two names of the same file can be told. No file changes. A store whose names are whole and
-    /// without links needs no method of its own.
+    /// without links answers `Location::of_name`.
     ///
     /// # Errors
     ///
     /// Memory was refused.
     fn locate(&mut self, alloc: Global, name: &str) -> io::Result<Location>
-        ensures same { files self.new ≡ files self.old }
-    {
-        Ok(Location::of_name(alloc, name)?)
-    }
+        ensures found { IfOk result (LeadsTo leads name.now) }
+        ensures same { files self.new ≡ files self.old };
 
     /// Makes `bytes` the contents of the file `name`, which is created where it is absent. A file that has these bytes already stays.
     /// Any other is replaced as a whole: a power cut during the call leaves the old file or the new one. Once the call succeeds, the new

@@ -1,18 +1,23 @@
--- A script on standard input, as a file among others.
+-- A script that is no file, among the files.
 use Rattle.std.specs.Prelude.{ℕ, List, [], ◌∷◌, Bool, true, false, bytes_eq, Option, Some, None, Result, Ok, Err, Vec}
 use Rattle.std.specs.declared.alloc.Global.{Global}
 use Rattle.station_files.specs.Files.{Known}
+use Rattle.station_files.specs.Locations.{Leads}
 
 -- what is known of this file: the first where the test is true
-abbrev pub chosen : Bool → Option (Option (List ℕ)) → Option (Option (List ℕ)) → Option (Option (List ℕ))
+abbrev pub chosen : {A : Type 0} → Bool → Option A → Option A → Option A
 chosen true one other = one
 chosen false one other = other
 
--- what is known of what standard input had: nothing where it couldn't be read
+-- what is known of the script: nothing where it couldn't be read
 abbrev pub known_of : {E : Type 0} → Result (Vec ℕ Global) E → Option (Option (List ℕ))
 known_of (Ok bytes) = Some (Some bytes.items)
 known_of (Err error) = None
 
--- the files, and under the name of a zero byte what standard input had
-abbrev pub with_input : {E : Type 0} → Result (Vec ℕ Global) E → Known → Known
-with_input script files name = chosen (bytes_eq name (0 ∷ [])) (known_of script) (files name)
+-- the files, and under this name the script
+abbrev pub with_script : {E : Type 0} → List ℕ → Result (Vec ℕ Global) E → Known → Known
+with_script own script files name = chosen (bytes_eq name own) (known_of script) (files name)
+
+-- where the names lead; nothing is known of the names of scripts that are no files: a zero byte, and that with -e behind
+abbrev pub but_scripts : Leads → Leads
+but_scripts leads name = chosen (bytes_eq name (0 ∷ [])) None (chosen (bytes_eq name (0 ∷ 45 ∷ 101 ∷ [])) None (leads name))

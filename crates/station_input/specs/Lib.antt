@@ -1,1 +1,2 @@
 pub mod InputScript
+pub mod Typed

@@ -1,6 +1,6 @@
-//! The files of a store, and what standard input had among them.
+//! The files of a store, and a script that is no file among them.
 ghost use Rattle.std.specs.Prelude.{◌≡◌, IfOk, IfSome};
-ghost use Rattle.station_input.specs.InputScript.{with_input};
+ghost use Rattle.station_input.specs.InputScript.{but_scripts, with_script};
 
 use station_files::{Location, LockFault, Store};
 use std::alloc::Global;
@@ -10,19 +10,33 @@ use std::io::Read;
 /// The name under which the script on standard input stands among the files. No file of a system has it.
 pub const INPUT: &str = "\0";
 
-/// The files of a store, and under `INPUT` what standard input had. Nothing is written there.
+/// The name under which a script of typed commands stands among the files. No file of a system has it.
+pub const TYPED: &str = "\0-e";
+
+/// The files of a store, and under one more name a script that is no file. Nothing is written there.
 #[derive(Drop)]
 pub struct InputScript<'s, S> {
     store: &'s mut S,
+    name: &'static str,
     script: io::Result<Vec<u8>>,
 }
 
 impl<'s, S: Store> InputScript<'s, S> {
-    /// Reads standard input to its end. An error of it comes where the script is read.
+    /// Reads standard input to its end, as the script `INPUT`. An error of it comes where the script is read.
     pub fn new<R: Read>(alloc: Global, input: &mut R, store: &'s mut S) -> InputScript<'s, S> {
         InputScript {
             store,
+            name: INPUT,
             script: read_script(alloc, input),
+        }
+    }
+
+    /// Has this text as the script `TYPED`.
+    pub fn typed(text: Vec<u8>, store: &'s mut S) -> InputScript<'s, S> {
+        InputScript {
+            store,
+            name: TYPED,
+            script: Ok(text),
         }
     }
 }
@@ -44,20 +58,22 @@ fn read_script<R: Read>(alloc: Global, input: &mut R) -> io::Result<Vec<u8>>
     Err(io::Error::other("no end within 1048576 reads"))
 }
 
-/// The error for whatever would change standard input.
+/// The error for whatever would change the script.
 fn refusal() -> io::Error {
     io::Error::from(io::ErrorKind::InvalidInput)
 }
 
 impl<S: Store> Store for InputScript<'_, S> {
-    ghost files = { λ joined. with_input joined.script (S.files joined.store.now) };
+    ghost files = { λ joined. with_script joined.name.now joined.script (S.files joined.store.now) };
+
+    ghost leads = { but_scripts S.leads };
 
     type File = S::File;
 
     type Lock = S::Lock;
 
     fn read(&mut self, alloc: Global, name: &str) -> io::Result<Option<Vec<u8>>> {
-        if name != INPUT {
+        if name != self.name {
             return self.store.read(alloc, name);
         }
         match &self.script {
@@ -67,7 +83,7 @@ impl<S: Store> Store for InputScript<'_, S> {
     }
 
     fn locate(&mut self, alloc: Global, name: &str) -> io::Result<Location> {
-        if name == INPUT {
+        if name == INPUT || name == TYPED {
             return Ok(Location::of_name(alloc, name)?);
         }
         self.store.locate(alloc, name)
@@ -78,21 +94,21 @@ impl<S: Store> Store for InputScript<'_, S> {
     }
 
     fn write(&mut self, name: &str, bytes: &[u8]) -> io::Result<()> {
-        if name == INPUT {
+        if name == self.name {
             return Err(refusal());
         }
         self.store.write(name, bytes)
     }
 
     fn open(&mut self, name: &str) -> io::Result<S::File> {
-        if name == INPUT {
+        if name == self.name {
             return Err(refusal());
         }
         self.store.open(name)
     }
 
     fn create(&mut self, name: &str) -> Result<S::File, LockFault> {
-        if name == INPUT {
+        if name == self.name {
             return Err(LockFault::Io(refusal()));
         }
         self.store.create(name)

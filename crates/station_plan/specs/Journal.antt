@@ -7,7 +7,7 @@ use Rattle.station_alone.specs.Recovery.{BeginsRecovered, CountsRecovered, HasRe
 use Rattle.station_text.specs.declared.line_file.LineFile.{LineFile}
 use Rattle.station_files.specs.Files.{Known}
 use Rattle.station_session.specs.Session.{Loads}
-use Rattle.station_plan.specs.Changes.{changes_between}
+use Rattle.line_changes.specs.Changes.{changes_between}
 use Rattle.station_plan.specs.declared.journal.Restored.{Restored}
 
 -- A recovery of this site would find so much, and change these words.

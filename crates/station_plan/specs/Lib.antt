@@ -1,4 +1,3 @@
-pub mod Changes
 pub mod Plan
 pub mod Reading
 pub mod Journal

@@ -12,12 +12,12 @@ use Rattle.station_files.specs.declared.faults.ExitStatus.TheVariants.{Done}
 use Rattle.station_files.specs.declared.faults.Fault.{Fault}
 use Rattle.script_session.specs.Rounds.{ServesSo}
 use Rattle.station_session.specs.Session.{is_old, Loads, StartsFrom}
-use Rattle.station_plan.specs.Changes.{changes_between}
+use Rattle.line_changes.specs.Changes.{changes_between}
 use Rattle.book_laws.specs.Opening.{words_in}
 use Rattle.station_plan.specs.declared.plan.Planned.{Planned}
 
--- The commands were submitted to this station in order and served, without a fault. These are the words of its slaves before and after,
--- and their differences.
+-- The commands were submitted to this station in order and served, without a fault. These are the words of its slaves before and after, and
+-- their differences.
 pub record ServesPlan (opened : Station) (commands : List Command) (status_before status_after : ExitStatus) (words : List (List ℕ))
     (planned : Planned) : Type 0 where
   pub s : Station

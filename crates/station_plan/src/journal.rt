@@ -4,18 +4,21 @@ ghost use Rattle.esc_rom.specs.Owned.{OwnsAll};
 ghost use Rattle.station_files.specs.Faults.{IsFaultless};
 ghost use Rattle.station_plan.specs.Journal.{ListsJournal, ListsSite, Restores};
 
-use crate::changes::{ChangedWord, changed_words, write_changes};
 use crate::contents::contents_of;
 use crate::journal_listing::write_journal;
+use crate::journal_rows::{write_journal_rows, write_recovery};
 use crate::reading::{Reading, read_readable};
 use jrn_format::JournalFault;
+use line_changes::{ChangedWord, changed_words, write_changes};
 use site_journal::ReadFault;
 use site_mem::{FaultPlan, Pattern};
 use site_shadow::ShadowSite;
 use station_alone::{OpenFault, Recovered, recover};
 use station_files::{ExitStatus, Fault, Store, report_fault, status_of};
+use station_json::{Form, write_change_rows};
 use station_session::{Session, load_session, of_open};
 use std::alloc::Global;
+use std::io;
 use std::io::Write;
 
 /// What a recovery would do to a line.
@@ -31,10 +34,12 @@ pub struct Restored {
 /// written.
 ///
 /// The files are read in this order: line file, images of the slaves, journal. The journal is locked before the images are read. Of a
-/// damaged journal it prints what can be read, and then the fault with which a recovery refuses it.
+/// damaged journal it prints what can be read, and then the fault with which a recovery refuses it. With `Form::Json` the same is printed as
+/// rows of JSON.
 pub fn show_journal<S: Store, W: Write, E: Write>(
     alloc: Global,
     name: &str,
+    form: Form,
     store: &mut S,
     output: &mut W,
     faults: &mut E,
@@ -43,7 +48,7 @@ pub fn show_journal<S: Store, W: Write, E: Write>(
     ensures same { S.files store.new ≡ S.files store.old }
 {
     match load_session(alloc, name, store) {
-        Ok(session) => list_session(alloc, session, output, faults),
+        Ok(session) => list_session(alloc, session, form, output, faults),
         Err(fault) => report_fault(fault, faults),
     }
 }
@@ -51,6 +56,7 @@ pub fn show_journal<S: Store, W: Write, E: Write>(
 fn list_session<L: Drop, W: Write, E: Write>(
     alloc: Global,
     session: Session<L>,
+    form: Form,
     output: &mut W,
     faults: &mut E,
 ) -> ExitStatus
@@ -62,34 +68,37 @@ fn list_session<L: Drop, W: Write, E: Write>(
         line: _,
         site,
         is_old: _,
+        refusal: _,
         lock: _lock,
     } = session;
-    status_of(list_site(alloc, site, output), faults)
+    status_of(list_site(alloc, site, form, output), faults)
 }
 
 /// Prints what the journal of a line in memory holds, and what a recovery would do.
 fn list_site<W: Write>(
     alloc: Global,
     site: ShadowSite<FaultPlan>,
+    form: Form,
     output: &mut W,
 ) -> Result<(), Fault>
     requires disk { IsTrue site.line.has_disk }
     requires owned { OwnsAll site.line }
     ensures { OnOk result (ListsSite site) }
 {
-    let reading = print_journal(alloc, &site, output)?;
+    let reading = print_journal(alloc, &site, form, output)?;
     if let Some(fault) = reading.fault {
         drop(site);
         return Err(fault_of(fault));
     }
     let restored = restore(alloc, site)?;
-    print_restored(&restored, output)
+    print_restored(alloc, &restored, form, output)
 }
 
 /// Reads and prints what the journal's file holds.
 fn print_journal<W: Write>(
     alloc: Global,
     site: &ShadowSite<FaultPlan>,
+    form: Form,
     output: &mut W,
 ) -> Result<Reading, Fault>
     requires { IsTrue site.now.line.has_disk }
@@ -97,7 +106,10 @@ fn print_journal<W: Write>(
     let parts = site.snapshot(alloc, Pattern::Old)?;
     let mut file = parts.disk.unwrap();
     let reading = read_readable(alloc, &mut file, &parts.sizes)?;
-    write_journal(&file, &reading, output)?;
+    match form {
+        Form::Text => write_journal(&file, &reading, output)?,
+        Form::Json => write_journal_rows(alloc, &file, &reading, output)?,
+    }
     output.flush()?;
     Ok(reading)
 }
@@ -130,7 +142,25 @@ fn restore(alloc: Global, site: ShadowSite<FaultPlan>) -> Result<Restored, Fault
 }
 
 /// Prints what a recovery would do.
-fn print_restored<W: Write>(restored: &Restored, output: &mut W) -> Result<(), Fault> {
+fn print_restored<W: Write>(
+    alloc: Global,
+    restored: &Restored,
+    form: Form,
+    output: &mut W,
+) -> Result<(), Fault> {
+    match form {
+        Form::Text => write_restored(restored, output)?,
+        Form::Json => {
+            write_recovery(alloc, restored.recovered, output)?;
+            write_change_rows(alloc, &restored.changes, output)?;
+        }
+    }
+    output.flush()?;
+    Ok(())
+}
+
+/// Writes what a recovery would do, as text.
+fn write_restored<W: Write>(restored: &Restored, output: &mut W) -> io::Result<()> {
     let Recovered {
         batches,
         commands,
@@ -140,7 +170,5 @@ fn print_restored<W: Write>(restored: &Restored, output: &mut W) -> Result<(), F
         output,
         "recovery batches {batches} commands {commands} words {words}"
     )?;
-    write_changes(&restored.changes, output)?;
-    output.flush()?;
-    Ok(())
+    write_changes(&restored.changes, output)
 }

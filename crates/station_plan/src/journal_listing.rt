@@ -1,10 +1,10 @@
 //! Prints what a journal's file holds.
 
-use crate::changes::{MOST_PRINTED, write_range};
 use crate::reading::Reading;
 use jrn_format::{
     AREA_START, Batch, Entry, Form, Journal, OPEN, capacity, gate, slave_count, version,
 };
+use line_changes::{MOST_PRINTED, write_range};
 use sii_words::Run;
 use std::io;
 use std::io::Write;
@@ -51,13 +51,16 @@ fn write_halves<W: Write>(journal: &Journal, area: usize, output: &mut W) -> io:
     }
 }
 
-/// Writes the number of batches in a half of `room` bytes, and how many of its bytes they take.
-fn write_usage<W: Write>(
-    journal: &Journal,
-    half: u8,
-    room: usize,
-    output: &mut W,
-) -> io::Result<()> {
+/// How many batches a half has, and how many of its bytes they take and leave.
+#[derive(Clone, Copy)]
+pub(crate) struct Usage {
+    pub(crate) batches: u32,
+    pub(crate) live: usize,
+    pub(crate) free: usize,
+}
+
+/// The number of batches in a half of `room` bytes, and how many of its bytes they take.
+pub(crate) fn usage_of(journal: &Journal, half: u8, room: usize) -> Usage {
     let mut batches = 0u32;
     let mut live = 0usize;
     for batch in journal.batches.as_slice() {
@@ -67,11 +70,30 @@ fn write_usage<W: Write>(
         }
     }
     let free = room.saturating_sub(live);
+    Usage {
+        batches,
+        live,
+        free,
+    }
+}
+
+/// Writes the number of batches in a half of `room` bytes, and how many of its bytes they take.
+fn write_usage<W: Write>(
+    journal: &Journal,
+    half: u8,
+    room: usize,
+    output: &mut W,
+) -> io::Result<()> {
+    let Usage {
+        batches,
+        live,
+        free,
+    } = usage_of(journal, half, room);
     writeln!(output, " batches {batches} live {live} free {free}")
 }
 
 /// The length of a batch, in bytes.
-fn batch_bytes(form: Form, batch: &Batch) -> usize {
+pub(crate) fn batch_bytes(form: Form, batch: &Batch) -> usize {
     let mut bytes = match form {
         Form::One => 7usize,
         Form::Two | Form::Moving => 8,

@@ -2,16 +2,17 @@
 //! is written.
 #![tactic(auto)]
 
-mod changes;
+mod answer_rows;
 mod contents;
 mod journal;
 mod journal_listing;
+mod journal_rows;
 mod plan;
 mod plan_listing;
+mod plan_rows;
 mod reading;
 mod tally;
 
-pub use changes::{ChangedWord, changed_words, write_changes};
 pub use journal::show_journal;
 pub use plan::{Planned, plan_script};
 pub use reading::{Reading, read_readable};

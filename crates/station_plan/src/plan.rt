@@ -5,19 +5,24 @@ ghost use Rattle.station_files.specs.Faults.{IsFaultless};
 ghost use Rattle.station_session.specs.Session.{is_old};
 ghost use Rattle.station_plan.specs.Plan.{IsPlanOf, PlansScript, PlansSite, ServesPlan};
 
-use crate::changes::{ChangedWord, changed_words};
+use crate::answer_rows::write_answers;
 use crate::contents::contents_of;
 use crate::plan_listing::print_plan;
+use crate::plan_rows::write_plan;
 use crate::tally::Tally;
+use book_core::Core;
+use line_changes::{ChangedWord, changed_words};
 use script_session::serve_commands;
 use sii_edit::Command;
+use sii_size::{Resize, resizes};
 use sii_words::Plant;
 use site_mem::FaultPlan;
 use site_shadow::ShadowSite;
 use station_alone::Alone;
 use station_files::{ExitStatus, Fault, Store, report_fault, status_of, worse};
+use station_json::Form;
 use station_session::{Given, Session, load, of_open, open_station};
-use std::alloc::Global;
+use std::alloc::{AllocError, Global};
 use std::io::Write;
 
 /// What a run would do to a line.
@@ -29,19 +34,23 @@ pub struct Planned {
     pub after: Plant,
     /// The words in which the two differ.
     pub changes: Vec<ChangedWord>,
+    /// Where an accepted command makes word 0x3E say another size than the slave has. The commands are counted as they are accepted.
+    pub resizes: Vec<Resize>,
     /// What one thread writes on the way.
     pub tally: Tally,
 }
 
 /// Prints what `run_script` would do with the script file `script` on the line whose line file is `name`: the answers to the commands and
-/// the totals as it prints them, the words that change, and the process image before and after if it changes. Returns the exit status that
-/// it would return. No file is written.
+/// the totals as it prints them, the words that change, the commands that make word 0x3E say another size than the slave has, and the process
+/// image before and after if it changes. Returns the exit status that it would return. No file is written.
 ///
-/// The files are read as `run_script` reads them, with the journal locked, and the first fault is printed and ends the plan.
+/// The files are read as `run_script` reads them, with the journal locked, and the first fault is printed and ends the plan. With `Form::Json` the same
+/// is printed as rows of JSON.
 pub fn plan_script<S: Store, W: Write, E: Write>(
     alloc: Global,
     name: &str,
     script: &str,
+    form: Form,
     store: &mut S,
     output: &mut W,
     faults: &mut E,
@@ -49,8 +58,8 @@ pub fn plan_script<S: Store, W: Write, E: Write>(
     ensures plans { PlansScript (S.files store.old) name.now script.now result }
     ensures same { S.files store.new ≡ S.files store.old }
 {
-    match load(alloc, name, script, store) {
-        Ok(given) => plan_given(alloc, given, output, faults),
+    match load(alloc, name, script, None, store) {
+        Ok(given) => plan_given(alloc, given, form, output, faults),
         Err(fault) => report_fault(fault, faults),
     }
 }
@@ -59,6 +68,7 @@ pub fn plan_script<S: Store, W: Write, E: Write>(
 fn plan_given<L: Drop, W: Write, E: Write>(
     alloc: Global,
     given: Given<L>,
+    form: Form,
     output: &mut W,
     faults: &mut E,
 ) -> ExitStatus
@@ -72,14 +82,61 @@ fn plan_given<L: Drop, W: Write, E: Write>(
         line: _,
         site,
         is_old,
+        refusal: _,
         lock: _lock,
     } = session;
+    match form {
+        Form::Text => plan_text(alloc, site, is_old, commands, output, faults),
+        Form::Json => plan_rows(alloc, site, is_old, commands, output, faults),
+    }
+}
+
+/// Plans a run of the commands on this line, and prints the plan as text.
+fn plan_text<W: Write, E: Write>(
+    alloc: Global,
+    site: ShadowSite<FaultPlan>,
+    was_old: bool,
+    commands: Vec<Command>,
+    output: &mut W,
+    faults: &mut E,
+) -> ExitStatus
+    requires disk { IsTrue site.line.has_disk }
+    requires owned { OwnsAll site.line }
+    requires old { was_old ≡ is_old site.seen.state.disk.bytes }
+    ensures { IsFaultless result → PlansSite site commands.items result }
+{
     let mut status = ExitStatus::Done;
-    let ended = match plan_site(alloc, site, is_old, commands, output, &mut status) {
+    let ended = match plan_site(alloc, site, was_old, commands, output, &mut status) {
         Ok(planned) => status_of(print_plan(alloc, &planned, output), faults),
         Err(fault) => report_fault(fault, faults),
     };
     worse(status, ended)
+}
+
+/// Plans a run of the commands on this line, and prints the plan as rows of JSON.
+fn plan_rows<W: Write, E: Write>(
+    alloc: Global,
+    site: ShadowSite<FaultPlan>,
+    was_old: bool,
+    commands: Vec<Command>,
+    output: &mut W,
+    faults: &mut E,
+) -> ExitStatus
+    requires disk { IsTrue site.line.has_disk }
+    requires owned { OwnsAll site.line }
+    requires old { was_old ≡ is_old site.seen.state.disk.bytes }
+    ensures { IsFaultless result → PlansSite site commands.items result }
+{
+    let mut status = ExitStatus::Done;
+    let mut answers = Vec::new(alloc);
+    let printed = match plan_site(alloc, site, was_old, commands, &mut answers, &mut status) {
+        Ok(planned) => status_of(write_plan(alloc, &answers, &planned, output), faults),
+        Err(fault) => {
+            let _ = write_answers(alloc, &answers, output);
+            report_fault(fault, faults)
+        }
+    };
+    worse(status, printed)
 }
 
 /// Opens the station on the line in memory, serves the commands on one thread, and compares the words before and after. Prints the
@@ -126,9 +183,12 @@ fn serve_plan<W: Write>(
     ensures { IfOk result (ServesPlan alone commands.items status.old status.new before) }
 {
     let slaves = before.len() as u16;
+    let base = alone.core().contents().try_copy();
     serve_commands(&mut alone, slaves, commands, output, status)?;
     let (core, site) = alone.into_parts();
+    let found = resizes_since(alloc, base, &core);
     drop(core);
+    let resizes = found?;
     let after = contents_of(alloc, &site)?;
     let changes = changed_words(alloc, &before, &after)?;
     let tally = *site.device();
@@ -136,6 +196,17 @@ fn serve_plan<W: Write>(
         before,
         after,
         changes,
+        resizes,
         tally,
     })
+}
+
+/// Where a command that this book has accepted makes word 0x3E say another size than the slave has. `base` is the contents before them.
+fn resizes_since(
+    alloc: Global,
+    base: Result<Plant, AllocError>,
+    core: &Core,
+) -> Result<Vec<Resize>, AllocError> {
+    let base = base?;
+    resizes(alloc, &base, core.accepted())
 }

@@ -1,16 +1,19 @@
 //! Prints a plan.
 ghost use Rattle.std.specs.Prelude.{IfErr};
 
-use crate::changes::write_changes;
 use crate::plan::Planned;
+use line_changes::write_changes;
 use sii_image::ImageFault;
+use sii_size::Resize;
 use sii_words::Plant;
 use station_files::Fault;
 use station_listing::{Code, list_layout};
 use std::alloc::{AllocError, Global};
+use std::io;
 use std::io::Write;
 
-/// Prints the words that change, then how much is written on the way, and then the process image before and after if it changes.
+/// Prints the words that change, then the commands that make word 0x3E say another size, then how much is written on the way, and then the
+/// process image before and after if it changes.
 ///
 /// # Errors
 ///
@@ -21,6 +24,7 @@ pub(crate) fn print_plan<W: Write>(
     output: &mut W,
 ) -> Result<(), Fault> {
     write_changes(&planned.changes, output)?;
+    write_resizes(&planned.resizes, output)?;
     let tally = planned.tally;
     let (words, bytes, syncs) = (tally.words, tally.bytes, tally.syncs);
     writeln!(output, "writes words {words} bytes {bytes} syncs {syncs}")?;
@@ -33,6 +37,19 @@ pub(crate) fn print_plan<W: Write>(
         )?;
     }
     output.flush()?;
+    Ok(())
+}
+
+/// Writes a line for each command that makes word 0x3E of a slave say another size than the slave has.
+fn write_resizes<W: Write>(resizes: &[Resize], output: &mut W) -> io::Result<()> {
+    for resize in resizes {
+        let (command, slave) = (resize.command, resize.slave);
+        let (says, has) = (resize.says, resize.has);
+        writeln!(
+            output,
+            "command accepted as {command} makes word 0x003e of slave {slave} say {says} words, and its EEPROM has {has}"
+        )?;
+    }
     Ok(())
 }
 

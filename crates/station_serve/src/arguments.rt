@@ -3,11 +3,14 @@
 use crate::capture_arguments::{capture_argument, capture_of};
 use crate::completions::Shell;
 use crate::image_arguments::{alias_command, diff_command, image_task, show_command};
+use crate::json_argument::{form_of, json_argument};
 use crate::plan_arguments::{journal_command, plan_command, planning_task};
-use crate::progress_arguments::{is_quiet, quiet_argument};
+use crate::progress_arguments::{is_quiet, quiet_argument, report_argument};
 use crate::shell_arguments::{completions_command, man_command, shell_of};
 use clap::error::ErrorKind;
 use clap::{Arg, ArgAction, ArgMatches, Command, Error, value_parser};
+use station_input::{script_of, typed_argument, typed_text};
+use station_json::Form;
 use station_listing::{Code, find_code};
 use station_session::Fuse;
 use std::alloc::{AllocError, Global};
@@ -30,6 +33,8 @@ pub enum Task<'a> {
         hex: bool,
         /// Whether each item is printed too.
         all: bool,
+        /// Text, or rows of JSON.
+        form: Form,
         /// The name of the image's file; `None` for standard input.
         file: Option<&'a str>,
     },
@@ -37,6 +42,8 @@ pub enum Task<'a> {
     Diff {
         /// Whether the images are hexadecimal text.
         hex: bool,
+        /// Text, or rows of JSON.
+        form: Form,
         /// The name of the first image's file; `None` for standard input.
         old: Option<&'a str>,
         /// The name of the second image's file; `None` for standard input.
@@ -57,16 +64,22 @@ pub enum Task<'a> {
         cut: Option<Fuse>,
         /// The name of the file for a capture, if there is one.
         capture: Option<&'a str>,
+        /// Whether what has changed is printed at the end.
+        reports: bool,
     },
     /// Recovers a line.
     Recover {
         /// The name of the line file.
         line: &'a str,
+        /// Whether what has changed is printed at the end.
+        reports: bool,
     },
     /// Prints the process image of a line.
     Layout {
         /// The name of the line file.
         line: &'a str,
+        /// Text, or rows of JSON.
+        form: Form,
     },
     /// Prints what a script would do to a line.
     Plan {
@@ -74,11 +87,15 @@ pub enum Task<'a> {
         line: &'a str,
         /// The name of the script file.
         script: &'a str,
+        /// Text, or rows of JSON.
+        form: Form,
     },
     /// Prints what a journal holds.
     Journal {
         /// The name of the line file.
         line: &'a str,
+        /// Text, or rows of JSON.
+        form: Form,
     },
     /// Prints a script that makes a shell complete arguments.
     Completions {
@@ -103,23 +120,35 @@ impl<'a> Task<'a> {
                 script: "-",
                 cut,
                 capture,
+                reports,
             } => Some(Task::Run {
                 line,
                 script: name,
                 cut,
                 capture,
+                reports,
             }),
-            Task::Plan { line, script: "-" } => Some(Task::Plan { line, script: name }),
+            Task::Plan {
+                line,
+                script: "-",
+                form,
+            } => Some(Task::Plan {
+                line,
+                script: name,
+                form,
+            }),
             _ => None,
         }
     }
 }
 
 /// A command line that was read.
-#[derive(Clone, Copy)]
+#[derive(Drop)]
 pub struct Request<'a> {
     /// The subcommand with its arguments.
     pub task: Task<'a>,
+    /// The text of the script `TYPED`, where commands are typed in place of a script file.
+    pub typed: Option<Vec<u8>>,
     /// Whether a second line is to follow the line of a fault.
     pub is_verbose: bool,
     /// Whether no line is to be drawn with the progress.
@@ -242,14 +271,21 @@ Example:
 /// refused.
 pub fn read_arguments<'a>(alloc: Global, words: &'a [String]) -> Result<Request<'a>, Error> {
     let mut command = station(alloc)?;
-    read_words(&mut command, words)
+    read_words(alloc, &mut command, words)
 }
 
 /// Reads a command line with this description of it.
-fn read_words<'a>(command: &mut Command<'a>, words: &'a [String]) -> Result<Request<'a>, Error> {
+fn read_words<'a>(
+    alloc: Global,
+    command: &mut Command<'a>,
+    words: &'a [String],
+) -> Result<Request<'a>, Error> {
     let matches = command.try_get_matches_from_mut(words)?;
+    let run = matches.subcommand_matches("run");
+    let scripted = run.or(matches.subcommand_matches("plan"));
     Ok(Request {
         task: task_of(command, &matches)?,
+        typed: typed_text(alloc, command, scripted)?,
         is_verbose: matches.get_flag("verbose"),
         is_quiet: is_quiet(&matches),
     })
@@ -352,11 +388,11 @@ fn init_command<'a>(alloc: Global) -> Result<Command<'a>, AllocError> {
         .arg(line_argument(alloc))
 }
 
-pub(crate) fn script_argument<'a>(alloc: Global) -> Arg<'a> {
+pub(crate) fn script_argument<'a>(alloc: Global) -> Result<Arg<'a>, AllocError> {
     Arg::new(alloc, "SCRIPT")
         .help("The script file: the commands, in order; - for standard input")
         .long_help(SCRIPT_FILE)
-        .required(true)
+        .required_unless_present("command")
 }
 
 fn run_command<'a>(alloc: Global) -> Result<Command<'a>, AllocError> {
@@ -366,13 +402,17 @@ fn run_command<'a>(alloc: Global) -> Result<Command<'a>, AllocError> {
             "Reads a line file, the EEPROM images and the journal that it names and a script file, submits the script's commands in order \
             and prints the answer to each, brings them to the slaves by way of the journal, and saves images and journal.",
         )
-        .after_help("Example:\n  sii_station run line.toml script.toml")
+        .after_help(
+            "Examples:\n  sii_station run line.toml script.toml\n  sii_station run line.toml -e 'alias = { slave = 2, value = 7 }'",
+        )
         .after_long_help(RUN_ANSWERS)
         .arg(line_argument(alloc))?
-        .arg(script_argument(alloc))?
+        .arg(script_argument(alloc)?)?
+        .arg(typed_argument(alloc)?)?
         .arg(fuse_argument(alloc))?
         .arg(left_argument(alloc))?
         .arg(capture_argument(alloc))?
+        .arg(report_argument(alloc))?
         .arg(quiet_argument(alloc))
 }
 
@@ -402,6 +442,7 @@ fn recover_command<'a>(alloc: Global) -> Result<Command<'a>, AllocError> {
         .after_help("Example:\n  sii_station recover line.toml")
         .after_long_help(RECOVER_ANSWERS)
         .arg(line_argument(alloc))?
+        .arg(report_argument(alloc))?
         .arg(quiet_argument(alloc))
 }
 
@@ -414,7 +455,8 @@ fn layout_command<'a>(alloc: Global) -> Result<Command<'a>, AllocError> {
         )
         .after_help("Example:\n  sii_station layout line.toml")
         .after_long_help(LAYOUT_ANSWERS)
-        .arg(line_argument(alloc))
+        .arg(line_argument(alloc))?
+        .arg(json_argument(alloc))
 }
 
 pub(crate) fn line_argument<'a>(alloc: Global) -> Arg<'a> {
@@ -460,9 +502,10 @@ fn run_task<'a>(command: &mut Command<'a>, matches: &ArgMatches<'a>) -> Result<T
     };
     Ok(Task::Run {
         line: matches.get_str("LINE").unwrap_or(""),
-        script: matches.get_str("SCRIPT").unwrap_or(""),
+        script: script_of(matches),
         cut,
         capture: capture_of(matches),
+        reports: matches.get_flag("report"),
     })
 }
 
@@ -470,6 +513,7 @@ fn run_task<'a>(command: &mut Command<'a>, matches: &ArgMatches<'a>) -> Result<T
 fn recover_task<'a>(matches: &ArgMatches<'a>) -> Task<'a> {
     Task::Recover {
         line: matches.get_str("LINE").unwrap_or(""),
+        reports: matches.get_flag("report"),
     }
 }
 
@@ -477,6 +521,7 @@ fn recover_task<'a>(matches: &ArgMatches<'a>) -> Task<'a> {
 fn layout_task<'a>(matches: &ArgMatches<'a>) -> Task<'a> {
     Task::Layout {
         line: matches.get_str("LINE").unwrap_or(""),
+        form: form_of(matches),
     }
 }
 

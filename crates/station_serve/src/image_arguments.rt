@@ -1,6 +1,7 @@
 //! The arguments of the subcommands that read EEPROM images: `show`, `alias` and `diff`.
 
 use crate::arguments::{Task, is_digits, refused};
+use crate::json_argument::{form_of, json_argument};
 use clap::error::ErrorKind;
 use clap::{Arg, ArgAction, ArgMatches, Command, Error, value_parser};
 use std::alloc::{AllocError, Global};
@@ -94,6 +95,7 @@ pub fn show_command<'a>(alloc: Global) -> Result<Command<'a>, AllocError> {
         .after_long_help(SHOW_ANSWERS)
         .arg(file_argument(alloc))?
         .arg(all_argument(alloc))?
+        .arg(json_argument(alloc))?
         .arg(hex_argument(alloc, "Reads hexadecimal text in place of bytes"))
 }
 
@@ -140,6 +142,7 @@ pub fn diff_command<'a>(alloc: Global) -> Result<Command<'a>, AllocError> {
         .after_long_help(DIFF_ANSWERS)
         .arg(old)?
         .arg(new)?
+        .arg(json_argument(alloc))?
         .arg(hex_argument(alloc, "Reads hexadecimal text in place of bytes"))
 }
 
@@ -164,6 +167,7 @@ fn show_task<'a>(matches: &ArgMatches<'a>) -> Task<'a> {
     Task::Show {
         hex: matches.get_flag("hex"),
         all: matches.get_flag("all"),
+        form: form_of(matches),
         file: file_of(matches, "FILE"),
     }
 }
@@ -198,6 +202,7 @@ fn diff_task<'a>(command: &mut Command<'a>, matches: &ArgMatches<'a>) -> Result<
     }
     Ok(Task::Diff {
         hex: matches.get_flag("hex"),
+        form: form_of(matches),
         old,
         new,
     })

@@ -67,6 +67,9 @@ fn help_of(alloc: Global, name: &str) -> Result<String, AllocError> {
     match read_arguments(alloc, &words) {
         Err(error) if error.kind() == ErrorKind::OutOfMemory => Err(AllocError),
         Err(error) => format!(in alloc; "{error}"),
-        Ok(_) => Ok(String::new(alloc)),
+        Ok(request) => {
+            drop(request);
+            Ok(String::new(alloc))
+        }
     }
 }

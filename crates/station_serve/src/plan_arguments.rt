@@ -2,7 +2,9 @@
 
 use crate::Task;
 use crate::arguments::{line_argument, script_argument};
+use crate::json_argument::{form_of, json_argument};
 use clap::{ArgMatches, Command};
+use station_input::{script_of, typed_argument};
 use std::alloc::{AllocError, Global};
 
 /// The help text on what `plan` prints, and on its exit status.
@@ -16,6 +18,9 @@ const PLAN_ANSWERS: &str = "Answers:
                    the same of neighbouring words
   slave P words 0xV to 0xW count C
                    the same of more than 8 words
+  command accepted as N makes word 0x003e of slave P say W words, and its EEPROM has H
+                   the command changes the word by which masters and tools tell the
+                   size of an EEPROM, and it is wrong then
   writes words W bytes B syncs S
                    how many words would be written to the slaves, and how many
                    bytes to the journal with how many syncs, by one thread. The
@@ -74,7 +79,9 @@ pub(crate) fn plan_command<'a>(alloc: Global) -> Result<Command<'a>, AllocError>
         .after_help("Example:\n  sii_station plan line.toml script.toml")
         .after_long_help(PLAN_ANSWERS)
         .arg(line_argument(alloc))?
-        .arg(script_argument(alloc))
+        .arg(script_argument(alloc)?)?
+        .arg(typed_argument(alloc)?)?
+        .arg(json_argument(alloc))
 }
 
 pub(crate) fn journal_command<'a>(alloc: Global) -> Result<Command<'a>, AllocError> {
@@ -87,7 +94,8 @@ pub(crate) fn journal_command<'a>(alloc: Global) -> Result<Command<'a>, AllocErr
         )
         .after_help("Example:\n  sii_station journal line.toml")
         .after_long_help(JOURNAL_ANSWERS)
-        .arg(line_argument(alloc))
+        .arg(line_argument(alloc))?
+        .arg(json_argument(alloc))
 }
 
 /// The task of `plan` or `journal`, if one of them was given. The names are required, so they are there.
@@ -95,11 +103,13 @@ pub(crate) fn planning_task<'a>(matches: &ArgMatches<'a>) -> Option<Task<'a>> {
     if let Some(plan) = matches.subcommand_matches("plan") {
         return Some(Task::Plan {
             line: plan.get_str("LINE").unwrap_or(""),
-            script: plan.get_str("SCRIPT").unwrap_or(""),
+            script: script_of(plan),
+            form: form_of(plan),
         });
     }
     let journal = matches.subcommand_matches("journal")?;
     Some(Task::Journal {
         line: journal.get_str("LINE").unwrap_or(""),
+        form: form_of(journal),
     })
 }

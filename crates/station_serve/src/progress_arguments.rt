@@ -1,6 +1,7 @@
-//! The argument of `run` and `recover` that keeps the line with their progress away.
+//! The arguments of `run` and `recover` on what is printed meanwhile and behind.
 
 use clap::{Arg, ArgAction, ArgMatches};
+use line_report::REPORT;
 use std::alloc::Global;
 
 /// The help text on the line with the progress.
@@ -17,6 +18,15 @@ pub(crate) fn quiet_argument<'a>(alloc: Global) -> Arg<'a> {
         .long("quiet")
         .help("Draws no line with the progress")
         .long_help(QUIET)
+        .action(ArgAction::SetTrue)
+}
+
+/// The description of the argument for a report at the end.
+pub(crate) fn report_argument<'a>(alloc: Global) -> Arg<'a> {
+    Arg::new(alloc, "report")
+        .long("report")
+        .help("Prints at the end which words have changed, and whether the line is in order")
+        .long_help(REPORT)
         .action(ArgAction::SetTrue)
 }
 

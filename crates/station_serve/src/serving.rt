@@ -6,15 +6,17 @@ use crate::manual::print_manual;
 use crate::{Request, Task, read_arguments};
 use clap::Error;
 use clap::error::ErrorKind;
+use line_report::{look_before, report_behind};
 use site_progress::Progress;
 use station_files::{
     ExitStatus, Fault, Store, diff_images, report, report_fault, set_alias, show_image,
     show_layout, status_of,
 };
 use station_input::{INPUT, InputScript};
+use station_json::{Form, diff_as_json, layout_as_json, show_as_json};
 use station_plan::{plan_script, show_journal};
 use station_session::{init_line, recover_line, run_script};
-use station_troubles::{Files, Heard, Journal, tell_more};
+use station_troubles::{Files, Heard, Journal, LineNames, tell_more};
 use std::alloc::Global;
 use std::io;
 use std::io::{Read, Write};
@@ -81,20 +83,59 @@ fn serve_request<
     faults: &mut E,
     terminal: Option<T>,
 ) -> ExitStatus {
-    let is_told = terminal.is_some() || request.is_verbose;
-    let begun = begin_progress(rt, request, terminal);
+    let Request {
+        task,
+        typed,
+        is_verbose,
+        is_quiet,
+    } = request;
+    let is_told = terminal.is_some() || is_verbose;
+    let begun = begin_progress(rt, is_quiet, terminal);
     let progress = begun.as_ref();
-    match request.task.with_script(INPUT) {
+    match typed {
+        Some(text) => {
+            let mut joined = InputScript::typed(text, store);
+            let rest = &mut io::empty();
+            serve_and_tell(
+                rt,
+                alloc,
+                task,
+                is_told,
+                progress,
+                rest,
+                &mut joined,
+                output,
+                faults,
+            )
+        }
+        None => serve_read(
+            rt, alloc, task, is_told, progress, input, store, output, faults,
+        ),
+    }
+}
+
+/// Carries out a task whose script, if it has one, is a file or standard input.
+fn serve_read<
+    H: Wait + Threads + Clock + Sync,
+    R: Read,
+    S: Store,
+    W: Write,
+    E: Write,
+    T: Write + Send,
+>(
+    rt: &H,
+    alloc: Global,
+    task: Task<'_>,
+    is_told: bool,
+    progress: Option<&Progress<T>>,
+    input: &mut R,
+    store: &mut S,
+    output: &mut W,
+    faults: &mut E,
+) -> ExitStatus {
+    match task.with_script(INPUT) {
         None => serve_and_tell(
-            rt,
-            alloc,
-            request.task,
-            is_told,
-            progress,
-            input,
-            store,
-            output,
-            faults,
+            rt, alloc, task, is_told, progress, input, store, output, faults,
         ),
         Some(task) => {
             let mut joined = InputScript::new(alloc, input, store);
@@ -114,14 +155,14 @@ fn serve_request<
     }
 }
 
-/// Begins to count the progress, if there is a terminal for its line.
+/// Begins to count the progress, if there is a terminal for its line and it is to be drawn.
 fn begin_progress<H: Clock, T: Write + Drop>(
     rt: &H,
-    request: Request<'_>,
+    is_quiet: bool,
     terminal: Option<T>,
 ) -> Option<Progress<T>> {
     match terminal {
-        Some(terminal) if !request.is_quiet => Progress::begin(rt, terminal),
+        Some(terminal) if !is_quiet => Progress::begin(rt, terminal),
         _ => None,
     }
 }
@@ -160,14 +201,25 @@ fn serve_and_tell<
 fn files_of(task: Task<'_>) -> Files<'_> {
     match task {
         Task::Alias { hex, file, .. } | Task::Show { hex, file, .. } => image_files(file, hex),
-        Task::Diff { hex, old, new } => Files::Pair { old, new, hex },
+        Task::Diff { hex, old, new, .. } => Files::Pair { old, new, hex },
         Task::Explain { .. } | Task::Completions { .. } | Task::Man => Files::Nothing,
-        Task::Layout { line } => line_files(line, Journal::Unread, None),
+        Task::Layout { line, .. } => line_files(line, Journal::Unread, None),
         Task::Init { line } => line_files(line, Journal::New, None),
-        Task::Run { line, script, .. } | Task::Plan { line, script } => {
-            line_files(line, Journal::Kept, Some(script))
+        Task::Plan { line, script, .. } => line_files(line, Journal::Kept, Some(script)),
+        Task::Run {
+            line,
+            script,
+            capture,
+            ..
+        } => Files::Line(LineNames {
+            line,
+            journal: Journal::Kept,
+            script: Some(script),
+            capture,
+        }),
+        Task::Recover { line, .. } | Task::Journal { line, .. } => {
+            line_files(line, Journal::Kept, None)
         }
-        Task::Recover { line } | Task::Journal { line } => line_files(line, Journal::Kept, None),
     }
 }
 
@@ -179,11 +231,12 @@ fn image_files(file: Option<&str>, hex: bool) -> Files<'_> {
 }
 
 fn line_files<'a>(line: &'a str, journal: Journal, script: Option<&'a str>) -> Files<'a> {
-    Files::Line {
+    Files::Line(LineNames {
         line,
         journal,
         script,
-    }
+        capture: None,
+    })
 }
 
 /// Carries out a task.
@@ -211,30 +264,78 @@ fn serve_task<
                 Err(failure) => report(failure, faults),
             }
         }
-        Task::Show { hex, all, file } => told(
+        Task::Show {
+            hex,
+            all,
+            form: Form::Text,
+            file,
+        } => told(
             show_image(alloc, hex, all, file, input, store, output),
             faults,
         ),
-        Task::Diff { hex, old, new } => told(
+        Task::Show {
+            hex,
+            all,
+            form: Form::Json,
+            file,
+        } => told(
+            show_as_json(alloc, hex, all, file, input, store, output),
+            faults,
+        ),
+        Task::Diff {
+            hex,
+            form: Form::Text,
+            old,
+            new,
+        } => told(
             diff_images(alloc, hex, old, new, input, store, output),
             faults,
         ),
-        Task::Layout { line } => status_of(show_layout(alloc, line, store, output), faults),
+        Task::Diff {
+            hex,
+            form: Form::Json,
+            old,
+            new,
+        } => told(
+            diff_as_json(alloc, hex, old, new, input, store, output),
+            faults,
+        ),
+        Task::Layout {
+            line,
+            form: Form::Text,
+        } => status_of(show_layout(alloc, line, store, output), faults),
+        Task::Layout {
+            line,
+            form: Form::Json,
+        } => status_of(layout_as_json(alloc, line, store, output), faults),
         Task::Explain { code } => status_of(explain(alloc, code, output), faults),
         Task::Completions { shell } => status_of(print_completions(alloc, shell, output), faults),
         Task::Man => status_of(print_manual(alloc, output), faults),
         Task::Init { line } => status_of(init_line(alloc, line, store, output), faults),
-        Task::Plan { line, script } => plan_script(alloc, line, script, store, output, faults),
+        Task::Plan { line, script, form } => {
+            plan_script(alloc, line, script, form, store, output, faults)
+        }
         Task::Run {
             line,
             script,
             cut,
             capture,
-        } => run_script(
-            rt, alloc, line, script, cut, capture, progress, store, output, faults,
-        ),
-        Task::Journal { line } => show_journal(alloc, line, store, output, faults),
-        Task::Recover { line } => recover_line(rt, alloc, line, progress, store, output, faults),
+            reports,
+        } => {
+            let looked = look_before(alloc, reports, line, store);
+            let ended = run_script(
+                rt, alloc, line, script, cut, capture, progress, store, output, faults,
+            );
+            let status = told(ended, faults);
+            report_behind(alloc, looked, status, store, output, faults)
+        }
+        Task::Journal { line, form } => show_journal(alloc, line, form, store, output, faults),
+        Task::Recover { line, reports } => {
+            let looked = look_before(alloc, reports, line, store);
+            let ended = recover_line(rt, alloc, line, progress, store, output, faults);
+            let status = told(ended, faults);
+            report_behind(alloc, looked, status, store, output, faults)
+        }
     }
 }
 

@@ -14,13 +14,16 @@ use Rattle.station_text.specs.declared.line_file.LineFile.{LineFile}
 use Rattle.station_files.specs.Faults.{IsFaultless}
 use Rattle.station_files.specs.Files.{Known, HasBytes, ChangesAmong}
 use Rattle.station_files.specs.LineFiles.{SpellsLine, SpellsSlaves}
+use Rattle.station_files.specs.FileNames.{IsLineApart}
+use Rattle.station_files.specs.Locations.{Leads}
 use Rattle.station_files.specs.ScriptFiles.{SpellsCommands}
 use Rattle.station_files.specs.declared.faults.Fault.{Fault}
 use Rattle.station_files.specs.declared.faults.ExitStatus.{ExitStatus}
 use Rattle.station_files.specs.declared.faults.ExitStatus.TheVariants.{Done}
+use Rattle.station_session.specs.Judging.{HasJournal, IsRunApart}
 use Rattle.station_session.specs.Site.{IsSiteOf, files_of, HoldsSite}
 use Rattle.script_session.specs.Rounds.{ServesSo}
-use Rattle.station_session.specs.Session.{is_old, BeginsCapture, EndsCaptured, EndsRecovery, EndsRun, EndsStation, IsOpened, Loads, Recovers, RunsScript, SavesRecovered, SavesRun, SavesServed, StartsFrom}
+use Rattle.station_session.specs.Session.{is_old, BeginsCapture, EndsCaptured, EndsRecovery, EndsRun, EndsStation, IsOpened, Loads, RecoversFiles, RunsFiles, SavesRecovered, SavesRun, SavesServed, StartsFrom}
 
 -- ---- what was read
 
@@ -192,16 +195,17 @@ ends-uncaptured is_cut capture old new line site commands status begins bad =
 
 -- ---- the whole
 
-pub runs : (is_cut : Bool) (capture : Option (List ℕ)) (old loaded new : Known) (name script : List ℕ) (line : LineFile) (site : SiteValue) (commands : List Command) (status : ExitStatus) → Loads old name line site → SpellsCommands old script commands → loaded ≡ old
-    → EndsCaptured is_cut capture loaded new line site commands status → RunsScript is_cut capture old new name script status
-runs is_cut capture old loaded new name script line site commands status given spelt same ends =
+pub runs : (leads : Leads) (is_cut : Bool) (capture : Option (List ℕ)) (old loaded new : Known) (name script : List ℕ) (line : LineFile) (site : SiteValue) (commands : List Command) (status : ExitStatus) → Loads old name line site → IsRunApart old leads capture line name script
+    → HasJournal site.line.sizes site.seen.state.disk.bytes → SpellsCommands old script commands → loaded ≡ old → EndsCaptured is_cut capture loaded new line site commands status → RunsFiles leads is_cut capture old new name script status
+runs leads is_cut capture old loaded new name script line site commands status given apart journal spelt same ends =
     let P : Known → Type 0 = λ files. EndsCaptured is_cut capture files new line site commands status in
-    inr (record { line = line; site = site; loaded = given; commands = commands; spelt = spelt; ends = subst P same ends })
+    record { line = line; site = site; loaded = given; apart = apart; journal = journal; commands = commands; spelt = spelt; ends = subst P same ends }
 
-pub recovers : (old loaded new : Known) (name : List ℕ) (line : LineFile) (site : SiteValue) (status : ExitStatus) → Loads old name line site → loaded ≡ old → EndsRecovery loaded new line site.seen status → Recovers old new name status
-recovers old loaded new name line site status given same ends =
+pub recovers : (leads : Leads) (old loaded new : Known) (name : List ℕ) (line : LineFile) (site : SiteValue) (status : ExitStatus) → Loads old name line site → IsLineApart leads line name → HasJournal site.line.sizes site.seen.state.disk.bytes → loaded ≡ old
+    → EndsRecovery loaded new line site.seen status → RecoversFiles leads old new name status
+recovers leads old loaded new name line site status given apart journal same ends =
     let P : Known → Type 0 = λ files. EndsRecovery files new line site.seen status in
-    inr (record { line = line; site = site; loaded = given; ends = subst P same ends })
+    record { line = line; site = site; loaded = given; apart = apart; journal = journal; ends = subst P same ends }
 
 -- no command is accepted yet
 pub starts-none : (was_old : Bool) (site : SiteValue) (s : Station) → StartsFrom was_old site s → s.book.accepted ≡ []

@@ -8,6 +8,7 @@ use Rattle.site_journal.specs.Formatting.{formatted}
 use Rattle.station_text.specs.declared.line_file.LineFile.{LineFile}
 use Rattle.station_files.specs.Faults.{IsOfStream}
 use Rattle.station_files.specs.Files.{Known, ChangesAmong, HoldsAll}
+use Rattle.station_files.specs.Locations.{Leads}
 use Rattle.station_files.specs.declared.faults.Fault.{Fault}
 use Rattle.station_session.specs.Init.{Formats, HoldsEmpty, IsOfFormatting, IsUnformatted, RefusesInit}
 use Rattle.station_session.specs.Site.{files_of, switched_on, HoldsSite}
@@ -38,9 +39,9 @@ of_stream fault (inl is) = subst IsOfFormatting (sym is) tt
 of_stream fault (inr is) = subst IsOfFormatting (sym is) tt
 
 -- the answer couldn't be printed
-pub unprinted : {T : Type 0} (result : Result T Fault) (old new : Known) (name : List ℕ) → Formats ⊥ old new name → IfErr result IsOfStream → IfErr result (RefusesInit old new name)
-unprinted (Ok done) old new name formatted failed = tt
-unprinted (Err fault) old new name formatted failed = inr (formatted, of_stream fault failed)
+pub unprinted : {T : Type 0} (result : Result T Fault) (old new : Known) (leads : Leads) (name : List ℕ) → Formats ⊥ old new name → IfErr result IsOfStream → IfErr result (RefusesInit old new leads name)
+unprinted (Ok done) old new leads name formatted failed = tt
+unprinted (Err fault) old new leads name formatted failed = inr (formatted, of_stream fault failed)
 
 pub at_ok : {T E : Type 0} {P : Type 0} (result : Result T E) → P → OnOk result P
 at_ok (Ok done) holds = holds

@@ -1,4 +1,5 @@
 pub mod Formatted
+pub mod Judged
 pub mod Refused
 pub mod Saved
 pub mod SwitchedOn

@@ -4,9 +4,11 @@ use Rattle.sii_words.specs.Words.{bytes_of}
 use Rattle.site_journal.specs.Formatting.{formatted}
 use Rattle.station_text.specs.declared.line_file.LineFile.{LineFile}
 use Rattle.station_files.specs.Files.{Known, Holds, IsAbsent, ChangesAmong, HoldsAll}
+use Rattle.station_files.specs.FileNames.{RefusesLineNames}
 use Rattle.station_files.specs.LineFiles.{SpellsLine, SpellsSlaves, RefusesPlant}
+use Rattle.station_files.specs.Locations.{Leads}
 use Rattle.station_files.specs.declared.faults.Fault.{Fault}
-use Rattle.station_files.specs.declared.faults.Fault.TheVariants.{Exists, Memory, File, Disk, Stopped}
+use Rattle.station_files.specs.declared.faults.Fault.TheVariants.{Exists, Memory, File, Disk, Stopped, SameFile}
 use Rattle.station_session.specs.Site.{files_of}
 
 -- the files spell this line and the words of its slaves, and the journal's file doesn't exist
@@ -28,11 +30,12 @@ pub record Formats (done : Type 0) (old new : Known) (name : List ℕ) : Type 0 
   pub others : ChangesAmong old new (files_of line)
   pub saved : done → HoldsEmpty new line plant
 
--- the fault for a line that isn't formatted: its files are refused, or the journal's file exists or can't be read
-abbrev pub RefusesUnformatted : Known → List ℕ → Fault → Type 0
-RefusesUnformatted files name Exists = (line : LineFile) × SpellsLine files name line × Holds files (string_bytes line.journal) (λ bytes. ⊤)
-RefusesUnformatted files name File = ⊤
-RefusesUnformatted files name fault = RefusesPlant files name fault
+-- the fault for a line that isn't formatted: its files are refused, two of them are one, or the journal's file exists or can't be read
+abbrev pub RefusesUnformatted : Known → Leads → List ℕ → Fault → Type 0
+RefusesUnformatted files leads name Exists = (line : LineFile) × SpellsLine files name line × Holds files (string_bytes line.journal) (λ bytes. ⊤)
+RefusesUnformatted files leads name File = ⊤
+RefusesUnformatted files leads name SameFile = (line : LineFile) × SpellsLine files name line × RefusesLineNames leads line name SameFile
+RefusesUnformatted files leads name fault = RefusesPlant files name fault
 
 -- the faults that may end the formatting and saving of a line
 abbrev pub IsOfFormatting : Fault → Type 0
@@ -43,5 +46,5 @@ IsOfFormatting File = ⊤
 IsOfFormatting _ = ⊥
 
 -- The line is refused and nothing was written, or a fault ended its formatting.
-abbrev pub RefusesInit : Known → Known → List ℕ → Fault → Type 0
-RefusesInit old new name fault = ((new ≡ old) × RefusesUnformatted old name fault) ⊎ (Formats ⊥ old new name × IsOfFormatting fault)
+abbrev pub RefusesInit : Known → Known → Leads → List ℕ → Fault → Type 0
+RefusesInit old new leads name fault = ((new ≡ old) × RefusesUnformatted old leads name fault) ⊎ (Formats ⊥ old new name × IsOfFormatting fault)

@@ -3,3 +3,5 @@ pub mod Init
 pub mod Site
 pub mod Faults
 pub mod Session
+pub mod Judging
+pub mod Refusals

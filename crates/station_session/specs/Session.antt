@@ -14,9 +14,12 @@ use Rattle.station_text.specs.declared.line_file.LineFile.{LineFile}
 use Rattle.station_files.specs.Faults.{IsFaultless}
 use Rattle.station_files.specs.Files.{Known, HasBytes, ChangesOnly, ChangesAmong}
 use Rattle.station_files.specs.LineFiles.{SpellsLine, SpellsSlaves}
+use Rattle.station_files.specs.FileNames.{IsLineApart}
+use Rattle.station_files.specs.Locations.{Leads}
 use Rattle.station_files.specs.ScriptFiles.{SpellsCommands}
 use Rattle.station_files.specs.declared.faults.ExitStatus.{ExitStatus}
 use Rattle.station_files.specs.declared.faults.ExitStatus.TheVariants.{Done}
+use Rattle.station_session.specs.Judging.{HasJournal, IsRunApart}
 use Rattle.station_session.specs.Site.{IsSiteOf, files_of, HoldsSite}
 use Rattle.script_session.specs.Rounds.{AreAmong, Goes, IsServed}
 use Rattle.script_session.specs.declared.threads.Left.{Left}
@@ -68,10 +71,6 @@ StartsFrom false site s = IsOpened site.line site.seen s
 
 -- ---- what the files hold in the end
 
--- no file was written, and a fault ended the work
-abbrev pub Stops : Known → Known → ExitStatus → Type 0
-Stops old new status = (new ≡ old) × ¬ IsFaultless status
-
 -- The files hold the state of a complete recovery of this site.
 pub record SavesRecovered (files : Known) (line : LineFile) (before : Seen) : Type 0 where
   pub s : Station
@@ -84,16 +83,14 @@ pub record EndsRecovery (old new : Known) (line : LineFile) (before : Seen) (sta
   pub others : ChangesAmong old new (files_of line)
   pub saved : status ≡ Done → SavesRecovered new line before
 
--- The line was read, and recovered as far as the status says.
-pub record RecoversFiles (old new : Known) (name : List ℕ) (status : ExitStatus) : Type 0 where
+-- The line was read, its files stand apart, its journal is one, and it was recovered as far as the status says.
+pub record RecoversFiles (leads : Leads) (old new : Known) (name : List ℕ) (status : ExitStatus) : Type 0 where
   pub line : LineFile
   pub site : SiteValue
   pub loaded : Loads old name line site
+  pub apart : IsLineApart leads line name
+  pub journal : HasJournal site.line.sizes site.seen.state.disk.bytes
   pub ends : EndsRecovery old new line site.seen status
-
--- what `recover` does: it stops before it writes, or it recovers the line
-abbrev pub Recovers : Known → Known → List ℕ → ExitStatus → Type 0
-Recovers old new name status = Stops old new status ⊎ RecoversFiles old new name status
 
 -- The files hold the state of this station after some of the commands were accepted and served: all of them if the status is `Done`.
 pub record SavesServed (files : Known) (line : LineFile) (opened : Station) (commands : List Command) (status : ExitStatus) : Type 0 where
@@ -171,15 +168,13 @@ pub record EndsCaptured (is_cut : Bool) (capture : Option (List ℕ)) (old new :
   pub captured : BeginsCapture capture old begun
   pub ends : EndsRun is_cut begun new line site commands status
 
--- The line and the script were read, and the commands were run as far as the status says.
-pub record RunsFiles (is_cut : Bool) (capture : Option (List ℕ)) (old new : Known) (name script : List ℕ) (status : ExitStatus) : Type 0 where
+-- The line and the script were read, their files stand apart, the journal is one, and the commands were run as far as the status says.
+pub record RunsFiles (leads : Leads) (is_cut : Bool) (capture : Option (List ℕ)) (old new : Known) (name script : List ℕ) (status : ExitStatus) : Type 0 where
   pub line : LineFile
   pub site : SiteValue
   pub loaded : Loads old name line site
+  pub apart : IsRunApart old leads capture line name script
+  pub journal : HasJournal site.line.sizes site.seen.state.disk.bytes
   pub commands : List Command
   pub spelt : SpellsCommands old script commands
   pub ends : EndsCaptured is_cut capture old new line site commands status
-
--- what `run` does: it stops before it writes, or it runs the commands
-abbrev pub RunsScript : (is_cut : Bool) → (capture : Option (List ℕ)) → Known → Known → List ℕ → List ℕ → ExitStatus → Type 0
-RunsScript is_cut capture old new name script status = Stops old new status ⊎ RunsFiles is_cut capture old new name script status

@@ -22,7 +22,7 @@ pub fn of_open(fault: OpenFault) -> Fault
 }
 
 /// The program's fault for a file that is no journal, or a journal that can't be read.
-fn of_journal(fault: JournalFault) -> Fault
+pub(crate) fn of_journal(fault: JournalFault) -> Fault
     ensures { result ≡ of_journal fault }
 {
     match fault {

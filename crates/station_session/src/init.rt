@@ -2,6 +2,7 @@
 ghost use Rattle.std.specs.Prelude.{◌≡◌, ◌≤◌, length, vec_len, IfErr, IfOk, OnOk, ⊤};
 ghost use Rattle.station_files.specs.Faults.{IsOfStream};
 ghost use Rattle.station_files.specs.Files.{ChangesAmong};
+ghost use Rattle.station_files.specs.FileNames.{IsLineApart};
 ghost use Rattle.station_session.specs.Init.{Formats, HoldsEmpty, IsOfFormatting, IsUnformatted, RefusesInit, RefusesUnformatted};
 ghost use Rattle.station_session.specs.Site.{files_of};
 
@@ -10,7 +11,7 @@ use crate::site::{save_site, site_of};
 use sii_words::Words;
 use site_journal::format;
 use site_mem::FaultPlan;
-use station_files::{Fault, Store, load_line, load_slaves};
+use station_files::{Fault, Store, keep_line_apart, load_line, load_slaves};
 use station_text::LineFile;
 use std::alloc::Global;
 use std::io::Write;
@@ -27,8 +28,8 @@ struct Unformatted {
 ///
 /// # Errors
 ///
-/// As for `load_line` and `load_slaves`; `File` where the store can't tell whether the journal's file exists; `Exists` where it does. Nothing
-/// is written up to there. Then `Disk` or `Stopped`, as the disk in memory answers; the files are saved nevertheless. Then `File` or
+/// As for `load_line` and `load_slaves`; then as for `keep_line_apart`; `File` where the store can't tell whether the journal's file exists;
+/// `Exists` where it does. Nothing is written up to there. Then `Disk` or `Stopped`, as the disk in memory answers; the files are saved nevertheless. Then `File` or
 /// `Memory`, where a file can't be written or the output fails.
 pub fn init_line<S: Store, W: Write>(
     alloc: Global,
@@ -37,7 +38,7 @@ pub fn init_line<S: Store, W: Write>(
     output: &mut W,
 ) -> Result<(), Fault>
     ensures formatted { OnOk result (Formats ⊤ (S.files store.old) (S.files store.new) name.now) }
-    ensures refused { IfErr result (RefusesInit (S.files store.old) (S.files store.new) name.now) }
+    ensures refused { IfErr result (RefusesInit (S.files store.old) (S.files store.new) S.leads name.now) }
 {
     let given = load_unformatted(alloc, name, store)?;
     match format_line(alloc, &given.line, &given.slaves, store) {
@@ -54,7 +55,7 @@ fn print_formatted<W: Write>(area: u32, output: &mut W) -> Result<(), Fault>
     Ok(())
 }
 
-/// Reads the line file and then the images of the slaves. The journal's file must not exist.
+/// Reads the line file and then the images of the slaves. Each of the files has to be another one, and the journal's must not exist.
 fn load_unformatted<S: Store>(
     alloc: Global,
     name: &str,
@@ -62,11 +63,13 @@ fn load_unformatted<S: Store>(
 ) -> Result<Unformatted, Fault>
     ensures given { IfOk result (λ given. IsUnformatted (S.files store.old) name.now given.line given.slaves.items) }
     ensures count { IfOk result (λ given. vec_len given.slaves ≡ vec_len given.line.images) }
-    ensures refused { IfErr result (RefusesUnformatted (S.files store.old) name.now) }
+    ensures apart { IfOk result (λ given. IsLineApart S.leads given.line name.now) }
+    ensures refused { IfErr result (RefusesUnformatted (S.files store.old) S.leads name.now) }
     ensures same { S.files store.new ≡ S.files store.old }
 {
     let line = load_line(alloc, name, store)?;
     let slaves = load_slaves(alloc, &line, store)?;
+    keep_line_apart(alloc, &line, name, store)?;
     match store.read(alloc, line.journal.as_str())? {
         Some(_) => Err(Fault::Exists),
         None => Ok(Unformatted { line, slaves }),

@@ -1,14 +1,15 @@
 //! The subcommand `recover`.
-ghost use Rattle.std.specs.Prelude.{◌≡◌, length, IsTrue};
+ghost use Rattle.std.specs.Prelude.{◌≡◌, length, IfErr, IfOk, IsTrue, OnErr};
 ghost use Rattle.esc_rom.specs.Owned.{OwnsAll};
 ghost use Rattle.site_core.specs.State.{Seen};
 ghost use Rattle.station_alone.specs.Station.{Station};
 ghost use Rattle.station_files.specs.Files.{ChangesAmong};
 ghost use Rattle.station_alone.specs.Recovery.{BeginsRecovered, HasRecovered};
 ghost use Rattle.station_session.specs.Site.{files_of, HoldsSite};
-ghost use Rattle.station_session.specs.Session.{Recovers, EndsRecovery};
+ghost use Rattle.station_session.specs.Refusals.{RefusesRecovery};
+ghost use Rattle.station_session.specs.Session.{RecoversFiles, EndsRecovery};
 
-use crate::faults::of_open;
+use crate::faults::{of_journal, of_open};
 use crate::opening::open_files;
 use crate::session::{Session, load_session};
 use crate::site::save_site;
@@ -26,11 +27,15 @@ use std::sync::Wait;
 
 /// Recovers the line whose line file is `name`, on its files, and prints what was recovered. Returns the exit status.
 ///
-/// The files are read in this order: line file, images of the slaves, journal. The first fault is printed and ends the recovery. No file is
-/// written where one can't be read, or where the journal is refused. After any later fault the files hold what was written so far, and
-/// another recovery completes it.
+/// The files are read in this order: line file, images of the slaves, journal. After any later fault, which is printed, the files hold what
+/// was written so far, and another recovery completes it.
 ///
 /// `progress` counts what is done, if there is one. Its line is erased before anything is printed, and at the end.
+///
+/// # Errors
+///
+/// As for `load_session`; then `NotAJournal`, `BadVersion`, `WrongLine` or `BadJournal` where the journal is refused. No file was written,
+/// and none was opened for writing.
 pub fn recover_line<S: Store, W: Write, E: Write, T: Write, R: Wait + Clock>(
     rt: &R,
     alloc: Global,
@@ -39,12 +44,19 @@ pub fn recover_line<S: Store, W: Write, E: Write, T: Write, R: Wait + Clock>(
     store: &mut S,
     output: &mut W,
     faults: &mut E,
-) -> ExitStatus
-    ensures { Recovers (S.files store.old) (S.files store.new) name.now result }
+) -> Result<ExitStatus, Fault>
+    ensures recovered { IfOk result (RecoversFiles S.leads (S.files store.old) (S.files store.new) name.now) }
+    ensures refused { IfErr result (RefusesRecovery (S.files store.old) S.leads name.now) }
+    ensures same { OnErr result (S.files store.new ≡ S.files store.old) }
 {
-    match load_session(alloc, name, store) {
-        Ok(session) => recover_session(rt, alloc, session, progress, store, output, faults),
-        Err(fault) => report_fault(fault, faults),
+    let session = load_session(alloc, name, store)?;
+    let refusal = session.refusal;
+    match refusal {
+        None => Ok(recover_session(rt, alloc, session, progress, store, output, faults)),
+        Some(fault) => {
+            drop(session);
+            Err(of_journal(fault))
+        }
     }
 }
 
@@ -67,6 +79,7 @@ fn recover_session<S: Store, W: Write, E: Write, T: Write, R: Wait + Clock>(
         line,
         site,
         is_old: _,
+        refusal: _,
         lock: _lock,
     } = session;
     match open_files(alloc, &line, store) {

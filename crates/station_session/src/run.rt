@@ -1,13 +1,15 @@
 //! The subcommand `run`.
-ghost use Rattle.std.specs.Prelude.{◌≡◌, length, is_some, option_map, false, true, IfOk, IsTrue, MatchResult};
+ghost use Rattle.std.specs.Prelude.{◌≡◌, length, is_some, option_map, false, true, IfErr, IfOk, IsTrue, MatchResult, OnErr, OnOk};
 ghost use Rattle.esc_rom.specs.Owned.{OwnsAll};
 ghost use Rattle.station_files.specs.ScriptFiles.{SpellsCommands};
-ghost use Rattle.station_session.specs.Session.{is_old, EndsCaptured, EndsRun, EndsStation, IsOpened, Loads, RunsScript, StartsFrom};
+ghost use Rattle.station_files.specs.FileNames.{spelt};
+ghost use Rattle.station_session.specs.Judging.{AreRunApart, HasJournal, IsRunApart};
+ghost use Rattle.station_session.specs.Refusals.{RefusesCommandFiles, RefusesRun};
+ghost use Rattle.station_session.specs.Session.{is_old, EndsCaptured, EndsRun, EndsStation, IsOpened, Loads, RunsFiles, StartsFrom};
 
 use crate::capture::{begin_capture, end_capture};
-use crate::faults::of_open;
+use crate::faults::{of_journal, of_open};
 use crate::opening::open_files;
-use crate::same_files::keep_apart;
 use crate::session::{Session, give_up, load_session};
 use crate::site::save_site;
 use crate::threads::run_threads;
@@ -20,7 +22,8 @@ use site_progress::{Cleared, Progress, Watched};
 use site_shadow::{Device, ShadowSite};
 use station_alone::{Alone, OpenFault, recover};
 use station_files::{
-    ExitStatus, Fault, Script, Store, load_script_files, report_fault, status_of, worse,
+    ExitStatus, Fault, FileNames, Store, keep_apart, load_script_files, report_fault, status_of,
+    worse,
 };
 use station_text::LineFile;
 use std::alloc::Global;
@@ -47,19 +50,23 @@ pub struct Given<L> {
     pub commands: Vec<Command>,
 }
 
-/// RunsScript the script file `script` on the line whose line file is `name`: submits its commands in order, serves them by threads on the line's
+/// Runs the script file `script` on the line whose line file is `name`: submits its commands in order, serves them by threads on the line's
 /// files, and prints the answer to each command and the totals. Returns the exit status.
 ///
-/// The files are read in this order: line file, images of the slaves, journal, script, images that the script names. The first fault is
-/// printed and ends the run. No file is written where one can't be read, or where the journal is refused. After any later fault the files
-/// hold what was written so far, and a recovery completes it.
+/// The files are read in this order: line file, images of the slaves, journal, script, images that the script names. After any later fault,
+/// which is printed, the files hold what was written so far, and a recovery completes it.
 ///
 /// With a fuse, the commands are served on one thread on a copy of the line in memory, and what the power cut leaves is saved.
 ///
-/// Each frame is written down in the file `capture`, if one is named. The capture begins once all files are read. Where it can't, no file of
-/// the line is written. If it can't be written further, the run goes on as without it, and the fault is printed behind all others.
+/// Each frame is written down in the file `capture`, if one is named. The capture begins once all files are read and the journal is judged.
+/// Where it can't, the fault is printed, and no file of the line is written. If it can't be written further, the run goes on as without it,
+/// and the fault is printed behind all others.
 ///
 /// Without a fuse, `progress` counts what is done, if there is one. Its line is erased before anything is printed, and at the end.
+///
+/// # Errors
+///
+/// As for `load`. No file was written, and none was opened for writing.
 pub fn run_script<S: Store, W: Write, E: Write, T: Write + Send, R: Wait + Threads + Clock + Sync>(
     rt: &R,
     alloc: Global,
@@ -71,15 +78,17 @@ pub fn run_script<S: Store, W: Write, E: Write, T: Write + Send, R: Wait + Threa
     store: &mut S,
     output: &mut W,
     faults: &mut E,
-) -> ExitStatus
-    ensures { RunsScript (is_some fuse) (option_map (λ given. given.now) capture.entry) (S.files store.old) (S.files store.new)
-        name.now script.now result }
+) -> Result<ExitStatus, Fault>
+    ensures ran { IfOk result (RunsFiles S.leads (is_some fuse) (option_map (λ given. given.now) capture.entry) (S.files store.old) (S.files store.new)
+        name.now script.now) }
+    ensures refused { IfErr result (RefusesRun (S.files store.old) S.leads (option_map (λ given. given.now) capture.entry) name.now script.now) }
+    ensures same { OnErr result (S.files store.new ≡ S.files store.old) }
 {
-    match load(alloc, name, script, store) {
-        Ok(given) => run_captured(
+    match load(alloc, name, script, capture, store) {
+        Ok(given) => Ok(run_captured(
             rt, alloc, given, fuse, capture, progress, store, output, faults,
-        ),
-        Err(fault) => report_fault(fault, faults),
+        )),
+        Err(fault) => Err(fault),
     }
 }
 
@@ -175,6 +184,7 @@ fn run_fused<S: Store, W: Write, E: Write, R: Wait + Clock>(
         line,
         site,
         is_old,
+        refusal: _,
         lock: _lock,
     } = session;
     let site = site.with_device(Captured::new(FaultPlan::none(), capture, rt));
@@ -212,6 +222,7 @@ fn run_on_files<S: Store, W: Write, E: Write, T: Write + Send, R: Wait + Threads
         line,
         site,
         is_old,
+        refusal: _,
         lock: _lock,
     } = session;
     match open_files(alloc, &line, store) {
@@ -302,25 +313,41 @@ fn run_site<D: Device + Copy + Send, S: Store, W: Write, E: Write, R: Wait + Thr
     }
 }
 
-/// Reads the files in this order: line file, images of the slaves, journal, script, images that the script names.
+/// Reads the files in this order: line file, images of the slaves, journal, script, images that the script names. None of those that a run
+/// writes, its capture among them, may be another one. Then the journal's content is judged.
 ///
 /// # Errors
 ///
-/// As for `load_session`, then as for `load_script_files` and `keep_apart`.
+/// As for `load_session`, then as for `load_script_files` and `keep_apart`; then `NotAJournal`, `BadVersion`, `WrongLine` or `BadJournal`
+/// where the journal is refused.
 pub fn load<S: Store>(
     alloc: Global,
     name: &str,
     script: &str,
+    capture: Option<&str>,
     store: &mut S,
 ) -> Result<Given<S::Lock>, Fault>
     ensures loaded { IfOk result (λ given. Loads (S.files store.old) name.now given.session.line given.session.site) }
     ensures old { IfOk result (λ given. given.session.is_old ≡ is_old given.session.site.seen.state.disk.bytes) }
+    ensures journal { IfOk result (λ given. HasJournal given.session.site.line.sizes given.session.site.seen.state.disk.bytes) }
     ensures spelt { IfOk result (λ given. SpellsCommands (S.files store.old) script.now given.commands.items) }
+    ensures apart { IfOk result (λ given. IsRunApart (S.files store.old) S.leads (option_map (λ given. given.now) capture.entry) given.session.line
+        name.now script.now) }
+    ensures refused { IfErr result (RefusesRun (S.files store.old) S.leads (option_map (λ given. given.now) capture.entry) name.now script.now) }
     ensures same { S.files store.new ≡ S.files store.old }
 {
     let session = load_session(alloc, name, store)?;
-    match load_commands(alloc, script, &session.line, store) {
-        Ok(commands) => Ok(Given { session, commands }),
+    let refusal = session.refusal;
+    let files = FileNames::of_line(alloc, &session.line, name, capture)?;
+    match load_commands(alloc, script, files, store) {
+        Ok(commands) => match refusal {
+            None => Ok(Given { session, commands }),
+            Some(fault) => {
+                drop(session);
+                drop(commands);
+                Err(of_journal(fault))
+            }
+        },
         Err(fault) => {
             drop(session);
             Err(fault)
@@ -328,7 +355,7 @@ pub fn load<S: Store>(
     }
 }
 
-/// Reads a script and the images that it names, none of which may be a file that the run writes.
+/// Reads a script and the images that it names. None of them may be one of these files that the run writes.
 ///
 /// # Errors
 ///
@@ -336,17 +363,21 @@ pub fn load<S: Store>(
 fn load_commands<S: Store>(
     alloc: Global,
     script: &str,
-    line: &LineFile,
+    files: FileNames,
     store: &mut S,
 ) -> Result<Vec<Command>, Fault>
     ensures spelt { IfOk result (λ commands. SpellsCommands (S.files store.old) script.now commands.items) }
+    ensures apart { OnOk result (AreRunApart (S.files store.old) S.leads files.written (spelt files.names.items) script.now) }
+    ensures refused { IfErr result (RefusesCommandFiles (S.files store.old) S.leads files.has_capture files.written (spelt files.names.items)
+        script.now) }
     ensures same { S.files store.new ≡ S.files store.old }
 {
-    let Script { commands, images } = load_script_files(alloc, script, store)?;
-    match keep_apart(alloc, script, line, &images, store) {
-        Ok(()) => Ok(commands),
+    let loaded = load_script_files(alloc, script, store)?;
+    let all = files.with_script(alloc, script, &loaded.images)?;
+    match keep_apart(alloc, &all, store) {
+        Ok(()) => Ok(loaded.commands),
         Err(fault) => {
-            drop(commands);
+            drop(loaded);
             Err(fault)
         }
     }

@@ -46,7 +46,7 @@ pub fn site_of<D: Device + Drop>(
 }
 
 /// The number of words of each slave.
-fn sizes_of(alloc: Global, slaves: &[Words]) -> Result<Vec<u16>, AllocError>
+pub(crate) fn sizes_of(alloc: Global, slaves: &[Words]) -> Result<Vec<u16>, AllocError>
     ensures counts { IfOk result (λ sizes. sizes.items ≡ map length slaves.now) }
     ensures devices { IfOk result (λ sizes. AllByRecursion IsDeviceSize sizes.items) }
 {

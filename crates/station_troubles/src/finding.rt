@@ -1,7 +1,7 @@
 //! A bad file, in words.
 
 use crate::flaws::TextTrouble;
-use station_input::INPUT;
+use station_input::{INPUT, TYPED};
 use station_listing::Code;
 use std::alloc::{AllocError, AllocFailed, Global};
 use std::fmt;
@@ -24,8 +24,8 @@ pub(crate) enum Bad {
     Found(Finding),
 }
 
-/// The name of a file, as it is printed: between quotes, on one line whatever it has. `INPUT` is
-/// standard input.
+/// The name of a file, as it is printed: between quotes, on one line whatever it has. `INPUT` is standard input, and `TYPED` the commands
+/// behind `-e`.
 #[derive(Clone, Copy)]
 pub(crate) struct Shown<'a> {
     pub name: &'a str,
@@ -59,6 +59,11 @@ pub(crate) fn in_text(
 ) -> Result<Finding, AllocError> {
     let (name, what) = (Shown { name }, trouble.what.as_str());
     let text = match trouble.line {
+        Some(line) if name.name == TYPED => {
+            // (a command is the second of its two lines)
+            let number = line / 2 + line % 2;
+            format!(in alloc; "-e number {number}: {what}")?
+        }
         Some(line) => format!(in alloc; "{name}, line {line}: {what}")?,
         None => format!(in alloc; "{name}: {what}")?,
     };
@@ -70,6 +75,9 @@ impl fmt::Display for Shown<'_> {
         let name = self.name;
         if name == INPUT {
             return f.write_str("standard input");
+        }
+        if name == TYPED {
+            return f.write_str("the commands of -e");
         }
         write!(f, "{name:?}")
     }

@@ -9,14 +9,14 @@ mod heard;
 mod journal;
 mod line_text;
 mod looking;
-mod names;
 mod places;
+mod same_files;
 mod script_text;
 mod telling;
 
 pub use flaws::TextTrouble;
 pub use heard::Heard;
 pub use line_text::line_trouble;
-pub use looking::{Files, Journal, look_again};
+pub use looking::{Files, Journal, LineNames, look_again};
 pub use script_text::script_trouble;
 pub use telling::tell_more;

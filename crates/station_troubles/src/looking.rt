@@ -5,11 +5,11 @@ use crate::finding::{Bad, Finding, Shown, in_text, is_same, keep};
 use crate::flaws::TextTrouble;
 use crate::journal::judge_journal;
 use crate::line_text::line_trouble;
-use crate::names::{names_in, names_of};
 use crate::places::line_at;
+use crate::same_files::FilesOfLine;
 use crate::script_text::script_trouble;
 use sii_words::{ImageFile, is_device_size, is_image_size};
-use station_files::{LockFault, Store, load_slaves};
+use station_files::{LockFault, Store, image_names, load_slaves};
 use station_listing::Code;
 use station_text::{HexFault, LineFile, ScriptCommand, read_hex, read_line, read_script};
 use std::alloc::{AllocError, Global};
@@ -39,14 +39,20 @@ pub enum Files<'a> {
         hex: bool,
     },
     /// A line file and the images that it names, then its journal, and then a script and the images that it names.
-    Line {
-        /// The name of the line file.
-        line: &'a str,
-        /// What is done with the journal's file.
-        journal: Journal,
-        /// The name of the script, if one is read.
-        script: Option<&'a str>,
-    },
+    Line(LineNames<'a>),
+}
+
+/// The names of the files of a subcommand on a line, as it is given them.
+#[derive(Clone, Copy)]
+pub struct LineNames<'a> {
+    /// The name of the line file.
+    pub line: &'a str,
+    /// What is done with the journal's file.
+    pub journal: Journal,
+    /// The name of the script, if one is read.
+    pub script: Option<&'a str>,
+    /// The name of the capture, if one is written.
+    pub capture: Option<&'a str>,
 }
 
 /// What a subcommand does with a journal's file.
@@ -75,11 +81,7 @@ pub fn look_again<S: Store>(
         Files::Input => look_at_input(alloc, code),
         Files::Image { name, hex } => keep(code, look_at_image(alloc, name, hex, store)),
         Files::Pair { old, new, hex } => look_at_pair(alloc, code, old, new, hex, store),
-        Files::Line {
-            line,
-            journal,
-            script,
-        } => look_at_line(alloc, code, line, journal, script, store),
+        Files::Line(names) => look_at_line(alloc, code, names, store),
     };
     match looked {
         Err(Bad::Found(finding)) => text_for(code, finding),
@@ -207,32 +209,68 @@ fn bad_check(alloc: Global, name: &str, expected: u8) -> Result<Finding, AllocEr
 fn look_at_line<S: Store>(
     alloc: Global,
     code: Code,
-    name: &str,
-    journal: Journal,
-    script: Option<&str>,
+    names: LineNames<'_>,
     store: &mut S,
 ) -> Result<(), Bad>
     ensures same { S.files store.new ≡ S.files store.old }
 {
-    let line = line_again(alloc, name, store)?;
-    if journal == Journal::Kept {
+    let line = line_again(alloc, names.line, store)?;
+    if is_of_names(code, names) {
+        return look_at_names(alloc, code, names, &line, store);
+    }
+    if names.journal == Journal::Kept {
         keep(code, lock_again(alloc, line.journal.as_str(), store))?;
     }
-    let names = names_of(alloc, &line.images)?;
-    images_again(alloc, code, &names, true, store)?;
-    keep(code, journal_again(alloc, journal, &line, store))?;
-    match script {
+    images_again(alloc, code, &line.images, true, store)?;
+    keep(code, journal_again(alloc, names.journal, &line, store))?;
+    match names.script {
         Some(script) => look_at_script(alloc, code, script, store),
         None => Ok(()),
     }
+}
+
+/// Whether a fault of this code may be about two files that are one.
+fn is_of_names(code: Code, names: LineNames<'_>) -> bool {
+    is_same(code, Code::SameFile) || (is_same(code, Code::Exists) && names.capture.is_some())
+}
+
+/// Says which two files of a subcommand on this line are one, or that the capture's is there already.
+fn look_at_names<S: Store>(
+    alloc: Global,
+    code: Code,
+    names: LineNames<'_>,
+    line: &LineFile,
+    store: &mut S,
+) -> Result<(), Bad>
+    ensures same { S.files store.new ≡ S.files store.old }
+{
+    let mut files = FilesOfLine::of_line(alloc, line, names.line, names.capture)?;
+    if let Some(script) = names.script {
+        let commands = script_again(alloc, script, store)?;
+        files = files.with_script(alloc, script, &commands)?;
+    }
+    files.judge(alloc, code, store)?;
+    match names.capture {
+        Some(name) if is_same(code, Code::Exists) => Err(Bad::Found(taken(alloc, name)?)),
+        _ => Ok(()),
+    }
+}
+
+/// What is said of the file of a capture that is there, and is none of the others.
+fn taken(alloc: Global, name: &str) -> Result<Finding, AllocError> {
+    let name = Shown { name };
+    Ok(Finding {
+        code: Code::Exists,
+        text: format!(in alloc; "{name}: the file is there, and is no capture of this program")?,
+    })
 }
 
 fn look_at_script<S: Store>(alloc: Global, code: Code, name: &str, store: &mut S) -> Result<(), Bad>
     ensures same { S.files store.new ≡ S.files store.old }
 {
     let commands = script_again(alloc, name, store)?;
-    let names = names_in(alloc, &commands)?;
-    images_again(alloc, code, &names, false, store)
+    let images = image_names(alloc, &commands)?;
+    images_again(alloc, code, &images, false, store)
 }
 
 /// Reads a file that must be there.
@@ -343,14 +381,14 @@ fn busy(alloc: Global, name: &str) -> Result<Finding, AllocError> {
 fn images_again<S: Store>(
     alloc: Global,
     code: Code,
-    names: &[&str],
+    images: &[String],
     is_slave: bool,
     store: &mut S,
 ) -> Result<(), Bad>
     ensures same { S.files store.new ≡ S.files store.old }
 {
-    for name in names {
-        keep(code, image_again(alloc, name, is_slave, store))?;
+    for image in images {
+        keep(code, image_again(alloc, image.as_str(), is_slave, store))?;
     }
     Ok(())
 }

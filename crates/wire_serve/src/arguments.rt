@@ -4,18 +4,21 @@ use crate::capture_argument::{capture_argument, capture_of};
 use crate::practice::{PowerCut, Practice};
 use crate::quirks::QuirkList;
 use crate::session_arguments::{
-    Tenure, allowed_of, beside_argument, force_argument, resize_argument, take_argument, tenure_of,
-    trust_argument, trust_of, words_argument,
+    Tenure, asked_by_recover, asked_by_run, beside_argument, force_argument, form_of,
+    json_argument, report_argument, resize_argument, take_argument, tenure_of, trust_argument,
+    trust_of, words_argument,
 };
 use crate::sizes::sizes_of;
 use clap::error::ErrorKind;
 use clap::{Arg, ArgAction, ArgMatches, Command, Error, value_parser};
 use site_wire::Sizes;
+use station_input::{script_of, typed_argument, typed_text};
+use station_json::Form;
 use std::alloc::{AllocError, Global};
-use wire_session::Allowed;
+use wire_session::Asked;
 
 /// A command line: what it asks for, and where its text and its frames go.
-#[derive(Clone, Copy)]
+#[derive(Drop)]
 pub struct Arguments<'a> {
     /// The name of the file that the text goes to; `None` for standard error.
     pub text: Option<&'a str>,
@@ -27,6 +30,8 @@ pub struct Arguments<'a> {
     pub is_verbose: bool,
     /// What is asked for.
     pub task: Task<'a>,
+    /// The text of the script `TYPED`, where commands are typed in place of a script file.
+    pub typed: Option<Vec<u8>>,
 }
 
 /// What a command line asks for: a subcommand with its arguments.
@@ -36,6 +41,8 @@ pub enum Task<'a> {
     Scan {
         /// The sizes of EEPROMs, as far as they are given.
         sizes: Sizes,
+        /// Text, or rows of JSON.
+        form: Form,
     },
     /// Writes the slaves' image files.
     Backup {
@@ -44,12 +51,19 @@ pub enum Task<'a> {
         /// The sizes of EEPROMs, as far as they are given.
         sizes: Sizes,
     },
+    /// Writes the slaves' image files under new names, which begin with the date and the time.
+    BackupTo {
+        /// The folder that they go to.
+        folder: &'a str,
+        /// The sizes of EEPROMs, as far as they are given.
+        sizes: Sizes,
+    },
     /// Makes an empty journal for the line.
     Init {
         /// The name of the line file.
         line: &'a str,
-        /// What is allowed on the line.
-        allowed: Allowed,
+        /// What is asked for that isn't done where nothing is said.
+        asked: Asked,
     },
     /// Runs a script on the line.
     Run {
@@ -57,20 +71,41 @@ pub enum Task<'a> {
         line: &'a str,
         /// The name of the script file.
         script: &'a str,
-        /// What is allowed on the line.
-        allowed: Allowed,
+        /// What is asked for that isn't done where nothing is said.
+        asked: Asked,
     },
     /// Recovers the line.
     Recover {
         /// The name of the line file.
         line: &'a str,
-        /// What is allowed on the line.
-        allowed: Allowed,
+        /// What is asked for that isn't done where nothing is said.
+        asked: Asked,
     },
     /// Serves the slaves of a line to practise on.
     Slaves(Practice<'a>),
     /// Explains all codes.
     Explain,
+}
+
+impl<'a> Task<'a> {
+    /// The name of the line file, if the subcommand has one.
+    pub fn line(self) -> Option<&'a str> {
+        match self {
+            Task::Backup { line, .. }
+            | Task::Init { line, .. }
+            | Task::Run { line, .. }
+            | Task::Recover { line, .. } => Some(line),
+            Task::Scan { .. } | Task::BackupTo { .. } | Task::Slaves(_) | Task::Explain => None,
+        }
+    }
+
+    /// The name of the script, if the subcommand reads one.
+    pub fn script(self) -> Option<&'a str> {
+        match self {
+            Task::Run { script, .. } => Some(script),
+            _ => None,
+        }
+    }
 }
 
 /// The version, which `--version` prints after the program's name.
@@ -104,13 +139,18 @@ Behind either stands:
 const BACKUP_FILES: &str =
     "A line file that is there says where the images go. Where LINE isn't there it is
 written too: of a name like line.toml it names line-s0.bin, line-s1.bin and so on,
-and line-journal.bin, which is not made. A file that is there already is never
-written over: fault 94 Exists.
+and line-journal.bin. An image file that is there already is never written over:
+fault 94 Exists. An empty journal is made where there is none; one that is there
+stays as it is.
 
 Answers, a line for each slave whose word 0x3e tells another size than it has:
   slave P words N says W
                    N words were backed up, and W are there by word 0x3e
-  ... larger       it has more than 4096 words; the first 4096 are worked on";
+  ... larger       it has more than 4096 words; the first 4096 are worked on
+and then, where the journal was made:
+  formatted AREA   it is empty; its area has AREA bytes
+and with --to, behind all:
+  line NAME        the name of the line file";
 
 /// The help text on what `init` prints.
 const INIT_ANSWERS: &str = "Answers:
@@ -123,6 +163,11 @@ fault 94 Exists.";
 const RUN_TASK: &str =
     "Brings up the line, submits the commands of the script in order, carries them out,
 all slaves at the same time, and writes the words of each slave to its image file.";
+
+/// Examples of `run`.
+const RUN_EXAMPLES: &str = "Examples:
+  sii_wire -i eth0 run line.toml script.toml
+  sii_wire -i eth0 run line.toml -e 'alias = { slave = 2, value = 7 }'";
 
 /// The help text on what `run` prints and writes.
 const RUN_ANSWERS: &str = "Answers:
@@ -169,33 +214,24 @@ word. Start the program again to switch the slaves on.";
 /// refused.
 pub fn read_arguments<'a>(alloc: Global, words: &'a [String]) -> Result<Arguments<'a>, Error> {
     let mut command = program(alloc)?;
-    read_words(&mut command, words)
+    read_words(alloc, &mut command, words)
 }
 
 /// Reads a command line with this description of it.
-fn read_words<'a>(command: &mut Command<'a>, words: &'a [String]) -> Result<Arguments<'a>, Error> {
-    let matches = command.try_get_matches_from_mut(words)?;
-    arguments_of(command, &matches)
-}
-
-fn arguments_of<'a>(
+fn read_words<'a>(
+    alloc: Global,
     command: &mut Command<'a>,
-    matches: &ArgMatches<'a>,
+    words: &'a [String],
 ) -> Result<Arguments<'a>, Error> {
-    let text = matches.get_str("text");
-    let capture = capture_of(matches);
-    let tenure = tenure_of(matches);
-    let is_verbose = matches.get_flag("verbose");
-    match task_of(command, matches) {
-        Ok(task) => Ok(Arguments {
-            text,
-            capture,
-            tenure,
-            is_verbose,
-            task,
-        }),
-        Err(error) => Err(error),
-    }
+    let matches = command.try_get_matches_from_mut(words)?;
+    Ok(Arguments {
+        text: matches.get_str("text"),
+        capture: capture_of(&matches),
+        tenure: tenure_of(&matches),
+        is_verbose: matches.get_flag("verbose"),
+        task: task_of(command, &matches)?,
+        typed: typed_text(alloc, command, matches.subcommand_matches("run"))?,
+    })
 }
 
 /// The task of the subcommand that was given.
@@ -205,16 +241,16 @@ fn task_of<'a>(command: &mut Command<'a>, matches: &ArgMatches<'a>) -> Result<Ta
     }
     if let Some(scan) = matches.subcommand_matches("scan") {
         return match sizes_in(command, scan) {
-            Ok(sizes) => Ok(Task::Scan { sizes }),
+            Ok(sizes) => Ok(Task::Scan {
+                sizes,
+                form: form_of(scan),
+            }),
             Err(error) => Err(error),
         };
     }
     if let Some(backup) = matches.subcommand_matches("backup") {
         return match sizes_in(command, backup) {
-            Ok(sizes) => Ok(Task::Backup {
-                line: line_of(backup),
-                sizes,
-            }),
+            Ok(sizes) => Ok(backup_task(backup, sizes)),
             Err(error) => Err(error),
         };
     }
@@ -225,6 +261,17 @@ fn task_of<'a>(command: &mut Command<'a>, matches: &ArgMatches<'a>) -> Result<Ta
             ErrorKind::MissingSubcommand,
             "a subcommand is needed",
         ),
+    }
+}
+
+/// The task of `backup`: a line file is named, or a folder.
+fn backup_task<'a>(matches: &ArgMatches<'a>, sizes: Sizes) -> Task<'a> {
+    match matches.get_str("to") {
+        Some(folder) => Task::BackupTo { folder, sizes },
+        None => Task::Backup {
+            line: line_of(matches),
+            sizes,
+        },
     }
 }
 
@@ -247,31 +294,26 @@ fn plain_task<'a>(matches: &ArgMatches<'a>) -> Option<Task<'a>> {
     if let Some(init) = matches.subcommand_matches("init") {
         return Some(Task::Init {
             line: line_of(init),
-            allowed: trust_of(init),
+            asked: trust_of(init),
         });
     }
     if let Some(run) = matches.subcommand_matches("run") {
         return Some(Task::Run {
             line: line_of(run),
             script: script_of(run),
-            allowed: allowed_of(run),
+            asked: asked_by_run(run),
         });
     }
     let recover = matches.subcommand_matches("recover")?;
     Some(Task::Recover {
         line: line_of(recover),
-        allowed: trust_of(recover),
+        asked: asked_by_recover(recover),
     })
 }
 
 /// The name of the line file. It is required, so it is there.
 fn line_of<'a>(matches: &ArgMatches<'a>) -> &'a str {
     matches.get_str("LINE").unwrap_or("")
-}
-
-/// The name of the script file. It is required, so it is there.
-fn script_of<'a>(matches: &ArgMatches<'a>) -> &'a str {
-    matches.get_str("SCRIPT").unwrap_or("")
 }
 
 /// The task of `slaves`. `--left` is checked even without `--cut`.
@@ -358,6 +400,7 @@ fn scan_command<'a>(alloc: Global) -> Result<Command<'a>, AllocError> {
         .after_help("Example:\n  sii_wire -i eth0 scan")
         .after_long_help(SCAN_ANSWERS)
         .arg(words_argument(alloc))?
+        .arg(json_argument(alloc))?
         .arg(beside_argument(alloc))?
         .arg(take_argument(alloc)?)?
         .arg(capture_argument(alloc))
@@ -373,15 +416,42 @@ fn backup_command<'a>(alloc: Global) -> Result<Command<'a>, AllocError> {
     Command::new(alloc, "backup")
         .about("Writes the words of each slave to its image file")
         .long_about(
-            "Brings up the line, reads the EEPROM of each slave, and writes its words to its image file. No word of a slave is written.",
+            "Brings up the line, reads the EEPROM of each slave, writes its words to its image file, and makes an empty journal if there is \
+            none. No word of a slave is written.",
         )
-        .after_help("Example:\n  sii_wire -i eth0 backup line.toml")
+        .after_help(
+            "Examples:\n  sii_wire -i eth0 backup line.toml\n  sii_wire -i eth0 backup --to backups",
+        )
         .after_long_help(BACKUP_FILES)
-        .arg(line_argument(alloc))?
+        .arg(backed_line_argument(alloc)?)?
+        .arg(folder_argument(alloc)?)?
         .arg(words_argument(alloc))?
         .arg(beside_argument(alloc))?
         .arg(take_argument(alloc)?)?
         .arg(capture_argument(alloc))
+}
+
+/// The line file of `backup`, where the files don't go to a folder.
+fn backed_line_argument<'a>(alloc: Global) -> Result<Arg<'a>, AllocError> {
+    Arg::new(alloc, "LINE")
+        .help("The line file: the slaves' image files and the journal's, in TOML")
+        .required_unless_present("to")
+}
+
+/// The help text on the folder of a backup.
+const FOLDER: &str =
+    "Writes the line file, the image files and the journal into FOLDER, which has to be
+there, under names that begin with the date and the time in UTC, as
+FOLDER/20261126-211500.toml and FOLDER/20261126-211500-s0.bin, and prints the name of
+the line file. Nothing that is there is written over.";
+
+fn folder_argument<'a>(alloc: Global) -> Result<Arg<'a>, AllocError> {
+    Arg::new(alloc, "to")
+        .long("to")
+        .value_name("FOLDER")
+        .help("Writes a backup of its own into this folder, under the date and the time")
+        .long_help(FOLDER)
+        .conflicts_with("LINE")
 }
 
 fn init_command<'a>(alloc: Global) -> Result<Command<'a>, AllocError> {
@@ -399,24 +469,26 @@ fn init_command<'a>(alloc: Global) -> Result<Command<'a>, AllocError> {
         .arg(capture_argument(alloc))
 }
 
-fn script_argument<'a>(alloc: Global) -> Arg<'a> {
+fn script_argument<'a>(alloc: Global) -> Result<Arg<'a>, AllocError> {
     Arg::new(alloc, "SCRIPT")
         .help("The script file: the commands in order, in TOML")
-        .required(true)
+        .required_unless_present("command")
 }
 
 fn run_command<'a>(alloc: Global) -> Result<Command<'a>, AllocError> {
     Command::new(alloc, "run")
         .about("Runs the commands of a script on the line")
         .long_about(RUN_TASK)
-        .after_help("Example:\n  sii_wire -i eth0 run line.toml script.toml")
+        .after_help(RUN_EXAMPLES)
         .after_long_help(RUN_ANSWERS)
         .arg(line_argument(alloc))?
-        .arg(script_argument(alloc))?
+        .arg(script_argument(alloc)?)?
+        .arg(typed_argument(alloc)?)?
         .arg(beside_argument(alloc))?
         .arg(force_argument(alloc))?
         .arg(trust_argument(alloc))?
         .arg(resize_argument(alloc))?
+        .arg(report_argument(alloc))?
         .arg(capture_argument(alloc))
 }
 
@@ -432,6 +504,7 @@ fn recover_command<'a>(alloc: Global) -> Result<Command<'a>, AllocError> {
         .arg(beside_argument(alloc))?
         .arg(take_argument(alloc)?)?
         .arg(trust_argument(alloc))?
+        .arg(report_argument(alloc))?
         .arg(capture_argument(alloc))
 }
 

@@ -3,6 +3,7 @@
 
 mod arguments;
 mod capture_argument;
+mod dated;
 mod explain;
 mod practice;
 mod quirks;
@@ -11,6 +12,7 @@ mod session_arguments;
 mod sizes;
 
 pub use arguments::{Arguments, Task, read_arguments};
+pub use dated::name_at;
 pub use practice::{PowerCut, Practice, serve_slaves};
 pub use quirks::QuirkList;
 pub use serving::{refuse_text, refuse_words, serve, show_usage};

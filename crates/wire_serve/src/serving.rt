@@ -1,14 +1,19 @@
 //! The program as a function of its arguments and streams.
 
 use crate::arguments::{Arguments, Task};
+use crate::dated::dated_name;
 use crate::explain::explain;
 use crate::practice::serve_slaves;
 use crate::session_arguments::Tenure;
 use clap::Error;
 use clap::error::ErrorKind;
-use site_wire::{EthernetWire, NumberedWire, Wire};
+use site_capture::Capture;
+use site_wire::{EthernetWire, NumberedWire, Sizes, Wire};
 use station_files::{ExitStatus, Fault, Store, report_fault};
+use station_input::InputScript;
+use station_listing::Code;
 use station_session::{begin_capture, end_capture};
+use station_troubles::{Files, Journal, LineNames, look_again};
 use std::alloc::Global;
 use std::io;
 use std::io::{Read, Write};
@@ -16,15 +21,18 @@ use std::rt::Clock;
 use std::sync::Wait;
 use std::thread::Threads;
 use wire_capture::CapturedWire;
-use wire_session::{WireFault, backup_line, init_on_wire, recover_line, run_script, scan_line};
+use wire_session::{
+    CaptureNames, WireFault, backup_line, begin_journal, init_on_wire, keep_capture_apart,
+    recover_line, run_script, scan_line,
+};
 
-/// Carries out what the arguments ask for on the wire that is read and written by these two, and returns the exit status: `Done`; `Refused` where a command was
-/// refused; `File` for a file or its form; `Device` for the line; or `Memory`. The frames are numbered from the one behind `number` on.
-/// Faults are printed to `faults`, those of the line with a second line behind if `is_told`.
+/// Carries out a command line on the wire that is read and written by these two, and returns the exit status: `Done`; `Refused` where a
+/// command was refused; `File` for a file or its form; `Device` for the line; or `Memory`. The frames are numbered from the one behind
+/// `number` on. Faults are printed to `faults`, those of the line with a second line behind if `is_told`.
 ///
-/// Each frame is written down in the capture file, if one is named, once it is sent or received. Where the capture can't begin, no frame
-/// is sent and nothing is read or written. If it can't be written further, the work goes on as without it, and the fault is printed behind
-/// all others.
+/// Each frame is written down in the file of the capture, if one is named, once it is sent or received. Where the capture can't begin, no
+/// frame is sent and nothing is read or written. If it can't be written further, the work goes on as without it, and the fault is printed
+/// behind all others.
 pub fn serve<
     H: Wait + Threads + Clock + Sync,
     R: Read + Send + Drop,
@@ -35,7 +43,7 @@ pub fn serve<
 >(
     rt: &H,
     alloc: Global,
-    arguments: &Arguments<'_>,
+    arguments: Arguments<'_>,
     is_told: bool,
     wire: EthernetWire<R, W>,
     number: u32,
@@ -43,22 +51,107 @@ pub fn serve<
     output: &mut O,
     faults: &mut E,
 ) -> ExitStatus {
-    match begin_capture(arguments.capture, store) {
+    let Arguments {
+        task,
+        capture,
+        tenure,
+        typed,
+        ..
+    } = arguments;
+    let on = Around {
+        capture,
+        tenure,
+        is_told,
+    };
+    match typed {
+        Some(text) => {
+            let mut joined = InputScript::typed(text, store);
+            serve_task(
+                rt,
+                alloc,
+                task,
+                on,
+                wire,
+                number,
+                &mut joined,
+                output,
+                faults,
+            )
+        }
+        None => serve_task(rt, alloc, task, on, wire, number, store, output, faults),
+    }
+}
+
+/// What a task is carried out with.
+#[derive(Clone, Copy)]
+struct Around<'a> {
+    /// The name of the capture, if there is one.
+    capture: Option<&'a str>,
+    /// Whose the wire is.
+    tenure: Tenure,
+    /// Whether a fault of the line has a second line.
+    is_told: bool,
+}
+
+/// Carries out a task on the wire that is read and written by these two.
+fn serve_task<
+    H: Wait + Threads + Clock + Sync,
+    R: Read + Send + Drop,
+    W: Write + Send + Drop,
+    S: Store,
+    O: Write,
+    E: Write,
+>(
+    rt: &H,
+    alloc: Global,
+    task: Task<'_>,
+    on: Around<'_>,
+    wire: EthernetWire<R, W>,
+    number: u32,
+    store: &mut S,
+    output: &mut O,
+    faults: &mut E,
+) -> ExitStatus {
+    match begin_apart(alloc, on.capture, task, store) {
         Ok(begun) => {
             let captured = CapturedWire::new(wire, begun.as_ref(), rt);
-            let numbered = numbered_wire(captured, number, arguments.tenure);
-            let status = status_of(
-                do_task(rt, alloc, arguments.task, numbered, store, output),
-                is_told,
-                faults,
-            );
+            let numbered = numbered_wire(captured, number, on.tenure);
+            let ended = do_task(rt, alloc, task, numbered, store, output);
+            let status = status_of(alloc, ended, on.is_told, task, store, faults);
             end_capture(begun, status, faults)
         }
         Err(fault) => {
             drop(wire);
-            report_fault(fault, faults)
+            let status = report_fault(fault, faults);
+            if on.is_told {
+                tell_names(alloc, fault, task, on.capture, store, faults);
+            }
+            status
         }
     }
+}
+
+/// Begins the capture, if one is named and it is none of the files that the task works on.
+///
+/// # Errors
+///
+/// As for `keep_capture_apart`, and then as for `begin_capture`.
+fn begin_apart<S: Store>(
+    alloc: Global,
+    capture: Option<&str>,
+    task: Task<'_>,
+    store: &mut S,
+) -> Result<Option<Capture<S::File>>, Fault> {
+    if let (Some(capture), Some(line)) = (capture, task.line()) {
+        let script = task.script();
+        let names = CaptureNames {
+            capture,
+            line,
+            script,
+        };
+        keep_capture_apart(alloc, names, store)?;
+    }
+    begin_capture(capture, store)
 }
 
 /// The wire, as it is to be used.
@@ -79,20 +172,26 @@ fn do_task<H: Wait + Threads + Clock + Sync, W: Wire + Send + Drop, S: Store, O:
     output: &mut O,
 ) -> Result<ExitStatus, WireFault> {
     match task {
-        Task::Scan { sizes } => all_done(scan_line(alloc, &mut wire, rt, &sizes, output)),
-        Task::Backup { line, sizes } => all_done(backup_line(
-            alloc, &mut wire, rt, &sizes, line, store, output,
-        )),
-        Task::Init { line, allowed } => all_done(init_on_wire(
-            alloc, &mut wire, rt, line, allowed, store, output,
+        Task::Scan { sizes, form } => {
+            all_done(scan_line(alloc, &mut wire, rt, &sizes, form, output))
+        }
+        Task::Backup { line, sizes } => back_up(rt, alloc, line, &sizes, &mut wire, store, output),
+        Task::BackupTo { folder, sizes } => {
+            let line = dated_name(alloc, rt, folder)?;
+            let ended = back_up(rt, alloc, &line, &sizes, &mut wire, store, output)?;
+            writeln!(output, "line {line}")?;
+            Ok(ended)
+        }
+        Task::Init { line, asked } => all_done(init_on_wire(
+            alloc, &mut wire, rt, line, asked, store, output,
         )),
         Task::Run {
             line,
             script,
-            allowed,
-        } => run_script(rt, alloc, wire, line, script, allowed, store, output),
-        Task::Recover { line, allowed } => {
-            all_done(recover_line(rt, alloc, wire, line, allowed, store, output))
+            asked,
+        } => run_script(rt, alloc, wire, line, script, asked, store, output),
+        Task::Recover { line, asked } => {
+            all_done(recover_line(rt, alloc, wire, line, asked, store, output))
         }
         Task::Slaves(practice) => all_done(serve_slaves(
             rt,
@@ -109,27 +208,88 @@ fn do_task<H: Wait + Threads + Clock + Sync, W: Wire + Send + Drop, S: Store, O:
     }
 }
 
+/// Backs up the line, and makes an empty journal for it if there is none.
+fn back_up<C: Clock, W: Wire, S: Store, O: Write>(
+    clock: &C,
+    alloc: Global,
+    line: &str,
+    sizes: &Sizes,
+    wire: &mut NumberedWire<W>,
+    store: &mut S,
+    output: &mut O,
+) -> Result<ExitStatus, WireFault> {
+    backup_line(alloc, wire, clock, sizes, line, store, output)?;
+    all_done(begin_journal(alloc, line, store, output))
+}
+
 /// `Done` where no fault came.
 fn all_done(ended: Result<(), WireFault>) -> Result<ExitStatus, WireFault> {
     ended?;
     Ok(ExitStatus::Done)
 }
 
-/// The exit status for a result: that of what was done, or that of the fault, which is printed.
-fn status_of<E: Write>(
+/// The exit status for a result: that of what was done, or that of the fault, which is printed, with what there is to tell of it if `is_told`.
+fn status_of<S: Store, E: Write>(
+    alloc: Global,
     ended: Result<ExitStatus, WireFault>,
     is_told: bool,
+    task: Task<'_>,
+    store: &mut S,
     faults: &mut E,
 ) -> ExitStatus {
     match ended {
         Ok(status) => status,
         Err(fault) => {
             let _ = writeln!(faults, "{fault}");
-            if let (true, Some(told)) = (is_told, fault.told()) {
-                let _ = writeln!(faults, "{told}");
+            if is_told {
+                tell_more(alloc, fault, task, store, faults);
             }
             fault.status()
         }
+    }
+}
+
+/// Prints what there is to tell of a fault beside its code, if there is more than `explain` says.
+fn tell_more<S: Store, E: Write>(
+    alloc: Global,
+    fault: WireFault,
+    task: Task<'_>,
+    store: &mut S,
+    faults: &mut E,
+) {
+    if let Some(told) = fault.told() {
+        let _ = writeln!(faults, "{told}");
+    }
+    if let WireFault::Station(Fault::SameFile) = fault {
+        tell_names(alloc, Fault::SameFile, task, None, store, faults);
+    }
+}
+
+/// Prints which two files of a task a fault is about, where it is about two.
+fn tell_names<S: Store, E: Write>(
+    alloc: Global,
+    fault: Fault,
+    task: Task<'_>,
+    capture: Option<&str>,
+    store: &mut S,
+    faults: &mut E,
+) {
+    let code = match fault {
+        Fault::SameFile => Code::SameFile,
+        Fault::Exists => Code::Exists,
+        _ => return,
+    };
+    let Some(line) = task.line() else {
+        return;
+    };
+    let files = Files::Line(LineNames {
+        line,
+        journal: Journal::Unread,
+        script: task.script(),
+        capture,
+    });
+    if let Some(text) = look_again(alloc, code, files, store) {
+        let _ = writeln!(faults, "{text}; see sii_wire explain");
     }
 }
 

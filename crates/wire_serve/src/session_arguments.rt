@@ -1,8 +1,10 @@
-//! The arguments that say how large EEPROMs are, and what is allowed on a line.
+//! The arguments that say how large EEPROMs are, and what is asked for on a line.
 
 use clap::{Arg, ArgAction, ArgMatches};
+use line_report::REPORT;
+use station_json::Form;
 use std::alloc::{AllocError, Global};
-use wire_session::Allowed;
+use wire_session::Asked;
 
 /// The help text on sizes.
 const WORDS: &str =
@@ -99,19 +101,58 @@ pub(crate) fn resize_argument<'a>(alloc: Global) -> Arg<'a> {
     )
 }
 
-/// What the flags of `run` allow.
-pub(crate) fn allowed_of(matches: &ArgMatches<'_>) -> Allowed {
-    Allowed {
-        trusts_images: matches.get_flag("trust-images"),
-        is_forced: matches.get_flag("force"),
-        resizes: matches.get_flag("resize"),
+/// The description of the flag for a report at the end.
+pub(crate) fn report_argument<'a>(alloc: Global) -> Arg<'a> {
+    flag(
+        alloc,
+        "report",
+        "Prints at the end which words have changed, and whether the line is in order",
+    )
+    .long_help(REPORT)
+}
+
+/// The help text on JSON.
+const JSON: &str =
+    "Prints JSON in place of text: an object for each slave, on a line of its own. Numbers
+are JSON numbers, and the keys are named as in the text. Later versions may add keys
+and rows; pass over what you don't know. Faults and the exit status stay as they are.";
+
+/// The description of the flag for JSON.
+pub(crate) fn json_argument<'a>(alloc: Global) -> Arg<'a> {
+    flag(alloc, "json", "Prints JSON, one object a line").long_help(JSON)
+}
+
+/// The form that a subcommand with this flag was asked for.
+pub(crate) fn form_of(matches: &ArgMatches<'_>) -> Form {
+    if matches.get_flag("json") {
+        Form::Json
+    } else {
+        Form::Text
     }
 }
 
-/// What the one flag of `init` and `recover` allows.
-pub(crate) fn trust_of(matches: &ArgMatches<'_>) -> Allowed {
-    Allowed {
+/// What the flags of `run` ask for.
+pub(crate) fn asked_by_run(matches: &ArgMatches<'_>) -> Asked {
+    Asked {
         trusts_images: matches.get_flag("trust-images"),
-        ..Allowed::nothing()
+        is_forced: matches.get_flag("force"),
+        resizes: matches.get_flag("resize"),
+        reports: matches.get_flag("report"),
+    }
+}
+
+/// What the flags of `recover` ask for.
+pub(crate) fn asked_by_recover(matches: &ArgMatches<'_>) -> Asked {
+    Asked {
+        reports: matches.get_flag("report"),
+        ..trust_of(matches)
+    }
+}
+
+/// What the one flag that `init` and `recover` share asks for.
+pub(crate) fn trust_of(matches: &ArgMatches<'_>) -> Asked {
+    Asked {
+        trusts_images: matches.get_flag("trust-images"),
+        ..Asked::nothing()
     }
 }

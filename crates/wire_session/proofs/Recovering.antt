@@ -8,13 +8,18 @@ use Rattle.station_alone.specs.Station.{Station}
 use Rattle.station_alone.specs.Recovery.{HasRecovered, BeginsRecovered}
 use Rattle.station_text.specs.declared.line_file.LineFile.{LineFile}
 use Rattle.station_files.specs.Files.{Known, ChangesAmong, ChangesOnly}
+use Rattle.station_files.specs.FileNames.{IsLineApart}
 use Rattle.station_files.specs.LineFiles.{names_of}
+use Rattle.station_files.specs.Locations.{Leads}
 use Rattle.station_session.specs.Site.{IsSiteOf, files_of, switched_on, HoldsSite}
 use Rattle.wire_session.specs.declared.faults.WireFault.{WireFault}
 use Rattle.wire_session.specs.declared.faults.WireFault.TheVariants as wire
 use Rattle.wire_session.specs.Backup.{IsOfStream}
+use Rattle.station_session.specs.Init as bench
 use Rattle.station_session.specs.Init.{Formats}
-use Rattle.wire_session.specs.Opening.{RefusesInit, IsFound, LeavesImages, EndsRecovery, Recovers, SavesRecovered}
+use Rattle.station_files.specs.declared.faults.Fault.TheVariants.{Exists}
+use Rattle.wire_session.specs.Reporting.{IsReported}
+use Rattle.wire_session.specs.Opening.{BeginsJournal, RefusesInit, IsFound, LeavesImages, EndsRecovery, Recovers, SavesRecovered}
 
 -- ---- the journal is opened
 
@@ -64,11 +69,11 @@ ends_recovered result old new line before s state is_recovered begins is held ot
 
 -- ---- the whole
 
-pub recovers : (result : Result (Unit {0}) WireFault) (old found new : Known) (name : List ℕ) (line : LineFile) (plant : List (List ℕ)) (bytes : List ℕ) → IsFound old name line plant bytes → found ≡ old
-    → EndsRecovery result found new line (switched_on plant bytes) → Recovers result old new name
-recovers result old found new name line plant bytes given same ends =
+pub recovers : (result : Result (Unit {0}) WireFault) (leads : Leads) (old found new : Known) (name : List ℕ) (line : LineFile) (plant : List (List ℕ)) (bytes : List ℕ) → IsFound old name line plant bytes → IsLineApart leads line name → found ≡ old
+    → EndsRecovery result found new line (switched_on plant bytes) → Recovers result leads old new name
+recovers result leads old found new name line plant bytes given apart same ends =
     let P : Known → Type 0 = λ files. EndsRecovery result files new line (switched_on plant bytes) in
-    inr (record { line = line; plant = plant; bytes = bytes; found = given; ends = subst P same ends })
+    inr (record { line = line; plant = plant; bytes = bytes; found = given; apart = apart; ends = subst P same ends })
 
 -- ---- init
 
@@ -76,19 +81,24 @@ recovers result old found new name line plant bytes given same ends =
 pub formats_behind : (result : Result (Unit {0}) WireFault) (old mid new : Known) (name : List ℕ) → mid ≡ old → OnOk result (Formats ⊤ mid new name) → OnOk result (Formats ⊤ old new name)
 formats_behind result old mid new name same formats = let P : Known → Type 0 = λ files. OnOk result (Formats ⊤ files new name) in subst P same formats
 
-pub refuses_behind : (result : Result (Unit {0}) WireFault) (old mid new : Known) (name : List ℕ) → mid ≡ old → IfErr result (RefusesInit mid new name) → IfErr result (RefusesInit old new name)
-refuses_behind result old mid new name same refuses = let P : Known → Type 0 = λ files. IfErr result (RefusesInit files new name) in subst P same refuses
+pub refuses_behind : (result : Result (Unit {0}) WireFault) (old mid new : Known) (leads : Leads) (name : List ℕ) → mid ≡ old → IfErr result (RefusesInit mid new leads name) → IfErr result (RefusesInit old new leads name)
+refuses_behind result old mid new leads name same refuses = let P : Known → Type 0 = λ files. IfErr result (RefusesInit files new leads name) in subst P same refuses
 
 -- nothing was written
-pub refuses_early : (fault : WireFault) (old new : Known) (name : List ℕ) → new ≡ old → RefusesInit old new name fault
-refuses_early (wire.Station fault) old new name same = inl same
-refuses_early (wire.Line fault) old new name same = same
-refuses_early (wire.OtherCount slaves) old new name same = same
-refuses_early (wire.Stopped reason seen) old new name same = same
-refuses_early (wire.UnknownSize slave says) old new name same = same
-refuses_early (wire.Running slave) old new name same = same
-refuses_early (wire.Held slave) old new name same = same
-refuses_early (wire.OtherSize command slave words) old new name same = same
+pub refuses_early : (fault : WireFault) (old new : Known) (leads : Leads) (name : List ℕ) → new ≡ old → RefusesInit old new leads name fault
+refuses_early (wire.Station fault) old new leads name same = inl same
+refuses_early (wire.Line fault) old new leads name same = same
+refuses_early (wire.OtherCount slaves) old new leads name same = same
+refuses_early (wire.Stopped reason seen) old new leads name same = same
+refuses_early (wire.UnknownSize slave says) old new leads name same = same
+refuses_early (wire.Running slave) old new leads name same = same
+refuses_early (wire.Held slave) old new leads name same = same
+refuses_early (wire.OtherSize command slave words) old new leads name same = same
+
+-- the journal was there, so none was made
+pub begun_before : (old new : Known) (leads : Leads) (name : List ℕ) → bench.RefusesInit old new leads name Exists → BeginsJournal old new leads name
+begun_before old new leads name (inl (same, there)) = inr (same, there)
+begun_before old new leads name (inr (formats, never)) = absurd never
 
 -- ---- the reason is told
 
@@ -100,3 +110,24 @@ recovery_told ended old new line before fault told is stream ends =
     let so : EndsRecovery (Err fault) old new line before
     = subst (λ (x : Result (Unit {0}) WireFault). EndsRecovery x old new line before) is ends in
     record { others = so.others; unsaved = λ apart. so.unsaved (λ of_stream. apart (stream of_stream)); saved = tt }
+
+-- ---- what has changed is printed behind it
+
+-- a stream failed behind it
+recovery_unprinted : (ended result : Result (Unit {0}) WireFault) (old new : Known) (line : LineFile) (before : Seen)
+    → IsErrAnd result IsOfStream → EndsRecovery ended old new line before → EndsRecovery result old new line before
+recovery_unprinted ended (Ok done) old new line before failed ends = absurd failed
+recovery_unprinted ended (Err fault) old new line before failed ends =
+    record { others = ends.others; unsaved = λ apart. absurd (apart failed); saved = tt }
+
+recovery_either : (ended result : Result (Unit {0}) WireFault) (old new : Known) (line : LineFile) (before : Seen)
+    → IsReported ended result → EndsRecovery ended old new line before → EndsRecovery result old new line before
+recovery_either ended result old new line before (inl is) ends =
+    subst (λ (x : Result (Unit {0}) WireFault). EndsRecovery x old new line before) (sym is) ends
+recovery_either ended result old new line before (inr (was, failed)) ends = recovery_unprinted ended result old new line before failed ends
+
+pub recovery_reported : (ended result : Result (Unit {0}) WireFault) (old mid new : Known) (line : LineFile) (before : Seen) → new ≡ mid
+    → IsReported ended result → EndsRecovery ended old mid line before → EndsRecovery result old new line before
+recovery_reported ended result old mid new line before same reported ends =
+    recovery_either ended result old new line before reported
+    (subst (λ (files : Known). EndsRecovery ended old files line before) (sym same) ends)

@@ -1,5 +1,5 @@
 -- What the files hold after a run on a wire.
-use Rattle.std.proofs.Common.{◌≡◌, ℕ, Bool, true, false, List, Result, Ok, Err, IsErrAnd, refl, inr, sym, subst}
+use Rattle.std.proofs.Common.{◌≡◌, ℕ, Bool, true, false, List, ◌∷◌, ◌++◌, length, None, Result, Ok, Err, IsErrAnd, refl, inl, inr, sym, subst}
 use Rattle.std.specs.Prelude.{IfErr, IfOk, OnOk, string_bytes}
 use Rattle.std.proofs.lemmas.Result.{IfOk-weaker}
 use Rattle.sii_edit.specs.declared.command.Command.{Command}
@@ -9,7 +9,9 @@ use Rattle.station_alone.specs.Station.{Station}
 use Rattle.station_alone.specs.Recovery.{HasRecovered, BeginsRecovered}
 use Rattle.station_text.specs.declared.line_file.LineFile.{LineFile}
 use Rattle.station_files.specs.Files.{Known, ChangesAmong, ChangesOnly}
-use Rattle.station_files.specs.ScriptFiles.{SpellsCommands}
+use Rattle.station_files.specs.FileNames.{files_with, written_of}
+use Rattle.station_files.specs.Locations.{AreApart, Leads}
+use Rattle.station_files.specs.ScriptFiles.{NamesImages, SpellsCommands}
 use Rattle.station_files.specs.declared.faults.ExitStatus.{ExitStatus}
 use Rattle.station_files.specs.declared.faults.ExitStatus.TheVariants.{Done}
 use Rattle.station_files.specs.declared.faults.Fault.{Fault}
@@ -18,11 +20,13 @@ use Rattle.script_session.specs.declared.threads.Left.{Left}
 use Rattle.script_session.specs.AtDesk.{LeavesSo}
 use Rattle.script_session.proofs.DeskLaws.{served-told}
 use Rattle.station_session.specs.Site.{IsSiteOf, files_of, HoldsSite}
+use Rattle.station_session.specs.Judging.{IsRunApart}
 use Rattle.station_session.specs.Session.{is_old, HoldsBehind, SavesBehind, SavesLeft, SavesRun, SavesServed, Serves, StartsFrom}
 use Rattle.station_session.proofs.ThreadsEnd.{behind-unserved}
 use Rattle.wire_session.specs.declared.faults.WireFault.{WireFault}
 use Rattle.wire_session.specs.Backup.{IsOfStream}
 use Rattle.wire_session.specs.Opening.{IsFound}
+use Rattle.wire_session.specs.Reporting.{IsReported}
 use Rattle.wire_session.specs.Running.{Ends, EndsFound, EndsServing, EndsSite, RunsScript, SavesFound}
 use Rattle.wire_session.proofs.Recovering.{among_both, among_only, only_both, unsaved_by}
 
@@ -177,6 +181,29 @@ pub ends_well : (saves : ExitStatus → Type 0) (ended : Result ExitStatus WireF
     → ended ≡ Ok status → Ends saves ended old new line → Ends saves (Ok status) old new line
 ends_well saves ended old new line status is ends = subst (λ (x : Result ExitStatus WireFault). Ends saves x old new line) is ends
 
+-- ---- what has changed is printed behind it
+
+-- a stream failed behind it
+ends_unprinted : (saves says : ExitStatus → Type 0) (ended result : Result ExitStatus WireFault) (old new : Known) (line : LineFile)
+    → IsErrAnd result IsOfStream → Ends saves ended old new line → Ends says result old new line
+ends_unprinted saves says ended (Ok status) old new line failed ends = absurd failed
+ends_unprinted saves says ended (Err fault) old new line failed ends =
+    record { others = ends.others; unsaved = λ apart. absurd (apart failed); saved = tt }
+
+ends_either : (saves : ExitStatus → Type 0) (ended result : Result ExitStatus WireFault) (old new : Known) (line : LineFile)
+    → IsReported ended result → Ends saves ended old new line → Ends saves result old new line
+ends_either saves ended result old new line (inl is) ends =
+    subst (λ (x : Result ExitStatus WireFault). Ends saves x old new line) (sym is) ends
+ends_either saves ended result old new line (inr (was, failed)) ends = ends_unprinted saves saves ended result old new line failed ends
+
+pub ends_reported : (ended result : Result ExitStatus WireFault) (old mid new : Known) (line : LineFile) (plant : List (List ℕ))
+    (bytes : List ℕ) (commands : List Command) → new ≡ mid → IsReported ended result
+    → EndsFound ended old mid line plant bytes commands → EndsFound result old new line plant bytes commands
+ends_reported ended result old mid new line plant bytes commands same reported ends =
+    let so : EndsFound ended old new line plant bytes commands
+    = subst (λ (files : Known). EndsFound ended old files line plant bytes commands) (sym same) ends in
+    ends_either (λ status. SavesFound new line plant bytes commands status) ended result old new line reported so
+
 -- ---- the journal is opened
 
 pub ends_found : (result : Result ExitStatus WireFault) (old mid new : Known) (line : LineFile) (plant : List (List ℕ)) (bytes : List ℕ)
@@ -205,10 +232,26 @@ pub found_behind : (old mid : Known) (name : List ℕ) (line : LineFile) (plant 
     → IsFound mid name line plant bytes → IsFound old name line plant bytes
 found_behind old mid name line plant bytes same found = subst (λ (files : Known). IsFound files name line plant bytes) same found
 
-pub runs : (result : Result ExitStatus WireFault) (old found new : Known) (name script : List ℕ) (line : LineFile)
+pub runs : (result : Result ExitStatus WireFault) (leads : Leads) (old found new : Known) (name script : List ℕ) (line : LineFile)
     (plant : List (List ℕ)) (bytes : List ℕ) (commands : List Command) → IsFound old name line plant bytes
-    → SpellsCommands old script commands → found ≡ old → EndsFound result found new line plant bytes commands
-    → RunsScript result old new name script
-runs result old found new name script line plant bytes commands given spelt same ends =
+    → SpellsCommands old script commands → IsRunApart old leads None line name script → found ≡ old
+    → EndsFound result found new line plant bytes commands → RunsScript result leads old new name script
+runs result leads old found new name script line plant bytes commands given spelt apart same ends =
     let P : Known → Type 0 = λ files. EndsFound result files new line plant bytes commands in
-    inr (record { line = line; plant = plant; bytes = bytes; found = given; commands = commands; spelt = spelt; ends = subst P same ends })
+    inr (record {
+      line = line;
+      plant = plant;
+      bytes = bytes;
+      found = given;
+      commands = commands;
+      spelt = spelt;
+      apart = apart;
+      ends = subst P same ends;
+    })
+
+-- the files of the script stand apart from those of the line
+pub script_apart : (files : Known) (leads : Leads) (line : LineFile) (name script : List ℕ) (images : List (List ℕ))
+    → NamesImages files script images
+    → AreApart leads (length (written_of None line)) (files_with None line name ++ script ∷ images)
+    → IsRunApart files leads None line name script
+script_apart files leads line name script images named apart = record { images = images; named = named; apart = apart }

@@ -1,9 +1,12 @@
 -- `init` and `recover` on a wire: what is found, and what the files hold in the end.
-use Rattle.std.specs.Prelude.{◌≡◌, ◌⊎◌, ℕ, List, Result, length, string_bytes, IfErr, IsErr, OnOk}
+use Rattle.std.specs.Prelude.{◌≡◌, ◌⊎◌, ℕ, List, Result, length, string_bytes, IfErr, IsErr, OnOk, ⊤}
 use Rattle.site_core.specs.State.{Seen}
 use Rattle.station_text.specs.declared.line_file.LineFile.{LineFile}
 use Rattle.station_files.specs.Files.{Known, HasBytes, ChangesAmong, ChangesOnly}
+use Rattle.station_files.specs.FileNames.{IsLineApart}
 use Rattle.station_files.specs.LineFiles.{SpellsLine}
+use Rattle.station_files.specs.Locations.{Leads}
+use Rattle.station_files.specs.declared.faults.Fault.TheVariants.{Exists}
 use Rattle.station_alone.specs.Station.{Station}
 use Rattle.station_alone.specs.Recovery.{HasRecovered, BeginsRecovered}
 use Rattle.station_session.specs.Init as bench
@@ -37,19 +40,25 @@ pub record EndsRecovery (result : Result (Unit {0}) WireFault) (old new : Known)
   pub unsaved : LeavesImages result old new line
   pub saved : OnOk result (SavesRecovered new line before)
 
--- The line was found, and the site of the words on the wire and the journal's bytes was recovered as far as the result says.
-pub record RecoversFound (result : Result (Unit {0}) WireFault) (old new : Known) (name : List ℕ) : Type 0 where
+-- The line was found, its files stand apart, and the site of the words on the wire and the journal's bytes was recovered as far as the result
+-- says.
+pub record RecoversFound (result : Result (Unit {0}) WireFault) (leads : Leads) (old new : Known) (name : List ℕ) : Type 0 where
   pub line : LineFile
   pub plant : List (List ℕ)
   pub bytes : List ℕ
   pub found : IsFound old name line plant bytes
+  pub apart : IsLineApart leads line name
   pub ends : EndsRecovery result old new line (switched_on plant bytes)
 
 -- what `recover` does: it stops before it writes, or it recovers the line
-abbrev pub Recovers : Result (Unit {0}) WireFault → Known → Known → List ℕ → Type 0
-Recovers result old new name = (IsErr result × (new ≡ old)) ⊎ RecoversFound result old new name
+abbrev pub Recovers : Result (Unit {0}) WireFault → Leads → Known → Known → List ℕ → Type 0
+Recovers result leads old new name = (IsErr result × (new ≡ old)) ⊎ RecoversFound result leads old new name
 
 -- `init` is refused as by the station, or before: then nothing was written.
-abbrev pub RefusesInit : Known → Known → List ℕ → WireFault → Type 0
-RefusesInit old new name (wire.Station fault) = (new ≡ old) ⊎ bench.RefusesInit old new name fault
-RefusesInit old new name fault = new ≡ old
+abbrev pub RefusesInit : Known → Known → Leads → List ℕ → WireFault → Type 0
+RefusesInit old new leads name (wire.Station fault) = (new ≡ old) ⊎ bench.RefusesInit old new leads name fault
+RefusesInit old new leads name fault = new ≡ old
+
+-- the journal is made, or it was there and no file has changed
+abbrev pub BeginsJournal : Known → Known → Leads → List ℕ → Type 0
+BeginsJournal old new leads name = bench.Formats ⊤ old new name ⊎ ((new ≡ old) × bench.RefusesUnformatted old leads name Exists)

@@ -1,5 +1,5 @@
 -- `run` on a wire: how the line that was found is served by threads, and what the files hold in the end.
-use Rattle.std.specs.Prelude.{◌≡◌, ◌⊎◌, ℕ, Bool, false, List, Result, IfOk, IsErr}
+use Rattle.std.specs.Prelude.{◌≡◌, ◌⊎◌, ℕ, Bool, false, List, Result, None, IfOk, IsErr}
 use Rattle.sii_edit.specs.declared.command.Command.{Command}
 use Rattle.site_shadow.specs.Site.{SiteValue}
 use Rattle.station_text.specs.declared.line_file.LineFile.{LineFile}
@@ -7,6 +7,8 @@ use Rattle.station_files.specs.Files.{Known, ChangesAmong}
 use Rattle.station_files.specs.ScriptFiles.{SpellsCommands}
 use Rattle.station_files.specs.declared.faults.ExitStatus.{ExitStatus}
 use Rattle.station_alone.specs.Station.{Station}
+use Rattle.station_files.specs.Locations.{Leads}
+use Rattle.station_session.specs.Judging.{IsRunApart}
 use Rattle.station_session.specs.Site.{IsSiteOf, files_of}
 use Rattle.station_session.specs.Session.{SavesRun, Serves}
 use Rattle.wire_session.specs.declared.faults.WireFault.{WireFault}
@@ -41,16 +43,17 @@ abbrev pub EndsFound : Result ExitStatus WireFault → Known → Known → LineF
 EndsFound result old new line plant bytes commands =
     Ends (λ status. SavesFound new line plant bytes commands status) result old new line
 
--- The line was found and the script read, and its commands were run as far as the result says.
-pub record RunsFound (result : Result ExitStatus WireFault) (old new : Known) (name script : List ℕ) : Type 0 where
+-- The line was found and the script read, their files stand apart, and the commands were run as far as the result says.
+pub record RunsFound (result : Result ExitStatus WireFault) (leads : Leads) (old new : Known) (name script : List ℕ) : Type 0 where
   pub line : LineFile
   pub plant : List (List ℕ)
   pub bytes : List ℕ
   pub found : IsFound old name line plant bytes
   pub commands : List Command
   pub spelt : SpellsCommands old script commands
+  pub apart : IsRunApart old leads None line name script
   pub ends : EndsFound result old new line plant bytes commands
 
 -- what `run` does: it stops before it writes, or it runs the commands
-abbrev pub RunsScript : Result ExitStatus WireFault → Known → Known → List ℕ → List ℕ → Type 0
-RunsScript result old new name script = (IsErr result × (new ≡ old)) ⊎ RunsFound result old new name script
+abbrev pub RunsScript : Result ExitStatus WireFault → Leads → Known → Known → List ℕ → List ℕ → Type 0
+RunsScript result leads old new name script = (IsErr result × (new ≡ old)) ⊎ RunsFound result leads old new name script

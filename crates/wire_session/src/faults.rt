@@ -138,6 +138,20 @@ impl WireFault {
         }
     }
 
+    /// The number and the name of the code that the fault is printed with.
+    pub(crate) fn code(self) -> (u8, &'static str) {
+        match self.of_station() {
+            Some(fault) => {
+                let code = fault.code();
+                (code.number(), code.entry().name)
+            }
+            None => {
+                let (code, _) = self.of_wire();
+                (code.number(), code.entry().name)
+            }
+        }
+    }
+
     /// The exit status for this fault: that of the station's fault, 3 where a file is another line's or isn't for this line, and 4 for any
     /// other.
     pub fn status(self) -> ExitStatus {

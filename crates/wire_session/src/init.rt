@@ -1,14 +1,14 @@
 //! The subcommand `init`.
 ghost use Rattle.std.specs.Prelude.{◌≡◌, IfErr, OnOk, ⊤};
 ghost use Rattle.station_session.specs.Init.{Formats};
-ghost use Rattle.wire_session.specs.Opening.{RefusesInit};
+ghost use Rattle.wire_session.specs.Opening.{BeginsJournal, RefusesInit};
 
-use crate::allowances::Allowed;
+use crate::asked::Asked;
 use crate::faults::WireFault;
 use crate::judging::judge_slaves;
 use crate::sizes::sizes_of_images;
 use site_wire::{NumberedWire, Wire, bring_up, hand_back};
-use station_files::{Store, load_line};
+use station_files::{Fault, Store, load_line};
 use station_session::init_line;
 use std::alloc::Global;
 use std::io::Write;
@@ -28,16 +28,38 @@ pub fn init_on_wire<W: Wire, C: Clock, S: Store, O: Write>(
     wire: &mut NumberedWire<W>,
     clock: &C,
     name: &str,
-    allowed: Allowed,
+    asked: Asked,
     store: &mut S,
     output: &mut O,
 ) -> Result<(), WireFault>
     ensures formatted { OnOk result (Formats ⊤ (S.files store.old) (S.files store.new) name.now) }
-    ensures refused { IfErr result (RefusesInit (S.files store.old) (S.files store.new) name.now) }
+    ensures refused { IfErr result (RefusesInit (S.files store.old) (S.files store.new) S.leads name.now) }
 {
-    match judge_line(alloc, wire, clock, name, allowed, store) {
+    match judge_line(alloc, wire, clock, name, asked, store) {
         Ok(()) => format_line(alloc, name, store, output),
         Err(fault) => Err(fault),
+    }
+}
+
+/// Makes an empty journal for the line whose line file is `name`, and prints the size of its area. A journal that is there stays as it is,
+/// and nothing is printed. The image files have to be there; they keep their words.
+///
+/// # Errors
+///
+/// As for `station_session::init_line`, but for `Exists`.
+#[tactic(auto, using(crate::proofs::Recovering::begun_before))]
+pub fn begin_journal<S: Store, O: Write>(
+    alloc: Global,
+    name: &str,
+    store: &mut S,
+    output: &mut O,
+) -> Result<(), WireFault>
+    ensures begun { OnOk result (BeginsJournal (S.files store.old) (S.files store.new) S.leads name.now) }
+    ensures refused { IfErr result (RefusesInit (S.files store.old) (S.files store.new) S.leads name.now) }
+{
+    match init_line(alloc, name, store, output) {
+        Ok(()) | Err(Fault::Exists) => Ok(()),
+        Err(fault) => Err(WireFault::Station(fault)),
     }
 }
 
@@ -47,13 +69,13 @@ fn judge_line<W: Wire, C: Clock, S: Store>(
     wire: &mut NumberedWire<W>,
     clock: &C,
     name: &str,
-    allowed: Allowed,
+    asked: Asked,
     store: &mut S,
 ) -> Result<(), WireFault>
     ensures { S.files store.new ≡ S.files store.old }
 {
     let line = load_line(alloc, name, store)?;
-    let sizes = sizes_of_images(alloc, &line.images, allowed.trusts_images, store)?;
+    let sizes = sizes_of_images(alloc, &line.images, asked.trusts_images, store)?;
     let found = bring_up(alloc, wire, clock, &sizes)?;
     hand_back(wire, &found.states());
     let _slaves = judge_slaves(alloc, found, line.images.len())?;
@@ -68,7 +90,7 @@ fn format_line<S: Store, O: Write>(
     output: &mut O,
 ) -> Result<(), WireFault>
     ensures formatted { OnOk result (Formats ⊤ (S.files store.old) (S.files store.new) name.now) }
-    ensures refused { IfErr result (RefusesInit (S.files store.old) (S.files store.new) name.now) }
+    ensures refused { IfErr result (RefusesInit (S.files store.old) (S.files store.new) S.leads name.now) }
 {
     match init_line(alloc, name, store, output) {
         Ok(()) => Ok(()),

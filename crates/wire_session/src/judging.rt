@@ -1,18 +1,12 @@
 //! What is looked at once a line is found, before a word is written.
 ghost use Rattle.std.specs.Prelude.{◌≡◌, ◌≤◌, length, IfOk};
 
-use crate::allowances::Allowed;
 use crate::faults::WireFault;
-use sii_edit::{Cause, Command, apply};
+use sii_edit::Command;
+use sii_size::resizes;
 use sii_words::{Plant, Words};
 use site_wire::{FoundLine, SlaveState};
 use std::alloc::{AllocError, Global};
-
-/// The word that states the size of an EEPROM in KiBit, less one (ETG.1000.6).
-const SIZE: usize = 0x3e;
-
-/// The most words of an EEPROM that are worked on. A larger one may say any size from this one on.
-const MOST: u32 = 4096;
 
 /// The words of the slaves of a line that was found, of which the line file names so many.
 ///
@@ -75,18 +69,16 @@ pub(crate) fn judge_commands(
     requires some { 1 ≤ length slaves.now }
     requires most { length slaves.now ≤ 64 }
 {
-    let mut plant = copy_of(alloc, slaves)?;
-    for command in 0..commands.len() {
-        match apply(alloc, &plant, &commands[command]) {
-            Ok((next, _runs)) => {
-                judge_change(&plant, &next, command)?;
-                plant = next;
-            }
-            Err(refusal) if refusal.cause == Cause::Memory => return Err(WireFault::memory()),
-            Err(_) => {}
-        }
+    let plant = copy_of(alloc, slaves)?;
+    let found = resizes(alloc, &plant, commands)?;
+    match found.first() {
+        Some(first) => Err(WireFault::OtherSize {
+            command: first.command,
+            slave: first.slave,
+            words: first.says,
+        }),
+        None => Ok(()),
     }
-    Ok(())
 }
 
 /// A copy of the slaves' words, as the contents of a line.
@@ -107,28 +99,4 @@ fn copies_of(alloc: Global, slaves: &[Words]) -> Result<Vec<Words>, AllocError>
         copies.push(words.try_copy()?)?;
     }
     Ok(copies)
-}
-
-/// Looks at what a command changes.
-fn judge_change(before: &Plant, after: &Plant, command: usize) -> Result<(), WireFault> {
-    for slave in 0..before.len().min(after.len()) {
-        if let Some(words) = other_size(before.slave(slave), after.slave(slave)) {
-            return Err(WireFault::OtherSize {
-                command,
-                slave,
-                words,
-            });
-        }
-    }
-    Ok(())
-}
-
-/// The size that word 0x3E tells after a change, if it was changed and the EEPROM has another one.
-fn other_size(before: &Words, after: &Words) -> Option<u32> {
-    let said = *after.as_slice().get(SIZE)?;
-    let words = 64 * (u32::from(said) + 1);
-    if before.as_slice().get(SIZE) == Some(&said) || words.min(MOST) as usize == after.len() {
-        return None;
-    }
-    Some(words)
 }

@@ -1,19 +1,19 @@
 //! Finds a line on a wire and its journal in a file, and makes the site of both.
-ghost use Rattle.std.specs.Prelude.{◌≡◌, ◌≤◌, length, string_bytes, IfErr, IfOk};
+ghost use Rattle.std.specs.Prelude.{◌≡◌, ◌≤◌, length, string_bytes, IfErr, IfOk, OnOk};
 ghost use Rattle.station_files.specs.Files.{ChangesOnly, HasBytes};
+ghost use Rattle.station_files.specs.FileNames.{IsLineApart};
 ghost use Rattle.station_files.specs.LineFiles.{SpellsLine};
 ghost use Rattle.station_files.specs.Faults as station;
 ghost use Rattle.wire_session.specs.Opening.{IsFound};
 
-use crate::allowances::Allowed;
+use crate::asked::Asked;
 use crate::faults::WireFault;
 use crate::judging::{judge_slaves, judge_states};
 use crate::sizes::sizes_of_images;
 use sii_words::Words;
 use site_file::OpenFiles;
 use site_wire::{FoundLine, NumberedWire, SlaveState, Wire, bring_up, hand_back, look_along};
-use station_files::{Fault, Store, load_line, read_file};
-use station_session::keep_apart;
+use station_files::{Fault, Store, keep_line_apart, load_line, read_file};
 use station_text::LineFile;
 use std::alloc::Global;
 use std::rt::Clock;
@@ -31,6 +31,8 @@ pub(crate) struct Found<L> {
     pub(crate) journal: Vec<u8>,
     /// The lock of the journal, which keeps other stations away.
     pub(crate) lock: L,
+    /// Whether what changes is to be printed at the end.
+    pub(crate) reports: bool,
 }
 
 /// Reads the line file `name`, locks the journal, brings up the line on this wire, and reads the journal. No file changes, and no word of
@@ -39,30 +41,31 @@ pub(crate) struct Found<L> {
 /// # Errors
 ///
 /// As for `load_line`; `Busy` where another station has locked the journal, `File` where it is absent or the system can't lock it; as for
-/// `keep_apart`; as for `sizes_of_images`; unless slaves in any state are allowed or the wire is lent, as for `judge_states`, before an EEPROM is
-/// taken; as for `bring_up`; as for `judge_slaves`; `File` where the journal can't be read. `Memory` may come at any point.
+/// `keep_line_apart`; as for `sizes_of_images`; unless slaves in any state are allowed or the wire is lent, as for `judge_states`, before an
+/// EEPROM is taken; as for `bring_up`; as for `judge_slaves`; `File` where the journal can't be read. `Memory` may come at any point.
 pub(crate) fn find_line<W: Wire, C: Clock, S: Store>(
     alloc: Global,
     wire: &mut NumberedWire<W>,
     clock: &C,
     name: &str,
-    allowed: Allowed,
+    asked: Asked,
     store: &mut S,
 ) -> Result<Found<S::Lock>, WireFault>
     ensures found { IfOk result (λ found. IsFound (S.files store.old) name.now found.line found.slaves.items found.journal.items) }
+    ensures apart { IfOk result (λ found. IsLineApart S.leads found.line name.now) }
     ensures some { IfOk result (λ found. 1 ≤ length found.slaves.items) }
     ensures most { IfOk result (λ found. length found.slaves.items ≤ 64) }
     ensures same { S.files store.new ≡ S.files store.old }
 {
     // On a wire that is lent slaves may be in any state, and who has their EEPROMs is judged as they are opened.
-    let allowed = Allowed {
-        is_forced: allowed.is_forced || wire.is_lent(),
-        ..allowed
+    let asked = Asked {
+        is_forced: asked.is_forced || wire.is_lent(),
+        ..asked
     };
     let line = load_line(alloc, name, store)?;
     let lock = lock_journal(alloc, name, &line, store)?;
-    let sizes = sizes_of_images(alloc, &line.images, allowed.trusts_images, store)?;
-    if !allowed.is_forced {
+    let sizes = sizes_of_images(alloc, &line.images, asked.trusts_images, store)?;
+    if !asked.is_forced {
         let seen = look_along(wire)?;
         judge_states(&seen.states, usize::from(seen.slaves))?;
     }
@@ -75,6 +78,7 @@ pub(crate) fn find_line<W: Wire, C: Clock, S: Store>(
             states,
             journal,
             lock,
+            reports: asked.reports,
         }),
         Err(fault) => {
             hand_back(wire, &states);
@@ -107,12 +111,13 @@ fn lock_journal<S: Store>(
     line: &LineFile,
     store: &mut S,
 ) -> Result<S::Lock, Fault>
-    ensures { S.files store.new ≡ S.files store.old }
+    ensures apart { OnOk result (IsLineApart S.leads line.now name.now) }
+    ensures same { S.files store.new ≡ S.files store.old }
 {
     let Some(lock) = store.lock(line.journal.as_str())? else {
         return Err(Fault::File);
     };
-    match keep_apart(alloc, name, line, &[], store) {
+    match keep_line_apart(alloc, line, name, store) {
         Ok(()) => Ok(lock),
         Err(fault) => {
             drop(lock);

@@ -3,8 +3,7 @@ ghost use Rattle.std.specs.Prelude.{◌≡◌, vec_len, None, IfOk, IfSome, fals
 ghost use Rattle.station_files.specs.Files.{IsAbsent};
 
 use crate::faults::WireFault;
-use station_files::{Fault, Store, load_line};
-use station_session::keep_apart;
+use station_files::{Fault, Store, keep_line_apart, load_line};
 use station_text::{LineFile, read_line};
 use std::alloc::{AllocError, Global};
 use std::io;
@@ -22,7 +21,7 @@ pub(crate) struct Plan {
 ///
 /// # Errors
 ///
-/// As for `load_line` and `keep_apart`; `OtherCount` where the line file names another number of slaves; `BadLine` where a line file can't spell
+/// As for `load_line` and `keep_line_apart`; `OtherCount` where the line file names another number of slaves; `BadLine` where a line file can't spell
 /// names beside `name`; `Memory`.
 pub(crate) fn plan_backup<S: Store>(
     alloc: Global,
@@ -37,7 +36,12 @@ pub(crate) fn plan_backup<S: Store>(
     if is_there(alloc, name, store)? {
         old_line(alloc, name, slaves, store)
     } else {
-        new_line(alloc, name, slaves)
+        let text = line_text(alloc, name, slaves)?;
+        let line = line_of_text(alloc, text.as_str(), slaves)?;
+        Ok(Plan {
+            line,
+            text: Some(text),
+        })
     }
 }
 
@@ -68,7 +72,7 @@ fn old_line<S: Store>(
     ensures same { S.files store.new ≡ S.files store.old }
 {
     let line = load_line(alloc, name, store)?;
-    keep_apart(alloc, name, &line, &[], store)?;
+    keep_line_apart(alloc, &line, name, store)?;
     if line.images.len() == slaves {
         Ok(Plan { line, text: None })
     } else {
@@ -76,18 +80,14 @@ fn old_line<S: Store>(
     }
 }
 
-/// The plan with a new line file.
-fn new_line(alloc: Global, name: &str, slaves: usize) -> Result<Plan, WireFault>
-    ensures count { IfOk result (λ plan. vec_len plan.line.images ≡ slaves) }
-{
+/// The line that a backup of so many slaves makes, where the line file `name` isn't there.
+///
+/// # Errors
+///
+/// `BadLine` where a line file can't spell names beside `name`; `Memory`.
+pub(crate) fn new_line(alloc: Global, name: &str, slaves: usize) -> Result<LineFile, Fault> {
     let text = line_text(alloc, name, slaves)?;
-    match line_of_text(alloc, text.as_str(), slaves) {
-        Ok(line) => Ok(Plan {
-            line,
-            text: Some(text),
-        }),
-        Err(fault) => Err(WireFault::Station(fault)),
-    }
+    line_of_text(alloc, text.as_str(), slaves)
 }
 
 /// The line that the text describes, which has so many slaves.

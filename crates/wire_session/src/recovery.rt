@@ -6,10 +6,12 @@ ghost use Rattle.station_session.specs.Site.{files_of, switched_on, HoldsSite};
 ghost use Rattle.wire_session.specs.Backup.{IsOfStream};
 ghost use Rattle.wire_session.specs.Opening.{EndsRecovery, Recovers};
 
-use crate::allowances::Allowed;
+use crate::asked::Asked;
 use crate::faults::{WireFault, why_ended};
 use crate::opening::{Found, find_line, open_journal};
-use sii_words::Words;
+use crate::reporting::report_end;
+use line_report::Before;
+use sii_words::{Plant, Words};
 use site_file::FileDevice;
 use site_shadow::{Device, ShadowSite};
 use site_wire::{LiveLine, LockedLine, NumberedWire, Wire, WireDevice, hand_back};
@@ -37,18 +39,18 @@ pub fn recover_line<R: Wait + Clock, W: Wire + Drop, S: Store, O: Write>(
     alloc: Global,
     wire: NumberedWire<W>,
     name: &str,
-    allowed: Allowed,
+    asked: Asked,
     store: &mut S,
     output: &mut O,
 ) -> Result<(), WireFault>
-    ensures { Recovers result (S.files store.old) (S.files store.new) name.now }
+    ensures { Recovers result S.leads (S.files store.old) (S.files store.new) name.now }
 {
     let mut wire = wire;
-    let allowed = Allowed {
+    let asked = Asked {
         is_forced: true,
-        ..allowed
+        ..asked
     };
-    match find_line(alloc, &mut wire, rt, name, allowed, store) {
+    match find_line(alloc, &mut wire, rt, name, asked, store) {
         Ok(found) => recover_found(rt, alloc, found, wire, store, output),
         Err(fault) => {
             drop(wire);
@@ -57,7 +59,7 @@ pub fn recover_line<R: Wait + Clock, W: Wire + Drop, S: Store, O: Write>(
     }
 }
 
-/// Recovers a line that was found, and hands the EEPROMs back.
+/// Recovers a line that was found, hands the EEPROMs back, and prints what has changed if that is asked for.
 fn recover_found<R: Wait + Clock, W: Wire + Drop, S: Store, O: Write>(
     rt: &R,
     alloc: Global,
@@ -78,13 +80,16 @@ fn recover_found<R: Wait + Clock, W: Wire + Drop, S: Store, O: Write>(
         states,
         journal,
         lock: _lock,
+        reports,
     } = found;
     let locked = LockedLine::new(LiveLine::new(wire));
     let ended = recover_on(rt, alloc, &line, &slaves, journal, &locked, store, output);
     let mut wire = locked.into_line().into_wire();
     hand_back(&mut wire, &states);
     drop(wire);
-    ended
+    let words = Plant::of(slaves);
+    let before = Before { line, words };
+    report_end(alloc, reports, &before, ended, store, output)
 }
 
 /// Opens the journal of a line, and recovers the line.

@@ -1,22 +1,28 @@
 //! The subcommand `run`.
-ghost use Rattle.std.specs.Prelude.{◌≡◌, ◌≤◌, length, IfOk, IsTrue};
+ghost use Rattle.std.specs.Prelude.{◌≡◌, ◌≤◌, ◌∷◌, ◌++◌, length, None, IfOk, IsTrue, OnOk};
 ghost use Rattle.esc_rom.specs.Owned.{OwnsAll};
+ghost use Rattle.station_files.specs.FileNames.{files_with, spelt, written_of};
+ghost use Rattle.station_files.specs.Locations.{AreApart};
 ghost use Rattle.station_files.specs.ScriptFiles.{SpellsCommands};
+ghost use Rattle.station_session.specs.Judging.{IsRunApart};
 ghost use Rattle.station_session.specs.Session.{is_old};
 ghost use Rattle.wire_session.specs.Opening.{IsFound};
 ghost use Rattle.wire_session.specs.Running.{EndsFound, EndsSite, RunsScript};
 
-use crate::allowances::Allowed;
+use crate::asked::Asked;
 use crate::faults::{WireFault, why_ended};
 use crate::judging::judge_commands;
+use crate::naming::{Named, keep_script_apart};
 use crate::opening::{Found, find_line, open_journal};
+use crate::reporting::report_end;
 use crate::threads::run_threads;
+use line_report::Before;
 use sii_edit::Command;
-use sii_words::Words;
+use sii_words::{Plant, Words};
 use site_file::FileDevice;
 use site_shadow::{Device, ShadowSite};
 use site_wire::{LiveLine, LockedLine, NumberedWire, Wire, WireDevice, hand_back};
-use station_files::{ExitStatus, Store, load_script};
+use station_files::{ExitStatus, Script, Store, load_script_files};
 use station_session::{is_old, of_open, open_station, site_of};
 use station_text::LineFile;
 use std::alloc::Global;
@@ -40,23 +46,23 @@ struct Given<L> {
 ///
 /// # Errors
 ///
-/// As for `load_script`; then as for `find_line`; then, unless that is allowed, as for `judge_commands`. Nothing is written up to there. Then as for `open_journal`, `open_station` and
-/// `serve_by_threads`, or why the line on the wire has stopped. No image file is written up to there, and a recovery completes what was begun.
-/// Then `File` or `Memory`, as the store answers.
+/// As for `load_script_files`; then as for `find_line` and `keep_script_apart`; then, unless that is allowed, as for `judge_commands`. Nothing
+/// is written up to there. Then as for `open_journal`, `open_station` and `serve_by_threads`, or why the line on the wire has stopped. No image
+/// file is written up to there, and a recovery completes what was begun. Then `File` or `Memory`, as the store answers.
 pub fn run_script<W: Wire + Send + Drop, S: Store, O: Write, R: Wait + Threads + Clock + Sync>(
     rt: &R,
     alloc: Global,
     wire: NumberedWire<W>,
     name: &str,
     script: &str,
-    allowed: Allowed,
+    asked: Asked,
     store: &mut S,
     output: &mut O,
 ) -> Result<ExitStatus, WireFault>
-    ensures { RunsScript result (S.files store.old) (S.files store.new) name.now script.now }
+    ensures { RunsScript result S.leads (S.files store.old) (S.files store.new) name.now script.now }
 {
     let mut wire = wire;
-    match find_all(alloc, &mut wire, rt, name, script, allowed, store) {
+    match find_all(alloc, &mut wire, rt, name, script, asked, store) {
         Ok(given) => {
             let Given { found, commands } = given;
             run_found(rt, alloc, found, commands, wire, store, output)
@@ -75,50 +81,63 @@ fn find_all<W: Wire, C: Clock, S: Store>(
     clock: &C,
     name: &str,
     script: &str,
-    allowed: Allowed,
+    asked: Asked,
     store: &mut S,
 ) -> Result<Given<S::Lock>, WireFault>
     ensures found { IfOk result (λ given. IsFound (S.files store.old) name.now given.found.line given.found.slaves.items given.found.journal.items) }
     ensures some { IfOk result (λ given. 1 ≤ length given.found.slaves.items) }
     ensures most { IfOk result (λ given. length given.found.slaves.items ≤ 64) }
     ensures spelt { IfOk result (λ given. SpellsCommands (S.files store.old) script.now given.commands.items) }
+    ensures apart { IfOk result (λ given. IsRunApart (S.files store.old) S.leads None given.found.line name.now script.now) }
     ensures same { S.files store.new ≡ S.files store.old }
 {
-    let commands = load_script(alloc, script, store)?;
-    match find_line(alloc, wire, clock, name, allowed, store) {
-        Ok(found) => match judge_script(alloc, &found.slaves, &commands, allowed) {
-            Ok(()) => Ok(Given { found, commands }),
-            Err(fault) => {
-                hand_back(wire, &found.states);
-                drop(found);
-                drop(commands);
-                Err(fault)
+    let loaded = load_script_files(alloc, script, store)?;
+    match find_line(alloc, wire, clock, name, asked, store) {
+        Ok(found) => {
+            let named = Named { line: name, script };
+            match judge_script(alloc, named, &found, &loaded, asked, store) {
+                Ok(()) => Ok(Given {
+                    found,
+                    commands: loaded.commands,
+                }),
+                Err(fault) => {
+                    hand_back(wire, &found.states);
+                    drop(found);
+                    drop(loaded);
+                    Err(fault)
+                }
             }
-        },
+        }
         Err(fault) => {
-            drop(commands);
+            drop(loaded);
             Err(fault)
         }
     }
 }
 
-/// Looks whether the commands may be run on these slaves.
-fn judge_script(
+/// Looks whether the files of the script stand apart from those of the line, and whether its commands may be run on the slaves.
+fn judge_script<S: Store>(
     alloc: Global,
-    slaves: &[Words],
-    commands: &[Command],
-    allowed: Allowed,
+    named: Named<'_>,
+    found: &Found<S::Lock>,
+    loaded: &Script,
+    asked: Asked,
+    store: &mut S,
 ) -> Result<(), WireFault>
-    requires some { 1 ≤ length slaves.now }
-    requires most { length slaves.now ≤ 64 }
+    requires some { 1 ≤ length found.now.slaves.items }
+    requires most { length found.now.slaves.items ≤ 64 }
+    ensures apart { OnOk result (AreApart S.leads (length (written_of None found.now.line))
+        (files_with None found.now.line named.entry.line.now ++ named.entry.script.now ∷ spelt loaded.now.images.items)) }
+    ensures same { S.files store.new ≡ S.files store.old }
 {
-    if allowed.resizes {
+    keep_script_apart(alloc, &found.line, named, &loaded.images, store)?;
+    if asked.resizes {
         return Ok(());
     }
-    judge_commands(alloc, slaves, commands)
+    judge_commands(alloc, &found.slaves, &loaded.commands)
 }
 
-/// Runs the commands on a line that was found, and hands the EEPROMs back.
+/// Runs the commands on a line that was found, hands the EEPROMs back, and prints what has changed if that is asked for.
 fn run_found<W: Wire + Send + Drop, S: Store, O: Write, R: Wait + Threads + Clock + Sync>(
     rt: &R,
     alloc: Global,
@@ -139,6 +158,7 @@ fn run_found<W: Wire + Send + Drop, S: Store, O: Write, R: Wait + Threads + Cloc
         states,
         journal,
         lock: _lock,
+        reports,
     } = found;
     let locked = LockedLine::new(LiveLine::new(wire));
     let ended = run_opened(
@@ -147,7 +167,9 @@ fn run_found<W: Wire + Send + Drop, S: Store, O: Write, R: Wait + Threads + Cloc
     let mut wire = locked.into_line().into_wire();
     hand_back(&mut wire, &states);
     drop(wire);
-    ended
+    let words = Plant::of(slaves);
+    let before = Before { line, words };
+    report_end(alloc, reports, &before, ended, store, output)
 }
 
 /// Opens the journal of a line, and runs the commands.

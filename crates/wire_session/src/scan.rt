@@ -1,11 +1,13 @@
 //! The subcommand `scan`.
 use crate::faults::WireFault;
+use crate::scan_rows::write_slaves;
+use line_report::check_of;
 use sii_words::{Identity, Words};
 use site_wire::{
     Extent, FoundLine, FoundSlave, LineFault, NumberedWire, SizeFound, Sizes, SlaveState, Wire,
     bring_up, hand_back,
 };
-use station_listing::CheckByte;
+use station_json::Form;
 use std::alloc::Global;
 use std::io::Write;
 use std::rt::Clock;
@@ -13,7 +15,7 @@ use std::{fmt, io};
 
 /// Brings up the line on this wire, and prints one line for each slave: its position, the number of words of its EEPROM, its alias,
 /// whether its check byte is right, and its identity; or the fault for which it can't be worked on. Behind that stand its state, and what
-/// was found of its EEPROM's size. No file is read or written, and no word of a slave. The EEPROMs are handed back.
+/// was found of its EEPROM's size; or the same as a row of JSON. No file is read or written, and no word of a slave. The EEPROMs are handed back.
 ///
 /// # Errors
 ///
@@ -24,11 +26,15 @@ pub fn scan_line<W: Wire, C: Clock, O: Write>(
     wire: &mut NumberedWire<W>,
     clock: &C,
     sizes: &Sizes,
+    form: Form,
     output: &mut O,
 ) -> Result<(), WireFault> {
     let found = bring_up(alloc, wire, clock, sizes)?;
     hand_back(wire, &found.states());
-    print_slaves(&found, output)?;
+    match form {
+        Form::Text => print_slaves(&found, output)?,
+        Form::Json => write_slaves(alloc, &found, output)?,
+    }
     match first_fault(&found) {
         Some(fault) => Err(WireFault::Line(fault)),
         None => Ok(()),
@@ -57,18 +63,6 @@ fn print_slaves<O: Write>(found: &FoundLine, output: &mut O) -> io::Result<()> {
     output.flush()
 }
 
-/// The low byte of word 7, compared with the check byte of words 0 to 6.
-fn judge_check(words: &Words) -> CheckByte {
-    if words.check_ok() {
-        return CheckByte::Right;
-    }
-    let [found, _] = words.as_slice()[7].to_le_bytes();
-    CheckByte::Wrong {
-        found,
-        expected: words.check_byte(),
-    }
-}
-
 fn print_slave<O: Write>(slave: u16, found: &FoundSlave, output: &mut O) -> io::Result<()> {
     match &found.words {
         Ok(words) => print_words(slave, words, output)?,
@@ -85,7 +79,7 @@ fn print_slave<O: Write>(slave: u16, found: &FoundSlave, output: &mut O) -> io::
 }
 
 fn print_words<O: Write>(slave: u16, words: &Words, output: &mut O) -> io::Result<()> {
-    let (count, alias, check) = (words.len(), words.alias(), judge_check(words));
+    let (count, alias, check) = (words.len(), words.alias(), check_of(words));
     let Identity {
         vendor,
         product,
@@ -103,7 +97,7 @@ fn print_words<O: Write>(slave: u16, words: &Words, output: &mut O) -> io::Resul
 }
 
 /// The name of a state (ETG.1000.6).
-fn name_of_state(al_status: u16) -> &'static str {
+pub(crate) fn name_of_state(al_status: u16) -> &'static str {
     match al_status % 16 {
         1 => "init",
         2 => "preop",

@@ -1,8 +1,6 @@
 // `plan` against `run`, with the same random scripts on the same files.
 
-use super::case::{Bytes, Files, run_words, shelf_with};
-use super::scripts::{JOURNAL_OF_THREE, ONE, THREE};
-use crate::shelf::Shelf;
+use station_cases::{Bytes, Files, JOURNAL_OF_THREE, ONE, Shelf, THREE, run_words, shelf_with};
 use std::alloc::{AllocError, Global};
 use std::io;
 use std::sync::Wait;

@@ -1,8 +1,7 @@
-use super::case::{
-    ALONE, Bytes, Case, Files, Step, Story, all_come, all_told, run_words, shelf_with,
+use station_cases::{
+    ALONE, Bytes, Case, Files, Shelf, Step, Story, THREE, first_wrong, first_wrong_story,
+    run_words, shelf_with,
 };
-use super::scripts::THREE;
-use crate::shelf::Shelf;
 use std::alloc::{AllocError, Global};
 use std::io;
 use std::sync::Wait;
@@ -50,7 +49,9 @@ const UNFORMATTED: &[Story] = &[
 
 #[test]
 fn journals_are_formatted(rt: HostRuntime) -> Result<(), Fail> {
-    all_told(&rt, rt.alloc(), UNFORMATTED)
+    let wrong = first_wrong_story(&rt, rt.alloc(), UNFORMATTED)?;
+    assert!(rt; wrong.is_none(), "{wrong:?}");
+    Ok(())
 }
 
 const TWO: Bytes = Bytes::Text(
@@ -113,7 +114,9 @@ const REFUSED: &[Case] = &[
 
 #[test]
 fn journals_that_are_refused(rt: HostRuntime) -> Result<(), Fail> {
-    all_come(&rt, rt.alloc(), REFUSED)
+    let wrong = first_wrong(&rt, rt.alloc(), REFUSED)?;
+    assert!(rt; wrong.is_none(), "{wrong:?}");
+    Ok(())
 }
 
 /// The files of a line whose journal is truncated to `len` bytes.

@@ -1,7 +1,8 @@
 // What `plan` prints, and that `run` then does what it says.
 
-use super::case::{ALONE, Bytes, Case, Files, all_come};
-use super::scripts::{ANSWERED_FILES, JOURNAL_OF_ONE, LINE, ZERO};
+use station_cases::{
+    ALONE, ANSWERED_FILES, Bytes, Case, JOURNAL_OF_ONE, LINE, LIVE, ZERO, first_wrong,
+};
 use std::test::Fail;
 
 const PLAN: &str = "station plan line.toml script.toml";
@@ -14,18 +15,6 @@ const OUTPUTS: Bytes = Bytes::Image(
         &[
             0x29, 0, 4, 0, 0, 0x10, 1, 0, 0x24, 0, 1, 3, 0x33, 0, 8, 0, 0, 0x16, 1, 0, 0, 0, 0, 0,
             0, 0x70, 1, 0, 5, 8, 0, 0, 0xFF, 0xFF,
-        ],
-    )],
-);
-
-/// A batch of half 0 that isn't done: command 5 sets the alias of slave 0 to 7.
-pub const LIVE: Bytes = Bytes::Zeros(
-    4104,
-    &[(
-        0,
-        &[
-            0xA5, 2, 1, 0, 0, 0x10, 0, 0, 0xA5, 0, 28, 0, 0, 0, 1, 0, 5, 0, 0, 0, 0, 0, 0, 0, 2, 0,
-            0, 0, 4, 0, 1, 0, 7, 0, 0, 0, 7, 0, 1, 0, 0xEF, 0,
         ],
     )],
 );
@@ -136,5 +125,7 @@ writes words 2 bytes 1 syncs 2\n",
 
 #[test]
 fn plans_are_printed(rt: HostRuntime) -> Result<(), Fail> {
-    all_come(&rt, rt.alloc(), PLANNED)
+    let wrong = first_wrong(&rt, rt.alloc(), PLANNED)?;
+    assert!(rt; wrong.is_none(), "{wrong:?}");
+    Ok(())
 }

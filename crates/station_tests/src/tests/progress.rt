@@ -1,8 +1,8 @@
 // The line with the progress of a run, on a terminal on which output and faults stand too.
 
-use super::case::{Bytes, Files, leaves, parted, shelf_with};
-use super::scripts::{JOURNAL_OF_THREE, ONE, RUN, THREE, ZERO};
-use crate::shelf::Shelf;
+use station_cases::{
+    Bytes, Files, JOURNAL_OF_THREE, ONE, RUN, Shelf, THREE, ZERO, leaves, parted, shelf_with,
+};
 use station_serve::serve_on;
 use std::alloc::{AllocError, Global};
 use std::io;

@@ -13,7 +13,7 @@ returns-in-Ok-clause-formatted g c =
 pub returns-in-Ok-clause-refused : goal.returns-in-Ok-clause-refused
 returns-in-Ok-clause-refused g c =
     let given = c.in_ok-given.given in
-    unprinted c.print_formatted.result (g.S.Store.files c.args.store.now) (g.S.Store.files c.format_line.new.store) c.args.name.now
+    unprinted c.print_formatted.result (g.S.Store.files c.args.store.now) (g.S.Store.files c.format_line.new.store) g.S.Store.leads c.args.name.now
     (formats ⊥ (g.S.Store.files c.args.store.now) (g.S.Store.files c.load_unformatted.new.store) (g.S.Store.files c.format_line.new.store) c.args.name.now given.line given.slaves.items
     c.in_ok-given.ensures.given c.load_unformatted.ensures.same c.format_line.ensures.others (λ done. absurd done))
     c.print_formatted.ensures

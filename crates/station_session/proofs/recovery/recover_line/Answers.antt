@@ -1,16 +1,30 @@
+use Rattle.std.proofs.Common.{inl, inr}
+use Rattle.station_files.proofs.Loaded.{handed_on}
+use Rattle.station_session.specs.Refusals.{RefusesRecovery}
 use Rattle.station_session.proofs.Ending.{recovers}
+use Rattle.station_session.proofs.Judged.{has_journal, journal_refused}
 use Rattle.station_session.proofs.recovery.recover_line.Goals as goal
 
 pub recover_session-requires-clause-disk : goal.recover_session-requires-clause-disk
-recover_session-requires-clause-disk g c κs lives = c.in-Ok.ensures.loaded.made.has_disk
+recover_session-requires-clause-disk g c κs lives = c.in_ok-session.ensures.loaded.made.has_disk
 
 pub recover_session-requires-clause-owned : goal.recover_session-requires-clause-owned
-recover_session-requires-clause-owned g c κs lives = c.in-Ok.ensures.loaded.made.owned
+recover_session-requires-clause-owned g c κs lives = c.in_ok-session.ensures.loaded.made.owned
 
 pub recover_session-requires-clause-slaves : goal.recover_session-requires-clause-slaves
-recover_session-requires-clause-slaves g c κs lives = c.in-Ok.ensures.loaded.count
+recover_session-requires-clause-slaves g c κs lives = c.in_ok-session.ensures.loaded.count
 
-pub returns-in-Ok : goal.returns-in-Ok
-returns-in-Ok g c =
-    recovers (g.S.Store.files c.args.store.now) (g.S.Store.files c.load_session.new.store) (g.S.Store.files c.recover_session.new.store) c.args.name.now c.in-Ok.session.line c.in-Ok.session.site c.recover_session.result
-    c.in-Ok.ensures.loaded c.load_session.ensures.same c.recover_session.ensures
+pub returns-in-None-clause-recovered : goal.returns-in-None-clause-recovered
+returns-in-None-clause-recovered g c =
+    let session = c.in_ok-session.session in
+    recovers g.S.Store.leads (g.S.Store.files c.args.store.now) (g.S.Store.files c.load_session.new.store) (g.S.Store.files c.recover_session.new.store) c.args.name.now session.line session.site c.recover_session.result
+    c.in_ok-session.ensures.loaded c.in_ok-session.ensures.apart (has_journal session.site session.refusal c.in_ok-session.ensures.judged c.in-None.is) c.load_session.ensures.same c.recover_session.ensures
+
+pub returns-in-Some-clause-refused : goal.returns-in-Some-clause-refused
+returns-in-Some-clause-refused g c =
+    let session = c.in_ok-session.session in
+    inr (journal_refused (g.S.Store.files c.args.store.now) c.args.name.now session.line session.site session.refusal c.in-Some.fault c.of_journal.result c.in_ok-session.ensures.loaded c.in_ok-session.ensures.judged c.in-Some.is c.of_journal.ensures)
+
+pub returns-in_err-session-clause-refused : goal.returns-in_err-session-clause-refused
+returns-in_err-session-clause-refused g c =
+    handed_on (RefusesRecovery (g.S.Store.files c.args.store.now) g.S.Store.leads c.args.name.now) c.from_residual.result c.in_err-session.field-0.0 c.from_residual.ensures.1 (inl c.in_err-session.ensures.refused)

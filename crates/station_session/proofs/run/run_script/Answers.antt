@@ -1,4 +1,4 @@
-use Rattle.std.proofs.Common.{inl, Bor, List, ℕ}
+use Rattle.std.proofs.Common.{Bor, List, ℕ}
 use Rattle.std.specs.Prelude.{is_some, option_map}
 use Rattle.station_session.proofs.Ending.{runs}
 use Rattle.station_session.proofs.run.run_script.Goals as goal
@@ -12,10 +12,7 @@ run_captured-requires-clause-owned g c κs lives = c.in-Ok.ensures.loaded.made.o
 pub run_captured-requires-clause-slaves : goal.run_captured-requires-clause-slaves
 run_captured-requires-clause-slaves g c κs lives = c.in-Ok.ensures.loaded.count
 
-pub returns-in-Ok : goal.returns-in-Ok
-returns-in-Ok g c =
-    runs (is_some c.args.fuse) (option_map (λ (name : Bor (List ℕ)). name.now) c.args.capture) (g.S.Store.files c.args.store.now) (g.S.Store.files c.load.new.store) (g.S.Store.files c.run_captured.new.store) c.args.name.now c.args.script.now c.in-Ok.given.session.line c.in-Ok.given.session.site c.in-Ok.given.commands.items c.run_captured.result
-    c.in-Ok.ensures.loaded c.in-Ok.ensures.spelt c.load.ensures.same c.run_captured.ensures
-
-pub returns-in-Err : goal.returns-in-Err
-returns-in-Err g c = inl (c.load.ensures.same, c.report_fault.ensures.fault)
+pub returns-in-Ok-clause-ran : goal.returns-in-Ok-clause-ran
+returns-in-Ok-clause-ran g c =
+    runs g.S.Store.leads (is_some c.args.fuse) (option_map (λ (name : Bor (List ℕ)). name.now) c.args.capture) (g.S.Store.files c.args.store.now) (g.S.Store.files c.load.new.store) (g.S.Store.files c.run_captured.new.store) c.args.name.now c.args.script.now c.in-Ok.given.session.line c.in-Ok.given.session.site c.in-Ok.given.commands.items c.run_captured.result
+    c.in-Ok.ensures.loaded c.in-Ok.ensures.apart c.in-Ok.ensures.journal c.in-Ok.ensures.spelt c.load.ensures.same c.run_captured.ensures

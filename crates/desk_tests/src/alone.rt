@@ -1,0 +1,56 @@
+//! A line that is served on one thread, one part after the other.
+
+ghost use Rattle.std.specs.Prelude.{◌≤◌, length};
+ghost use Rattle.station_threads.specs.Sites.{OwnParts};
+ghost use Rattle.site_shadow.specs.Site.{SiteValue};
+
+use crate::memory::put;
+use crate::sites::number_of;
+use site_core::Site;
+use site_mem::MemSite;
+use station_jobs::{End, NoHook, SlaveLog, flush, work};
+use station_threads::{Desk, Ends, PerDevice, Refusals, Sites, Tickets};
+use std::alloc::Global;
+use std::process::Abort;
+use std::sync::Wait;
+
+/// Serves the slaves, in order.
+fn work_each<T: Tickets + Send + Sync, R: Refusals + Send + Sync, W: Wait + Abort>(
+    rt: &W,
+    alloc: Global,
+    desk: &Desk<T, R>,
+    slaves: Vec<MemSite>,
+) -> Vec<End<MemSite, SlaveLog>> {
+    let mut ends = Vec::new(alloc);
+    for site in slaves {
+        let slave = number_of(ends.len());
+        assert!(rt; site.owns(slave));
+        let end = work(rt, site, slave, desk.rom_side(slave), &NoHook);
+        put(rt, &mut ends, end);
+    }
+    ends
+}
+
+/// Serves the disk, and then the slaves. The disk has to stop before it waits for them.
+pub(crate) fn serve_alone<T: Tickets + Send + Sync, R: Refusals + Send + Sync, W: Wait + Abort>(
+    rt: &W,
+    alloc: Global,
+    desk: &Desk<T, R>,
+    sites: Sites<MemSite>,
+) -> Ends<MemSite>
+    requires owned { OwnParts (λ (site : SiteValue). site.line) sites.disk sites.slaves.items sites.cycle }
+    requires long { desk.now.limit ≤ length sites.disk.seen.state.disk.bytes }
+{
+    let PerDevice {
+        disk,
+        slaves,
+        cycle,
+    } = sites;
+    drop(cycle);
+    let flusher = flush(rt, disk, desk.disk_side());
+    Ends {
+        flusher,
+        workers: work_each(rt, alloc, desk, slaves),
+        cycle: None,
+    }
+}

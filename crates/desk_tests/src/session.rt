@@ -1,0 +1,362 @@
+//! Serves a line for two submitters, and closes its desk.
+
+ghost use Rattle.std.specs.Prelude.{◌≡◌, ◌≤◌, ◌+◌, [], length, IfErr};
+ghost use Rattle.station_threads.specs.Sites.{OwnParts};
+ghost use Rattle.site_shadow.specs.Site.{SiteValue};
+
+use crate::alone::serve_alone;
+use crate::line::{Plan, book_of};
+use crate::memory::{put, room};
+use crate::report::{Held, Report, report_of};
+use crate::sites::{Trouble, sites_of};
+use crate::submitter::{Driver, Pace, Submitter, ended, start_submitting};
+use book_core::Core;
+use runner_cases::asks::Ask;
+use site_mem::MemSite;
+use station_jobs::Hook;
+use station_threads::{BlankLedger, Desk, Ends, Receipt, Refusals, Sites, Tickets, serve_line};
+use std::alloc::Global;
+use std::marker::Brand;
+use std::process::Abort;
+use std::sync::Wait;
+use std::thread;
+use std::thread::{Scope, Threads};
+
+/// What isn't handed in when the desk is closed.
+#[derive(Clone, Copy, PartialEq, Eq)]
+pub(crate) enum LeftOut {
+    Nothing,
+    /// The end of slave 1.
+    End,
+    /// The share of the second submitter.
+    Share,
+}
+
+/// How a line is served.
+#[derive(Clone, Copy, PartialEq, Eq)]
+pub(crate) enum Way {
+    /// Each part in a thread.
+    Threads,
+    /// On one thread, one part after the other. The disk has to stop.
+    Alone,
+}
+
+/// A line with two submitters: the commands of each, and in how many rounds it submits them.
+#[derive(Clone, Copy)]
+pub(crate) struct Scenario {
+    pub(crate) plan: Plan,
+    pub(crate) first: &'static [Ask],
+    pub(crate) second: &'static [Ask],
+    pub(crate) rounds: usize,
+    pub(crate) pace: Pace,
+    pub(crate) way: Way,
+    pub(crate) trouble: Trouble,
+    pub(crate) left_out: LeftOut,
+}
+
+/// A submitter of these commands.
+fn submitter<T: Tickets, R: Refusals, W: Wait + Abort>(
+    rt: &W,
+    alloc: Global,
+    desk: &Desk<T, R>,
+    scenario: &Scenario,
+    asks: &'static [Ask],
+) -> Submitter<T, R> {
+    let share = desk.share(rt).ok().expect(rt, "a share");
+    Submitter::new(rt, alloc, share, asks, scenario.rounds, scenario.pace)
+}
+
+/// Serves the line while the driver submits. Hands the sites back if memory was refused.
+fn try_serve<
+    T: Tickets + Send + Sync,
+    R: Refusals + Send + Sync,
+    G: Hook + Sync,
+    W: Wait + Threads + Sync + Abort,
+>(
+    rt: &W,
+    alloc: Global,
+    desk: &Desk<T, R>,
+    sites: Sites<MemSite>,
+    hook: &G,
+    driver: &mut Driver<T, R>,
+) -> Result<Ends<MemSite>, Sites<MemSite>>
+    requires owned { OwnParts (λ (site : SiteValue). site.line) sites.disk sites.slaves.items sites.cycle }
+    requires long { desk.now.limit ≤ length sites.disk.seen.state.disk.bytes }
+    ensures { IfErr result (λ same. same ≡ sites) }
+{
+    serve_line(rt, alloc, desk, sites, hook, driver)
+}
+
+/// Serves the line while the driver submits, with a second try if memory was refused.
+fn serve<
+    T: Tickets + Send + Sync,
+    R: Refusals + Send + Sync,
+    G: Hook + Sync,
+    W: Wait + Threads + Sync + Abort,
+>(
+    rt: &W,
+    alloc: Global,
+    desk: &Desk<T, R>,
+    sites: Sites<MemSite>,
+    hook: &G,
+    driver: &mut Driver<T, R>,
+) -> Ends<MemSite>
+    requires owned { OwnParts (λ (site : SiteValue). site.line) sites.disk sites.slaves.items sites.cycle }
+    requires long { desk.now.limit ≤ length sites.disk.seen.state.disk.bytes }
+{
+    match try_serve(rt, alloc, desk, sites, hook, driver) {
+        Ok(ends) => ends,
+        Err(sites) => try_serve(rt, alloc, desk, sites, hook, driver)
+            .ok()
+            .expect(rt, "memory"),
+    }
+}
+
+/// The two submitters: one drives the desk, the other submits on its own thread.
+#[derive(Drop)]
+struct Both<T: Tickets, R: Refusals> {
+    driver: Driver<T, R>,
+    other: Submitter<T, R>,
+}
+
+/// Serves the line while both submit, the other on a thread of the scope.
+fn serve_in<
+    's,
+    E,
+    T: Tickets + Send + Sync + 's,
+    R: Refusals + Send + Sync + 's,
+    G: Hook + Sync,
+    W: Wait + Threads + Sync + Abort,
+>(
+    scope: &'s Scope<'s, E>,
+    rt: &'s W,
+    alloc: Global,
+    desk: &'s Desk<T, R>,
+    sites: Sites<MemSite>,
+    hook: &'s G,
+    driver: &mut Driver<T, R>,
+    other: Submitter<T, R>,
+) -> (Ends<MemSite>, Submitter<T, R>)
+    requires owned { OwnParts (λ (site : SiteValue). site.line) sites.disk sites.slaves.items sites.cycle }
+    requires long { desk.now.limit ≤ length sites.disk.seen.state.disk.bytes }
+{
+    let started = start_submitting(scope, rt, desk, other);
+    let ends = serve(rt, alloc, desk, sites, hook, driver);
+    (ends, ended(rt, started))
+}
+
+/// Serves the line by threads, while both submit.
+fn serve_both<
+    'e,
+    T: Tickets + Send + Sync + 'e,
+    R: Refusals + Send + Sync + 'e,
+    G: Hook + Sync,
+    W: Wait + Threads + Sync + Abort,
+>(
+    rt: &'e W,
+    alloc: Global,
+    desk: &'e Desk<T, R>,
+    sites: Sites<MemSite>,
+    hook: &'e G,
+    driver: &'e mut Driver<T, R>,
+    other: Submitter<T, R>,
+) -> (Ends<MemSite>, Submitter<T, R>)
+    requires owned { OwnParts (λ (site : SiteValue). site.line) sites.disk sites.slaves.items sites.cycle }
+    requires long { desk.now.limit ≤ length sites.disk.seen.state.disk.bytes }
+{
+    thread::scope(
+        thread::scope_env(),
+        rt,
+        move |scope| -> (Ends<MemSite>, Submitter<T, R>)
+            requires owned { OwnParts (λ (site : SiteValue). site.line) sites.disk sites.slaves.items sites.cycle }
+            requires long { desk.now.limit ≤ length sites.disk.seen.state.disk.bytes }
+        { serve_in(scope, rt, alloc, desk, sites, hook, driver, other) },
+    )
+}
+
+/// Serves the line in the scenario's way, while both submit.
+fn serve_so<
+    T: Tickets + Send + Sync,
+    R: Refusals + Send + Sync,
+    G: Hook + Sync,
+    W: Wait + Threads + Sync + Abort,
+>(
+    rt: &W,
+    alloc: Global,
+    desk: &Desk<T, R>,
+    sites: Sites<MemSite>,
+    way: Way,
+    hook: &G,
+    driver: &mut Driver<T, R>,
+    other: Submitter<T, R>,
+) -> (Ends<MemSite>, Submitter<T, R>)
+    requires owned { OwnParts (λ (site : SiteValue). site.line) sites.disk sites.slaves.items sites.cycle }
+    requires long { desk.now.limit ≤ length sites.disk.seen.state.disk.bytes }
+{
+    match way {
+        Way::Threads => serve_both(rt, alloc, desk, sites, hook, driver, other),
+        Way::Alone => (serve_alone(rt, alloc, desk, sites), other),
+    }
+}
+
+/// How many commands the two submitters submit.
+fn count_of(scenario: &Scenario) -> u64 {
+    let asks = scenario.first.len().saturating_add(scenario.second.len());
+    asks.saturating_mul(scenario.rounds) as u64
+}
+
+/// Everything that the two submitters hold, except what isn't to be handed in.
+fn held<T: Tickets, R: Refusals>(
+    rt: &impl Abort,
+    alloc: Global,
+    both: Both<T, R>,
+    left_out: LeftOut,
+) -> Held<T, R> {
+    let Both { driver, other } = both;
+    let (one, mut receipts) = driver.submitter.into_parts();
+    let (other, others) = other.into_parts();
+    hand_in(rt, &mut receipts, others);
+    let mut shares = room(rt, alloc, 2);
+    put(rt, &mut shares, one);
+    if left_out == LeftOut::Share {
+        drop(other);
+    } else {
+        put(rt, &mut shares, other);
+    }
+    Held { shares, receipts }
+}
+
+/// Puts these receipts behind the others.
+fn hand_in(rt: &impl Abort, receipts: &mut Vec<Receipt>, others: Vec<Receipt>) {
+    for receipt in others {
+        put(rt, receipts, receipt);
+    }
+}
+
+/// The ends, except the one that isn't to be handed in.
+fn ends_but(mut ends: Ends<MemSite>, left_out: LeftOut) -> Ends<MemSite> {
+    if left_out == LeftOut::End && ends.workers.len() > 1 {
+        drop(ends.workers.remove(1));
+    }
+    ends
+}
+
+/// The two submitters, with the only two shares of the desk.
+fn both_of<T: Tickets, R: Refusals, W: Wait + Abort>(
+    rt: &W,
+    alloc: Global,
+    desk: &Desk<T, R>,
+    scenario: &Scenario,
+) -> Both<T, R> {
+    let mut first = submitter(rt, alloc, desk, scenario, scenario.first);
+    let mut other = submitter(rt, alloc, desk, scenario, scenario.second);
+    assert!(rt; desk.share(rt).is_err());
+    first.begin(rt, desk);
+    other.begin(rt, desk);
+    let driver = Driver {
+        submitter: first,
+        accepted: count_of(scenario),
+    };
+    Both { driver, other }
+}
+
+/// Serves the line from the desk. Answers what the submitters hold and the ends, except what isn't to be handed in.
+fn serve_at<
+    T: Tickets + Send + Sync,
+    R: Refusals + Send + Sync,
+    G: Hook + Sync,
+    W: Wait + Threads + Sync + Abort,
+>(
+    rt: &W,
+    alloc: Global,
+    desk: &Desk<T, R>,
+    sites: Sites<MemSite>,
+    scenario: &Scenario,
+    hook: &G,
+) -> (Held<T, R>, Ends<MemSite>)
+    requires owned { OwnParts (λ (site : SiteValue). site.line) sites.disk sites.slaves.items sites.cycle }
+    requires long { desk.now.limit ≤ length sites.disk.seen.state.disk.bytes }
+{
+    let Both { mut driver, other } = both_of(rt, alloc, desk, scenario);
+    let (ends, mut other) = serve_so(
+        rt,
+        alloc,
+        desk,
+        sites,
+        scenario.way,
+        hook,
+        &mut driver,
+        other,
+    );
+    other.wait_all(rt, desk);
+    (
+        held(rt, alloc, Both { driver, other }, scenario.left_out),
+        ends_but(ends, scenario.left_out),
+    )
+}
+
+/// Serves the line from a desk of this book, and closes the desk. None: memory for the desk was refused.
+fn serve_by<
+    T: Tickets + Send + Sync,
+    R: Refusals + Send + Sync,
+    G: Hook + Sync,
+    W: Wait + Threads + Sync + Abort,
+>(
+    rt: &W,
+    alloc: Global,
+    tickets: BlankLedger,
+    refusals: BlankLedger,
+    core: Core,
+    sites: Sites<MemSite>,
+    scenario: &Scenario,
+    hook: &G,
+) -> Option<Report>
+    requires core { core ≡ T.opened }
+    requires none { core.accepted ≡ [] }
+    requires tickets { (tickets.name ≡ T.name) × (tickets.count ≡ T.parts) }
+    requires refusals { (refusals.name ≡ R.name) × (refusals.count ≡ R.parts) }
+    requires owned { OwnParts (λ (site : SiteValue). site.line) sites.disk sites.slaves.items sites.cycle }
+    requires long { 8 + core.capacity ≤ length sites.disk.seen.state.disk.bytes }
+{
+    let Ok(desk) = Desk::<T, R>::of(alloc, core, tickets, refusals) else {
+        drop(sites);
+        return None;
+    };
+    let (held, ends) = serve_at(rt, alloc, &desk, sites, scenario, hook);
+    Some(report_of(rt, alloc, &scenario.plan, desk, held, ends))
+}
+
+/// Serves the line, and closes its desk. None: memory for the desk was refused.
+fn try_session<G: Hook + Sync, W: Wait + Threads + Sync + Abort>(
+    rt: &W,
+    alloc: Global,
+    scenario: &Scenario,
+    hook: &G,
+) -> Option<Report> {
+    assert!(rt; scenario.plan.area >= 4096);
+    let core = book_of(rt, alloc, &scenario.plan);
+    let sites = sites_of(rt, alloc, &scenario.plan, scenario.trouble);
+    serve_by::<Brand, Brand, G, W>(
+        rt,
+        alloc,
+        BlankLedger::new(3),
+        BlankLedger::new(3),
+        core,
+        sites,
+        scenario,
+        hook,
+    )
+}
+
+/// Serves the line, and closes its desk.
+pub(crate) fn session<G: Hook + Sync, W: Wait + Threads + Sync + Abort>(
+    rt: &W,
+    alloc: Global,
+    scenario: &Scenario,
+    hook: &G,
+) -> Report {
+    match try_session(rt, alloc, scenario, hook) {
+        Some(report) => report,
+        None => try_session(rt, alloc, scenario, hook).expect(rt, "memory"),
+    }
+}

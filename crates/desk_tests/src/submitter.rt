@@ -1,0 +1,236 @@
+//! The submitters of a desk while its line is served.
+
+ghost use denote.Param.Send.{IsSync};
+
+use crate::memory::room;
+use book_model::SubmitRefusal;
+use runner_cases::asks::{Ask, command};
+use sii_edit::{Cause, Command};
+use station_threads::{Client, Desk, Receipt, Refusals, Refused, Share, Ticket, Tickets};
+use std::alloc::Global;
+use std::process::Abort;
+use std::sync::Wait;
+use std::thread::{JoinHandle, Scope, Threads};
+
+/// When a submitter waits for its commands.
+#[derive(Clone, Copy, PartialEq, Eq)]
+pub(crate) enum Pace {
+    /// For each command before it submits the next.
+    OneByOne,
+    /// After all commands are submitted.
+    Together,
+    /// After all commands are submitted, which is done before the line is served.
+    Queued,
+}
+
+/// A submitter with its share.
+#[derive(Drop)]
+pub(crate) struct Submitter<T: Tickets, R: Refusals> {
+    alloc: Global,
+    share: Share<T, R>,
+    asks: &'static [Ask],
+    rounds: usize,
+    pace: Pace,
+    tickets: Vec<Ticket>,
+    receipts: Vec<Receipt>,
+}
+
+fn is_out_of_memory(refusal: SubmitRefusal) -> bool {
+    match refusal {
+        SubmitRefusal::Command(refusal) => refusal.cause == Cause::Memory,
+        _ => false,
+    }
+}
+
+/// Waits for a command, and keeps its receipt, if it is acknowledged.
+fn wait_for<T: Tickets, R: Refusals, W: Wait>(
+    rt: &W,
+    desk: &Desk<T, R>,
+    ticket: Ticket,
+    receipts: &mut Vec<Receipt>,
+) {
+    match desk.wait(rt, ticket) {
+        Ok(receipt) => drop(receipts.push(receipt)),
+        Err(left) => drop(left),
+    }
+}
+
+impl<T: Tickets, R: Refusals> Submitter<T, R> {
+    /// A submitter of these commands, in this many rounds.
+    pub(crate) fn new(
+        rt: &impl Abort,
+        alloc: Global,
+        share: Share<T, R>,
+        asks: &'static [Ask],
+        rounds: usize,
+        pace: Pace,
+    ) -> Self {
+        let count = asks.len().saturating_mul(rounds);
+        Submitter {
+            alloc,
+            share,
+            asks,
+            rounds,
+            pace,
+            tickets: room(rt, alloc, count),
+            receipts: room(rt, alloc, count),
+        }
+    }
+
+    /// Submits a command. False, with nothing changed, if memory was refused.
+    fn is_taken<W: Wait>(&mut self, rt: &W, desk: &Desk<T, R>, command: Command) -> bool {
+        match desk.submit(rt, &mut self.share, command) {
+            Ok(ticket) => self.tickets.push(ticket).is_ok(),
+            Err(refused) => {
+                let Refused { refusal, command } = refused;
+                drop(command);
+                !is_out_of_memory(refusal)
+            }
+        }
+    }
+
+    /// Submits the command that is asked for. False, with nothing changed, if memory was refused.
+    fn is_submitted<W: Wait>(&mut self, rt: &W, desk: &Desk<T, R>, ask: &Ask) -> bool {
+        match command(self.alloc, ask) {
+            Some(command) => self.is_taken(rt, desk, command),
+            None => false,
+        }
+    }
+
+    /// Waits for all submitted commands, and keeps the receipts of those that are acknowledged.
+    pub(crate) fn wait_all<W: Wait>(&mut self, rt: &W, desk: &Desk<T, R>) {
+        while let Some(ticket) = self.tickets.pop() {
+            wait_for(rt, desk, ticket, &mut self.receipts);
+        }
+    }
+
+    /// Submits the command that is asked for, with a second try if memory was refused.
+    fn submit<W: Wait>(&mut self, rt: &W, desk: &Desk<T, R>, ask: &Ask) {
+        if !self.is_submitted(rt, desk, ask) {
+            self.is_submitted(rt, desk, ask);
+        }
+    }
+
+    /// Submits all commands once, without waiting for them.
+    fn submit_each<W: Wait>(&mut self, rt: &W, desk: &Desk<T, R>) {
+        for ask in self.asks {
+            self.submit(rt, desk, ask);
+        }
+    }
+
+    /// Submits the commands that are for the time of serving, without waiting for them.
+    fn submit_rounds<W: Wait>(&mut self, rt: &W, desk: &Desk<T, R>) {
+        if self.pace != Pace::Queued {
+            for _round in 0..self.rounds {
+                self.submit_each(rt, desk);
+            }
+        }
+    }
+
+    /// Submits all commands once, and waits for each if the pace is `OneByOne`.
+    fn submit_all<W: Wait>(&mut self, rt: &W, desk: &Desk<T, R>) {
+        for ask in self.asks {
+            self.submit(rt, desk, ask);
+            if self.pace == Pace::OneByOne {
+                self.wait_all(rt, desk);
+            }
+        }
+    }
+
+    /// Submits the commands that are for the time before serving.
+    pub(crate) fn begin<W: Wait>(&mut self, rt: &W, desk: &Desk<T, R>) {
+        if self.pace == Pace::Queued {
+            self.submit_all(rt, desk);
+        }
+    }
+
+    /// Submits the commands that are for the time of serving, and then waits for those without a receipt.
+    fn go_on<W: Wait>(&mut self, rt: &W, desk: &Desk<T, R>) {
+        if self.pace != Pace::Queued {
+            for _round in 0..self.rounds {
+                self.submit_all(rt, desk);
+            }
+        }
+        self.wait_all(rt, desk);
+    }
+
+    /// The submitter's share and receipts.
+    pub(crate) fn into_parts(self) -> (Share<T, R>, Vec<Receipt>) {
+        let Submitter {
+            share,
+            receipts,
+            ..
+        } = self;
+        (share, receipts)
+    }
+}
+
+/// Lets the submitter submit its commands, and gives it back.
+fn submitted<T: Tickets, R: Refusals, W: Wait>(
+    rt: &W,
+    desk: &Desk<T, R>,
+    mut submitter: Submitter<T, R>,
+) -> Submitter<T, R> {
+    submitter.submit_rounds(rt, desk);
+    submitter
+}
+
+/// A submitter on its thread. If that couldn't be created, one that has submitted already.
+type Started<T, R> = Result<JoinHandle<Submitter<T, R>>, Submitter<T, R>>;
+
+/// Starts a submitter's thread. If it can't be created, it submits here, before the line is served, and waits for nothing.
+pub(crate) fn start_submitting<
+    's,
+    E,
+    T: Tickets + Send + Sync + 's,
+    R: Refusals + Send + Sync + 's,
+    W: Wait + Threads + Sync,
+>(
+    scope: &'s Scope<'s, E>,
+    rt: &'s W,
+    desk: &'s Desk<T, R>,
+    submitter: Submitter<T, R>,
+) -> Started<T, R> {
+    let submits = move || -> Submitter<T, R>
+        requires { IsSync W.row }
+    { submitted(rt, desk, submitter) };
+    match scope.spawn(submits) {
+        Ok(handle) => Ok(handle),
+        Err(refused) => Err((refused.value)()),
+    }
+}
+
+/// Waits for the end of a submitter's thread, if it has one.
+pub(crate) fn ended<T: Tickets, R: Refusals, W: Threads>(
+    rt: &W,
+    started: Started<T, R>,
+) -> Submitter<T, R> {
+    match started {
+        Ok(handle) => handle.join(rt),
+        Err(submitter) => submitter,
+    }
+}
+
+/// Waits until `accepted` commands are accepted, or the desk accepts no more.
+fn wait_for_others<T: Tickets, R: Refusals, W: Wait>(rt: &W, desk: &Desk<T, R>, accepted: u64) {
+    for _ in rt.forever() {
+        let seen = desk.status(rt);
+        if seen.accepted >= accepted || desk.changed(rt, &seen) == seen {
+            break;
+        }
+    }
+}
+
+/// Submits on the thread that serves the line, and then waits until `accepted` commands of all submitters are accepted.
+#[derive(Drop)]
+pub(crate) struct Driver<T: Tickets, R: Refusals> {
+    pub(crate) submitter: Submitter<T, R>,
+    pub(crate) accepted: u64,
+}
+
+impl<T: Tickets, R: Refusals> Client<T, R> for Driver<T, R> {
+    fn drive<W: Wait + Threads + Sync>(&mut self, rt: &W, desk: &Desk<T, R>) {
+        self.submitter.go_on(rt, desk);
+        wait_for_others(rt, desk, self.accepted);
+    }
+}

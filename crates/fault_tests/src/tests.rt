@@ -1,0 +1,7 @@
+// Tests of cuts at each call that writes, and of what a capture holds.
+
+mod captures;
+mod cuts;
+mod migrations;
+mod statuses;
+mod stops;

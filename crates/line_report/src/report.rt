@@ -1,0 +1,181 @@
+//! The report behind a run or a recovery.
+ghost use Rattle.std.specs.Prelude.{◌≡◌, IfErr, IfOk};
+ghost use Rattle.station_files.specs.Faults.{IsOfStream};
+ghost use Rattle.station_files.specs.LineFiles.{SpellsLine, SpellsSlaves};
+ghost use Rattle.line_report.specs.Report.{Reports};
+
+use crate::checks::checks_of;
+use line_changes::{ChangedWord, changed_words, write_changes};
+use sii_words::Plant;
+use station_files::{ExitStatus, Fault, Store, load_line, load_slaves, status_of, worse};
+use station_listing::CheckByte;
+use station_text::LineFile;
+use std::alloc::Global;
+use std::io;
+use std::io::Write;
+
+/// The help text on the option that asks for a report.
+pub const REPORT: &str = "Prints behind everything else, unless a fault ends the work:
+  slave P word 0xW old 0xO new 0xN
+                   word W of slave P had the value O before, and has N now;
+                   neighbouring words as plan prints them
+  slave P check ok whether the check byte of slave P is right, for each slave;
+                   or: check bad 0xNN expected 0xNN
+  line in order; ..
+                   each check byte is right; or: line not in order, wrong check
+                   bytes C; .. A slave acts on its new words only when it starts
+                   again";
+
+/// A line before a run or a recovery.
+#[derive(Drop)]
+pub struct Before {
+    /// The line file.
+    pub line: LineFile,
+    /// The words of the slaves.
+    pub words: Plant,
+}
+
+/// What has changed, and how the line is now.
+#[derive(Drop)]
+pub struct Report {
+    /// The words that differ, with their values before and now.
+    pub changes: Vec<ChangedWord>,
+    /// Whether the check byte of each slave is right, in the order of the line.
+    pub checks: Vec<CheckByte>,
+}
+
+/// What has changed on a line since `before`, by the words that its image files hold now. No file changes.
+///
+/// # Errors
+///
+/// `Memory`; `File` where an image file can't be read, or no longer has the words of an EEPROM.
+pub fn changes_since<S: Store>(
+    alloc: Global,
+    before: &Before,
+    store: &mut S,
+) -> Result<Report, Fault>
+    ensures reported { IfOk result (Reports (S.files store.old) before.now) }
+    ensures failed { IfErr result IsOfStream }
+    ensures same { S.files store.new ≡ S.files store.old }
+{
+    let after = words_now(alloc, &before.line, store)?;
+    Ok(Report {
+        changes: changed_words(alloc, &before.words, &after)?,
+        checks: checks_of(alloc, &after)?,
+    })
+}
+
+/// The words that the image files of a line hold.
+fn words_now<S: Store>(alloc: Global, line: &LineFile, store: &mut S) -> Result<Plant, Fault>
+    ensures spelt { IfOk result (λ plant. SpellsSlaves (S.files store.old) line.now plant) }
+    ensures failed { IfErr result IsOfStream }
+    ensures same { S.files store.new ≡ S.files store.old }
+{
+    match load_slaves(alloc, line, store) {
+        Ok(slaves) => Ok(Plant::of(slaves)),
+        Err(Fault::Memory) => Err(Fault::Memory),
+        Err(_) => Err(Fault::File),
+    }
+}
+
+/// Prints what has changed on a line since `before`: the words that differ, whether the check byte of each slave is right, and whether the
+/// line is in order, which it is where each check byte is right. No file changes.
+///
+/// # Errors
+///
+/// As for `changes_since`; then `File` or `Memory`, as the output answers.
+pub fn print_report<S: Store, W: Write>(
+    alloc: Global,
+    before: &Before,
+    store: &mut S,
+    output: &mut W,
+) -> Result<(), Fault>
+    ensures failed { IfErr result IsOfStream }
+    ensures same { S.files store.new ≡ S.files store.old }
+{
+    let report = changes_since(alloc, before, store)?;
+    write_report(&report, output)?;
+    Ok(())
+}
+
+fn write_report<W: Write>(report: &Report, output: &mut W) -> io::Result<()> {
+    write_changes(&report.changes, output)?;
+    let mut wrong = 0usize;
+    for (slave, check) in report.checks.iter().enumerate() {
+        writeln!(output, "slave {slave} check {check}")?;
+        if *check != CheckByte::Right {
+            wrong = wrong.saturating_add(1);
+        }
+    }
+    write_end(wrong, output)?;
+    output.flush()
+}
+
+/// Writes the last line of a report on a line with so many wrong check bytes.
+fn write_end<W: Write>(wrong: usize, output: &mut W) -> io::Result<()> {
+    match wrong {
+        0 => write!(output, "line in order")?,
+        _ => write!(output, "line not in order, wrong check bytes {wrong}")?,
+    }
+    writeln!(
+        output,
+        "; a slave acts on its new words only when it starts again"
+    )
+}
+
+/// Reads a line and its words as its files hold them, if a report is asked for. No file changes.
+///
+/// # Errors
+///
+/// As for `load_line`, then as for `load_slaves`.
+pub fn look_before<S: Store>(
+    alloc: Global,
+    is_asked: bool,
+    name: &str,
+    store: &mut S,
+) -> Result<Option<Before>, Fault>
+    ensures same { S.files store.new ≡ S.files store.old }
+{
+    if !is_asked {
+        return Ok(None);
+    }
+    let line = load_line(alloc, name, store)?;
+    let slaves = load_slaves(alloc, &line, store)?;
+    let words = Plant::of(slaves);
+    Ok(Some(Before { line, words }))
+}
+
+/// Prints the report behind work that ended with this status, if one is asked for, and gives the status of both. Behind a fault nothing is
+/// reported. No file changes.
+pub fn report_behind<S: Store, W: Write, E: Write>(
+    alloc: Global,
+    looked: Result<Option<Before>, Fault>,
+    status: ExitStatus,
+    store: &mut S,
+    output: &mut W,
+    faults: &mut E,
+) -> ExitStatus
+    ensures same { S.files store.new ≡ S.files store.old }
+{
+    if !matches!(status, ExitStatus::Done | ExitStatus::Refused) {
+        return status;
+    }
+    let reported = report_looked(alloc, looked, store, output);
+    worse(status, status_of(reported, faults))
+}
+
+/// Prints the report, if one is asked for.
+fn report_looked<S: Store, W: Write>(
+    alloc: Global,
+    looked: Result<Option<Before>, Fault>,
+    store: &mut S,
+    output: &mut W,
+) -> Result<(), Fault>
+    ensures same { S.files store.new ≡ S.files store.old }
+{
+    match looked {
+        Ok(Some(before)) => print_report(alloc, &before, store, output),
+        Ok(None) => Ok(()),
+        Err(fault) => Err(fault),
+    }
+}

@@ -1,0 +1,9 @@
+//! Tests of a station on a wire in memory that loses, doubles, delays or falsifies frames, on one thread and by threads.
+#![tactic(auto)]
+
+#[cfg(test)]
+mod wire_runs;
+#[cfg(test)]
+mod wire_threads;
+#[cfg(test)]
+mod wires;

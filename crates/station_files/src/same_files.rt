@@ -1,0 +1,227 @@
+//! Refuses files of which one would be lost where another one is written.
+ghost use Rattle.std.specs.Prelude.{◌≡◌, ◌≤◌, ◌<◌, ◌∷◌, ◌++◌, length, is_some, option_map, string_bytes, vec_len, IfErr, IfOk, MatchOption, OnOk};
+ghost use Rattle.std.specs.List.{AllByRecursion, AllZip, HoldsAt};
+ghost use Rattle.station_files.specs.Faults.{IsOfStream};
+ghost use Rattle.station_files.specs.FileNames.{fault_for, files_with, listed, spelt, written_of, IsLineApart, RefusesLineNames, RefusesNames};
+ghost use Rattle.station_files.specs.Locations.{AreApart, IsClash, LeadsTo, MeetAt, Meets, NoneMeet, place_of};
+
+use crate::faults::Fault;
+use crate::location::Location;
+use crate::store::Store;
+use station_text::LineFile;
+use std::alloc::{AllocError, Global};
+
+/// Two files of a list, by their places in it, of which one would be lost where the other is written or replaced.
+#[derive(Clone, Copy)]
+pub struct Clash {
+    /// The place of the first, from 0. It may be written.
+    pub one: usize,
+    /// The place of the second.
+    pub other: usize,
+}
+
+/// The files of a subcommand on a line, by their names: first those that it may write, and then those that it only reads.
+#[derive(Drop)]
+pub struct FileNames {
+    /// The names: the capture, if there is one, the journal, the slaves' image files in order, the line file, and then, if a script is read,
+    /// the script and the images that it names.
+    pub names: Vec<String>,
+    /// How many of them may be written.
+    pub written: usize,
+    /// Whether the first one is a capture.
+    pub has_capture: bool,
+    ghost within: { written ≤ vec_len names },
+}
+
+impl FileNames {
+    /// The files of the line that this line file describes, and the file of a capture, if one is named.
+    ///
+    /// # Errors
+    ///
+    /// Memory was refused.
+    pub fn of_line(
+        alloc: Global,
+        line: &LineFile,
+        line_file: &str,
+        capture: Option<&str>,
+    ) -> Result<FileNames, AllocError>
+        ensures names { IfOk result (λ files. spelt files.names.items ≡ files_with (option_map (λ given. given.now) capture.entry) line.now line_file.now) }
+        ensures written { IfOk result (λ files. files.written ≡ length (written_of (option_map (λ given. given.now) capture.entry) line.now)) }
+        ensures capture { IfOk result (λ files. files.has_capture ≡ is_some capture.entry) }
+    {
+        let mut names = captured(alloc, capture)?;
+        names.push(String::from_str(alloc, line.journal.as_str())?)?;
+        push_names(alloc, &line.images, &mut names)?;
+        let written = names.len();
+        names.push(String::from_str(alloc, line_file)?)?;
+        Ok(FileNames {
+            names,
+            written,
+            has_capture: capture.is_some(),
+        })
+    }
+
+    /// The same files, with a script and the images that it names.
+    ///
+    /// # Errors
+    ///
+    /// Memory was refused.
+    pub fn with_script(
+        self,
+        alloc: Global,
+        script: &str,
+        images: &[String],
+    ) -> Result<FileNames, AllocError>
+        ensures names { IfOk result (λ files. spelt files.names.items ≡ spelt self.names.items ++ script.now ∷ spelt images.now) }
+        ensures written { IfOk result (λ files. files.written ≡ self.written) }
+        ensures capture { IfOk result (λ files. files.has_capture ≡ self.has_capture) }
+    {
+        let FileNames {
+            mut names,
+            written,
+            has_capture,
+        } = self;
+        names.push(String::from_str(alloc, script)?)?;
+        push_names(alloc, images, &mut names)?;
+        Ok(FileNames {
+            names,
+            written,
+            has_capture,
+        })
+    }
+}
+
+/// The name of a capture, if there is one.
+fn captured(alloc: Global, capture: Option<&str>) -> Result<Vec<String>, AllocError>
+    ensures { IfOk result (λ names. spelt names.items ≡ listed (option_map (λ given. given.now) capture.entry)) }
+{
+    let mut names = Vec::new(alloc);
+    if let Some(capture) = capture {
+        names.push(String::from_str(alloc, capture)?)?;
+    }
+    Ok(names)
+}
+
+/// Appends names.
+fn push_names(alloc: Global, others: &[String], names: &mut Vec<String>) -> Result<(), AllocError>
+    ensures { OnOk result (spelt names.new.items ≡ spelt names.old.items ++ spelt others.now) }
+{
+    for other in others {
+        names.push(String::from_str(alloc, other.as_str())?)?;
+    }
+    Ok(())
+}
+
+/// Refuses files of which one would be lost where another one is written: two names of the same file, under no link of either kind, or a
+/// name that another file takes while it is replaced, where one of the two may be written. Nothing is written.
+///
+/// # Errors
+///
+/// `Exists` where the first two such files are the capture and another one; `SameFile` where they are others; `File` where a name can't be
+/// followed; `Memory`.
+pub fn keep_apart<S: Store>(alloc: Global, files: &FileNames, store: &mut S) -> Result<(), Fault>
+    ensures apart { OnOk result (AreApart S.leads files.now.written (spelt files.now.names.items)) }
+    ensures refused { IfErr result (RefusesNames S.leads files.now.has_capture files.now.written (spelt files.now.names.items)) }
+    ensures same { S.files store.new ≡ S.files store.old }
+{
+    let found = find_clash(alloc, files, store)?;
+    match found {
+        None => Ok(()),
+        Some(clash) => Err(fault_for(files.has_capture, clash.one)),
+    }
+}
+
+/// The fault for a clash whose first file has this place.
+fn fault_for(has_capture: bool, one: usize) -> Fault
+    ensures { result ≡ fault_for has_capture one }
+{
+    if has_capture && one == 0 {
+        Fault::Exists
+    } else {
+        Fault::SameFile
+    }
+}
+
+/// Refuses a line of which two files are the same, as `keep_apart` does: its journal and its images may be written, and its line file is read.
+///
+/// # Errors
+///
+/// `SameFile`; `File` where a name can't be followed; `Memory`.
+pub fn keep_line_apart<S: Store>(
+    alloc: Global,
+    line: &LineFile,
+    line_file: &str,
+    store: &mut S,
+) -> Result<(), Fault>
+    ensures apart { OnOk result (IsLineApart S.leads line.now line_file.now) }
+    ensures refused { IfErr result (RefusesLineNames S.leads line.now line_file.now) }
+    ensures same { S.files store.new ≡ S.files store.old }
+{
+    let files = FileNames::of_line(alloc, line, line_file, None)?;
+    keep_apart(alloc, &files, store)
+}
+
+/// The first two of these files of which one would be lost where the other is written or replaced, if there are such. Nothing is written.
+///
+/// # Errors
+///
+/// `File` where a name can't be followed; `Memory`.
+pub fn find_clash<S: Store>(
+    alloc: Global,
+    files: &FileNames,
+    store: &mut S,
+) -> Result<Option<Clash>, Fault>
+    ensures found { IfOk result (λ found. MatchOption found (AreApart S.leads files.now.written (spelt files.now.names.items))
+        (IsClash S.leads files.now.written (spelt files.now.names.items))) }
+    ensures failed { IfErr result IsOfStream }
+    ensures same { S.files store.new ≡ S.files store.old }
+{
+    let found = locate_all(alloc, &files.names, store)?;
+    Ok(clash_in(&found, files.written))
+}
+
+/// Where the files of these names are.
+fn locate_all<S: Store>(
+    alloc: Global,
+    names: &[String],
+    store: &mut S,
+) -> Result<Vec<Location>, Fault>
+    ensures found { IfOk result (λ found. AllZip (LeadsTo S.leads) (spelt names.now) found.items) }
+    ensures failed { IfErr result IsOfStream }
+    ensures same { S.files store.new ≡ S.files store.old }
+{
+    let mut found = Vec::new(alloc);
+    for one in names {
+        found.push(store.locate(alloc, one.as_str())?)?;
+    }
+    Ok(found)
+}
+
+/// The first two that meet, of which the first is one of the first `written`.
+fn clash_in(found: &[Location], written: usize) -> Option<Clash>
+    requires { written ≤ length found.now }
+    ensures { MatchOption result (NoneMeet written found.now) (MeetAt written found.now) }
+{
+    for one in 0..written {
+        if let Some(at) = first_met(&found[one], &found[one + 1..]) {
+            return Some(Clash {
+                one,
+                other: one + 1 + at,
+            });
+        }
+    }
+    None
+}
+
+/// The place of the first of the others that meets this one.
+fn first_met(one: &Location, others: &[Location]) -> Option<usize>
+    ensures { MatchOption result (AllByRecursion (λ other. ¬ Meets (place_of one.now) (place_of other)) others.now)
+        (λ at. (at < length others.now) × HoldsAt (λ other. Meets (place_of one.now) (place_of other)) others.now at) }
+{
+    for at in 0..others.len() {
+        if one.meets(&others[at]) {
+            return Some(at);
+        }
+    }
+    None
+}

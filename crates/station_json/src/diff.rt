@@ -1,0 +1,128 @@
+//! `diff`, as JSON: what the first image has stands under `a`, and what the second has under `b`; one of them is left out where only the
+//! other image has the thing.
+ghost use Rattle.std.specs.Prelude.{◌≡◌, IfErr};
+ghost use Rattle.station_files.specs.Faults.{IsOfStream};
+
+use crate::diff_categories::write_chains;
+use crate::images::image_of;
+use crate::row::write_row;
+use image_diff::{Difference, Head, WordChanges, compare};
+use serde::Serialize;
+use sii_words::Run;
+use station_files::{ExitStatus, Fault, Store};
+use std::alloc::Global;
+use std::io::{Read, Write};
+
+/// A number of the head of an image.
+#[derive(Clone, Copy, Serialize)]
+struct HeadRow {
+    row: &'static str,
+    field: &'static str,
+    a: u64,
+    b: u64,
+}
+
+/// A word of the image.
+#[derive(Clone, Copy, Serialize)]
+struct WordRow {
+    row: &'static str,
+    word: u16,
+    a: u16,
+    b: u16,
+}
+
+/// Reads two EEPROM images and prints what they differ in as JSON. They are read as `diff_images` reads them. The status is `Done` where the
+/// images have the same words, and `Refused` where they differ. No file changes.
+///
+/// # Errors
+///
+/// As for `diff_images`.
+pub fn diff_as_json<R: Read, S: Store, W: Write>(
+    alloc: Global,
+    hex: bool,
+    old: Option<&str>,
+    new: Option<&str>,
+    input: &mut R,
+    store: &mut S,
+    output: &mut W,
+) -> Result<ExitStatus, Fault>
+    ensures same { S.files store.new ≡ S.files store.old }
+{
+    let first = image_of(alloc, hex, old, input, store)?;
+    let second = image_of(alloc, hex, new, input, store)?;
+    let difference = compare(alloc, &first, &second)?;
+    write_difference(alloc, &difference, output)?;
+    output.flush()?;
+    if difference.is_none() {
+        Ok(ExitStatus::Done)
+    } else {
+        Ok(ExitStatus::Refused)
+    }
+}
+
+fn write_difference<W: Write>(
+    alloc: Global,
+    difference: &Difference,
+    output: &mut W,
+) -> Result<(), Fault>
+    ensures { IfErr result IsOfStream }
+{
+    write_heads(alloc, difference.old, difference.new, output)?;
+    write_chains(alloc, &difference.old_items, &difference.new_items, output)?;
+    write_words(alloc, &difference.words, output)
+}
+
+/// Writes a row for each number in which two heads differ.
+fn write_heads<W: Write>(alloc: Global, old: Head, new: Head, output: &mut W) -> Result<(), Fault>
+    ensures { IfErr result IsOfStream }
+{
+    let (was, is) = (old.identity, new.identity);
+    let fields = [
+        ("words", old.count as u64, new.count as u64),
+        ("alias", u64::from(old.alias), u64::from(new.alias)),
+        ("check", u64::from(old.check), u64::from(new.check)),
+        ("vendor", u64::from(was.vendor), u64::from(is.vendor)),
+        ("product", u64::from(was.product), u64::from(is.product)),
+        ("revision", u64::from(was.revision), u64::from(is.revision)),
+        ("serial", u64::from(was.serial), u64::from(is.serial)),
+    ];
+    for (field, a, b) in fields {
+        if a != b {
+            let row = HeadRow {
+                row: "head",
+                field,
+                a,
+                b,
+            };
+            write_row(alloc, &row, output)?;
+        }
+    }
+    Ok(())
+}
+
+/// Writes a row for each word in which the images differ.
+fn write_words<W: Write>(alloc: Global, words: &WordChanges, output: &mut W) -> Result<(), Fault>
+    ensures { IfErr result IsOfStream }
+{
+    for (old, new) in words.old.iter().zip(words.new.iter()) {
+        write_stretch(alloc, old, new, output)?;
+    }
+    Ok(())
+}
+
+fn write_stretch<W: Write>(alloc: Global, old: &Run, new: &Run, output: &mut W) -> Result<(), Fault>
+    ensures { IfErr result IsOfStream }
+{
+    let mut word = old.first;
+    for (a, b) in old.words.as_slice().iter().zip(new.words.as_slice().iter()) {
+        let row = WordRow {
+            row: "word",
+            word,
+            a: *a,
+            b: *b,
+        };
+        write_row(alloc, &row, output)?;
+        word = word.saturating_add(1);
+    }
+    Ok(())
+}

@@ -1,0 +1,320 @@
+//! What the categories of two images differ in, as rows.
+ghost use Rattle.std.specs.Prelude.{IfErr};
+ghost use Rattle.station_files.specs.Faults.{IsOfStream};
+
+use crate::row::write_row;
+use crate::scalar::Scalar;
+use serde::Serialize;
+use station_files::Fault;
+use station_listing::{CategoryLines, Field, ItemListing, Label, Line};
+use std::alloc::Global;
+use std::io::Write;
+
+/// Where the chain of categories of an image is cut off.
+#[derive(Clone, Copy, Serialize)]
+struct CutRow {
+    row: &'static str,
+    image: &'static str,
+    at: usize,
+}
+
+/// The length of a category's content.
+#[derive(Clone, Copy, Serialize)]
+struct LengthRow {
+    row: &'static str,
+    category: u16,
+    #[serde(skip_serializing_if = "Option::is_none")]
+    a: Option<usize>,
+    #[serde(skip_serializing_if = "Option::is_none")]
+    b: Option<usize>,
+}
+
+/// A word of a content whose items aren't known.
+#[derive(Clone, Copy, Serialize)]
+struct ContentRow {
+    row: &'static str,
+    category: u16,
+    word: usize,
+    a: u16,
+    b: u16,
+}
+
+/// A field of an item.
+#[derive(Clone, Copy, Serialize)]
+struct ItemRow<'a> {
+    row: &'static str,
+    item: &'a str,
+    field: &'static str,
+    #[serde(skip_serializing_if = "Option::is_none")]
+    a: Option<Scalar<'a>>,
+    #[serde(skip_serializing_if = "Option::is_none")]
+    b: Option<Scalar<'a>>,
+}
+
+/// One of the two images.
+#[derive(Clone, Copy, PartialEq, Eq)]
+enum Side {
+    A,
+    B,
+}
+
+/// Writes a row for each thing in which the categories of two images differ. Where the chain of one of them is cut off, only that is written.
+///
+/// # Errors
+///
+/// As for `write_row`.
+pub(crate) fn write_chains<W: Write>(
+    alloc: Global,
+    old: &ItemListing,
+    new: &ItemListing,
+    output: &mut W,
+) -> Result<(), Fault>
+    ensures { IfErr result IsOfStream }
+{
+    match (old.runs_out, new.runs_out) {
+        (None, None) => write_categories(alloc, &old.categories, &new.categories, output),
+        (one, other) if one == other => Ok(()),
+        (one, other) => {
+            write_cut(alloc, "a", one, output)?;
+            write_cut(alloc, "b", other, output)
+        }
+    }
+}
+
+fn write_cut<W: Write>(
+    alloc: Global,
+    image: &'static str,
+    cut: Option<usize>,
+    output: &mut W,
+) -> Result<(), Fault>
+    ensures { IfErr result IsOfStream }
+{
+    let Some(at) = cut else {
+        return Ok(());
+    };
+    let row = CutRow {
+        row: "runs_out",
+        image,
+        at,
+    };
+    write_row(alloc, &row, output)
+}
+
+/// Writes a row for each thing in which the categories differ. A category is compared with the one of its type that has as many others of
+/// this type before it.
+fn write_categories<W: Write>(
+    alloc: Global,
+    old: &[CategoryLines],
+    new: &[CategoryLines],
+    output: &mut W,
+) -> Result<(), Fault>
+    ensures { IfErr result IsOfStream }
+{
+    for (place, category) in old.iter().enumerate() {
+        match partner_of(old, place, new) {
+            Some(other) => write_pair(alloc, category, other, output)?,
+            None => write_lonely(alloc, Side::A, category, output)?,
+        }
+    }
+    write_others(alloc, old, new, output)
+}
+
+/// Writes a row for each category that only the second image has.
+fn write_others<W: Write>(
+    alloc: Global,
+    old: &[CategoryLines],
+    new: &[CategoryLines],
+    output: &mut W,
+) -> Result<(), Fault>
+    ensures { IfErr result IsOfStream }
+{
+    for (place, category) in new.iter().enumerate() {
+        if partner_of(new, place, old).is_none() {
+            write_lonely(alloc, Side::B, category, output)?;
+        }
+    }
+    Ok(())
+}
+
+/// The category of the other image that is compared with the one at this place.
+fn partner_of<'a>(
+    categories: &[CategoryLines],
+    place: usize,
+    others: &'a [CategoryLines],
+) -> Option<&'a CategoryLines> {
+    let kind = categories.get(place)?.kind;
+    let before = categories
+        .iter()
+        .take(place)
+        .filter(|category| category.kind == kind)
+        .count();
+    let mut same = others.iter().filter(|other| other.kind == kind);
+    same.nth(before)
+}
+
+fn write_lonely<W: Write>(
+    alloc: Global,
+    side: Side,
+    category: &CategoryLines,
+    output: &mut W,
+) -> Result<(), Fault>
+    ensures { IfErr result IsOfStream }
+{
+    let count = category.words.len();
+    let row = LengthRow {
+        row: "category",
+        category: category.kind,
+        a: if side == Side::A { Some(count) } else { None },
+        b: if side == Side::B { Some(count) } else { None },
+    };
+    write_row(alloc, &row, output)
+}
+
+fn write_pair<W: Write>(
+    alloc: Global,
+    old: &CategoryLines,
+    new: &CategoryLines,
+    output: &mut W,
+) -> Result<(), Fault>
+    ensures { IfErr result IsOfStream }
+{
+    let (was, is) = (old.words.len(), new.words.len());
+    if was != is {
+        let row = LengthRow {
+            row: "category",
+            category: old.kind,
+            a: Some(was),
+            b: Some(is),
+        };
+        write_row(alloc, &row, output)?;
+    }
+    if old.is_read && new.is_read {
+        return write_items(alloc, &old.lines, &new.lines, output);
+    }
+    write_content(alloc, old, new, output)
+}
+
+/// Writes a row for each word in which two contents differ, of those that both have. Words count from 0 in the content.
+fn write_content<W: Write>(
+    alloc: Global,
+    old: &CategoryLines,
+    new: &CategoryLines,
+    output: &mut W,
+) -> Result<(), Fault>
+    ensures { IfErr result IsOfStream }
+{
+    for (word, (a, b)) in old.words.iter().zip(new.words.iter()).enumerate() {
+        if a != b {
+            let row = ContentRow {
+                row: "content",
+                category: old.kind,
+                word,
+                a: *a,
+                b: *b,
+            };
+            write_row(alloc, &row, output)?;
+        }
+    }
+    Ok(())
+}
+
+fn write_items<W: Write>(
+    alloc: Global,
+    old: &[Line],
+    new: &[Line],
+    output: &mut W,
+) -> Result<(), Fault>
+    ensures { IfErr result IsOfStream }
+{
+    for (place, line) in old.iter().enumerate() {
+        match find_line(new, place, line.label) {
+            Some(other) => write_fields(alloc, line, other, output)?,
+            None => write_line(alloc, Side::A, line, output)?,
+        }
+    }
+    write_other_items(alloc, old, new, output)
+}
+
+/// Writes rows for each item that only the second image has.
+fn write_other_items<W: Write>(
+    alloc: Global,
+    old: &[Line],
+    new: &[Line],
+    output: &mut W,
+) -> Result<(), Fault>
+    ensures { IfErr result IsOfStream }
+{
+    for (place, line) in new.iter().enumerate() {
+        if find_line(old, place, line.label).is_none() {
+            write_line(alloc, Side::B, line, output)?;
+        }
+    }
+    Ok(())
+}
+
+/// The line with this label: the one at this place, if it has it, or else the first.
+fn find_line(lines: &[Line], place: usize, label: Label) -> Option<&Line> {
+    match lines.get(place) {
+        Some(line) if line.label == label => Some(line),
+        _ => lines.iter().find(|line| line.label == label),
+    }
+}
+
+/// Writes a row for each field of an item that only one image has.
+fn write_line<W: Write>(alloc: Global, side: Side, line: &Line, output: &mut W) -> Result<(), Fault>
+    ensures { IfErr result IsOfStream }
+{
+    for field in &line.fields {
+        match side {
+            Side::A => write_field(alloc, line.label, Some(field), None, output)?,
+            Side::B => write_field(alloc, line.label, None, Some(field), output)?,
+        }
+    }
+    Ok(())
+}
+
+/// Writes a row for each field in which two items differ.
+fn write_fields<W: Write>(
+    alloc: Global,
+    old: &Line,
+    new: &Line,
+    output: &mut W,
+) -> Result<(), Fault>
+    ensures { IfErr result IsOfStream }
+{
+    for (was, is) in old.fields.iter().zip(new.fields.iter()) {
+        if was.value.as_str() != is.value.as_str() {
+            write_field(alloc, old.label, Some(was), Some(is), output)?;
+        }
+    }
+    Ok(())
+}
+
+/// Writes a row for a field of an item, of which at least one image has the item.
+fn write_field<W: Write>(
+    alloc: Global,
+    label: Label,
+    old: Option<&Field>,
+    new: Option<&Field>,
+    output: &mut W,
+) -> Result<(), Fault>
+    ensures { IfErr result IsOfStream }
+{
+    let item = format!(in alloc; "{label}")?;
+    let row = ItemRow {
+        row: "item",
+        item: item.as_str(),
+        field: name_of(old.or(new)),
+        a: old.map(|field| Scalar::of(field.value.as_str())),
+        b: new.map(|field| Scalar::of(field.value.as_str())),
+    };
+    write_row(alloc, &row, output)
+}
+
+/// The name of a field; `value` where an item has one field alone.
+fn name_of(field: Option<&Field>) -> &'static str {
+    match field {
+        Some(field) if !field.name.is_empty() => field.name,
+        _ => "value",
+    }
+}

@@ -1,0 +1,43 @@
+//! `show`, as JSON.
+ghost use Rattle.std.specs.Prelude.{◌≡◌};
+
+use crate::image::write_listing;
+use crate::images::image_of;
+use crate::items::write_items;
+use station_files::{ExitStatus, Fault, Store};
+use station_listing::{list_image, list_items};
+use std::alloc::Global;
+use std::io::{Read, Write};
+
+/// Reads an EEPROM image, of the file of this name or from the input, and prints what it says as JSON, with `all` its items too. With `hex`
+/// its text is hexadecimal. The status is `Done` where the check byte is right and the chain and all contents can be read, and `File`
+/// otherwise. No file changes.
+///
+/// # Errors
+///
+/// As for `show_image`.
+pub fn show_as_json<R: Read, S: Store, W: Write>(
+    alloc: Global,
+    hex: bool,
+    all: bool,
+    file: Option<&str>,
+    input: &mut R,
+    store: &mut S,
+    output: &mut W,
+) -> Result<ExitStatus, Fault>
+    ensures same { S.files store.new ≡ S.files store.old }
+{
+    let image = image_of(alloc, hex, file, input, store)?;
+    let listing = list_image(alloc, &image)?;
+    write_listing(alloc, &listing, output)?;
+    if all {
+        let items = list_items(alloc, &image)?;
+        write_items(alloc, &items, output)?;
+    }
+    output.flush()?;
+    if listing.is_sound() {
+        Ok(ExitStatus::Done)
+    } else {
+        Ok(ExitStatus::File)
+    }
+}

@@ -1,7 +1,0 @@
-use Rattle.std.proofs.Common.{◌≡◌, ◌++◌, slice_index}
-use Rattle.std.specs.List.{flat_map, range_with_len}
-use Rattle.station_plan.specs.Changes.{change_at}
-use Rattle.station_plan.proofs.changes.note_slave.Given as goal
-
-abbrev pub invariant-loop-at : goal.invariant-loop-at
-invariant-loop-at l = l.changes.items ≡ l.fn.changes.items ++ flat_map (λ at. change_at l.slave at (slice_index l.old at) (slice_index l.new at)) (range_with_len 0 l.at)
