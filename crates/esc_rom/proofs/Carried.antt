@@ -27,7 +27,7 @@ use Rattle.esc_rom.specs.declared.reading.WordPair.{WordPair}
 use Rattle.esc_rom.specs.WordPairs.{Tried, pair_of}
 use Rattle.esc_rom.specs.WordPairs.Tried.{words_read, try_failed, not_seen_idle}
 use Rattle.esc_rom.specs.Status.{rest_shown, found_in}
-use Rattle.esc_rom.specs.Courses.{Asked, Course, Takes, IsHeard, Asks, Ends, Then, OnlyIf, Rounds, no_round, one_more, UpTo}
+use Rattle.esc_rom.specs.Courses.{Asked, AskedInTurn, Course, Takes, IsHeard, Asks, Ends, Then, OnlyIf, Rounds, no_round, one_more, UpTo}
 use Rattle.esc_rom.specs.Sent.{is_counted, issued_by, WritesBy, PollsBy, FetchesBy, WaitsBy, InsistsBy, IssuesBy, SettlesBehind, SettlesBy, ClearsBy, FreesBy, OpensBy, tried_of, FetchesBehind, WaitsBehind, TriesBy, pair_in, ReadsPairBy}
 use Rattle.esc_rom.specs.Driving.{here, is_open, words_at, Drives}
 
@@ -38,12 +38,15 @@ IsHere f (Err stop) result = IsErr result
 
 abbrev pub Carries : {T V : Type 0} → (T → V) → steps.Course T → Course V → Type 0
 Carries {T} {V} f course other =
-    (log : List steps.Asked) → (before : Result T steps.Stop) → (result : Result V Stop) → course log before → IsHere f before result → other (map here log) result
+    (log : List steps.Asked) → (before : Result T steps.Stop) → (result : Result V Stop) → course log before → IsHere f before result
+    → other (map here log) result
 
 -- ONE DATAGRAM
 
-module _ {T V : Type 0} (f : T → V) (told : Pdu → T) (lost : T) (tells : Pdu → V) (gone : V) (same : (d : Pdu) → f (told d) ≡ tells d) (loses : f lost ≡ gone) where
-  heard : (back : Result Pdu DeviceFault) (before : Result T steps.Stop) (result : Result V Stop) → steps.IsHeard told lost back before → IsHere f before result → IsHeard tells gone back result
+module _ {T V : Type 0} (f : T → V) (told : Pdu → T) (lost : T) (tells : Pdu → V) (gone : V) (same : (d : Pdu) → f (told d) ≡ tells d)
+    (loses : f lost ≡ gone) where
+  heard : (back : Result Pdu DeviceFault) (before : Result T steps.Stop) (result : Result V Stop) → steps.IsHeard told lost back before
+      → IsHere f before result → IsHeard tells gone back result
   heard (Ok reply) before result is so = subst (λ (r : Result T steps.Stop). IsHere f r result) is so ∙ ap Ok (same reply)
   heard (Err device.Lost) before result is so = subst (λ (r : Result T steps.Stop). IsHere f r result) is so ∙ ap Ok loses
   heard (Err device.Stopped) (Ok value) result is so = absurd (false≢true is)
@@ -51,7 +54,8 @@ module _ {T V : Type 0} (f : T → V) (told : Pdu → T) (lost : T) (tells : Pdu
   heard (Err device.Disk) before result is so = absurd is
 
   pub carries-asks : (slave : ℕ) (order : Pdu) → Carries f (steps.Asks slave order told lost) (Asks slave order tells gone)
-  carries-asks slave order log before result asks so = (asks.0, ap (λ (l : List steps.Asked). map here l) asks.1, heard asks.0 before result asks.2 so)
+  carries-asks slave order log before result asks so =
+      (asks.0, ap (λ (l : List steps.Asked). map here l) asks.1, heard asks.0 before result asks.2 so)
 
 -- IN A ROW
 
@@ -60,7 +64,8 @@ carries-ends {T} f value there same log before result ends so =
     (ap (λ (l : List steps.Asked). map here l) ends.0, subst (λ (r : Result T steps.Stop). IsHere f r result) ends.1 so ∙ ap Ok same)
 
 module _ {T V X Y : Type 0} (f : T → V) (h : X → Y) (first : steps.Course T) (next : T → steps.Course X) (one : Course V) (more : V → Course Y) where
-  cut-then : Carries f first one → (log : List steps.Asked) (stop : steps.Stop) (before : Result X steps.Stop) (result : Result Y Stop) → first log (Err stop) → IsErr before → IsHere h before result
+  cut-then : Carries f first one → (log : List steps.Asked) (stop : steps.Stop) (before : Result X steps.Stop) (result : Result Y Stop)
+      → first log (Err stop) → IsErr before → IsHere h before result
       → Then one more (map here log) result
   cut-then begins log stop (Ok value) result at cut is = absurd (false≢true cut)
   cut-then begins log stop (Err end) (Ok value) at cut is = absurd (false≢true is)
@@ -80,13 +85,15 @@ module _ {T V X Y : Type 0} (f : T → V) (h : X → Y) (first : steps.Course T)
 abbrev pub same : Bool → Bool
 same value = value
 
-pub carries-only-if : (course : steps.Course Bool) (other : Course Bool) → Carries same course other → (value : Bool) → Carries same (steps.OnlyIf value course) (OnlyIf value other)
+pub carries-only-if : (course : steps.Course Bool) (other : Course Bool) → Carries same course other → (value : Bool)
+    → Carries same (steps.OnlyIf value course) (OnlyIf value other)
 carries-only-if course other carries true = carries
 carries-only-if course other carries false = carries-ends same false false refl
 
 -- ROUNDS
 
-module _ {T V : Type 0} (f : T → V) (round : steps.Course T) (again : T) (other : Course V) (there : V) (is_again : f again ≡ there) (only : (value : T) → f value ≡ there → value ≡ again)
+module _ {T V : Type 0} (f : T → V) (round : steps.Course T) (again : T) (other : Course V) (there : V) (is_again : f again ≡ there)
+    (only : (value : T) → f value ≡ there → value ≡ again)
     (carries : Carries f round other) where
   all-rounds : (times : ℕ) (log : List steps.Asked) → steps.Rounds round again times log → Rounds (λ (n : ℕ). other) there times (map here log)
   all-rounds times log steps.no_round = no_round
@@ -100,7 +107,8 @@ module _ {T V : Type 0} (f : T → V) (round : steps.Course T) (again : T) (othe
   differs (Err stop) (Err end) not is = λ e. absurd cc
 
   pub carries-up-to : (most : ℕ) → Carries f (steps.UpTo most round again) (UpTo most (λ (n : ℕ). other) there)
-  carries-up-to most log before result (inl all) is = inl (all-rounds most log all.0, subst (λ (r : Result T steps.Stop). IsHere f r result) all.1 is ∙ ap Ok is_again)
+  carries-up-to most log before result (inl all) is = inl
+      (all-rounds most log all.0, subst (λ (r : Result T steps.Stop). IsHere f r result) all.1 is ∙ ap Ok is_again)
   carries-up-to most log before result (inr so) is = inr (record {
     times = so.times;
     few = so.few;
@@ -125,12 +133,15 @@ abbrev pub found_here : Option was.Rested → Option Rested
 found_here None = None
 found_here (Some rested) = Some (rested_here rested)
 
-shown-by : (busy failed : Bool) → found_here (if busy then None else if failed then Some shown.Failed else Some shown.Well) ≡ (if busy then None else if failed then Some Failed else Some Well)
+shown-by : (busy failed : Bool)
+    → found_here (if busy then None else if failed then Some shown.Failed else Some shown.Well) ≡
+    (if busy then None else if failed then Some Failed else Some Well)
 shown-by true failed = refl
 shown-by false true = refl
 shown-by false false = refl
 
-found-by : (counted : Bool) (before : Option was.Rested) (now : Option Rested) → found_here before ≡ now → found_here (if counted then before else None) ≡ (if counted then now else None)
+found-by : (counted : Bool) (before : Option was.Rested) (now : Option Rested) → found_here before ≡ now
+    → found_here (if counted then before else None) ≡ (if counted then now else None)
 found-by true before now is = is
 found-by false before now is = refl
 
@@ -155,12 +166,15 @@ abbrev pub kept : Settled → Settled
 kept value = value
 
 tidies-carried : (slave : ℕ)
-    → Carries kept (steps.Then (access.WritesBy slave (clear_order slave)) (λ counted. steps.Ends settled.Again)) (Then (WritesBy slave (clear_order slave)) (λ counted. Ends settled.Again))
+    → Carries kept (steps.Then (access.WritesBy slave (clear_order slave)) (λ counted. steps.Ends settled.Again))
+    (Then (WritesBy slave (clear_order slave)) (λ counted. Ends settled.Again))
 tidies-carried slave =
-    carries-then same kept (access.WritesBy slave (clear_order slave)) (λ counted. steps.Ends settled.Again) (WritesBy slave (clear_order slave)) (λ counted. Ends settled.Again)
+    carries-then same kept (access.WritesBy slave (clear_order slave)) (λ counted. steps.Ends settled.Again) (WritesBy slave (clear_order slave))
+    (λ counted. Ends settled.Again)
     (writes-carried slave (clear_order slave)) (λ value. carries-ends kept settled.Again settled.Again refl)
 
-behind-carried : (slave : ℕ) (taken : Bool) (found : Option was.Rested) → Carries kept (access.SettlesBehind slave taken found) (SettlesBehind slave taken (found_here found))
+behind-carried : (slave : ℕ) (taken : Bool) (found : Option was.Rested)
+    → Carries kept (access.SettlesBehind slave taken found) (SettlesBehind slave taken (found_here found))
 behind-carried slave true None = carries-ends kept settled.Dead settled.Dead refl
 behind-carried slave false None = carries-ends kept settled.Dead settled.Dead refl
 behind-carried slave true (Some shown.Well) = carries-ends kept settled.Written settled.Written refl
@@ -170,7 +184,8 @@ behind-carried slave false (Some shown.Failed) = tidies-carried slave
 
 pub settles-carried : (slave : ℕ) (taken : Bool) → Carries kept (access.SettlesBy slave taken) (SettlesBy slave taken)
 settles-carried slave taken =
-    carries-then found_here kept (access.WaitsBy slave) (access.SettlesBehind slave taken) (WaitsBy slave) (SettlesBehind slave taken) (waits-carried slave) (behind-carried slave taken)
+    carries-then found_here kept (access.WaitsBy slave) (access.SettlesBehind slave taken) (WaitsBy slave) (SettlesBehind slave taken)
+    (waits-carried slave) (behind-carried slave taken)
 
 -- ISSUE
 
@@ -178,32 +193,40 @@ abbrev pub as_issued : Issued → Issued
 as_issued value = value
 
 pub issues-carried : (slave word value : ℕ) → Carries as_issued (access.IssuesBy slave word value) (IssuesBy slave word value)
-issues-carried slave word value = carries-asks as_issued access.issued_by issued.Lost issued_by issued.Lost (λ d. refl) refl slave (write_order slave word value)
+issues-carried slave word value = carries-asks as_issued access.issued_by issued.Lost issued_by issued.Lost (λ d. refl) refl slave
+    (write_order slave word value)
 
 -- OPEN
 
 insists-carried : (slave : ℕ) (order : Pdu) → Carries same (access.InsistsBy slave order) (InsistsBy slave order)
-insists-carried slave order = carries-up-to same (access.WritesBy slave order) false (WritesBy slave order) false refl (λ value is. is) (writes-carried slave order) 3
+insists-carried slave order = carries-up-to same (access.WritesBy slave order) false (WritesBy slave order) false refl (λ value is. is)
+    (writes-carried slave order) 3
 
 clears-behind : (slave : ℕ) (found : Option was.Rested)
-    → Carries same (steps.OnlyIf (is_some found) (access.InsistsBy slave (clear_order slave))) (OnlyIf (is_some (found_here found)) (InsistsBy slave (clear_order slave)))
+    → Carries same (steps.OnlyIf (is_some found) (access.InsistsBy slave (clear_order slave)))
+    (OnlyIf (is_some (found_here found)) (InsistsBy slave (clear_order slave)))
 clears-behind slave None = carries-ends same false false refl
 clears-behind slave (Some rested) = insists-carried slave (clear_order slave)
 
 clears-carried : (slave : ℕ) → Carries same (access.ClearsBy slave) (ClearsBy slave)
 clears-carried slave =
-    carries-then found_here same (access.WaitsBy slave) (λ found. steps.OnlyIf (is_some found) (access.InsistsBy slave (clear_order slave))) (WaitsBy slave)
+    carries-then found_here same (access.WaitsBy slave) (λ found. steps.OnlyIf (is_some found) (access.InsistsBy slave (clear_order slave)))
+    (WaitsBy slave)
     (λ found. OnlyIf (is_some found) (InsistsBy slave (clear_order slave))) (waits-carried slave) (clears-behind slave)
 
 frees-carried : (slave : ℕ) → Carries same (access.FreesBy slave) (FreesBy slave)
 frees-carried slave =
-    carries-then same same (access.InsistsBy slave (access_order slave 0)) (λ freed. steps.OnlyIf freed (access.ClearsBy slave)) (InsistsBy slave (access_order slave 0))
-    (λ freed. OnlyIf freed (ClearsBy slave)) (insists-carried slave (access_order slave 0)) (carries-only-if (access.ClearsBy slave) (ClearsBy slave) (clears-carried slave))
+    carries-then same same (access.InsistsBy slave (access_order slave 0)) (λ freed. steps.OnlyIf freed (access.ClearsBy slave))
+    (InsistsBy slave (access_order slave 0))
+    (λ freed. OnlyIf freed (ClearsBy slave)) (insists-carried slave (access_order slave 0))
+    (carries-only-if (access.ClearsBy slave) (ClearsBy slave) (clears-carried slave))
 
 pub opens-carried : (slave : ℕ) → Carries same (access.OpensBy slave) (OpensBy slave)
 opens-carried slave =
-    carries-then same same (access.InsistsBy slave (access_order slave 2)) (λ forced. steps.OnlyIf forced (access.FreesBy slave)) (InsistsBy slave (access_order slave 2))
-    (λ forced. OnlyIf forced (FreesBy slave)) (insists-carried slave (access_order slave 2)) (carries-only-if (access.FreesBy slave) (FreesBy slave) (frees-carried slave))
+    carries-then same same (access.InsistsBy slave (access_order slave 2)) (λ forced. steps.OnlyIf forced (access.FreesBy slave))
+    (InsistsBy slave (access_order slave 2))
+    (λ forced. OnlyIf forced (FreesBy slave)) (insists-carried slave (access_order slave 2))
+    (carries-only-if (access.FreesBy slave) (FreesBy slave) (frees-carried slave))
 
 pub open-is : (value : Bool) → is_open (opening_end value) ≡ same value
 open-is true = refl
@@ -218,7 +241,8 @@ abbrev pub pair_here : Option pairs.WordPair → Option WordPair
 pair_here None = None
 pair_here (Some pair) = Some (words_here pair)
 
-pair-by : (counted : Bool) (pair : pairs.WordPair) → pair_here (if counted then Some pair else None) ≡ (if counted then Some (words_here pair) else None)
+pair-by : (counted : Bool) (pair : pairs.WordPair)
+    → pair_here (if counted then Some pair else None) ≡ (if counted then Some (words_here pair) else None)
 pair-by true pair = refl
 pair-by false pair = refl
 
@@ -246,13 +270,16 @@ last-same (steps_read pair) = refl
 last-same steps_failed = refl
 last-same steps_idle = refl
 
-fetches-carried : (slave : ℕ) → Carries tried_here (steps.Then (access.FetchesBy slave) (λ pair. steps.Ends (access.tried_of pair))) (Then (FetchesBy slave) (λ pair. Ends (tried_of pair)))
+fetches-carried : (slave : ℕ) → Carries tried_here (steps.Then (access.FetchesBy slave) (λ pair. steps.Ends (access.tried_of pair)))
+    (Then (FetchesBy slave) (λ pair. Ends (tried_of pair)))
 fetches-carried slave =
-    carries-then pair_here tried_here (access.FetchesBy slave) (λ pair. steps.Ends (access.tried_of pair)) (FetchesBy slave) (λ pair. Ends (tried_of pair))
+    carries-then pair_here tried_here (access.FetchesBy slave) (λ pair. steps.Ends (access.tried_of pair)) (FetchesBy slave)
+    (λ pair. Ends (tried_of pair))
     (carries-asks pair_here access.pair_of None pair_of None pair-same refl slave (fetch_order slave))
     (λ pair. carries-ends tried_here (access.tried_of pair) (tried_of (pair_here pair)) (tried-same pair))
 
-fetches-behind : (slave : ℕ) (found : Option was.Rested) → Carries tried_here (access.FetchesBehind slave found) (FetchesBehind slave (found_here found))
+fetches-behind : (slave : ℕ) (found : Option was.Rested)
+    → Carries tried_here (access.FetchesBehind slave found) (FetchesBehind slave (found_here found))
 fetches-behind slave None = carries-ends tried_here steps_idle not_seen_idle refl
 fetches-behind slave (Some shown.Failed) = carries-ends tried_here steps_failed try_failed refl
 fetches-behind slave (Some shown.Well) = fetches-carried slave
@@ -260,11 +287,13 @@ fetches-behind slave (Some shown.Well) = fetches-carried slave
 waits-behind : (slave : ℕ) (counted : Bool) → Carries tried_here (access.WaitsBehind slave counted) (WaitsBehind slave counted)
 waits-behind slave false = carries-ends tried_here steps_failed try_failed refl
 waits-behind slave true =
-    carries-then found_here tried_here (access.WaitsBy slave) (access.FetchesBehind slave) (WaitsBy slave) (FetchesBehind slave) (waits-carried slave) (fetches-behind slave)
+    carries-then found_here tried_here (access.WaitsBy slave) (access.FetchesBehind slave) (WaitsBy slave) (FetchesBehind slave) (waits-carried slave)
+    (fetches-behind slave)
 
 tries-carried : (slave word : ℕ) → Carries tried_here (access.TriesBy slave word) (TriesBy slave word)
 tries-carried slave word =
-    carries-then same tried_here (access.WritesBy slave (read_order slave word)) (access.WaitsBehind slave) (WritesBy slave (read_order slave word)) (WaitsBehind slave)
+    carries-then same tried_here (access.WritesBy slave (read_order slave word)) (access.WaitsBehind slave) (WritesBy slave (read_order slave word))
+    (WaitsBehind slave)
     (writes-carried slave (read_order slave word)) (waits-behind slave)
 
 pub reads-carried : (slave word : ℕ) → Carries pair_here (access.ReadsPairBy slave word) (ReadsPairBy slave word)
@@ -286,27 +315,33 @@ pub record EndsBy {T V : Type 0} (f : T → V) (wrap : T → End) (other : List 
   pub is : end ≡ wrap value
   pub takes : Takes other a (Ok (f value)) b
 
-module _ {T V : Type 0} (f : T → V) (wrap : T → End) (slave : ℕ) (course : steps.Course T) (other : Course V) (carries : Carries f course other) (first : Step)
-    (begins : (log : List steps.Asked) → (result : Result End steps.Stop) → Remains slave first log result → steps.Then course (λ value. steps.Ends (wrap value)) log result) where
-  ends-in : {a b : Seen} {end : End} (drives : Drives slave first a (Ok end) b) → steps.Then course (λ value. steps.Ends (wrap value)) drives.log (Ok end) → EndsBy f wrap other end a b
-  ends-in {end = end} drives (inl so) = record {
+module _ {T V : Type 0} (f : T → V) (wrap : T → End) (course : steps.Course T) (other : Course V) (carries : Carries f course other) where
+  pub ends-by : {a b : Seen} {end : End} (log : List steps.Asked) → AskedInTurn (map here log) a b
+      → steps.Then course (λ value. steps.Ends (wrap value)) log (Ok end) → EndsBy f wrap other end a b
+  ends-by {end = end} log asked (inl so) = record {
     value = so.value;
     is = let last : Ok end ≡ Ok (wrap so.value) = so.goes_on.1 in cc;
     takes = record {
-      log = map here drives.log;
-      asked = drives.asked;
-      took = carries drives.log (Ok so.value) (Ok (f so.value))
-          (subst (λ (l : List steps.Asked). course l (Ok so.value)) (sym (so.log_is ∙ ap (λ (l : List steps.Asked). so.front ++ l) so.goes_on.0 ∙ append-nil so.front)) so.came_to) refl;
+      log = map here log;
+      asked = asked;
+      took = carries log (Ok so.value) (Ok (f so.value))
+          (subst (λ (l : List steps.Asked). course l (Ok so.value))
+          (sym (so.log_is ∙ ap (λ (l : List steps.Asked). so.front ++ l) so.goes_on.0 ∙ append-nil so.front)) so.came_to) refl;
     };
   }
-  ends-in drives (inr cut) = absurd (false≢true cut.2)
+  ends-by log asked (inr cut) = absurd (false≢true cut.2)
 
+  pub cut-by : {a b : Seen} {stop : Stop} (log : List steps.Asked) → AskedInTurn (map here log) a b
+      → steps.Then course (λ value. steps.Ends (wrap value)) log (Err tt) → Takes other a (Err stop) b
+  cut-by log asked (inl so) = absurd (let last = so.goes_on.1 in cc)
+  cut-by {stop = stop} log asked (inr cut) = record { log = map here log; asked = asked; took = carries log (Err cut.0) (Err stop) cut.1 refl }
+
+module _ {T V : Type 0} (f : T → V) (wrap : T → End) (slave : ℕ) (course : steps.Course T) (other : Course V) (carries : Carries f course other)
+    (first : Step)
+    (begins : (log : List steps.Asked) → (result : Result End steps.Stop) → Remains slave first log result
+    → steps.Then course (λ value. steps.Ends (wrap value)) log result) where
   pub driven : {a b : Seen} {end : End} → Drives slave first a (Ok end) b → EndsBy f wrap other end a b
-  driven {end = end} drives = ends-in drives (begins drives.log (Ok end) drives.took)
-
-  cut-in : {a b : Seen} {stop : Stop} (drives : Drives slave first a (Err stop) b) → steps.Then course (λ value. steps.Ends (wrap value)) drives.log (Err tt) → Takes other a (Err stop) b
-  cut-in drives (inl so) = absurd (let last = so.goes_on.1 in cc)
-  cut-in {stop = stop} drives (inr cut) = record { log = map here drives.log; asked = drives.asked; took = carries drives.log (Err cut.0) (Err stop) cut.1 refl }
+  driven {end = end} drives = ends-by f wrap course other carries drives.log drives.asked (begins drives.log (Ok end) drives.took)
 
   pub driven-cut : {a b : Seen} {stop : Stop} → Drives slave first a (Err stop) b → Takes other a (Err stop) b
-  driven-cut drives = cut-in drives (begins drives.log (Err tt) drives.took)
+  driven-cut drives = cut-by f wrap course other carries drives.log drives.asked (begins drives.log (Err tt) drives.took)

@@ -33,7 +33,8 @@ use Rattle.esc_rom.proofs.Exchanges.{one_answer}
 -- ONE DATAGRAM
 
 -- the datagram that is sent is that of the step
-pub order-is : (slave : ℕ) (datagram : ToSend) (command : Command) (content : List ℕ) → command ≡ command_of datagram.command → content ≡ take datagram.length datagram.content
+pub order-is : (slave : ℕ) (datagram : ToSend) (command : Command) (content : List ℕ) → command ≡ command_of datagram.command
+    → content ≡ take datagram.length datagram.content
     → sent command 0 (address_of slave datagram.register) content ≡ pdu_to slave datagram
 order-is slave datagram command content is bytes =
     ap (λ (it : Command). sent it 0 (address_of slave datagram.register) content) is
@@ -41,7 +42,13 @@ order-is slave datagram command content is bytes =
     ∙ ap (λ (it : ℕ). coded it) (code_of-command_of datagram.command)
   where
     coded : ℕ → Pdu
-    coded code = record { command = code; index = 0; address = address_of slave datagram.register; content = take datagram.length datagram.content; counter = 0 }
+    coded code = record {
+      command = code;
+      index = 0;
+      address = address_of slave datagram.register;
+      content = take datagram.length datagram.content;
+      counter = 0;
+    }
 
 module _ {old : Seen} {slave : ℕ} {order wanted : Pdu} (answer : List Pdu) {new : Seen} (is : order ≡ wanted) where
   pub once-lost : {came : Bool} → came ≡ false → Sends old slave order (Ok came) answer new → AsksOnce old slave wanted (Ok backs.Lost) new
@@ -49,11 +56,14 @@ module _ {old : Seen} {slave : ℕ} {order wanted : Pdu} (answer : List Pdu) {ne
       subst (λ (o : Pdu). AsksOnce old slave o (Ok backs.Lost) new) is
       (record { came = Err device.Lost; sent = subst (λ (b : Bool). Sends old slave order (Ok b) answer new) lost sends; is = refl })
 
-  pub once-cut : {stop : Stop} (result : Result Back Stop) → IsErr result → Sends old slave order (Err stop) answer new → AsksOnce old slave wanted result new
+  pub once-cut : {stop : Stop} (result : Result Back Stop) → IsErr result → Sends old slave order (Err stop) answer new
+      → AsksOnce old slave wanted result new
   once-cut (Ok back) cut sends = absurd (false≢true cut)
-  once-cut (Err other) cut sends = subst (λ (o : Pdu). AsksOnce old slave o (Err other) new) is (record { came = Err device.Stopped; sent = sends; is = refl })
+  once-cut (Err other) cut sends = subst (λ (o : Pdu). AsksOnce old slave o (Err other) new) is
+      (record { came = Err device.Stopped; sent = sends; is = refl })
 
-  pub once-back : {came : Bool} {datagram : Pdu} (back : Back) → came ≡ true → slice_get answer 0 ≡ Some datagram → IsBack back (Ok datagram) → Sends old slave order (Ok came) answer new
+  pub once-back : {came : Bool} {datagram : Pdu} (back : Back) → came ≡ true → slice_get answer 0 ≡ Some datagram → IsBack back (Ok datagram)
+      → Sends old slave order (Ok came) answer new
       → AsksOnce old slave wanted (Ok back) new
   once-back {datagram = datagram} back came first so sends =
       let exchange = subst (λ (b : Bool). Sends old slave order (Ok b) answer new) came sends in
@@ -75,7 +85,8 @@ went-none slave first a = record { log = []; asked = refl; went = nothing_sent; 
 
 module _ (slave : ℕ) (first : Step) (turns : ℕ) (a : Seen) (step : Step) (b : Seen) (so : WentSo slave first turns a step b) where
   pub went-more : (order : Pdu) (came : Result Pdu DeviceFault) (later : Step) (c : Seen) → IsNext slave step order
-      → ExchangesFrame b slave (order ∷ []) (outcome_of came) (frame_behind order came) c → Moves slave step came later → WentSo slave first (turns + 1) a later c
+      → ExchangesFrame b slave (order ∷ []) (outcome_of came) (frame_behind order came) c → Moves slave step came later
+      → WentSo slave first (turns + 1) a later c
   went-more order came later c next sent moves = record {
     log = so.log ++ one ∷ [];
     asked = subst (λ (l : List Asked). AskedInTurn l a c) (sym (map-append here so.log (one ∷ [])))
@@ -91,12 +102,15 @@ module _ (slave : ℕ) (first : Step) (turns : ℕ) (a : Seen) (step : Step) (b 
   pub went-all : left first < turns + 1 → left step ≡ 0
   went-all few = let bound = went-bounded slave first so.log step so.went in let long = so.turns_are in omega arith
 
-over-by : (slave : ℕ) (first : Step) (turns : ℕ) (a : Seen) (step : Step) (b : Seen) → WentSo slave first turns a step b → left step ≡ 0 → (result : Result End Stop) → IsEndOf step result
+over-by : (slave : ℕ) (first : Step) (turns : ℕ) (a : Seen) (step : Step) (b : Seen) → WentSo slave first turns a step b → left step ≡ 0
+    → (result : Result End Stop) → IsEndOf step result
     → Drives slave first a result b
 over-by slave first turns a (Ended end) b so over result is =
-    subst (λ (r : Result End Stop). Drives slave first a r b) (sym is) (record { log = so.log; asked = so.asked; took = went-ended slave first so.log end so.went })
+    subst (λ (r : Result End Stop). Drives slave first a r b) (sym is)
+    (record { log = so.log; asked = so.asked; took = went-ended slave first so.log end so.went })
 over-by slave first turns a Stopped b so over (Ok end) is = absurd (false≢true is)
-over-by slave first turns a Stopped b so over (Err stop) is = record { log = so.log; asked = so.asked; took = went-stopped slave first so.log so.went (Err tt) refl }
+over-by slave first turns a Stopped b so over
+    (Err stop) is = record { log = so.log; asked = so.asked; took = went-stopped slave first so.log so.went (Err tt) refl }
 over-by slave first turns a (Forces more) b so over result is = absurd (omega arith)
 over-by slave first turns a (Frees more) b so over result is = absurd (omega arith)
 over-by slave first turns a (WaitsToClear more) b so over result is = absurd (omega arith)

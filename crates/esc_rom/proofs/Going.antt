@@ -59,7 +59,8 @@ nothing log a b is asked = subst (λ (l : List Asked). AskedInTurn l a b) is ask
 -- ONE DATAGRAM
 
 -- that one
-sent_one : (slave : ℕ) (order : Pdu) (came : Result Pdu DeviceFault) (log : List Asked) (a b : Seen) → log ≡ record { slave = slave; order = order; back = came } ∷ [] → AskedInTurn log a b
+sent_one : (slave : ℕ) (order : Pdu) (came : Result Pdu DeviceFault) (log : List Asked) (a b : Seen)
+    → log ≡ record { slave = slave; order = order; back = came } ∷ [] → AskedInTurn log a b
     → ExchangesFrame a slave (order ∷ []) (outcome_of came) (frame_behind order came) b
 sent_one slave order came log a b is asked =
     let one = subst (λ (l : List Asked). AskedInTurn l a b) is asked in
@@ -69,11 +70,13 @@ module _ (slave address : ℕ) (content : List ℕ) (gentle : IsGentle (sent Fpw
   abbrev order : Pdu
   order = sent Fpwr 0 address content
 
-  wrote-by : (came : Result Pdu DeviceFault) (result : Result Bool Stop) → ExchangesFrame a slave (order ∷ []) (outcome_of came) (frame_behind order came) b → IsHeard is_counted false came result
+  wrote-by : (came : Result Pdu DeviceFault) (result : Result Bool Stop)
+      → ExchangesFrame a slave (order ∷ []) (outcome_of came) (frame_behind order came) b → IsHeard is_counted false came result
       → Performs (Wrote order a b) a slave 1 result b
   wrote-by (Ok reply) result sends is =
       subst (λ (r : Result Bool Stop). Performs (Wrote order a b) a slave 1 r b) (sym is)
-      (write_back a slave address content b (is_counted reply) refl (back a slave order b gentle (reply ∷ []) {came = true} {datagram = reply} refl refl sends))
+      (write_back a slave address content b (is_counted reply) refl
+      (back a slave order b gentle (reply ∷ []) {came = true} {datagram = reply} refl refl sends))
   wrote-by (Err device.Lost) result sends is =
       subst (λ (r : Result Bool Stop). Performs (Wrote order a b) a slave 1 r b) (sym is)
       (Ran-weaker (omega arith) (λ half later here there given. inl given) (lost a slave order b gentle (order ∷ []) {came = false} refl sends))
@@ -81,14 +84,16 @@ module _ (slave address : ℕ) (content : List ℕ) (gentle : IsGentle (sent Fpw
   wrote-by (Err device.Stopped) (Err stop) sends is = cut a slave order b gentle (order ∷ []) {stop = stop} sends
   wrote-by (Err device.Disk) result sends is = absurd is
 
-  pub wrote : (log : List Asked) (result : Result Bool Stop) → AskedInTurn log a b → WritesBy slave order log result → Performs (Wrote order a b) a slave 1 result b
+  pub wrote : (log : List Asked) (result : Result Bool Stop) → AskedInTurn log a b → WritesBy slave order log result
+      → Performs (Wrote order a b) a slave 1 result b
   wrote log result asked asks = wrote-by asks.0 result (sent_one slave order asks.0 log a b asks.1 asked) asks.2
 
 -- POLLS
 
 module _ (slave : ℕ) (near : slave < 64) where
   polled-by : (a b : Seen) (came : Result Pdu DeviceFault) (result : Result (Option Rested) Stop)
-      → ExchangesFrame a slave (poll_order slave ∷ []) (outcome_of came) (frame_behind (poll_order slave) came) b → IsHeard found_in None came result → Performs (Polled a slave b) a slave 1 result b
+      → ExchangesFrame a slave (poll_order slave ∷ []) (outcome_of came) (frame_behind (poll_order slave) came) b → IsHeard found_in None came result
+      → Performs (Polled a slave b) a slave 1 result b
   polled-by a b (Ok reply) result sends is =
       subst (λ (r : Result (Option Rested) Stop). Performs (Polled a slave b) a slave 1 r b) (sym is)
       (poll_back a slave b near {found = found_in reply} {datagram = reply} refl
@@ -97,61 +102,79 @@ module _ (slave : ℕ) (near : slave < 64) where
       subst (λ (r : Result (Option Rested) Stop). Performs (Polled a slave b) a slave 1 r b) (sym is)
       (poll_lost a slave b near (lost a slave (poll_order slave) b (poll_gentle slave near) (poll_order slave ∷ []) {came = false} refl sends))
   polled-by a b (Err device.Stopped) (Ok value) sends is = absurd (false≢true is)
-  polled-by a b (Err device.Stopped) (Err stop) sends is = cut a slave (poll_order slave) b (poll_gentle slave near) (poll_order slave ∷ []) {stop = stop} sends
+  polled-by a b (Err device.Stopped) (Err stop) sends is = cut a slave (poll_order slave) b (poll_gentle slave near)
+      (poll_order slave ∷ []) {stop = stop} sends
   polled-by a b (Err device.Disk) result sends is = absurd is
 
-  polled : (a b : Seen) (log : List Asked) (result : Result (Option Rested) Stop) → AskedInTurn log a b → PollsBy slave log result → Performs (Polled a slave b) a slave 1 result b
+  polled : (a b : Seen) (log : List Asked) (result : Result (Option Rested) Stop) → AskedInTurn log a b → PollsBy slave log result
+      → Performs (Polled a slave b) a slave 1 result b
   polled a b log result asked asks = polled-by a b asks.0 result (sent_one slave (poll_order slave) asks.0 log a b asks.1 asked) asks.2
 
-  polls-missed : (times : ℕ) (log : List Asked) (a b : Seen) → AskedInTurn log a b → Rounds (λ (poll : ℕ). PollsBy slave) None times log → SoFar (InVain a slave times b) a slave times b
+  polls-missed : (times : ℕ) (log : List Asked) (a b : Seen) → AskedInTurn log a b → Rounds (λ (poll : ℕ). PollsBy slave) None times log
+      → SoFar (InVain a slave times b) a slave times b
   polls-missed times log a b asked no_round =
-      subst (λ (s : Seen). SoFar (InVain a slave 0 s) a slave 0 s) (sym asked) (none (record { no_calls = refl; same = refl; stays = vain_none a slave }))
+      subst (λ (s : Seen). SoFar (InVain a slave 0 s) a slave 0 s) (sym asked)
+      (none (record { no_calls = refl; same = refl; stays = vain_none a slave }))
   polls-missed times log a b asked (one_more {times = few} {front = front} {behind = behind} before last) =
       let parts = part front behind a b asked in
       let missed = polled parts.mid b behind (Ok None) parts.second last in
-      some (so_then (omega arith) (vain_more a parts.mid b slave few missed.quiet.follows) (polls-missed few front a parts.mid parts.first before) missed)
+      some (so_then (omega arith) (vain_more a parts.mid b slave few missed.quiet.follows)
+      (polls-missed few front a parts.mid parts.first before) missed)
 
-  waited-end : (a mid b : Seen) (times : ℕ) → times < 10000 → (result : Result (Option Rested) Stop) → result ≢ Ok None → SoFar (InVain a slave times mid) a slave times mid
+  waited-end : (a mid b : Seen) (times : ℕ) → times < 10000 → (result : Result (Option Rested) Stop) → result ≢ Ok None
+      → SoFar (InVain a slave times mid) a slave times mid
       → Performs (Polled mid slave b) mid slave 1 result b → Performs (Waited a slave b) a slave 10000 result b
   waited-end a mid b times few (Ok (Some rested)) ends so last = so_then (omega arith) (vain_seen a mid b slave times rested) so last
   waited-end a mid b times few (Ok None) ends so last = absurd (ends refl)
   waited-end a mid b times few (Err stop) ends so last = so_cut (omega arith) so last
 
-  pub waited : (a b : Seen) (log : List Asked) (result : Result (Option Rested) Stop) → AskedInTurn log a b → WaitsBy slave log result → Performs (Waited a slave b) a slave 10000 result b
+  pub waited : (a b : Seen) (log : List Asked) (result : Result (Option Rested) Stop) → AskedInTurn log a b → WaitsBy slave log result
+      → Performs (Waited a slave b) a slave 10000 result b
   waited a b log result asked (inl all) =
       subst (λ (r : Result (Option Rested) Stop). Performs (Waited a slave b) a slave 10000 r b) (sym all.1)
       (vain_all a slave 10000 b refl (polls-missed 10000 log a b asked all.0))
   waited a b log result asked (inr so) =
       let parts = parted log so.front so.behind a b so.log_is asked in
-      waited-end a parts.mid b so.times so.few result so.ends (polls-missed so.times so.front a parts.mid parts.first so.rounds) (polled parts.mid b so.behind result parts.second so.last)
+      waited-end a parts.mid b so.times so.few result so.ends (polls-missed so.times so.front a parts.mid parts.first so.rounds)
+      (polled parts.mid b so.behind result parts.second so.last)
 
   -- SETTLE
 
-  settled-clearing : (taken : Bool) (rested : Rested) → (IsTrue taken → rested ≡ Failed) → (a mid b : Seen) (log : List Asked) (result : Result Settled Stop)
-      → Ran (Waited a slave mid (Some rested)) a slave 10000 mid → AskedInTurn log mid b → Then (WritesBy slave (clear_order slave)) (λ counted. Ends settled.Again) log result
+  settled-clearing : (taken : Bool) (rested : Rested) → (IsTrue taken → rested ≡ Failed)
+      → (a mid b : Seen) (log : List Asked) (result : Result Settled Stop)
+      → Ran (Waited a slave mid (Some rested)) a slave 10000 mid → AskedInTurn log mid b
+      → Then (WritesBy slave (clear_order slave)) (λ counted. Ends settled.Again) log result
       → Performs (BecomesSettled a slave taken b) a slave 10001 result b
   settled-clearing taken rested why a mid b log result ran asked (inl so) =
       let parts = parted log so.front so.behind mid b so.log_is asked in
       let end : b ≡ parts.mid = nothing so.behind parts.mid b so.goes_on.0 parts.second in
-      let last = wrote slave (address_of slave 0x0502) (0 ∷ 0 ∷ []) (clear_gentle slave near) mid parts.mid so.front (Ok so.value) parts.first so.came_to in
+      let last = wrote slave (address_of slave 0x0502) (0 ∷ 0 ∷ []) (clear_gentle slave near) mid parts.mid so.front
+      (Ok so.value) parts.first so.came_to in
       subst (λ (r : Result Settled Stop). Performs (BecomesSettled a slave taken b) a slave 10001 r b) (sym so.goes_on.1)
-      (subst (λ (s : Seen). Ran (BecomesSettled a slave taken s settled.Again) a slave 10001 s) (sym end) (settled_again a slave taken mid parts.mid rested so.value near why ran last))
+      (subst (λ (s : Seen). Ran (BecomesSettled a slave taken s settled.Again) a slave 10001 s) (sym end)
+      (settled_again a slave taken mid parts.mid rested so.value near why ran last))
   settled-clearing taken rested why a mid b log result ran asked (inr stops) =
       cut_as (BecomesSettled a slave taken b) slave result stops.2
       (Ran-cut (omega arith) ran (wrote slave (address_of slave 0x0502) (0 ∷ 0 ∷ []) (clear_gentle slave near) mid b log (Err stops.0) asked stops.1))
 
-  settled-ended : (taken : Bool) (end : Settled) (a mid b : Seen) (log : List Asked) (result : Result Settled Stop) → Ran (BecomesSettled a slave taken mid end) a slave 10001 mid
+  settled-ended : (taken : Bool) (end : Settled) (a mid b : Seen) (log : List Asked) (result : Result Settled Stop)
+      → Ran (BecomesSettled a slave taken mid end) a slave 10001 mid
       → AskedInTurn log mid b → Ends end log result → Performs (BecomesSettled a slave taken b) a slave 10001 result b
   settled-ended taken end a mid b log result ran asked ends =
       subst (λ (r : Result Settled Stop). Performs (BecomesSettled a slave taken b) a slave 10001 r b) (sym ends.1)
       (subst (λ (s : Seen). Ran (BecomesSettled a slave taken s end) a slave 10001 s) (sym (nothing log mid b ends.0 asked)) ran)
 
-  settled-behind : (taken : Bool) (found : Option Rested) (a mid b : Seen) (log : List Asked) (result : Result Settled Stop) → Ran (Waited a slave mid found) a slave 10000 mid
+  settled-behind : (taken : Bool) (found : Option Rested) (a mid b : Seen) (log : List Asked) (result : Result Settled Stop)
+      → Ran (Waited a slave mid found) a slave 10000 mid
       → AskedInTurn log mid b → SettlesBehind slave taken found log result → Performs (BecomesSettled a slave taken b) a slave 10001 result b
-  settled-behind true None a mid b log result ran asked ends = settled-ended true settled.Dead a mid b log result (settled_dead a slave true mid ran) asked ends
-  settled-behind false None a mid b log result ran asked ends = settled-ended false settled.Dead a mid b log result (settled_dead a slave false mid ran) asked ends
-  settled-behind true (Some Well) a mid b log result ran asked ends = settled-ended true settled.Written a mid b log result (settled_well a slave true mid refl ran) asked ends
-  settled-behind false (Some Well) a mid b log result ran asked so = settled-clearing false Well (λ e. absurd (false≢true e)) a mid b log result ran asked so
+  settled-behind true None a mid b log result ran asked ends = settled-ended true settled.Dead a mid b log result
+      (settled_dead a slave true mid ran) asked ends
+  settled-behind false None a mid b log result ran asked ends = settled-ended false settled.Dead a mid b log result
+      (settled_dead a slave false mid ran) asked ends
+  settled-behind true (Some Well) a mid b log result ran asked ends = settled-ended true settled.Written a mid b log result
+      (settled_well a slave true mid refl ran) asked ends
+  settled-behind false (Some Well) a mid b log result ran asked so = settled-clearing false Well
+      (λ e. absurd (false≢true e)) a mid b log result ran asked so
   settled-behind true (Some Failed) a mid b log result ran asked so = settled-clearing true Failed (λ e. refl) a mid b log result ran asked so
   settled-behind false (Some Failed) a mid b log result ran asked so = settled-clearing false Failed (λ e. refl) a mid b log result ran asked so
 
@@ -159,17 +182,20 @@ module _ (slave : ℕ) (near : slave < 64) where
       → Performs (BecomesSettled a slave taken b) a slave 10001 result b
   settles-so taken a b log result asked (inl so) =
       let parts = parted log so.front so.behind a b so.log_is asked in
-      settled-behind taken so.value a parts.mid b so.behind result (waited a parts.mid so.front (Ok so.value) parts.first so.came_to) parts.second so.goes_on
+      settled-behind taken so.value a parts.mid b so.behind result
+      (waited a parts.mid so.front (Ok so.value) parts.first so.came_to) parts.second so.goes_on
   settles-so taken a b log result asked (inr stops) =
       cut_as (BecomesSettled a slave taken b) slave result stops.2 (IsCut-more (omega arith) (waited a b log (Err stops.0) asked stops.1))
 
-  pub settles-runs : (taken : Bool) {a b : Seen} {result : Result Settled Stop} → Takes (SettlesBy slave taken) a result b → Performs (BecomesSettled a slave taken b) a slave 10001 result b
+  pub settles-runs : (taken : Bool) {a b : Seen} {result : Result Settled Stop} → Takes (SettlesBy slave taken) a result b
+      → Performs (BecomesSettled a slave taken b) a slave 10001 result b
   settles-runs taken {a} {b} {result} takes = settles-so taken a b takes.log result takes.asked takes.took
 
 -- ISSUE
 
 module _ (slave word value : ℕ) (near : slave < 64) (word_fits : word < 2 ^ 16) (value_fits : value < 2 ^ 16) (a b : Seen) where
-  issued-back : (reply : Pdu) (counted : Bool) → (reply.counter == 1) ≡ counted → ExchangesFrame a slave (write_order slave word value ∷ []) (Ok tt) (reply ∷ []) b
+  issued-back : (reply : Pdu) (counted : Bool) → (reply.counter == 1) ≡ counted
+      → ExchangesFrame a slave (write_order slave word value ∷ []) (Ok tt) (reply ∷ []) b
       → IssuesWord a slave word value (Ok (issued_by reply)) b
   issued-back reply true is sends =
       subst (λ (i : Issued). IssuesWord a slave word value (Ok i) b) (taken-is reply is)
@@ -178,10 +204,12 @@ module _ (slave word value : ℕ) (near : slave < 64) (word_fits : word < 2 ^ 16
       subst (λ (i : Issued). IssuesWord a slave word value (Ok i) b) (not-taken-is reply is)
       (issue_not_taken a slave word value b near word_fits value_fits {answer = reply ∷ []} reply refl is sends)
 
-  issued-so : (came : Result Pdu DeviceFault) (answer : Issued) → ExchangesFrame a slave (write_order slave word value ∷ []) (outcome_of came) (frame_behind (write_order slave word value) came) b
+  issued-so : (came : Result Pdu DeviceFault) (answer : Issued)
+      → ExchangesFrame a slave (write_order slave word value ∷ []) (outcome_of came) (frame_behind (write_order slave word value) came) b
       → IsHeard issued_by issued.Lost came (Ok answer) → IssuesWord a slave word value (Ok answer) b
   issued-so (Ok reply) answer sends is =
-      subst (λ (i : Issued). IssuesWord a slave word value (Ok i) b) (let same : issued_by reply ≡ answer = cc in same) (issued-back reply (reply.counter == 1) refl sends)
+      subst (λ (i : Issued). IssuesWord a slave word value (Ok i) b) (let same : issued_by reply ≡ answer = cc in same)
+      (issued-back reply (reply.counter == 1) refl sends)
   issued-so (Err device.Lost) answer sends is =
       subst (λ (i : Issued). IssuesWord a slave word value (Ok i) b) (let same : issued.Lost ≡ answer = cc in same)
       (issue_lost a slave word value b near word_fits value_fits (write_order slave word value ∷ []) sends)
@@ -189,7 +217,8 @@ module _ (slave word value : ℕ) (near : slave < 64) (word_fits : word < 2 ^ 16
   issued-so (Err device.Disk) answer sends is = absurd is
 
   issued-cut : (came : Result Pdu DeviceFault) (stop : Stop) (result : Result Issued DeviceFault) → result ≡ Err device.Stopped
-      → ExchangesFrame a slave (write_order slave word value ∷ []) (outcome_of came) (frame_behind (write_order slave word value) came) b → IsHeard issued_by issued.Lost came (Err stop)
+      → ExchangesFrame a slave (write_order slave word value ∷ []) (outcome_of came) (frame_behind (write_order slave word value) came) b
+      → IsHeard issued_by issued.Lost came (Err stop)
       → IssuesWord a slave word value result b
   issued-cut (Ok reply) stop result stops sends is = absurd cc
   issued-cut (Err device.Lost) stop result stops sends is = absurd cc
@@ -201,14 +230,17 @@ module _ (slave word value : ℕ) (near : slave < 64) (word_fits : word < 2 ^ 16
   issues-ok {answer} takes =
       issued-so takes.took.0 answer (sent_one slave (write_order slave word value) takes.took.0 takes.log a b takes.took.1 takes.asked) takes.took.2
 
-  pub issues-cut : {stop : Stop} (result : Result Issued DeviceFault) → result ≡ Err device.Stopped → Takes (IssuesBy slave word value) a (Err stop) b → IssuesWord a slave word value result b
+  pub issues-cut : {stop : Stop} (result : Result Issued DeviceFault) → result ≡ Err device.Stopped → Takes (IssuesBy slave word value) a (Err stop) b
+      → IssuesWord a slave word value result b
   issues-cut {stop} result stops takes =
-      issued-cut takes.took.0 stop result stops (sent_one slave (write_order slave word value) takes.took.0 takes.log a b takes.took.1 takes.asked) takes.took.2
+      issued-cut takes.took.0 stop result stops
+      (sent_one slave (write_order slave word value) takes.took.0 takes.log a b takes.took.1 takes.asked) takes.took.2
 
 -- INSISTING
 
 module _ (slave address : ℕ) (content : List ℕ) (gentle : IsGentle (sent Fpwr 0 address content)) where
-  tried-in-vain : (times : ℕ) (log : List Asked) (a b : Seen) → AskedInTurn log a b → Rounds (λ (try : ℕ). WritesBy slave (sent Fpwr 0 address content)) false times log
+  tried-in-vain : (times : ℕ) (log : List Asked) (a b : Seen) → AskedInTurn log a b
+      → Rounds (λ (try : ℕ). WritesBy slave (sent Fpwr 0 address content)) false times log
       → SoFar (TriedSo (sent Fpwr 0 address content) a slave times b) a slave times b
   tried-in-vain times log a b asked no_round =
       subst (λ (s : Seen). SoFar (TriedSo (sent Fpwr 0 address content) a slave 0 s) a slave 0 s) (sym asked)
@@ -216,16 +248,21 @@ module _ (slave address : ℕ) (content : List ℕ) (gentle : IsGentle (sent Fpw
   tried-in-vain times log a b asked (one_more {times = few} {front = front} {behind = behind} before last) =
       let parts = part front behind a b asked in
       let missed = wrote slave address content gentle parts.mid b behind (Ok false) parts.second last in
-      some (so_then (omega arith) (tried_more (sent Fpwr 0 address content) a parts.mid b slave few missed.quiet.follows) (tried-in-vain few front a parts.mid parts.first before)
+      some (so_then (omega arith) (tried_more (sent Fpwr 0 address content) a parts.mid b slave few missed.quiet.follows)
+      (tried-in-vain few front a parts.mid parts.first before)
       (uncounted (sent Fpwr 0 address content) missed))
 
-  insisted-end : (a mid b : Seen) (times : ℕ) → times < 3 → (result : Result Bool Stop) → result ≢ Ok false → SoFar (TriedSo (sent Fpwr 0 address content) a slave times mid) a slave times mid
-      → Performs (Wrote (sent Fpwr 0 address content) mid b) mid slave 1 result b → Performs (Insists (sent Fpwr 0 address content) a slave b) a slave 3 result b
-  insisted-end a mid b times few (Ok true) ends so last = so_then (omega arith) (insist_took (sent Fpwr 0 address content) a mid b slave times) so last
+  insisted-end : (a mid b : Seen) (times : ℕ) → times < 3 → (result : Result Bool Stop) → result ≢ Ok false
+      → SoFar (TriedSo (sent Fpwr 0 address content) a slave times mid) a slave times mid
+      → Performs (Wrote (sent Fpwr 0 address content) mid b) mid slave 1 result b
+      → Performs (Insists (sent Fpwr 0 address content) a slave b) a slave 3 result b
+  insisted-end a mid b times few (Ok true) ends so last = so_then (omega arith)
+      (insist_took (sent Fpwr 0 address content) a mid b slave times) so last
   insisted-end a mid b times few (Ok false) ends so last = absurd (ends refl)
   insisted-end a mid b times few (Err stop) ends so last = so_cut (omega arith) so last
 
-  pub insisted : (a b : Seen) (log : List Asked) (result : Result Bool Stop) → AskedInTurn log a b → InsistsBy slave (sent Fpwr 0 address content) log result
+  pub insisted : (a b : Seen) (log : List Asked) (result : Result Bool Stop) → AskedInTurn log a b
+      → InsistsBy slave (sent Fpwr 0 address content) log result
       → Performs (Insists (sent Fpwr 0 address content) a slave b) a slave 3 result b
   insisted a b log result asked (inl all) =
       subst (λ (r : Result Bool Stop). Performs (Insists (sent Fpwr 0 address content) a slave b) a slave 3 r b) (sym all.1)
@@ -238,7 +275,8 @@ module _ (slave address : ℕ) (content : List ℕ) (gentle : IsGentle (sent Fpw
 -- OPEN
 
 module _ (slave : ℕ) (near : slave < 64) where
-  accessed : (value : ℕ) (a b : Seen) (log : List Asked) (result : Result Bool Stop) → AskedInTurn log a b → InsistsBy slave (access_order slave value) log result
+  accessed : (value : ℕ) (a b : Seen) (log : List Asked) (result : Result Bool Stop) → AskedInTurn log a b
+      → InsistsBy slave (access_order slave value) log result
       → Performs (Insists (access_order slave value) a slave b) a slave 3 result b
   accessed value = insisted slave (address_of slave 0x0500) (value ∷ []) (access_gentle slave value near)
 
@@ -246,61 +284,75 @@ module _ (slave : ℕ) (near : slave < 64) where
       → Performs (Insists (clear_order slave) a slave b) a slave 3 result b
   cleared = insisted slave (address_of slave 0x0502) (0 ∷ 0 ∷ []) (clear_gentle slave near)
 
-  open-ended : (a mid b : Seen) (log : List Asked) (result : Result Bool Stop) → Ran (BecomesOpen a slave mid false) a slave 10009 mid → AskedInTurn log mid b → Ends false log result
+  open-ended : (a mid b : Seen) (log : List Asked) (result : Result Bool Stop) → Ran (BecomesOpen a slave mid false) a slave 10009 mid
+      → AskedInTurn log mid b → Ends false log result
       → Performs (BecomesOpen a slave b) a slave 10009 result b
   open-ended a mid b log result ran asked ends =
       subst (λ (r : Result Bool Stop). Performs (BecomesOpen a slave b) a slave 10009 r b) (sym ends.1)
       (subst (λ (s : Seen). Ran (BecomesOpen a slave s false) a slave 10009 s) (sym (nothing log mid b ends.0 asked)) ran)
 
   -- behind the polls
-  clears-found : (found : Option Rested) (a c d b : Seen) (log : List Asked) (result : Result Bool Stop) → Ran (HasAccess 0) a slave 6 c → Ran (Waited c slave d found) c slave 10000 d
-      → AskedInTurn log d b → OnlyIf (is_some found) (InsistsBy slave (clear_order slave)) log result → Performs (BecomesOpen a slave b) a slave 10009 result b
+  clears-found : (found : Option Rested) (a c d b : Seen) (log : List Asked) (result : Result Bool Stop) → Ran (HasAccess 0) a slave 6 c
+      → Ran (Waited c slave d found) c slave 10000 d
+      → AskedInTurn log d b → OnlyIf (is_some found) (InsistsBy slave (clear_order slave)) log result
+      → Performs (BecomesOpen a slave b) a slave 10009 result b
   clears-found None a c d b log result ran waits asked ends = open-ended a d b log result (wait_fails near ran waits) asked ends
-  clears-found (Some rested) a c d b log result ran waits asked so = opens near result b (free near rested ran waits) (cleared d b log result asked so)
+  clears-found (Some rested) a c d b log result ran waits asked so = opens near result b (free near rested ran waits)
+      (cleared d b log result asked so)
 
-  clears-so : (a c b : Seen) (log : List Asked) (result : Result Bool Stop) → Ran (HasAccess 0) a slave 6 c → AskedInTurn log c b → ClearsBy slave log result
+  clears-so : (a c b : Seen) (log : List Asked) (result : Result Bool Stop) → Ran (HasAccess 0) a slave 6 c → AskedInTurn log c b
+      → ClearsBy slave log result
       → Performs (BecomesOpen a slave b) a slave 10009 result b
   clears-so a c b log result ran asked (inl so) =
       let parts = parted log so.front so.behind c b so.log_is asked in
-      clears-found so.value a c parts.mid b so.behind result ran (waited slave near c parts.mid so.front (Ok so.value) parts.first so.came_to) parts.second so.goes_on
+      clears-found so.value a c parts.mid b so.behind result ran
+      (waited slave near c parts.mid so.front (Ok so.value) parts.first so.came_to) parts.second so.goes_on
   clears-so a c b log result ran asked (inr stops) =
       cut_as (BecomesOpen a slave b) slave result stops.2 (Ran-cut (omega arith) ran (waited slave near c b log (Err stops.0) asked stops.1))
 
   -- behind the datagram that ends forcing
   frees-counted : (value : Bool) (a mid c b : Seen) (log : List Asked) (result : Result Bool Stop) → Ran (HasAccess 2) a slave 3 mid
-      → Ran (Insists (access_order slave 0) mid slave c value) mid slave 3 c → AskedInTurn log c b → OnlyIf value (ClearsBy slave) log result → Performs (BecomesOpen a slave b) a slave 10009 result b
+      → Ran (Insists (access_order slave 0) mid slave c value) mid slave 3 c → AskedInTurn log c b → OnlyIf value (ClearsBy slave) log result
+      → Performs (BecomesOpen a slave b) a slave 10009 result b
   frees-counted false a mid c b log result ran last asked ends = open-ended a c b log result (second_fails near ran last) asked ends
   frees-counted true a mid c b log result ran last asked so = clears-so a c b log result (freed near ran last) asked so
 
-  frees-so : (a mid b : Seen) (log : List Asked) (result : Result Bool Stop) → Ran (HasAccess 2) a slave 3 mid → AskedInTurn log mid b → FreesBy slave log result
+  frees-so : (a mid b : Seen) (log : List Asked) (result : Result Bool Stop) → Ran (HasAccess 2) a slave 3 mid → AskedInTurn log mid b
+      → FreesBy slave log result
       → Performs (BecomesOpen a slave b) a slave 10009 result b
   frees-so a mid b log result ran asked (inl so) =
       let parts = parted log so.front so.behind mid b so.log_is asked in
-      frees-counted so.value a mid parts.mid b so.behind result ran (accessed 0 mid parts.mid so.front (Ok so.value) parts.first so.came_to) parts.second so.goes_on
+      frees-counted so.value a mid parts.mid b so.behind result ran
+      (accessed 0 mid parts.mid so.front (Ok so.value) parts.first so.came_to) parts.second so.goes_on
   frees-so a mid b log result ran asked (inr stops) =
       cut_as (BecomesOpen a slave b) slave result stops.2 (Ran-cut (omega arith) ran (accessed 0 mid b log (Err stops.0) asked stops.1))
 
   -- behind the datagram that forces
-  forces-counted : (value : Bool) (a mid b : Seen) (log : List Asked) (result : Result Bool Stop) → Ran (Insists (access_order slave 2) a slave mid value) a slave 3 mid
+  forces-counted : (value : Bool) (a mid b : Seen) (log : List Asked) (result : Result Bool Stop)
+      → Ran (Insists (access_order slave 2) a slave mid value) a slave 3 mid
       → AskedInTurn log mid b → OnlyIf value (FreesBy slave) log result → Performs (BecomesOpen a slave b) a slave 10009 result b
   forces-counted false a mid b log result last asked ends = open-ended a mid b log result (first_fails near last) asked ends
   forces-counted true a mid b log result last asked so = frees-so a mid b log result (forced near last) asked so
 
-  opens-so : (a b : Seen) (log : List Asked) (result : Result Bool Stop) → AskedInTurn log a b → OpensBy slave log result → Performs (BecomesOpen a slave b) a slave 10009 result b
+  opens-so : (a b : Seen) (log : List Asked) (result : Result Bool Stop) → AskedInTurn log a b → OpensBy slave log result
+      → Performs (BecomesOpen a slave b) a slave 10009 result b
   opens-so a b log result asked (inl so) =
       let parts = parted log so.front so.behind a b so.log_is asked in
-      forces-counted so.value a parts.mid b so.behind result (accessed 2 a parts.mid so.front (Ok so.value) parts.first so.came_to) parts.second so.goes_on
+      forces-counted so.value a parts.mid b so.behind result
+      (accessed 2 a parts.mid so.front (Ok so.value) parts.first so.came_to) parts.second so.goes_on
   opens-so a b log result asked (inr stops) =
       cut_as (BecomesOpen a slave b) slave result stops.2 (IsCut-more (omega arith) (accessed 2 a b log (Err stops.0) asked stops.1))
 
-  pub opens-runs : {a b : Seen} {result : Result Bool Stop} → Takes (OpensBy slave) a result b → Performs (BecomesOpen a slave b) a slave 10009 result b
+  pub opens-runs : {a b : Seen} {result : Result Bool Stop} → Takes (OpensBy slave) a result b
+      → Performs (BecomesOpen a slave b) a slave 10009 result b
   opens-runs {a} {b} {result} takes = opens-so a b takes.log result takes.asked takes.took
 
 -- READ
 
 module _ (slave : ℕ) (near : slave < 64) where
   fetched-by : (a b : Seen) (came : Result Pdu DeviceFault) (result : Result (Option WordPair) Stop)
-      → ExchangesFrame a slave (fetch_order slave ∷ []) (outcome_of came) (frame_behind (fetch_order slave) came) b → IsHeard pair_of None came result → Performs (Fetched a slave b) a slave 1 result b
+      → ExchangesFrame a slave (fetch_order slave ∷ []) (outcome_of came) (frame_behind (fetch_order slave) came) b → IsHeard pair_of None came result
+      → Performs (Fetched a slave b) a slave 1 result b
   fetched-by a b (Ok reply) result sends is =
       subst (λ (r : Result (Option WordPair) Stop). Performs (Fetched a slave b) a slave 1 r b) (sym is)
       (fetch_back a slave b near {found = pair_of reply} {datagram = reply} refl
@@ -309,43 +361,53 @@ module _ (slave : ℕ) (near : slave < 64) where
       subst (λ (r : Result (Option WordPair) Stop). Performs (Fetched a slave b) a slave 1 r b) (sym is)
       (fetch_lost a slave b near (lost a slave (fetch_order slave) b (fetch_gentle slave near) (fetch_order slave ∷ []) {came = false} refl sends))
   fetched-by a b (Err device.Stopped) (Ok value) sends is = absurd (false≢true is)
-  fetched-by a b (Err device.Stopped) (Err stop) sends is = cut a slave (fetch_order slave) b (fetch_gentle slave near) (fetch_order slave ∷ []) {stop = stop} sends
+  fetched-by a b (Err device.Stopped) (Err stop) sends is = cut a slave (fetch_order slave) b (fetch_gentle slave near)
+      (fetch_order slave ∷ []) {stop = stop} sends
   fetched-by a b (Err device.Disk) result sends is = absurd is
 
-  fetched-one : (a b : Seen) (log : List Asked) (result : Result (Option WordPair) Stop) → AskedInTurn log a b → FetchesBy slave log result → Performs (Fetched a slave b) a slave 1 result b
+  fetched-one : (a b : Seen) (log : List Asked) (result : Result (Option WordPair) Stop) → AskedInTurn log a b → FetchesBy slave log result
+      → Performs (Fetched a slave b) a slave 1 result b
   fetched-one a b log result asked asks = fetched-by a b asks.0 result (sent_one slave (fetch_order slave) asks.0 log a b asks.1 asked) asks.2
 
 module _ (slave word : ℕ) (near : slave < 64) (fits : word < 2 ^ 16) where
-  try-ended : (end : Tried) (a mid b : Seen) (log : List Asked) (result : Result Tried Stop) → Ran (TriesRead a slave word mid end) a slave 10002 mid → AskedInTurn log mid b → Ends end log result
+  try-ended : (end : Tried) (a mid b : Seen) (log : List Asked) (result : Result Tried Stop) → Ran (TriesRead a slave word mid end) a slave 10002 mid
+      → AskedInTurn log mid b → Ends end log result
       → Performs (TriesRead a slave word b) a slave 10002 result b
   try-ended end a mid b log result ran asked ends =
       subst (λ (r : Result Tried Stop). Performs (TriesRead a slave word b) a slave 10002 r b) (sym ends.1)
       (subst (λ (s : Seen). Ran (TriesRead a slave word s end) a slave 10002 s) (sym (nothing log mid b ends.0 asked)) ran)
 
-  fetch-found : (pair : Option WordPair) (a d e b : Seen) (log : List Asked) (result : Result Tried Stop) → Ran (HasFetched slave word) a slave 10001 d → Ran (Fetched d slave e pair) d slave 1 e
+  fetch-found : (pair : Option WordPair) (a d e b : Seen) (log : List Asked) (result : Result Tried Stop)
+      → Ran (HasFetched slave word) a slave 10001 d → Ran (Fetched d slave e pair) d slave 1 e
       → AskedInTurn log e b → Ends (tried_of pair) log result → Performs (TriesRead a slave word b) a slave 10002 result b
   fetch-found None a d e b log result ran last asked ends = try-ended try_failed a e b log result (words_fail near fits ran last) asked ends
-  fetch-found (Some pair) a d e b log result ran last asked ends = try-ended (words_read pair) a e b log result (pair_read near fits ran last) asked ends
+  fetch-found (Some pair) a d e b log result ran last asked ends = try-ended (words_read pair) a e b log result
+      (pair_read near fits ran last) asked ends
 
   fetch-so : (a d b : Seen) (log : List Asked) (result : Result Tried Stop) → Ran (HasFetched slave word) a slave 10001 d → AskedInTurn log d b
       → Then (FetchesBy slave) (λ pair. Ends (tried_of pair)) log result → Performs (TriesRead a slave word b) a slave 10002 result b
   fetch-so a d b log result ran asked (inl so) =
       let parts = parted log so.front so.behind d b so.log_is asked in
-      fetch-found so.value a d parts.mid b so.behind result ran (fetched-one slave near d parts.mid so.front (Ok so.value) parts.first so.came_to) parts.second so.goes_on
+      fetch-found so.value a d parts.mid b so.behind result ran
+      (fetched-one slave near d parts.mid so.front (Ok so.value) parts.first so.came_to) parts.second so.goes_on
   fetch-so a d b log result ran asked (inr stops) =
       cut_as (TriesRead a slave word b) slave result stops.2 (Ran-cut (omega arith) ran (fetched-one slave near d b log (Err stops.0) asked stops.1))
 
-  wait-found : (found : Option Rested) (a c d b : Seen) (log : List Asked) (result : Result Tried Stop) → Ran (HasAsked slave word) a slave 1 c → Ran (Waited c slave d found) c slave 10000 d
+  wait-found : (found : Option Rested) (a c d b : Seen) (log : List Asked) (result : Result Tried Stop) → Ran (HasAsked slave word) a slave 1 c
+      → Ran (Waited c slave d found) c slave 10000 d
       → AskedInTurn log d b → FetchesBehind slave found log result → Performs (TriesRead a slave word b) a slave 10002 result b
   wait-found None a c d b log result ran waits asked ends = try-ended not_seen_idle a d b log result (try_dead near fits ran waits) asked ends
-  wait-found (Some Failed) a c d b log result ran waits asked ends = try-ended try_failed a d b log result (error_fails near fits ran waits) asked ends
+  wait-found (Some Failed) a c d b log result ran waits asked ends = try-ended try_failed a d b log result
+      (error_fails near fits ran waits) asked ends
   wait-found (Some Well) a c d b log result ran waits asked so = fetch-so a d b log result (fetched near fits ran waits) asked so
 
-  wait-so : (a c b : Seen) (log : List Asked) (result : Result Tried Stop) → Ran (HasAsked slave word) a slave 1 c → AskedInTurn log c b → Then (WaitsBy slave) (FetchesBehind slave) log result
+  wait-so : (a c b : Seen) (log : List Asked) (result : Result Tried Stop) → Ran (HasAsked slave word) a slave 1 c → AskedInTurn log c b
+      → Then (WaitsBy slave) (FetchesBehind slave) log result
       → Performs (TriesRead a slave word b) a slave 10002 result b
   wait-so a c b log result ran asked (inl so) =
       let parts = parted log so.front so.behind c b so.log_is asked in
-      wait-found so.value a c parts.mid b so.behind result ran (waited slave near c parts.mid so.front (Ok so.value) parts.first so.came_to) parts.second so.goes_on
+      wait-found so.value a c parts.mid b so.behind result ran
+      (waited slave near c parts.mid so.front (Ok so.value) parts.first so.came_to) parts.second so.goes_on
   wait-so a c b log result ran asked (inr stops) =
       cut_as (TriesRead a slave word b) slave result stops.2 (Ran-cut (omega arith) ran (waited slave near c b log (Err stops.0) asked stops.1))
 
@@ -353,59 +415,72 @@ module _ (slave word : ℕ) (near : slave < 64) (fits : word < 2 ^ 16) where
       → Performs (Wrote (read_order slave word) a b) a slave 1 result b
   commanded a b = wrote slave (address_of slave 0x0502) (to_le_bytes w16 0x0100 ++ to_le_bytes w32 word) (read_gentle slave word near fits) a b
 
-  command-counted : (value : Bool) (a mid b : Seen) (log : List Asked) (result : Result Tried Stop) → Ran (Wrote (read_order slave word) a mid value) a slave 1 mid → AskedInTurn log mid b
+  command-counted : (value : Bool) (a mid b : Seen) (log : List Asked) (result : Result Tried Stop)
+      → Ran (Wrote (read_order slave word) a mid value) a slave 1 mid → AskedInTurn log mid b
       → WaitsBehind slave value log result → Performs (TriesRead a slave word b) a slave 10002 result b
   command-counted false a mid b log result ran asked ends = try-ended try_failed a mid b log result (command_fails near fits ran) asked ends
   command-counted true a mid b log result ran asks so = wait-so a mid b log result (asked near fits ran) asks so
 
-  tried-so : (a b : Seen) (log : List Asked) (result : Result Tried Stop) → AskedInTurn log a b → TriesBy slave word log result → Performs (TriesRead a slave word b) a slave 10002 result b
+  tried-so : (a b : Seen) (log : List Asked) (result : Result Tried Stop) → AskedInTurn log a b → TriesBy slave word log result
+      → Performs (TriesRead a slave word b) a slave 10002 result b
   tried-so a b log result asks (inl so) =
       let parts = parted log so.front so.behind a b so.log_is asks in
-      command-counted so.value a parts.mid b so.behind result (commanded a parts.mid so.front (Ok so.value) parts.first so.came_to) parts.second so.goes_on
+      command-counted so.value a parts.mid b so.behind result
+      (commanded a parts.mid so.front (Ok so.value) parts.first so.came_to) parts.second so.goes_on
   tried-so a b log result asks (inr stops) =
       cut_as (TriesRead a slave word b) slave result stops.2 (IsCut-more (omega arith) (commanded a b log (Err stops.0) asks stops.1))
 
   tries-failed : (times : ℕ) (log : List Asked) (a b : Seen) → AskedInTurn log a b → Rounds (λ (try : ℕ). TriesBy slave word) try_failed times log
       → SoFar (FailedSo a slave word times b) a slave (10002 * times) b
   tries-failed times log a b asks no_round =
-      subst (λ (s : Seen). SoFar (FailedSo a slave word 0 s) a slave (10002 * 0) s) (sym asks) (none (record { no_calls = refl; same = refl; stays = failed_none a slave word }))
+      subst (λ (s : Seen). SoFar (FailedSo a slave word 0 s) a slave (10002 * 0) s) (sym asks)
+      (none (record { no_calls = refl; same = refl; stays = failed_none a slave word }))
   tries-failed times log a b asks (one_more {times = few} {front = front} {behind = behind} before last) =
       let parts = part front behind a b asks in
       some (failed_more (tried-so parts.mid b behind (Ok try_failed) parts.second last) (tries-failed few front a parts.mid parts.first before))
 
-  read-ended : (end : Option WordPair) (a mid b : Seen) (log : List Asked) (result : Result (Option WordPair) Stop) → Ran (ReadsPair a slave word mid end) a slave 30006 mid → AskedInTurn log mid b
+  read-ended : (end : Option WordPair) (a mid b : Seen) (log : List Asked) (result : Result (Option WordPair) Stop)
+      → Ran (ReadsPair a slave word mid end) a slave 30006 mid → AskedInTurn log mid b
       → Ends end log result → Performs (ReadsPair a slave word b) a slave 30006 result b
   read-ended end a mid b log result ran asks ends =
       subst (λ (r : Result (Option WordPair) Stop). Performs (ReadsPair a slave word b) a slave 30006 r b) (sym ends.1)
       (subst (λ (s : Seen). Ran (ReadsPair a slave word s end) a slave 30006 s) (sym (nothing log mid b ends.0 asks)) ran)
 
-  last-try : (a mid b : Seen) (times : ℕ) → times < 3 → (last : Tried) → last ≢ try_failed → SoFar (FailedSo a slave word times mid) a slave (10002 * times) mid
+  last-try : (a mid b : Seen) (times : ℕ) → times < 3 → (last : Tried) → last ≢ try_failed
+      → SoFar (FailedSo a slave word times mid) a slave (10002 * times) mid
       → Ran (TriesRead mid slave word b last) mid slave 10002 b → Ran (ReadsPair a slave word b (pair_in last)) a slave 30006 b
   last-try a mid b times few (words_read pair) ends so ran = pair_behind few so ran
   last-try a mid b times few try_failed ends so ran = absurd (ends refl)
   last-try a mid b times few not_seen_idle ends so ran = dead_behind few so ran
 
-  tries-ended : (a b : Seen) (log : List Asked) (last : Tried) → AskedInTurn log a b → UpTo 3 (λ (try : ℕ). TriesBy slave word) try_failed log (Ok last)
+  tries-ended : (a b : Seen) (log : List Asked) (last : Tried) → AskedInTurn log a b
+      → UpTo 3 (λ (try : ℕ). TriesBy slave word) try_failed log (Ok last)
       → Ran (ReadsPair a slave word b (pair_in last)) a slave 30006 b
   tries-ended a b log last asks (inl all) =
       subst (λ (t : Tried). Ran (ReadsPair a slave word b (pair_in t)) a slave 30006 b) (let same : try_failed ≡ last = cc in same)
       (all_failed refl (tries-failed 3 log a b asks all.0))
   tries-ended a b log last asks (inr so) =
       let parts = parted log so.front so.behind a b so.log_is asks in
-      last-try a parts.mid b so.times so.few last (λ e. so.ends (ap Ok e)) (tries-failed so.times so.front a parts.mid parts.first so.rounds) (tried-so parts.mid b so.behind (Ok last) parts.second so.last)
+      last-try a parts.mid b so.times so.few last (λ e. so.ends (ap Ok e)) (tries-failed so.times so.front a parts.mid parts.first so.rounds)
+      (tried-so parts.mid b so.behind (Ok last) parts.second so.last)
 
-  tries-cut : (a b : Seen) (log : List Asked) (stop : Stop) → AskedInTurn log a b → UpTo 3 (λ (try : ℕ). TriesBy slave word) try_failed log (Err stop) → StopsQuietly a 30006 b
+  tries-cut : (a b : Seen) (log : List Asked) (stop : Stop) → AskedInTurn log a b → UpTo 3 (λ (try : ℕ). TriesBy slave word) try_failed log (Err stop)
+      → StopsQuietly a 30006 b
   tries-cut a b log stop asks (inl all) = absurd (let not = all.1 in cc)
   tries-cut a b log stop asks (inr so) =
       let parts = parted log so.front so.behind a b so.log_is asks in
       let few = so.few in
-      so_cut (omega arith) (tries-failed so.times so.front a parts.mid parts.first so.rounds) (tried-so parts.mid b so.behind (Err stop) parts.second so.last)
+      so_cut (omega arith) (tries-failed so.times so.front a parts.mid parts.first so.rounds)
+      (tried-so parts.mid b so.behind (Err stop) parts.second so.last)
 
-  reads-so : (a b : Seen) (log : List Asked) (result : Result (Option WordPair) Stop) → AskedInTurn log a b → ReadsPairBy slave word log result → Performs (ReadsPair a slave word b) a slave 30006 result b
+  reads-so : (a b : Seen) (log : List Asked) (result : Result (Option WordPair) Stop) → AskedInTurn log a b → ReadsPairBy slave word log result
+      → Performs (ReadsPair a slave word b) a slave 30006 result b
   reads-so a b log result asks (inl so) =
       let parts = parted log so.front so.behind a b so.log_is asks in
-      read-ended (pair_in so.value) a parts.mid b so.behind result (tries-ended a parts.mid so.front so.value parts.first so.came_to) parts.second so.goes_on
+      read-ended (pair_in so.value) a parts.mid b so.behind result
+      (tries-ended a parts.mid so.front so.value parts.first so.came_to) parts.second so.goes_on
   reads-so a b log result asks (inr stops) = cut_as (ReadsPair a slave word b) slave result stops.2 (tries-cut a b log stops.0 asks stops.1)
 
-  pub reads-runs : {a b : Seen} {result : Result (Option WordPair) Stop} → Takes (ReadsPairBy slave word) a result b → Performs (ReadsPair a slave word b) a slave 30006 result b
+  pub reads-runs : {a b : Seen} {result : Result (Option WordPair) Stop} → Takes (ReadsPairBy slave word) a result b
+      → Performs (ReadsPair a slave word b) a slave 30006 result b
   reads-runs {a} {b} {result} takes = reads-so a b takes.log result takes.asked takes.took

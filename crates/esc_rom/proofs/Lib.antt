@@ -21,3 +21,4 @@ pub mod SentLaws
 pub mod Carried
 pub mod Going
 pub mod Driven
+pub mod InSteps

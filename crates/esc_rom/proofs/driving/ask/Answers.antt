@@ -5,16 +5,19 @@ use Rattle.esc_rom.proofs.driving.ask.Goals as goal
 
 pub returns-in_err-send-clause-asks : goal.returns-in_err-send-clause-asks
 returns-in_err-send-clause-asks g c =
-    once-cut c.send.new.frame (order-is c.args.slave c.args.datagram.now c.from-command.result c.content_of.result.now c.from-command.ensures c.content_of.ensures.bytes) c.from_residual.result c.from_residual.ensures.0
+    once-cut c.send.new.frame (order-is c.args.slave c.args.datagram.now c.from-command.result c.content_of.result.now c.from-command.ensures
+    c.content_of.ensures.bytes) c.from_residual.result c.from_residual.ensures.0
     c.in_err-send.ensures.sends
 
 pub returns-then-not-branch-clause-asks : goal.returns-then-not-branch-clause-asks
 returns-then-not-branch-clause-asks g c =
     let lost_so : c.in_ok-send.field-0 ≡ false = first_of ((cc), search rules, grind (arith, common_steps)) in
-    once-lost c.send.new.frame (order-is c.args.slave c.args.datagram.now c.from-command.result c.content_of.result.now c.from-command.ensures c.content_of.ensures.bytes) lost_so c.in_ok-send.ensures.sends
+    once-lost c.send.new.frame (order-is c.args.slave c.args.datagram.now c.from-command.result c.content_of.result.now c.from-command.ensures
+    c.content_of.ensures.bytes) lost_so c.in_ok-send.ensures.sends
 
 pub returns-clause-asks : goal.returns-clause-asks
 returns-clause-asks g c =
     let came : c.in_ok-send.field-0 ≡ true = first_of ((cc), search rules, grind (arith, common_steps)) in
-    once-back c.send.new.frame (order-is c.args.slave c.args.datagram.now c.from-command.result c.content_of.result.now c.from-command.ensures c.content_of.ensures.bytes) c.came.result came c.datagram.ensures c.came.ensures
+    once-back c.send.new.frame (order-is c.args.slave c.args.datagram.now c.from-command.result c.content_of.result.now c.from-command.ensures
+    c.content_of.ensures.bytes) c.came.result came c.datagram.ensures c.came.ensures
     c.in_ok-send.ensures.sends

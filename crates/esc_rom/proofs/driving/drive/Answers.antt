@@ -16,14 +16,17 @@ returns-in_default-clause-drives g c = drives-over c.loop-turn.invariant.so c.in
 pub returns-in_err-back-clause-drives : goal.returns-in_err-back-clause-drives
 returns-in_err-back-clause-drives g c =
     let asks = c.in_err-back.ensures.asks in
-    drives-cut c.loop-turn.invariant.so (pdu_to c.args.slave c.in-Some.datagram) asks.came (g.S.Site.seen c.ask.new.site) c.from_residual.result c.from_residual.ensures.0 (c.in-Some.ensures.next c.args.slave) asks.sent asks.is
+    drives-cut c.loop-turn.invariant.so (pdu_to c.args.slave c.in-Some.datagram) asks.came
+    (g.S.Site.seen c.ask.new.site) c.from_residual.result c.from_residual.ensures.0 (c.in-Some.ensures.next c.args.slave) asks.sent asks.is
 
 pub loop-turn-preserved : goal.loop-turn-preserved
 loop-turn-preserved g c =
     let asks = c.in_ok-back.ensures.asks in
     record {
-      so = went-more c.args.slave c.args.first c.loop-turn._turn (g.S.Site.seen c.args.site.now) c.loop-turn.step (g.S.Site.seen c.loop-turn.site) c.loop-turn.invariant.so (pdu_to c.args.slave c.in-Some.datagram)
-          asks.came c.take-step.result (g.S.Site.seen c.ask.new.site) (c.in-Some.ensures.next c.args.slave) asks.sent (c.take-step.ensures c.args.slave asks.came asks.is);
+      so = went-more c.args.slave c.args.first c.loop-turn._turn (g.S.Site.seen c.args.site.now) c.loop-turn.step
+          (g.S.Site.seen c.loop-turn.site) c.loop-turn.invariant.so (pdu_to c.args.slave c.in-Some.datagram)
+          asks.came c.take-step.result (g.S.Site.seen c.ask.new.site) (c.in-Some.ensures.next c.args.slave) asks.sent
+          (c.take-step.ensures c.args.slave asks.came asks.is);
       line = c.in_ok-back.ensures.line ∙ c.loop-turn.invariant.line;
     }
 
@@ -31,5 +34,6 @@ pub returns-clause-drives : goal.returns-clause-drives
 returns-clause-drives g c =
     let few = c.requires.short in
     drives-over c.loop-turn.invariant.so
-    (went-all c.args.slave c.args.first c.loop-turn._turn (g.S.Site.seen c.args.site.now) c.loop-turn.step (g.S.Site.seen c.loop-turn.site) c.loop-turn.invariant.so (omega arith))
+    (went-all c.args.slave c.args.first c.loop-turn._turn (g.S.Site.seen c.args.site.now) c.loop-turn.step
+    (g.S.Site.seen c.loop-turn.site) c.loop-turn.invariant.so (omega arith))
     c.end_of-2.result c.end_of-2.ensures

@@ -18,7 +18,8 @@ returns-in_err-end-clause-frames g c =
     let slave = c.args.slave in
     subst (λ (r : Result Bool Stop). Takes (OpensBy slave) (g.S.Site.seen c.args.site.now) r (g.S.Site.seen c.drive.new.site))
     (sym (same-stop c.from_residual.result c.in_err-end.field-0.0 c.from_residual.ensures.1))
-    (driven-cut same opening_end slave (access.OpensBy slave) (OpensBy slave) (opens-carried slave) c.begin_opening.result (c.begin_opening.ensures.course slave) c.in_err-end.ensures.drives)
+    (driven-cut same opening_end slave (access.OpensBy slave) (OpensBy slave) (opens-carried slave) c.begin_opening.result
+    (c.begin_opening.ensures.course slave) c.in_err-end.ensures.drives)
 
 pub returns-in_err-end-clause-runs : goal.returns-in_err-end-clause-runs
 returns-in_err-end-clause-runs g c = opens-runs c.args.slave c.requires.1 (returns-in_err-end-clause-frames g c)
@@ -26,8 +27,10 @@ returns-in_err-end-clause-runs g c = opens-runs c.args.slave c.requires.1 (retur
 pub returns-clause-frames : goal.returns-clause-frames
 returns-clause-frames g c =
     let slave = c.args.slave in
-    let end = driven same opening_end slave (access.OpensBy slave) (OpensBy slave) (opens-carried slave) c.begin_opening.result (c.begin_opening.ensures.course slave) c.in_ok-end.ensures.drives in
-    subst (λ (it : Bool). Takes (OpensBy slave) (g.S.Site.seen c.args.site.now) (Ok it) (g.S.Site.seen c.drive.new.site)) (sym (c.is_open.ensures ∙ ap is_open end.is ∙ open-is end.value)) end.takes
+    let end = driven same opening_end slave (access.OpensBy slave) (OpensBy slave) (opens-carried slave) c.begin_opening.result
+    (c.begin_opening.ensures.course slave) c.in_ok-end.ensures.drives in
+    subst (λ (it : Bool). Takes (OpensBy slave) (g.S.Site.seen c.args.site.now) (Ok it) (g.S.Site.seen c.drive.new.site))
+    (sym (c.is_open.ensures ∙ ap is_open end.is ∙ open-is end.value)) end.takes
 
 pub returns-clause-runs : goal.returns-clause-runs
 returns-clause-runs g c = opens-runs c.args.slave c.requires.1 (returns-clause-frames g c)

@@ -20,7 +20,8 @@ returns-in_err-end-clause-frames g c =
     let word = c.args.word in
     subst (λ (r : Result (Option WordPair) Stop). Takes (ReadsPairBy slave word) (g.S.Site.seen c.args.site.now) r (g.S.Site.seen c.drive.new.site))
     (sym (same-stop c.from_residual.result c.in_err-end.field-0.0 c.from_residual.ensures.1))
-    (driven-cut pair_here reading_end slave (access.ReadsPairBy slave word) (ReadsPairBy slave word) (reads-carried slave word) c.begin_reading.result (c.begin_reading.ensures.course slave)
+    (driven-cut pair_here reading_end slave (access.ReadsPairBy slave word) (ReadsPairBy slave word) (reads-carried slave word) c.begin_reading.result
+    (c.begin_reading.ensures.course slave)
     c.in_err-end.ensures.drives)
 
 pub returns-in_err-end-clause-runs : goal.returns-in_err-end-clause-runs
@@ -32,7 +33,8 @@ pub returns-clause-frames : goal.returns-clause-frames
 returns-clause-frames g c =
     let slave = c.args.slave in
     let word = c.args.word in
-    let end = driven pair_here reading_end slave (access.ReadsPairBy slave word) (ReadsPairBy slave word) (reads-carried slave word) c.begin_reading.result (c.begin_reading.ensures.course slave)
+    let end = driven pair_here reading_end slave (access.ReadsPairBy slave word) (ReadsPairBy slave word)
+    (reads-carried slave word) c.begin_reading.result (c.begin_reading.ensures.course slave)
     c.in_ok-end.ensures.drives in
     subst (λ (it : Option WordPair). Takes (ReadsPairBy slave word) (g.S.Site.seen c.args.site.now) (Ok it) (g.S.Site.seen c.drive.new.site))
     (sym (c.words_at.ensures ∙ ap words_at end.is ∙ words-are end.value)) end.takes
