@@ -25,7 +25,8 @@ pub fn an_action_ends()
 
 /// `DiskFits` stays true when the action that is handed out fails, or the site stops.
 pub fn an_action_fails()
-    ensures { (frame : JournalFrame) (book : Book) (disk new : Disk) (fault : Fault) → book.capacity ≡ frame.capacity → book.is_handed_out ≡ true
+    ensures { (frame : JournalFrame) (book : Book) (disk new : Disk) (fault : Fault) → book.capacity ≡ frame.capacity
+        → book.is_handed_out ≡ true
         → DiskFits frame book disk
         → FailsOn (in_progress book) disk new → DiskFits frame (with_fault (rested book) fault) new }
 {}

@@ -18,14 +18,16 @@ pub fn an_action_begins()
 
 /// `JournalFits` stays true when the action that is handed out succeeds. The last action of a migration leaves a journal of version 2.
 pub fn an_action_ends()
-    ensures { (frame : JournalFrame) (book : Book) (disk : Disk) → IsJournalFrame frame → book.capacity ≡ frame.capacity → book.is_handed_out ≡ true
+    ensures { (frame : JournalFrame) (book : Book) (disk : Disk) → IsJournalFrame frame → book.capacity ≡ frame.capacity
+        → book.is_handed_out ≡ true
         → JournalFits frame book disk
         → JournalFits frame (disk_done book (Ok tt)) (ended_on (in_progress book) disk) }
 {}
 
 /// `JournalFits` stays true when the action that is handed out fails, or the site stops.
 pub fn an_action_fails()
-    ensures { (frame : JournalFrame) (book : Book) (disk new : Disk) (fault : Fault) → book.capacity ≡ frame.capacity → book.is_handed_out ≡ true
+    ensures { (frame : JournalFrame) (book : Book) (disk new : Disk) (fault : Fault) → book.capacity ≡ frame.capacity
+        → book.is_handed_out ≡ true
         → JournalFits frame book disk
         → FailsOn (in_progress book) disk new → JournalFits frame (with_fault (rested book) fault) new }
 {}

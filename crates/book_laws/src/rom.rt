@@ -16,7 +16,8 @@ ghost use Rattle.book_laws.specs.Up.{Up};
 
 /// `Up` stays true when the next word of a slave is issued, whether the slave takes the datagram or not.
 pub fn up_as_the_next_word_is_issued()
-    ensures { (frame : JournalFrame) (book : Book) (state : State) (took : List Bool) (machine : Machine) (i : ℕ) (half later : SlaveHalf) (w : ℕ × ℕ)
+    ensures { (frame : JournalFrame) (book : Book) (state : State) (took : List Bool) (machine : Machine) (i : ℕ)
+        (half later : SlaveHalf) (w : ℕ × ℕ)
         (others : List (ℕ × ℕ)) (t : Bool) → Up frame book state took machine
         → i < length book.slaves → slice_get state.halves i ≡ Some half → to_do book i ≡ w ∷ others → TakesOrNot t i w.0 w.1 half later
         → Up frame (with_issue book i w) (with_half state i later) (slice_set took i t) machine }
@@ -40,7 +41,8 @@ pub fn up_as_a_settle_is_handed_out()
 
 /// `Up` stays true when a settle answers *written*, if the datagram was taken and the slave is well: idle, without an error bit.
 pub fn up_as_a_word_is_written()
-    ensures { (frame : JournalFrame) (book : Book) (state : State) (took : List Bool) (machine : Machine) (i : ℕ) (half : SlaveHalf) (word value : ℕ)
+    ensures { (frame : JournalFrame) (book : Book) (state : State) (took : List Bool) (machine : Machine) (i : ℕ)
+        (half : SlaveHalf) (word value : ℕ)
         → Up frame book state took machine
         → i < length book.slaves → slice_get state.halves i ≡ Some half → (slave_at book i).errand ≡ Settling word value true
         → IsWell half

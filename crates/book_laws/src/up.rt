@@ -37,7 +37,8 @@ pub fn up_in_a_fault()
 
 /// `Up` stays true when a word is issued with a value that it is owed, whether the slave takes the datagram or not.
 pub fn up_while_a_word_is_issued()
-    ensures { (frame : JournalFrame) (book : Book) (state : State) (took : List Bool) (machine : Machine) (i : ℕ) (half later : SlaveHalf) (w : ℕ × ℕ)
+    ensures { (frame : JournalFrame) (book : Book) (state : State) (took : List Bool) (machine : Machine) (i : ℕ)
+        (half later : SlaveHalf) (w : ℕ × ℕ)
         (t : Bool) → Up frame book state took machine
         → i < length book.slaves → slice_get state.halves i ≡ Some half → w.0 < length (slave_at book i).cells
         → IsAmong w.1 (cell_of (slave_at book i).cells w.0).owed

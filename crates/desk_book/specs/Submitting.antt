@@ -47,7 +47,8 @@ pub record IsUncounted (refusal : SubmitRefusal) (old : Serving) (had : ShareCou
   pub counts : has ≡ had
 
 -- The command is accepted, and its ticket counted in the share; or it is refused.
-abbrev pub Submits : Book → Command → Result ℕ SubmitRefusal → (old : Serving) (had : ShareCounts) → (new : Serving) (has : ShareCounts) → Type 0
+abbrev pub Submits : Book → Command → Result ℕ SubmitRefusal → (old : Serving) (had : ShareCounts)
+    → (new : Serving) (has : ShareCounts) → Type 0
 Submits book command (Ok number) old had new has =
     (submit book command ≡ Ok number) × (new ≡ with_ticket old command number) × (has ≡ record had { tickets = had.tickets + 1 })
 Submits book command (Err refusal) old had new has = IsCounted book command refusal old had new has ⊎ IsUncounted refusal old had new has

@@ -35,11 +35,13 @@ pub record WasSent (course : List steps.Asked → Result End steps.Stop → Type
 -- Then the end says what the call of this crate would have answered, and the slave is as behind that call.
 abbrev pub IssuedInSteps : Type 0
 IssuedInSteps = (a b : Seen) (slave word value : ℕ) (end : End) → slave < 64 → word < 2 ^ 16 → value < 2 ^ 16
-    → WasSent (IssueCourse slave word value) a end b → (issued : Issued) × (end ≡ ends.Issued issued) × IssuesWord a slave word value (Ok issued) b
+    → WasSent (IssueCourse slave word value) a end b
+    → (issued : Issued) × (end ≡ ends.Issued issued) × IssuesWord a slave word value (Ok issued) b
 
 abbrev pub SettledInSteps : Type 0
 SettledInSteps = (a b : Seen) (slave : ℕ) (taken : Bool) (end : End) → slave < 64
-    → WasSent (SettleCourse slave taken) a end b → (settled : Settled) × (end ≡ ends.Settled settled) × SettlesSlave a slave taken (Ok settled) b
+    → WasSent (SettleCourse slave taken) a end b
+    → (settled : Settled) × (end ≡ ends.Settled settled) × SettlesSlave a slave taken (Ok settled) b
 
 abbrev pub OpenedInSteps : Type 0
 OpenedInSteps = (a b : Seen) (slave : ℕ) (end : End) → slave < 64 → WasSent (OpenCourse slave) a end b

@@ -33,7 +33,8 @@ pub record StopsQuietly (old : Seen) (most : ℕ) (new : Seen) : Type 0 where
   pub stopped : IsTrue new.is_stopped
 
 -- The outcome of a sequence of calls: a value, by which `R` relates the half before and after, or the site has stopped.
-abbrev pub Performs : {T : Type 0} → (T → SlaveHalf → SlaveHalf → Type 0) → Seen → (slave most : ℕ) → Result T Stop → Seen → Type 0
+abbrev pub Performs : {T : Type 0} → (T → SlaveHalf → SlaveHalf → Type 0) → Seen → (slave most : ℕ) → Result T Stop
+    → Seen → Type 0
 Performs R old slave most (Ok value) new = Ran (R value) old slave most new
 Performs R old slave most (Err stop) new = StopsQuietly old most new
 

@@ -89,7 +89,8 @@ pub extern "C" fn pz_place_line(
     segments: &mut [PlacedSegment],
     sizes: &mut ImageSizes,
 ) -> u32
-    ensures { PlacesLine lengths.now devices.now segments.old result segments.new sizes.new ((segments.new ≡ segments.old) × (sizes.new ≡ sizes.old)) }
+    ensures { PlacesLine lengths.now devices.now segments.old result segments.new sizes.new ((segments.new ≡ segments.old)
+        × (sizes.new ≡ sizes.old)) }
 {
     sii_bytes::place_line(alloc, devices, lengths, segments, sizes)
 }

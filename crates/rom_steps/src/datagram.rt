@@ -30,7 +30,12 @@ const FPWR: u8 = 5;
 fn reads(register: u16, count: u8) -> ToSend
     requires { count ≤ 8 }
     ensures long { length (take result.length result.content) ≡ result.length }
-    ensures is { result ≡ record { command = 4; length = count; register = register; content = 0 ∷ 0 ∷ 0 ∷ 0 ∷ 0 ∷ 0 ∷ 0 ∷ 0 ∷ [] } }
+    ensures is { result ≡ record {
+      command = 4;
+      length = count;
+      register = register;
+      content = 0 ∷ 0 ∷ 0 ∷ 0 ∷ 0 ∷ 0 ∷ 0 ∷ 0 ∷ [];
+    } }
 {
     ToSend {
         command: FPRD,

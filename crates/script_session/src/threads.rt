@@ -46,7 +46,8 @@ pub struct Left<S> {
 /// # Errors
 ///
 /// `Unserved` where the station's site can't be taken apart, or what is put together in the end isn't a line with its disk and `slaves`
-/// slaves; `Memory`. At the desk nothing fails but for want of memory. The site is dropped. A fault during the work is no error here: `Left::ending` has it.
+/// slaves; `Memory`. At the desk nothing fails but for want of memory. The site is dropped. A fault during the work is no error here:
+/// `Left::ending` has it.
 pub fn serve_by_threads<D: Device + Copy + Send, O: Write, W: Wait + Threads + Sync>(
     rt: &W,
     alloc: Global,

@@ -21,7 +21,8 @@ pub record HasCategory (words : List ℕ) (number : ℕ) (place : CategoryPlace)
 
 -- Why no category of this number is found: 16, the chain has fewer; 3, it is cut off; or 20, memory was refused.
 pub data LacksCategory (words : List ℕ) (number code : ℕ) : Type 0 where
-  fewer : (categories : List Category) → code ≡ 16 → AreCategories words categories → length categories ≤ number → LacksCategory words number code
+  fewer : (categories : List Category) → code ≡ 16 → AreCategories words categories → length categories ≤ number
+      → LacksCategory words number code
   runs_out : (at : ℕ) → code ≡ 3 → IsCutAt words at → LacksCategory words number code
   memory : code ≡ 20 → LacksCategory words number code
 

@@ -17,7 +17,8 @@ pub record Edits (words : List ℕ) (edit : Edit) (new : List ℕ) : Type 0 wher
 
 -- The edit is refused for the cause with this code; or 20, memory was refused.
 pub data RefusesEdit (words : List ℕ) (edit : Edit) (code : ℕ) : Type 0 where
-  cause : (refusal : Refusal) → code ≡ code_of_cause refusal.cause → outcome (words ∷ []) (One edit) ≡ Err refusal → RefusesEdit words edit code
+  cause : (refusal : Refusal) → code ≡ code_of_cause refusal.cause → outcome (words ∷ []) (One edit) ≡ Err refusal
+      → RefusesEdit words edit code
   memory : code ≡ 20 → RefusesEdit words edit code
 
 -- the edit that gives the device the category with this content, as bytes

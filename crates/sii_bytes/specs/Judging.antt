@@ -24,8 +24,10 @@ pub record IsFirstMalformed (listed : List ListedCategory) (kind : ℕ) : Type 0
 -- applies.
 pub data JudgesListing (listing : Listing) (code detail : ℕ) : Type 0 where
   good : code ≡ 0 → detail ≡ 0 → IsSound listing → JudgesListing listing code detail
-  bad_check : (found expected : ℕ) → code ≡ 15 → detail ≡ expected → listing.check ≡ Wrong found expected → JudgesListing listing code detail
-  runs_out : (at : ℕ) → code ≡ 3 → detail ≡ at → listing.check ≡ Right → listing.chain ≡ RunsOut at → JudgesListing listing code detail
+  bad_check : (found expected : ℕ) → code ≡ 15 → detail ≡ expected → listing.check ≡ Wrong found expected
+      → JudgesListing listing code detail
+  runs_out : (at : ℕ) → code ≡ 3 → detail ≡ at → listing.check ≡ Right → listing.chain ≡ RunsOut at
+      → JudgesListing listing code detail
   bad_category : (listed : Vec ListedCategory) → code ≡ 4 → listing.check ≡ Right → listing.chain ≡ Whole listed
       → IsFirstMalformed listed.items detail → JudgesListing listing code detail
 

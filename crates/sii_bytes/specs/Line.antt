@@ -31,7 +31,8 @@ ReadsEach pieces (Err code) = FirstRefused pieces code
 -- The line is read; or 112: there are no such slaves.
 abbrev pub ReadsLine : (lengths bytes : List ℕ) → Result (List (List ℕ)) ℕ → Type 0
 ReadsLine lengths bytes (Ok plant) = IsLine lengths bytes × ReadsEach (pieces lengths bytes) (Ok plant)
-ReadsLine lengths bytes (Err code) = ((code ≡ 112) × ¬ IsLine lengths bytes) ⊎ (IsLine lengths bytes × ReadsEach (pieces lengths bytes) (Err code))
+ReadsLine lengths bytes (Err code) = ((code ≡ 112) × ¬ IsLine lengths bytes)
+    ⊎ (IsLine lengths bytes × ReadsEach (pieces lengths bytes) (Err code))
 
 -- a segment with all its values as numbers
 abbrev pub placed_segment : Segment → PlacedSegment
@@ -61,9 +62,11 @@ pub record Writes (image : ProcessImageParts) (old new : List PlacedSegment) (si
 -- What placing a line answers: 0, this is its process image; 112, there are no such slaves; the code of the first slave that can't be read;
 -- 19, it has no process image; 113, there is no room for its segments; or 20, memory was refused. With another code than 0 nothing is
 -- changed.
-pub data PlacesLine (lengths bytes : List ℕ) (old : List PlacedSegment) (code : ℕ) (new : List PlacedSegment) (sizes : ImageSizes) (Unchanged : Type 0) : Type 0 where
+pub data PlacesLine (lengths bytes : List ℕ) (old : List PlacedSegment) (code : ℕ) (new : List PlacedSegment) (sizes : ImageSizes)
+    (Unchanged : Type 0) : Type 0 where
   done : (image : ProcessImageParts) → code ≡ 0 → IsLine lengths bytes → All (AreWords IsDeviceSize) (pieces lengths bytes)
-      → process_image (map words_in (pieces lengths bytes)) ≡ Some image → Writes image old new sizes → PlacesLine lengths bytes old code new sizes Unchanged
+      → process_image (map words_in (pieces lengths bytes)) ≡ Some image → Writes image old new sizes
+      → PlacesLine lengths bytes old code new sizes Unchanged
   no_line : code ≡ 112 → ¬ IsLine lengths bytes → Unchanged → PlacesLine lengths bytes old code new sizes Unchanged
   refused : IsLine lengths bytes → FirstRefused (pieces lengths bytes) code → Unchanged → PlacesLine lengths bytes old code new sizes Unchanged
   over_limit : code ≡ 19 → IsLine lengths bytes → All (AreWords IsDeviceSize) (pieces lengths bytes)

@@ -156,7 +156,8 @@ pub fn place_line(
     segments: &mut [PlacedSegment],
     sizes: &mut ImageSizes,
 ) -> u32
-    ensures { PlacesLine lengths.now bytes.now segments.old result segments.new sizes.new ((segments.new ≡ segments.old) × (sizes.new ≡ sizes.old)) }
+    ensures { PlacesLine lengths.now bytes.now segments.old result segments.new sizes.new ((segments.new ≡ segments.old)
+        × (sizes.new ≡ sizes.old)) }
 {
     let plant = match read_line(alloc, bytes, lengths) {
         Ok(plant) => plant,

@@ -70,7 +70,8 @@ fn judge_contents(alloc: Global, words: &[u16], categories: &[Category]) -> Resu
 pub(crate) fn judge_chain(alloc: Global, words: &[u16]) -> Result<(), Cause>
     requires { 64 ≤ length words.now }
     ensures { let malformed = malformed_in (members_of words.now) in
-        IsJudgement ((is_some malformed, Cause.BadCategory (unwrap_or malformed 0)) ∷ (is_err (members_of words.now), Cause.BadChain) ∷ []) result }
+        IsJudgement ((is_some malformed, Cause.BadCategory (unwrap_or malformed 0)) ∷ (is_err (members_of words.now), Cause.BadChain) ∷ [])
+        result }
 {
     let categories = chain(alloc, words)?;
     judge_contents(alloc, words, &categories)

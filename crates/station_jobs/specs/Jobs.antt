@@ -38,7 +38,8 @@ pub record Led {J O : Type 0} (Does : J → O → Seen → Seen → Type 0) (log
 
 -- After the jobs before it, a loop did no job, and `ended` holds. Or it did one more: either its outcome was reported and is one by which
 -- the site stopped, or `held` holds and it wasn't reported.
-abbrev pub EndsLoop : {J O : Type 0} → (J → O → Seen → Seen → Type 0) → (O → Type 0) → (ended held : Type 0) → List (Assignment J O) → Seen → Seen → Type 0
+abbrev pub EndsLoop : {J O : Type 0} → (J → O → Seen → Seen → Type 0) → (O → Type 0) → (ended held : Type 0)
+    → List (Assignment J O) → Seen → Seen → Type 0
 EndsLoop Does IsStop ended held [] old new = ended × (new ≡ old)
 EndsLoop {O = O} Does IsStop ended held (last ∷ []) old new =
     (outcome : O) × Does last.job outcome old new

@@ -3,8 +3,8 @@
 ghost use Rattle.wire_laws.specs.Amending.{PossibleIsAmended, AmendedStays, AmendedLeavesNoMore, BusyIsPossible, ReadBackIsPossible, OtherIsKept};
 ghost use Rattle.wire_laws.specs.Laws.{BroughtUpIsLike, LikeIsPossible, IsLikeItself, PossibleLeavesNoMore, AgreedIsPossible, RunIsPossible, StopLeavesNoMore};
 
-/// A slave as bring-up leaves it is like its shadow. A slave that is like its shadow, but for what is the controller's own, is one that the shadow may be. What a power cut leaves of any
-/// slave that the shadow may be is among what it may leave of the shadow.
+/// A slave as bring-up leaves it is like its shadow. A slave that is like its shadow, but for what is the controller's own, is one that the
+/// shadow may be. What a power cut leaves of any slave that the shadow may be is among what it may leave of the shadow.
 pub fn possible_leaves_no_more()
     ensures brought_up { BroughtUpIsLike }
     ensures itself { IsLikeItself }
