@@ -10,8 +10,9 @@ use Rattle.station_files.specs.declared.faults.Fault.{Fault}
 use Rattle.station_plan.specs.Plan.{IsPlanOf, PlansSite}
 use Rattle.station_plan.specs.declared.plan.Planned.{Planned}
 
-pub plans : (site : SiteValue) (commands : List Command) (planned : Planned) (answers ended final : ExitStatus) → IsPlanOf site commands Done answers planned → (final ≡ Done → (answers ≡ Done) × (ended ≡ Done)) → PlansSite site commands final
-plans site commands planned answers ended final is both = record { planned = planned; answers = answers; is = is; worst = λ done. (both done).0 }
+pub plans : (site : SiteValue) (commands : List Command) (planned : Planned) (status : ExitStatus) → IsPlanOf site commands Done status planned
+    → PlansSite site commands status
+plans site commands planned status is = record { planned = planned; answers = status; is = is; worst = λ done. done }
 
 -- what holds holds for any result
 pub on_ok : (result : Result (Unit {0}) Fault) (P : Type 0) → P → OnOk result P

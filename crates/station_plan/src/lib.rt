@@ -14,6 +14,6 @@ mod reading;
 mod tally;
 
 pub use journal::show_journal;
-pub use plan::{Planned, plan_script};
+pub use plan::{Planned, plan_line, plan_script};
 pub use reading::{Reading, read_readable};
 pub use tally::Tally;

@@ -19,7 +19,7 @@ use sii_words::Plant;
 use site_mem::FaultPlan;
 use site_shadow::ShadowSite;
 use station_alone::Alone;
-use station_files::{ExitStatus, Fault, Store, report_fault, status_of, worse};
+use station_files::{ExitStatus, Fault, Store, report_fault};
 use station_json::Form;
 use station_session::{Given, Session, load, of_open, open_station};
 use std::alloc::{AllocError, Global};
@@ -85,58 +85,86 @@ fn plan_given<L: Drop, W: Write, E: Write>(
         refusal: _,
         lock: _lock,
     } = session;
-    match form {
-        Form::Text => plan_text(alloc, site, is_old, commands, output, faults),
-        Form::Json => plan_rows(alloc, site, is_old, commands, output, faults),
+    match plan_line(alloc, site, is_old, commands, form, output) {
+        Ok(status) => status,
+        Err(fault) => report_fault(fault, faults),
     }
 }
 
-/// Plans a run of the commands on this line, and prints the plan as text.
-fn plan_text<W: Write, E: Write>(
+/// Plans a run of the commands on this line in memory, whose journal was of another version than 2 if `was_old`, and prints the plan, as
+/// `plan_script` does. Returns the exit status of such a run: `Done`, or that of the worst refusal.
+///
+/// # Errors
+///
+/// As for `open_station`, then as for `serve_commands`; then `File` as the output answers; `Memory` at any point. The answers to the commands up
+/// to there are printed all the same.
+pub fn plan_line<W: Write>(
     alloc: Global,
     site: ShadowSite<FaultPlan>,
     was_old: bool,
     commands: Vec<Command>,
+    form: Form,
     output: &mut W,
-    faults: &mut E,
-) -> ExitStatus
+) -> Result<ExitStatus, Fault>
     requires disk { IsTrue site.line.has_disk }
     requires owned { OwnsAll site.line }
     requires old { was_old ≡ is_old site.seen.state.disk.bytes }
-    ensures { IsFaultless result → PlansSite site commands.items result }
+    ensures { IfOk result (PlansSite site commands.items) }
 {
-    let mut status = ExitStatus::Done;
-    let ended = match plan_site(alloc, site, was_old, commands, output, &mut status) {
-        Ok(planned) => status_of(print_plan(alloc, &planned, output), faults),
-        Err(fault) => report_fault(fault, faults),
-    };
-    worse(status, ended)
+    match form {
+        Form::Text => plan_text(alloc, site, was_old, commands, output),
+        Form::Json => plan_rows(alloc, site, was_old, commands, output),
+    }
 }
 
-/// Plans a run of the commands on this line, and prints the plan as rows of JSON.
-fn plan_rows<W: Write, E: Write>(
+/// The same, as text.
+fn plan_text<W: Write>(
     alloc: Global,
     site: ShadowSite<FaultPlan>,
     was_old: bool,
     commands: Vec<Command>,
     output: &mut W,
-    faults: &mut E,
-) -> ExitStatus
+) -> Result<ExitStatus, Fault>
     requires disk { IsTrue site.line.has_disk }
     requires owned { OwnsAll site.line }
     requires old { was_old ≡ is_old site.seen.state.disk.bytes }
-    ensures { IsFaultless result → PlansSite site commands.items result }
+    ensures { IfOk result (PlansSite site commands.items) }
+{
+    let mut answered = ExitStatus::Done;
+    match plan_site(alloc, site, was_old, commands, output, &mut answered) {
+        Ok(planned) => match print_plan(alloc, &planned, output) {
+            Ok(()) => Ok(answered),
+            Err(fault) => Err(fault),
+        },
+        Err(fault) => Err(fault),
+    }
+}
+
+/// The same, as rows of JSON.
+fn plan_rows<W: Write>(
+    alloc: Global,
+    site: ShadowSite<FaultPlan>,
+    was_old: bool,
+    commands: Vec<Command>,
+    output: &mut W,
+) -> Result<ExitStatus, Fault>
+    requires disk { IsTrue site.line.has_disk }
+    requires owned { OwnsAll site.line }
+    requires old { was_old ≡ is_old site.seen.state.disk.bytes }
+    ensures { IfOk result (PlansSite site commands.items) }
 {
     let mut status = ExitStatus::Done;
     let mut answers = Vec::new(alloc);
-    let printed = match plan_site(alloc, site, was_old, commands, &mut answers, &mut status) {
-        Ok(planned) => status_of(write_plan(alloc, &answers, &planned, output), faults),
+    match plan_site(alloc, site, was_old, commands, &mut answers, &mut status) {
+        Ok(planned) => match write_plan(alloc, &answers, &planned, output) {
+            Ok(()) => Ok(status),
+            Err(fault) => Err(fault),
+        },
         Err(fault) => {
             let _ = write_answers(alloc, &answers, output);
-            report_fault(fault, faults)
+            Err(fault)
         }
-    };
-    worse(status, printed)
+    }
 }
 
 /// Opens the station on the line in memory, serves the commands on one thread, and compares the words before and after. Prints the

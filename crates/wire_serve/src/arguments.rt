@@ -1,6 +1,7 @@
 //! Reads the arguments of the program; also has the help texts.
 
 use crate::capture_argument::{capture_argument, capture_of};
+use crate::plan_arguments::{plan_command, plan_task};
 use crate::practice::{PowerCut, Practice};
 use crate::quirks::QuirkList;
 use crate::session_arguments::{
@@ -74,6 +75,17 @@ pub enum Task<'a> {
         /// What is asked for that isn't done where nothing is said.
         asked: Asked,
     },
+    /// Says what a run would do, and does nothing.
+    Plan {
+        /// The name of the line file.
+        line: &'a str,
+        /// The name of the script file.
+        script: &'a str,
+        /// What is asked for that isn't done where nothing is said.
+        asked: Asked,
+        /// Text, or rows of JSON.
+        form: Form,
+    },
     /// Recovers the line.
     Recover {
         /// The name of the line file.
@@ -94,6 +106,7 @@ impl<'a> Task<'a> {
             Task::Backup { line, .. }
             | Task::Init { line, .. }
             | Task::Run { line, .. }
+            | Task::Plan { line, .. }
             | Task::Recover { line, .. } => Some(line),
             Task::Scan { .. } | Task::BackupTo { .. } | Task::Slaves(_) | Task::Explain => None,
         }
@@ -102,7 +115,7 @@ impl<'a> Task<'a> {
     /// The name of the script, if the subcommand reads one.
     pub fn script(self) -> Option<&'a str> {
         match self {
-            Task::Run { script, .. } => Some(script),
+            Task::Run { script, .. } | Task::Plan { script, .. } => Some(script),
             _ => None,
         }
     }
@@ -224,13 +237,15 @@ fn read_words<'a>(
     words: &'a [String],
 ) -> Result<Arguments<'a>, Error> {
     let matches = command.try_get_matches_from_mut(words)?;
+    let run = matches.subcommand_matches("run");
+    let scripted = run.or(matches.subcommand_matches("plan"));
     Ok(Arguments {
         text: matches.get_str("text"),
         capture: capture_of(&matches),
         tenure: tenure_of(&matches),
         is_verbose: matches.get_flag("verbose"),
         task: task_of(command, &matches)?,
-        typed: typed_text(alloc, command, matches.subcommand_matches("run"))?,
+        typed: typed_text(alloc, command, scripted)?,
     })
 }
 
@@ -286,7 +301,7 @@ fn sizes_in<'a>(command: &mut Command<'a>, matches: &ArgMatches<'a>) -> Result<S
     }
 }
 
-/// The task of `init`, `run`, `recover` or `explain`, whose arguments need no further check.
+/// The task of `init`, `run`, `plan`, `recover` or `explain`, whose arguments need no further check.
 fn plain_task<'a>(matches: &ArgMatches<'a>) -> Option<Task<'a>> {
     if matches.subcommand_matches("explain").is_some() {
         return Some(Task::Explain);
@@ -304,6 +319,9 @@ fn plain_task<'a>(matches: &ArgMatches<'a>) -> Option<Task<'a>> {
             asked: asked_by_run(run),
         });
     }
+    if let Some(plan) = matches.subcommand_matches("plan") {
+        return Some(plan_task(plan));
+    }
     let recover = matches.subcommand_matches("recover")?;
     Some(Task::Recover {
         line: line_of(recover),
@@ -312,7 +330,7 @@ fn plain_task<'a>(matches: &ArgMatches<'a>) -> Option<Task<'a>> {
 }
 
 /// The name of the line file. It is required, so it is there.
-fn line_of<'a>(matches: &ArgMatches<'a>) -> &'a str {
+pub(crate) fn line_of<'a>(matches: &ArgMatches<'a>) -> &'a str {
     matches.get_str("LINE").unwrap_or("")
 }
 
@@ -359,6 +377,7 @@ fn program<'a>(alloc: Global) -> Result<Command<'a>, AllocError> {
     let program = with_subcommand(program, backup_command(alloc))?;
     let program = with_subcommand(program, init_command(alloc))?;
     let program = with_subcommand(program, run_command(alloc))?;
+    let program = with_subcommand(program, plan_command(alloc))?;
     let program = with_subcommand(program, recover_command(alloc))?;
     let program = with_subcommand(program, slaves_command(alloc))?;
     with_subcommand(program, explain_command(alloc))
@@ -406,7 +425,7 @@ fn scan_command<'a>(alloc: Global) -> Result<Command<'a>, AllocError> {
         .arg(capture_argument(alloc))
 }
 
-fn line_argument<'a>(alloc: Global) -> Arg<'a> {
+pub(crate) fn line_argument<'a>(alloc: Global) -> Arg<'a> {
     Arg::new(alloc, "LINE")
         .help("The line file: the slaves' image files and the journal's, in TOML")
         .required(true)
@@ -469,7 +488,7 @@ fn init_command<'a>(alloc: Global) -> Result<Command<'a>, AllocError> {
         .arg(capture_argument(alloc))
 }
 
-fn script_argument<'a>(alloc: Global) -> Result<Arg<'a>, AllocError> {
+pub(crate) fn script_argument<'a>(alloc: Global) -> Result<Arg<'a>, AllocError> {
     Arg::new(alloc, "SCRIPT")
         .help("The script file: the commands in order, in TOML")
         .required_unless_present("command")
@@ -551,7 +570,7 @@ A blank slave is an image file whose bytes are all 0xff. An image file may have 
 to 65536 words here; what its word 0x3E says is up to you.
 
 Example:
-  launch eth1 2000 sii_wire slaves line.toml --quirks 0:chip=128,missed=2,blocks";
+  sii_wire -i eth1 slaves line.toml --quirks 0:chip=128,missed=2,blocks";
 
 fn quirks_argument<'a>(alloc: Global) -> Arg<'a> {
     Arg::new(alloc, "quirks")

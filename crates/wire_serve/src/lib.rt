@@ -5,6 +5,7 @@ mod arguments;
 mod capture_argument;
 mod dated;
 mod explain;
+mod plan_arguments;
 mod practice;
 mod quirks;
 mod serving;

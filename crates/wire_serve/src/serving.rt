@@ -22,8 +22,8 @@ use std::sync::Wait;
 use std::thread::Threads;
 use wire_capture::CapturedWire;
 use wire_session::{
-    CaptureNames, WireFault, backup_line, begin_journal, init_on_wire, keep_capture_apart,
-    recover_line, run_script, scan_line,
+    CaptureNames, Named, WireFault, backup_line, begin_journal, init_on_wire, keep_capture_apart,
+    plan_on_wire, recover_line, run_script, scan_line,
 };
 
 /// Carries out a command line on the wire that is read and written by these two, and returns the exit status: `Done`; `Refused` where a
@@ -190,6 +190,15 @@ fn do_task<H: Wait + Threads + Clock + Sync, W: Wire + Send + Drop, S: Store, O:
             script,
             asked,
         } => run_script(rt, alloc, wire, line, script, asked, store, output),
+        Task::Plan {
+            line,
+            script,
+            asked,
+            form,
+        } => {
+            let named = Named { line, script };
+            plan_on_wire(alloc, &mut wire, rt, named, asked, form, store, output)
+        }
         Task::Recover { line, asked } => {
             all_done(recover_line(rt, alloc, wire, line, asked, store, output))
         }

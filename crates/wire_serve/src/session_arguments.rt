@@ -13,7 +13,7 @@ multiple of 64. It is needed for blank EEPROMs, whose size can't be told. Later
 calls take the size of each slave from its image file.
 
 Example:
-  launch eth0 2000 sii_wire backup line.toml --words 0=512,3=1024";
+  sii_wire -i eth0 backup line.toml --words 0=512,3=1024";
 
 /// The description of the argument with the sizes of EEPROMs.
 pub(crate) fn words_argument<'a>(alloc: Global) -> Arg<'a> {

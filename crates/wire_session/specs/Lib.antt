@@ -1,4 +1,5 @@
 pub mod Backup
 pub mod Opening
+pub mod Planning
 pub mod Reporting
 pub mod Running

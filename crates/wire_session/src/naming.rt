@@ -13,9 +13,11 @@ const MOST_SLAVES: usize = 64;
 
 /// The names of the line file and of the script of a run, as it is given them.
 #[derive(Clone, Copy)]
-pub(crate) struct Named<'a> {
-    pub(crate) line: &'a str,
-    pub(crate) script: &'a str,
+pub struct Named<'a> {
+    /// The line file.
+    pub line: &'a str,
+    /// The script.
+    pub script: &'a str,
 }
 
 /// Refuses a script that is a file of the line, as `keep_apart` does, or that names an image that is one. Nothing is written.

@@ -33,9 +33,9 @@ use std::thread::Threads;
 
 /// What was found for a run: the line, and the commands of the script.
 #[derive(Drop)]
-struct Given<L> {
-    found: Found<L>,
-    commands: Vec<Command>,
+pub(crate) struct Given<L> {
+    pub(crate) found: Found<L>,
+    pub(crate) commands: Vec<Command>,
 }
 
 /// Runs the script file `script` on the line on this wire, whose line file is `name`: submits its commands in order, serves them by
@@ -75,7 +75,7 @@ pub fn run_script<W: Wire + Send + Drop, S: Store, O: Write, R: Wait + Threads +
 }
 
 /// Reads the script, and then finds the line. No file changes. A script that can't be read leaves the wire alone.
-fn find_all<W: Wire, C: Clock, S: Store>(
+pub(crate) fn find_all<W: Wire, C: Clock, S: Store>(
     alloc: Global,
     wire: &mut NumberedWire<W>,
     clock: &C,

@@ -1,0 +1,63 @@
+//! The arguments of `plan`.
+
+use crate::Task;
+use crate::arguments::{line_argument, line_of, script_argument};
+use crate::capture_argument::capture_argument;
+use crate::session_arguments::{
+    asked_by_run, beside_argument, force_argument, form_of, json_argument, resize_argument,
+    trust_argument,
+};
+use clap::{ArgMatches, Command};
+use station_input::{script_of, typed_argument};
+use std::alloc::{AllocError, Global};
+
+/// The help text on what `plan` prints.
+const PLAN_ANSWERS: &str = "Answers, which sii_station plan --help lists in full:
+  command I accepted N           as run would answer, see run --help
+  command I refused CODE NAME
+  accepted A durable D settled S
+  slave P word 0xW old 0xO new 0xN
+                                 word W of slave P would get the value N in
+                                 place of O
+  writes words W bytes B syncs S
+                                 how much would be written
+and the process image before and after, if it changes.
+
+The line is found as for run: with the same flags, and refused for the same reasons
+before anything is printed. No word of a slave and no file is written, but for that
+of --capture.";
+
+/// Examples of `plan`.
+const PLAN_EXAMPLES: &str = "Examples:
+  sii_wire -i eth0 plan line.toml script.toml
+  sii_wire -i eth0 plan line.toml -e 'alias = { slave = 2, value = 7 }'";
+
+pub(crate) fn plan_command<'a>(alloc: Global) -> Result<Command<'a>, AllocError> {
+    Command::new(alloc, "plan")
+        .about("Says what a script would do to the line, and does nothing")
+        .long_about(
+            "Brings up the line, and prints how run would answer each command of the script, which words of which slaves would change, and \
+            how much would be written.",
+        )
+        .after_help(PLAN_EXAMPLES)
+        .after_long_help(PLAN_ANSWERS)
+        .arg(line_argument(alloc))?
+        .arg(script_argument(alloc)?)?
+        .arg(typed_argument(alloc)?)?
+        .arg(json_argument(alloc))?
+        .arg(beside_argument(alloc))?
+        .arg(force_argument(alloc))?
+        .arg(trust_argument(alloc))?
+        .arg(resize_argument(alloc))?
+        .arg(capture_argument(alloc))
+}
+
+/// The task of `plan`. The names are required, so they are there.
+pub(crate) fn plan_task<'a>(plan: &ArgMatches<'a>) -> Task<'a> {
+    Task::Plan {
+        line: line_of(plan),
+        script: script_of(plan),
+        asked: asked_by_run(plan),
+        form: form_of(plan),
+    }
+}

@@ -1,0 +1,30 @@
+-- `plan` on a wire: what a run of the commands would do to the slaves as they were found.
+use Rattle.std.specs.Prelude.{ℕ, List, None}
+use Rattle.sii_edit.specs.declared.command.Command.{Command}
+use Rattle.site_shadow.specs.Site.{SiteValue}
+use Rattle.station_text.specs.declared.line_file.LineFile.{LineFile}
+use Rattle.station_files.specs.Files.{Known}
+use Rattle.station_files.specs.Locations.{Leads}
+use Rattle.station_files.specs.ScriptFiles.{SpellsCommands}
+use Rattle.station_files.specs.declared.faults.ExitStatus.{ExitStatus}
+use Rattle.station_session.specs.Judging.{IsRunApart}
+use Rattle.station_session.specs.Site.{IsSiteOf}
+use Rattle.station_plan.specs.Plan.{PlansSite}
+use Rattle.wire_session.specs.Opening.{IsFound}
+
+-- The commands were planned on a site of slaves with these words and a journal with these bytes.
+pub record PlansFound (plant : List (List ℕ)) (bytes : List ℕ) (commands : List Command) (status : ExitStatus) : Type 0 where
+  pub site : SiteValue
+  pub made : IsSiteOf plant bytes site
+  pub plans : PlansSite site commands status
+
+-- The line was found and the script read, their files stand apart, and the commands were planned on the words that were found.
+pub record PlansOnWire (leads : Leads) (files : Known) (name script : List ℕ) (status : ExitStatus) : Type 0 where
+  pub line : LineFile
+  pub plant : List (List ℕ)
+  pub bytes : List ℕ
+  pub found : IsFound files name line plant bytes
+  pub commands : List Command
+  pub spelt : SpellsCommands files script commands
+  pub apart : IsRunApart files leads None line name script
+  pub plans : PlansFound plant bytes commands status

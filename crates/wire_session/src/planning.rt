@@ -1,0 +1,78 @@
+//! The subcommand `plan`.
+ghost use Rattle.std.specs.Prelude.{◌≡◌, ◌≤◌, length, IfOk};
+ghost use Rattle.wire_session.specs.Planning.{PlansFound, PlansOnWire};
+
+use crate::asked::Asked;
+use crate::faults::WireFault;
+use crate::naming::Named;
+use crate::opening::Found;
+use crate::running::{Given, find_all};
+use sii_edit::Command;
+use site_mem::FaultPlan;
+use site_wire::{NumberedWire, Wire, hand_back};
+use station_files::{ExitStatus, Store};
+use station_json::Form;
+use station_plan::plan_line;
+use station_session::{is_old, site_of};
+use std::alloc::Global;
+use std::io::Write;
+use std::rt::Clock;
+
+/// Prints what `run_script` would do with this script on the line on this wire: the line is found as for a run, the commands are served on a
+/// copy of it in memory, and the answers, the words that change and the rest are printed as `station_plan::plan_line` does. No word of a
+/// slave is written, and no file. The EEPROMs are handed back as they were found. Returns the exit status that such a run returns.
+///
+/// # Errors
+///
+/// As for `run_script`, up to where it would write the journal; then as for `plan_line`.
+pub fn plan_on_wire<W: Wire, C: Clock, S: Store, O: Write>(
+    alloc: Global,
+    wire: &mut NumberedWire<W>,
+    clock: &C,
+    named: Named<'_>,
+    asked: Asked,
+    form: Form,
+    store: &mut S,
+    output: &mut O,
+) -> Result<ExitStatus, WireFault>
+    ensures plans { IfOk result (PlansOnWire S.leads (S.files store.old) named.entry.line.now named.entry.script.now) }
+    ensures same { S.files store.new ≡ S.files store.old }
+{
+    let Named { line, script } = named;
+    match find_all(alloc, wire, clock, line, script, asked, store) {
+        Ok(given) => {
+            let Given { found, commands } = given;
+            hand_back(wire, &found.states);
+            plan_found(alloc, found, commands, form, output)
+        }
+        Err(fault) => Err(fault),
+    }
+}
+
+/// Plans a run of the commands on a copy in memory of the line that was found.
+fn plan_found<L: Drop, O: Write>(
+    alloc: Global,
+    found: Found<L>,
+    commands: Vec<Command>,
+    form: Form,
+    output: &mut O,
+) -> Result<ExitStatus, WireFault>
+    requires some { 1 ≤ length found.slaves.items }
+    requires most { length found.slaves.items ≤ 64 }
+    ensures { IfOk result (PlansFound found.slaves.items found.journal.items commands.items) }
+{
+    let Found {
+        line: _,
+        slaves,
+        states: _,
+        journal,
+        lock: _lock,
+        reports: _,
+    } = found;
+    let was_old = is_old(&journal);
+    let site = site_of(alloc, &slaves, journal, FaultPlan::none())?;
+    match plan_line(alloc, site, was_old, commands, form, output) {
+        Ok(status) => Ok(status),
+        Err(fault) => Err(WireFault::Station(fault)),
+    }
+}
