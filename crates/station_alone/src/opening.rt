@@ -52,7 +52,7 @@ fn plant_fits(plant: &Plant)
     }
 }
 
-/// CountsFound the batches and their commands.
+/// Counts the batches and their commands.
 fn count_found(batches: &[Batch]) -> Found
     requires { length batches.now + length (entries_of batches.now) < 2 ^ 64 }
     ensures batches { result.batches ≡ length batches.now }
