@@ -4,7 +4,6 @@ use Rattle.ecat_frame.specs.Frame.{Pdu}
 use Rattle.ecat_frame.specs.Command.{code_of}
 use Rattle.esc_model.specs.Bytes.{register_of}
 use Rattle.esc_model.specs.SlaveHalf.{SlaveHalf, is_busy}
-use Rattle.esc_model.specs.declared.rest.WordWrite.{WordWrite}
 use Rattle.site_wire.specs.declared.device.Next.{Next}
 use Rattle.site_wire.specs.declared.device.Next.TheVariants as next
 use Rattle.wire_laws.specs.Due.{WritesControl}
@@ -31,15 +30,14 @@ abbrev pub shown_by : Option ℕ → Shown
 shown_by None = shown.Nothing
 shown_by (Some status) = if nat_le 0x80 status then shown.Busy else if nat_le 0x20 status then shown.Failed else shown.Well
 
--- What is done behind an answer that shows this: a busy slave stays so; one that ended its command in error, or wasn't seen busy with it, is
--- told it again; a word that is shown as written is read back; and a read that has ended is at an end.
-abbrev pub next_by : Shown → Option WordWrite → Bool → Next
-next_by shown.Nothing write unconfirmed = next.Stays
-next_by shown.Busy write unconfirmed = next.Stays
-next_by shown.Failed write unconfirmed = next.Again
-next_by shown.Well write true = next.Again
-next_by shown.Well (Some write) false = next.ReadsBack write
-next_by shown.Well None false = next.Rests
+-- What is done behind an answer of a slave that writes a word, which shows this: a busy slave stays so; one that ended its command in error,
+-- or wasn't seen busy with it, is told it again; and a word that is shown as written is read back.
+abbrev pub next_by : Shown → Bool → Next
+next_by shown.Nothing unconfirmed = next.Stays
+next_by shown.Busy unconfirmed = next.Stays
+next_by shown.Failed unconfirmed = next.Again
+next_by shown.Well true = next.Again
+next_by shown.Well false = next.ReadsBack
 
 -- It is the answer to this datagram, of 16 bytes at most; what was written comes back as it was.
 pub record IsAnswer (given : Pdu) (answer : Answer) : Type 0 where
@@ -55,8 +53,8 @@ abbrev pub difference_at : (register given found : ℕ) → Option Difference
 difference_at register given found =
     if compared register given == compared register found then None
     else Some (if register == 0x0500 then difference.Access
-    else if register == 0x0503 then (if given / 0x80 == found / 0x80 then difference.Errors else difference.Busy)
-    else difference.Words)
+    else if given / 0x80 == found / 0x80 then difference.Errors
+    else difference.Busy)
 
 -- This is in what the first byte differs that was read from this register on.
 pub record FirstDiffers (register : ℕ) (given found : List ℕ) (what : Difference) : Type 0 where

@@ -1,8 +1,10 @@
 -- What a station sends on a line that a master keeps running (ETG.1000.4).
-use Rattle.std.specs.Prelude.{◌≡◌, ◌≢◌, ◌⊎◌, ℕ, ◌+◌, ◌<◌, ◌≤◌, List, length, slice_index}
+use Rattle.std.specs.Prelude.{◌≡◌, ◌≢◌, ◌⊎◌, ℕ, ◌+◌, ◌%◌, ◌<◌, ◌≤◌, true, List, length, slice_index, None}
 use Rattle.std.specs.List.{All}
 use Rattle.ecat_frame.specs.Frame.{Pdu}
 use Rattle.esc_model.specs.Bytes.{register_of}
+use Rattle.esc_model.specs.SlaveHalf.{SlaveHalf, Reading, in_flight}
+use Rattle.wire_laws.specs.Due.{is_command}
 use Rattle.site_wire.specs.declared.faults.LineFault.{LineFault}
 use Rattle.site_wire.specs.declared.faults.LineFault.TheVariants.{Unaddressed, SharedAddress}
 
@@ -14,6 +16,18 @@ InEeprom register count = (0x0500 ≤ register) × (register + count ≤ 0x0510)
 pub record IsForEeprom (d : Pdu) : Type 0 where
   pub by_station : (d.command ≡ 4) ⊎ (d.command ≡ 5)
   pub inside : InEeprom (register_of d.address) (length d.content)
+
+-- The datagram tells only what a shadow knows that was made of the slave's words: it is the command to read words (001); or it reads the data
+-- register or those behind it (0x0508 on); or it reads registers while the half reads words.
+pub data TellsNothing (half : SlaveHalf) (d : Pdu) : Type 0 where
+  begins : is_command d ≡ true → 2 ≤ length d.content → slice_index d.content 1 % 8 ≡ 1 → TellsNothing half d
+  fetches : d.command ≡ 4 → 0x0508 ≤ register_of d.address → TellsNothing half d
+  waits : d.command ≡ 4 → half.activity ≡ Reading → TellsNothing half d
+
+-- The shadow answers the datagram by itself: no word is in flight, and it tells nothing new.
+pub record IsKnown (half : SlaveHalf) (d : Pdu) : Type 0 where
+  pub quiet : in_flight half.activity ≡ None
+  pub tells : TellsNothing half d
 
 -- The datagram changes nothing else of a running line: no slave takes it (0, NOP); or it counts the slaves (7, BRD, of the first register);
 -- or it reads a station address by position (1, APRD, of 0x0010); or it is for an EEPROM.

@@ -1,5 +1,5 @@
-//! What a device sends of its own to a slave whose shadow is busy: a command again that the slave has not carried out, and the read of a
-//! word that it shows as written.
+//! What a device sends of its own to a slave whose shadow writes a word: the command again, where the slave has not carried it out, and the
+//! read of the word, once the slave shows it as written.
 ghost use Rattle.std.specs.Prelude.{◌≡◌, ◌+◌, ◌<◌, ◌≤◌, ◌∷◌, ◌++◌, [], Some, length};
 ghost use Rattle.std.specs.Int.{w16, w32, to_le_bytes};
 ghost use Rattle.ecat_frame.specs.Frame.{sent};
@@ -84,46 +84,19 @@ fn clear<L: Reach>(line: &mut L, slave: u16, half: &RomHalf) -> Option<Answer>
     line.pass(half, &clear_frame(slave))
 }
 
-/// Clears the errors of a slave, and issues the command again with which its half is busy: to write the word in flight, or to read `word`
-/// and the next one. Tells whether the slave took it. None where the line has stopped.
+/// Clears the errors of a slave, and tells it again to write the word in flight. Tells whether it took that. None where the line has stopped.
 pub(crate) fn issue_again<L: Reach>(
     line: &mut L,
     slave: u16,
     half: &RomHalf,
-    word: u16,
+    write: WordWrite,
 ) -> Option<bool>
-    requires { slave < 64 }
+    requires slave { slave < 64 }
+    requires flying { in_flight half.now.activity ≡ Some write }
+    requires inside { write.word < length half.now.words }
 {
     let _cleared = clear(line, slave, half)?;
-    match half.in_flight() {
-        Some(write) => write_again(line, slave, half, write.word, write.value),
-        None if usize::from(word) + 1 < half.words().len() => read_again(line, slave, half, word),
-        None => Some(false),
-    }
-}
-
-/// Tells a slave to write the word in flight, which is this one with this value. Tells whether it took that. None where the line has stopped.
-fn write_again<L: Reach>(
-    line: &mut L,
-    slave: u16,
-    half: &RomHalf,
-    word: u16,
-    value: u16,
-) -> Option<bool>
-    requires slave { slave < 64 }
-    requires flying { in_flight half.now.activity ≡ Some (record { word = word; value = value }) }
-    requires inside { word < length half.now.words }
-{
-    let answer = line.pass(half, &write_frame(slave, WordWrite { word, value }))?;
-    Some(answer.counter == 1)
-}
-
-/// Tells a slave to read a word and the next one. Tells whether it took that. None where the line has stopped.
-fn read_again<L: Reach>(line: &mut L, slave: u16, half: &RomHalf, word: u16) -> Option<bool>
-    requires slave { slave < 64 }
-    requires inside { word + 1 < length half.now.words }
-{
-    let answer = line.pass(half, &read_frame(slave, word, 0))?;
+    let answer = line.pass(half, &write_frame(slave, write))?;
     Some(answer.counter == 1)
 }
 

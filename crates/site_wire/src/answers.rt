@@ -166,8 +166,7 @@ fn is_answer(given: Datagram<'_>, answer: &Answer) -> bool
         && is_written
 }
 
-/// What is compared of a byte that was read at a register, as far as the station goes by it: who has access, busy and the error bits, and
-/// the two words.
+/// What is compared of a byte that was read at a register, as far as the station goes by it: who has access, busy and the error bits.
 fn compared_part(register: usize, byte: u8) -> u8
     ensures { result ≡ compared register byte }
 {
@@ -175,8 +174,6 @@ fn compared_part(register: usize, byte: u8) -> u8
         byte % 4
     } else if register == STATUS {
         byte / 0x20
-    } else if register >= WORDS && register < WORDS + 4 {
-        byte
     } else {
         0
     }
@@ -191,8 +188,6 @@ fn byte_difference(register: usize, given: u8, found: u8) -> Option<Difference>
     }
     Some(if register == ACCESS {
         Difference::Access
-    } else if register != STATUS {
-        Difference::Words
     } else if given / 0x80 == found / 0x80 {
         Difference::Errors
     } else {

@@ -1,19 +1,19 @@
 //! The slaves on a wire and the journal's file, as the device behind a shadow.
-ghost use Rattle.std.specs.Prelude.{◌≡◌, ◌<◌, ◌∷◌, ◌==◌, [], true, false, None, Some, slice_set, if◌then◌else◌, IsTrue, IfSome, IsSome};
-ghost use Rattle.ecat_frame.specs.Frame.{pdu};
+ghost use Rattle.std.specs.Prelude.{◌≡◌, ◌<◌, ◌∷◌, ◌==◌, [], true, false, None, Some, length, slice_set, if◌then◌else◌, IsTrue, IfSome, IsSome};
+ghost use Rattle.ecat_frame.specs.Frame.{Pdu, pdu};
 ghost use Rattle.wire_laws.specs.Due.{IsFit, WritesControl};
 ghost use Rattle.esc_model.specs.SlaveHalf.{in_flight, is_busy};
 ghost use Rattle.site_shadow.specs.declared.device.Resting.TheVariants as resting;
 ghost use Rattle.site_wire.specs.declared.answers.Shown.TheVariants as shown_as;
 ghost use Rattle.wire_laws.specs.Answers.{shown_status};
 ghost use Rattle.site_wire.specs.Answering.{found_of, shown_by, next_by, AgreesWith};
-ghost use Rattle.site_wire.specs.Sending.{IsForEeprom};
+ghost use Rattle.site_wire.specs.Sending.{IsForEeprom, IsKnown};
 
 use crate::amending::{issue_again, read_back};
 use crate::answers::{Answer, Comparison, Shown, compared_with, state_shown};
 use crate::asking::Last;
 use crate::faults::{Difference, Sighting, StopReason};
-use crate::fitting::{is_fit, is_for_eeprom, only_datagram, waits_for_rest, word_named};
+use crate::fitting::{is_fit, is_for_eeprom, is_known, only_datagram, waits_for_rest};
 use crate::numbered::NumberedWire;
 use crate::pace::{ATTEMPTS, Pace};
 use crate::reach::{LiveLine, Reach, SharedLine};
@@ -32,12 +32,15 @@ const LEFT: Pattern = Pattern::New;
 /// A line that was brought up on a wire, and a journal's file, as the device behind a shadow. The slaves and the file have what the
 /// shadow has as work on them begins, and nobody else writes them.
 ///
-/// Each frame is sent until it comes back, three times at most, and what a slave shows of itself is compared with the shadow: the
-/// working counter, who has access, busy, the error bits, and the two words that were read. Where they agree the shadow's answer is
-/// given. Else the site stops for good, and the line keeps the reason.
+/// The shadow answers reads of words by itself, and no frame is sent for them: it has the words that the slave has. It rests with the next
+/// datagram.
 ///
-/// A slave that ends a command in error is told to do it again, its error cleared before, for half a second; the shadow stays busy
-/// meanwhile. A word that the slave shows as written is read back before the shadow has it in place. Polls of a busy slave have pauses.
+/// Each other frame is sent until it comes back, three times at most, and what a slave shows of itself is compared with the shadow: the
+/// working counter, who has access, busy, and the error bits. Where they agree the shadow's answer is given. Else the site stops for good,
+/// and the line keeps the reason.
+///
+/// A slave that ends the write of a word in error is told to do it again, its error cleared before, for half a second; the shadow stays
+/// busy meanwhile. A word that the slave shows as written is read back before the shadow has it in place. Polls of a busy slave have pauses.
 ///
 /// Over a `SharedLine` each part of a line can have a copy. Once one of them has stopped, no other sends a frame.
 #[derive(Drop)]
@@ -45,12 +48,12 @@ pub struct WireDevice<'f, L, F, C> {
     line: L,
     clock: &'f C,
     journal: FileDevice<'f, F>,
-    /// What came back of the last frame. None where it wasn't sent, or didn't come back, or the slave does the command again.
+    /// What came back of the last frame. None where it wasn't sent, or didn't come back, or the slave writes its word again.
     returned: Option<Answer>,
     /// How the half rests before it takes the last frame.
     resting: Resting,
-    /// The command that each slave was told last.
-    commands: [SlaveCommand; 64],
+    /// The word that each slave writes.
+    writes: [SlaveWrite; 64],
     /// By slave, whether its command was not counted as it was sent last, and the slave wasn't seen busy since. Of each command that is at
     /// an end the slave was seen idle, and so this is settled.
     is_unconfirmed: [bool; 64],
@@ -58,11 +61,9 @@ pub struct WireDevice<'f, L, F, C> {
     is_over: bool,
 }
 
-/// The command that a slave was told last.
+/// How far a slave is with the word that it writes.
 #[derive(Clone, Copy)]
-struct SlaveCommand {
-    /// The word that it names.
-    word: u16,
+struct SlaveWrite {
     /// How often it was issued again, since the slave ended it in error or didn't take it.
     tries: u32,
     /// Between polls.
@@ -77,11 +78,10 @@ pub type WireSite<'f, W, F, C> = ShadowSite<WireDevice<'f, LiveLine<W>, F, C>>;
 /// A line on a wire that threads share, and a disk in a file.
 pub type SharedSite<'f, R, W, F, C> = ShadowSite<WireDevice<'f, SharedLine<'f, R, W>, F, C>>;
 
-impl SlaveCommand {
-    /// A command that names this word.
-    fn of(word: u16) -> SlaveCommand {
-        SlaveCommand {
-            word,
+impl SlaveWrite {
+    /// It was issued once.
+    fn begun() -> SlaveWrite {
+        SlaveWrite {
             tries: 0,
             polls: Pace::of_polls(),
             pauses: Pace::of_tries(),
@@ -103,7 +103,7 @@ impl<'f, L: Copy, F, C> Clone for WireDevice<'f, L, F, C> {
             journal: self.journal,
             returned: self.returned,
             resting: self.resting,
-            commands: self.commands,
+            writes: self.writes,
             is_unconfirmed: self.is_unconfirmed,
             is_over: self.is_over,
         })
@@ -148,30 +148,26 @@ impl<'f, R: Wait, W: Wire, F: RandomAccessFile, C: Clock> WireDevice<
     }
 }
 
-/// What is done behind an answer of a slave whose half is busy.
+/// What is done behind an answer of a slave whose half writes a word.
 #[derive(Clone, Copy)]
 enum Next {
     /// The half stays busy.
     Stays,
     /// The slave is told the command again.
     Again,
-    /// The half rests without an error, as the slave shows it.
-    Rests,
-    /// This word, which is in flight, is read back.
-    ReadsBack(WordWrite),
+    /// The word is read back.
+    ReadsBack,
 }
 
-/// What is done behind an answer that shows this of a slave: with the word that its half writes, and whether it wasn't seen busy with its
-/// command yet.
-fn next_of(shown: Shown, in_flight: Option<WordWrite>, is_unconfirmed: bool) -> Next
-    ensures { result ≡ next_by shown in_flight is_unconfirmed }
+/// What is done behind an answer that shows this of a slave: with whether it wasn't seen busy with its command yet.
+fn next_of(shown: Shown, is_unconfirmed: bool) -> Next
+    ensures { result ≡ next_by shown is_unconfirmed }
 {
-    match (shown, in_flight) {
-        (Shown::Nothing | Shown::Busy, _) => Next::Stays,
-        (Shown::Failed, _) => Next::Again,
-        (Shown::Well, _) if is_unconfirmed => Next::Again,
-        (Shown::Well, Some(write)) => Next::ReadsBack(write),
-        (Shown::Well, None) => Next::Rests,
+    match shown {
+        Shown::Nothing | Shown::Busy => Next::Stays,
+        Shown::Failed => Next::Again,
+        Shown::Well if is_unconfirmed => Next::Again,
+        Shown::Well => Next::ReadsBack,
     }
 }
 
@@ -184,7 +180,7 @@ impl<'f, L: Reach, F: RandomAccessFile, C: Clock> WireDevice<'f, L, F, C> {
             journal,
             returned: None,
             resting: Resting::Stays,
-            commands: [SlaveCommand::of(0); 64],
+            writes: [SlaveWrite::begun(); 64],
             is_unconfirmed: [false; 64],
             is_over: false,
         }
@@ -257,26 +253,27 @@ impl<'f, L: Reach, F: RandomAccessFile, C: Clock> WireDevice<'f, L, F, C> {
     }
 
     /// Sends a frame of one datagram, unless the half is busy and takes nothing of it. Where the half is busy, a pause comes first, and
-    /// then it rests as the answer shows.
+    /// then a word in flight ends as the answer shows.
     fn send(&mut self, slave: u16, half: &RomHalf, sent: Datagram<'_>, frame: &Frame)
         requires slave { slave < 64 }
         requires frame { frame.now ≡ pdu sent ∷ [] }
         requires fits { IsFit half.now (pdu sent) }
         requires eeprom { IsForEeprom (pdu sent) }
+        requires news { ¬ IsKnown half.now (pdu sent) }
         requires stays { self.old.resting ≡ resting.Stays }
     {
         let place = usize::from(slave);
         if !half.is_at_work() {
-            self.commands[place] = SlaveCommand::of(word_named(sent));
+            self.writes[place] = SlaveWrite::begun();
             self.is_unconfirmed[place] = false;
         } else if waits_for_rest(sent) {
             return;
         } else {
-            self.commands[place].polls.pause(self.clock);
+            self.writes[place].polls.pause(self.clock);
         }
         self.pass(half, sent, frame);
-        match self.returned {
-            Some(answer) if half.is_at_work() => self.follow(slave, half, answer),
+        match (self.returned, half.in_flight()) {
+            (Some(answer), Some(write)) => self.follow(slave, half, write, answer),
             _ => {}
         }
     }
@@ -288,33 +285,35 @@ impl<'f, L: Reach, F: RandomAccessFile, C: Clock> WireDevice<'f, L, F, C> {
         requires fits { IsFit half.now (pdu sent) }
         requires eeprom { IsForEeprom (pdu sent) }
         requires quiet { IsTrue (is_busy half.now.activity) → ¬ WritesControl (pdu sent) }
+        requires news { ¬ IsKnown half.now (pdu sent) }
         ensures { self.new.resting ≡ self.old.resting }
     {
         self.returned = self.line.pass(half, frame);
         self.is_over = self.returned.is_none();
     }
 
-    /// Does what is to be done behind this answer of a slave whose half is busy.
-    fn follow(&mut self, slave: u16, half: &RomHalf, answer: Answer)
+    /// Does what is to be done behind this answer of a slave whose half writes a word.
+    fn follow(&mut self, slave: u16, half: &RomHalf, write: WordWrite, answer: Answer)
         requires slave { slave < 64 }
+        requires flying { in_flight half.now.activity ≡ Some write }
+        requires inside { write.word < length half.now.words }
         requires stays { self.old.resting ≡ resting.Stays }
-        ensures read { in_flight half.now.activity ≡ None → self.new.resting ≡ resting.Well → shown_by (shown_status (found_of answer)) ≡ shown_as.Well }
-        ensures failed { self.new.resting ≡ resting.Failed → in_flight half.now.activity ≡ None }
+        ensures busy { shown_by (shown_status (found_of answer)) ≡ shown_as.Busy → self.new.resting ≡ resting.Stays }
+        ensures failed { ¬ (self.new.resting ≡ resting.Failed) }
     {
         let is_unconfirmed = self.is_unconfirmed[usize::from(slave)];
         let shown = state_shown(&answer);
-        match next_of(shown, half.in_flight(), is_unconfirmed) {
+        match next_of(shown, is_unconfirmed) {
             Next::Stays => {
                 if shown == Shown::Busy {
                     self.set_unconfirmed(usize::from(slave), false);
                 }
             }
-            Next::Rests => self.resting = Resting::Well,
-            Next::ReadsBack(write) => match self.read_back(slave, half, write) {
+            Next::Again => self.try_again(slave, half, write, answer),
+            Next::ReadsBack => match self.read_back(slave, half, write) {
                 Some(value) if value == write.value => self.resting = Resting::Well,
-                _ => self.try_again(slave, half, answer),
+                _ => self.try_again(slave, half, write, answer),
             },
-            Next::Again => self.try_again(slave, half, answer),
         }
     }
 
@@ -328,52 +327,44 @@ impl<'f, L: Reach, F: RandomAccessFile, C: Clock> WireDevice<'f, L, F, C> {
         found
     }
 
-    /// Tells the slave the command again with which its half is busy, so that it stays busy. Once that has gone on for half a second, it
-    /// ends in error.
-    fn try_again(&mut self, slave: u16, half: &RomHalf, answer: Answer)
+    /// Tells the slave again to write the word in flight, so that its half stays busy. Once that has gone on for half a second, it ends in
+    /// error.
+    fn try_again(&mut self, slave: u16, half: &RomHalf, write: WordWrite, answer: Answer)
         requires slave { slave < 64 }
+        requires flying { in_flight half.now.activity ≡ Some write }
+        requires inside { write.word < length half.now.words }
         requires stays { self.old.resting ≡ resting.Stays }
-        ensures read { in_flight half.now.activity ≡ None → ¬ (self.new.resting ≡ resting.Well) }
-        ensures failed { self.new.resting ≡ resting.Failed → in_flight half.now.activity ≡ None }
+        ensures { ¬ (self.new.resting ≡ resting.Failed) }
     {
         let place = usize::from(slave);
         if self.is_over {
             return;
         }
-        if self.commands[place].tries >= ATTEMPTS {
-            return self.end_in_error(slave, half, answer);
+        if self.writes[place].tries >= ATTEMPTS {
+            return self.end_in_error(slave, half, write, answer);
         }
         self.returned = None;
-        self.commands[place].tries += 1;
-        self.commands[place].pauses.pause(self.clock);
-        match issue_again(&mut self.line, slave, half, self.commands[place].word) {
+        self.writes[place].tries += 1;
+        self.writes[place].pauses.pause(self.clock);
+        match issue_again(&mut self.line, slave, half, write) {
             Some(is_taken) => self.set_unconfirmed(place, !is_taken),
             None => self.is_over = true,
         }
     }
 
-    /// The half ends its command in error, as the slave does. A word in flight holds what the slave has.
-    fn end_in_error(&mut self, slave: u16, half: &RomHalf, answer: Answer)
+    /// The half ends its write in error, as the slave does. The word in flight holds what the slave has.
+    fn end_in_error(&mut self, slave: u16, half: &RomHalf, write: WordWrite, answer: Answer)
         requires slave { slave < 64 }
         requires stays { self.old.resting ≡ resting.Stays }
-        ensures read { in_flight half.now.activity ≡ None → ¬ (self.new.resting ≡ resting.Well) }
-        ensures failed { self.new.resting ≡ resting.Failed → in_flight half.now.activity ≡ None }
+        ensures { ¬ (self.new.resting ≡ resting.Failed) }
     {
-        let place = usize::from(slave);
-        let Some(write) = half.in_flight() else {
-            if state_shown(&answer) == Shown::Failed {
-                self.resting = Resting::Failed;
-            } else {
-                let reason = StopReason::Unconfirmed { slave: place };
-                self.stop(reason, Some((slave, answer.last())));
-            }
-            return;
-        };
         self.returned = None;
         match self.read_back(slave, half, write) {
             Some(value) => self.resting = ended_with(write, value),
             None => {
-                let reason = StopReason::WordFailed { slave: place };
+                let reason = StopReason::WordFailed {
+                    slave: usize::from(slave),
+                };
                 self.stop(reason, Some((slave, answer.last())));
             }
         }
@@ -424,16 +415,25 @@ impl<'f, L: Reach, F: RandomAccessFile, C: Clock> Device for WireDevice<'f, L, F
         self.end_call(passing)
     }
 
-    /// Sends the frame, unless the half is busy and takes nothing of it. A frame that doesn't come back may have been taken, so the half
-    /// takes it before the site stops.
-    fn exchange(&mut self, slave: usize, half: &RomHalf, frame: &Frame) -> Passing {
+    /// Sends the frame, unless its datagram tells nothing new, and the half rests and answers by itself; or the half is busy and takes nothing
+    /// of it. A frame that doesn't come back may have been taken, so the half takes it before the site stops.
+    fn exchange(&mut self, slave: usize, half: &RomHalf, frame: &Frame) -> Passing
+        ensures known { (d : Pdu) → frame.now ≡ d ∷ [] → IsKnown half.now d → self.new.is_over ≡ false
+            → self.new ≡ record self.old { returned = None; resting = resting.Well } }
+    {
         self.returned = None;
         self.resting = Resting::Stays;
         if self.is_over {
             return Passing::Stops(LEFT);
         }
         match (fit_datagram(half, frame), u16::try_from(slave)) {
-            (Some(sent), Ok(number)) if number < 64 => self.send(number, half, sent, frame),
+            (Some(sent), Ok(number)) if number < 64 => {
+                if is_known(half, sent) {
+                    self.resting = Resting::Well;
+                } else {
+                    self.send(number, half, sent, frame);
+                }
+            }
             _ => {
                 self.stop(StopReason::NotOneDatagram { slave }, None);
                 return Passing::Stops(LEFT);

@@ -1,12 +1,12 @@
 //! Which datagrams go to a slave.
-ghost use Rattle.std.specs.Prelude.{◌≡◌, ◌<◌, ◌/◌, ◌↔◌, ◌∷◌, [], IsTrue, IfSome};
+ghost use Rattle.std.specs.Prelude.{◌≡◌, ◌<◌, ◌≤◌, ◌/◌, ◌%◌, ◌↔◌, ◌∷◌, [], length, slice_index, IsTrue, IfSome};
 ghost use Rattle.ecat_frame.specs.Frame.{pdu};
 ghost use Rattle.wire_laws.specs.Due.{WritesControl, IsFit, NamesInside, is_command};
-ghost use Rattle.site_wire.specs.Sending.{IsForEeprom};
+ghost use Rattle.site_wire.specs.Sending.{IsForEeprom, IsKnown};
 
 use ecat_frame::{Datagram, Frame};
 use esc_model::RomHalf;
-use esc_rom::{ACCESS, CONTROL};
+use esc_rom::{ACCESS, CONTENT, CONTROL};
 
 /// The code of FPRD (ETG.1000.4).
 pub(crate) const FPRD: u8 = 4;
@@ -61,11 +61,27 @@ pub(crate) fn only_datagram(frame: &Frame) -> Option<Datagram<'_>>
     Some(frame.datagram(0))
 }
 
-/// The word that a command names. 0 where it names none.
-pub(crate) fn word_named(datagram: Datagram<'_>) -> u16 {
-    match datagram.content {
-        [_, _, low, high, ..] => u16::from_le_bytes([*low, *high]),
-        _ => 0,
+/// Whether the datagram, which is fit, tells of the slave only what its shadow knows, so that it needn't be sent: no word is in flight, and it
+/// is the command to read words, or a read of the data register, or, while the half reads, of any.
+pub(crate) fn is_known(half: &RomHalf, datagram: Datagram<'_>) -> bool
+    ensures { IsTrue result ↔ IsKnown half.now (pdu datagram.entry) }
+{
+    if half.in_flight().is_some() {
+        return false;
+    }
+    if datagram.command.code() == FPRD {
+        return half.is_at_work() || register_of(datagram.address) >= usize::from(CONTENT);
+    }
+    is_command(datagram) && is_read_command(datagram.content)
+}
+
+/// Whether these bytes, from control and status on, are the command to read words.
+fn is_read_command(content: &[u8]) -> bool
+    ensures { IsTrue result ↔ (2 ≤ length content.now) × (slice_index content.now 1 % 8 ≡ 1) }
+{
+    match content {
+        [_, command, ..] => command % 8 == 1,
+        _ => false,
     }
 }
 

@@ -10,9 +10,10 @@ use Rattle.esc_model.proofs.Status.{idle_not_busy, no_error}
 use Rattle.wire_laws.specs.Due.{WritesControl}
 use Rattle.wire_laws.specs.Likeness.{IsLike, MayBe}
 use Rattle.wire_laws.specs.Answers.{AnswersAlike, has_status}
-use Rattle.wire_laws.specs.Exchanges.{IsSent, Takes, Takings, rested_well, rested_failed, rested_as, rested_by_answer, Agrees, alike, unconfirmed, unsent, answered, start, next, silent, told}
+use Rattle.wire_laws.specs.Exchanges.{IsSent, Takes, Takings, rested_well, rested_failed, rested_as, rested_by_answer, Agrees, alike, unconfirmed, unsent, reads_alone, shows_alone, answered, start, next, silent, told}
 use Rattle.wire_laws.specs.Laws.{AgreedIsPossible, StopLeavesNoMore, RunIsPossible}
 use Rattle.wire_laws.proofs.Liking.{IsLike-then, like_is_possible, possible_leaves_no_more}
+use Rattle.wire_laws.proofs.Alone.{read_alone}
 use Rattle.wire_laws.proofs.Taking.{true_or_false, served_other, writes_here, writes_inside, served_write, written_ignored}
 use Rattle.wire_laws.proofs.Again.{MaySend, place_of}
 use Rattle.wire_laws.proofs.Chain.{takings, told_once, more_takings, served_leaves}
@@ -229,6 +230,13 @@ ignored shadow d busy writes = elim (true_or_false (writes_here shadow (command_
 pub agreed_is_possible : AgreedIsPossible
 agreed_is_possible shadow real shadow_after real_after be (unsent d busy writes is same) =
     subst (λ (h : SlaveHalf). MayBe h real_after) (sym (is ∙ ignored shadow d busy writes)) (subst (MayBe shadow) (sym same) be)
+agreed_is_possible shadow real shadow_after real_after be (reads_alone d begins is same) =
+    subst (λ (h : SlaveHalf). MayBe h real_after) (sym is)
+    (subst (MayBe (record (served_datagram shadow d).half { activity = Idle })) (sym same)
+    (like_is_possible (record (served_datagram shadow d).half { activity = Idle }) real (read_alone shadow real d be begins)))
+agreed_is_possible shadow real shadow_after real_after be (shows_alone d reads is same) =
+    subst (λ (h : SlaveHalf). MayBe h real_after)
+    (sym (is ∙ served_other shadow (command_of d.command) d.address d.content (reads_only shadow d reads))) (subst (MayBe shadow) (sym same) be)
 agreed_is_possible shadow real shadow_after real_after be (answered d found sent may answers is agrees) =
     subst (λ (h : SlaveHalf). MayBe h real_after) (sym is)
     (agreed_behind shadow shadow real answers.mid answers.after d found sent may be answers.before answers.told real_after answers.behind shadow_after agrees)

@@ -1,13 +1,11 @@
 -- What a device does of its own keeps the real slave one of which a power cut leaves no more than of its shadow.
-use Rattle.std.proofs.Common.{◌≡◌, ◌⊎◌, ℕ, ◌+◌, ◌-◌, ◌*◌, ◌/◌, ◌%◌, ◌^◌, ◌<◌, ◌≤◌, ◌&&◌, Bool, true, false, nat_le, List, length, slice_index, slice_set, refl, sym, ap, subst, ◌∙◌, inl, inr, arith}
-use Rattle.std.specs.Prelude.{◌==◌, if◌then◌else◌}
+use Rattle.std.proofs.Common.{◌≡◌, ◌⊎◌, ℕ, ◌+◌, ◌-◌, ◌*◌, ◌/◌, ◌%◌, ◌^◌, ◌<◌, ◌≤◌, ◌&&◌, true, false, nat_le, List, length, slice_index, slice_set, refl, sym, ap, subst, ◌∙◌, inl, inr, arith}
 use Rattle.std.proofs.lemmas.List.{set-set, set-get_or}
 use Rattle.std.proofs.lemmas.Bool.{le-leb}
 use Rattle.ecat_frame.specs.Command.{command_of}
 use Rattle.ecat_frame.specs.Frame.{Pdu}
 use Rattle.esc_model.specs.Bytes.{register_of}
-use Rattle.esc_model.specs.Registers.{access_byte}
-use Rattle.esc_model.specs.SlaveHalf.{SlaveHalf, Activity, Idle, Reading, Writing, is_busy, with_stored, settled, with_errors, MayEnd, MayRest, MayHold, written}
+use Rattle.esc_model.specs.SlaveHalf.{SlaveHalf, Activity, Idle, Reading, Writing, is_busy, settled, with_errors, MayEnd, MayRest, MayHold, written}
 use Rattle.esc_model.specs.Datagrams.{served_datagram}
 use Rattle.esc_model.proofs.Resting.{MayHold-same, MayLeave-same, MayRest-station, MayRest-leaves}
 use Rattle.esc_model.proofs.Status.{idle_not_busy}
@@ -16,8 +14,7 @@ use Rattle.wire_laws.specs.Due.{IsOwn, clears, reads, writes}
 use Rattle.wire_laws.specs.Likeness.{IsLike}
 use Rattle.wire_laws.specs.Amending.{IsAmended, start, next, PossibleIsAmended, AmendedStays, AmendedLeavesNoMore, BusyIsPossible, ReadBackIsPossible, OtherIsKept}
 use Rattle.wire_laws.proofs.Liking.{MayHold-then, like_is_possible}
-use Rattle.wire_laws.proofs.Storing.{after_before}
-use Rattle.wire_laws.proofs.Stored.{offered_is, forced_is, command_given}
+use Rattle.wire_laws.proofs.Stored.{offered_kept, forced_kept, command_given}
 use Rattle.wire_laws.proofs.Judged.{judged, Doing, Nothing, Fetches, Writes, doing_of, done, begun_is, writes_command}
 use Rattle.wire_laws.proofs.Taking.{true_or_false, writes_here, served_other, served_write, written_idle, written_ignored, judges}
 use Rattle.wire_laws.proofs.Showing.{reads_only}
@@ -83,40 +80,17 @@ amended_like shadow real later am like = record {
 
 -- TAKING
 
-offered_bit : (offered forced : Bool) → (((if offered then 1 else 0) + (if forced then 2 else 0)) % 2 == 1) ≡ offered
-offered_bit true true = refl
-offered_bit true false = refl
-offered_bit false true = refl
-offered_bit false false = refl
-
-forced_bit : (offered forced : Bool) → (((if offered then 1 else 0) + (if forced then 2 else 0)) / 2 % 2 == 1) ≡ forced
-forced_bit true true = refl
-forced_bit true false = refl
-forced_bit false true = refl
-forced_bit false false = refl
-
--- a write from control and status on keeps the access
 module _ (half : SlaveHalf) (over : List ℕ) where
-  offered_kept : (with_stored half 2 over).registers.offered ≡ half.registers.offered
-  offered_kept =
-      offered_is half 2 over ∙ ap (λ (n : ℕ). n % 2 == 1) (after_before (access_byte half.registers) 2 0 over (omega arith))
-      ∙ offered_bit half.registers.offered half.registers.forced
-
-  forced_kept : (with_stored half 2 over).registers.forced ≡ half.registers.forced
-  forced_kept =
-      forced_is half 2 over ∙ ap (λ (n : ℕ). n / 2 % 2 == 1) (after_before (access_byte half.registers) 2 0 over (omega arith))
-      ∙ forced_bit half.registers.offered half.registers.forced
-
   -- what it begins is no more than what the shadow does
   begins : (shadow : SlaveHalf) → half.activity ≡ Idle → IsAmended shadow half
       → (doing_of (judged half 2 over) ≡ Writes → Writing (judged half 2 over).registers.address (judged half 2 over).registers.first ≡ shadow.activity)
       → (d : Doing) → doing_of (judged half 2 over) ≡ d → IsAmended shadow (done d (judged half 2 over))
   begins shadow idle am same Nothing is =
-      record { station = am.station; offered = offered_kept ∙ am.offered; forced = forced_kept ∙ am.forced; words = am.words; activity = inl idle }
+      record { station = am.station; offered = offered_kept half over ∙ am.offered; forced = forced_kept half over ∙ am.forced; words = am.words; activity = inl idle }
   begins shadow idle am same Fetches is =
-      record { station = am.station; offered = offered_kept ∙ am.offered; forced = forced_kept ∙ am.forced; words = am.words; activity = inr (inl refl) }
+      record { station = am.station; offered = offered_kept half over ∙ am.offered; forced = forced_kept half over ∙ am.forced; words = am.words; activity = inr (inl refl) }
   begins shadow idle am same Writes is =
-      record { station = am.station; offered = offered_kept ∙ am.offered; forced = forced_kept ∙ am.forced; words = am.words; activity = inr (inr (same is)) }
+      record { station = am.station; offered = offered_kept half over ∙ am.offered; forced = forced_kept half over ∙ am.forced; words = am.words; activity = inr (inr (same is)) }
 
 value_back : (value : ℕ) → value < 2 ^ 16 → value % 256 + 256 * (value / 256 % 256) ≡ value
 value_back value small = omega arith

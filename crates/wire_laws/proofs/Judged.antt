@@ -49,6 +49,19 @@ does_nothing half zero = (rw zero refl) ∙ by (half.registers.command_error || 
     by true = refl
     by false = refl
 
+-- a read that begins has no error
+pub fetches_well : (half : SlaveHalf) → doing_of half ≡ Fetches → (half.registers.command_error ≡ false) × (half.registers.enable_error ≡ false)
+unfolding doing
+fetches_well half is =
+    by half.registers.command_error half.registers.enable_error (half.registers.command == 1) (half.registers.command == 2) is
+  where
+    by : (first second reads writes : Bool)
+        → (if first || second then Nothing else if reads then Fetches else if writes then Writes else Nothing) ≡ Fetches
+        → (first ≡ false) × (second ≡ false)
+    by true second reads writes e = absurd cc
+    by false true reads writes e = absurd cc
+    by false false reads writes e = (refl, refl)
+
 pub writes_command : (half : SlaveHalf) → doing_of half ≡ Writes → half.registers.command ≡ 2
 unfolding doing
 writes_command half is =

@@ -6,5 +6,6 @@ mod Taking
 mod Again
 mod Chain
 mod Showing
+mod Alone
 mod Agreeing
 mod Amending

@@ -1,5 +1,5 @@
 -- The registers after a write, by what they were before.
-use Rattle.std.proofs.Common.{◌≡◌, ℕ, ◌+◌, ◌-◌, ◌*◌, ◌/◌, ◌%◌, ◌<◌, ◌≤◌, List, length, slice_index, refl, sym, ap, ◌∙◌, arith}
+use Rattle.std.proofs.Common.{◌≡◌, ℕ, ◌+◌, ◌-◌, ◌*◌, ◌/◌, ◌%◌, ◌<◌, ◌≤◌, Bool, true, false, List, length, slice_index, refl, sym, ap, ◌∙◌, arith}
 use Rattle.std.specs.Prelude.{◌==◌, if◌then◌else◌}
 use Rattle.std.proofs.lemmas.Bool.Decides.{nat_tests}
 use Rattle.esc_model.specs.Bytes.{overlaid}
@@ -112,6 +112,32 @@ module _ (a b : SlaveHalf) (at : ℕ) (over : List ℕ) where
       command_is a at over
       ∙ ap (λ (n : ℕ). n % 8)
       (after_within (status_byte a.registers (is_busy a.activity)) at 3 over (omega arith) (omega arith) ∙ ap (λ (n : ℕ). slice_index over (3 - n)) from)
+
+-- WHAT KEEPS THE ACCESS
+
+offered_bit : (offered forced : Bool) → (((if offered then 1 else 0) + (if forced then 2 else 0)) % 2 == 1) ≡ offered
+offered_bit true true = refl
+offered_bit true false = refl
+offered_bit false true = refl
+offered_bit false false = refl
+
+forced_bit : (offered forced : Bool) → (((if offered then 1 else 0) + (if forced then 2 else 0)) / 2 % 2 == 1) ≡ forced
+forced_bit true true = refl
+forced_bit true false = refl
+forced_bit false true = refl
+forced_bit false false = refl
+
+-- a write from control and status on keeps the access
+module _ (half : SlaveHalf) (over : List ℕ) where
+  pub offered_kept : (with_stored half 2 over).registers.offered ≡ half.registers.offered
+  offered_kept =
+      offered_is half 2 over ∙ ap (λ (n : ℕ). n % 2 == 1) (after_before (access_byte half.registers) 2 0 over (omega arith))
+      ∙ offered_bit half.registers.offered half.registers.forced
+
+  pub forced_kept : (with_stored half 2 over).registers.forced ≡ half.registers.forced
+  forced_kept =
+      forced_is half 2 over ∙ ap (λ (n : ℕ). n / 2 % 2 == 1) (after_before (access_byte half.registers) 2 0 over (omega arith))
+      ∙ forced_bit half.registers.offered half.registers.forced
 
 -- WRITTEN AGAIN
 

@@ -3,13 +3,12 @@ use Rattle.std.specs.Prelude.{◌≡◌, ℕ, ◌+◌, ◌-◌, ◌<◌, ◌/◌
 use Rattle.ecat_frame.specs.Frame.{Pdu}
 use Rattle.esc_model.specs.Bytes.{register_of}
 
--- What is compared of a byte that was read at this register: of 0x0500 who has access, bits 0 and 1; of 0x0503 busy and the errors, bits
--- 5 to 7; and the two words, 0x0508 to 0x050B.
+-- What is compared of a byte that was read at this register: of 0x0500 who has access, bits 0 and 1; and of 0x0503 busy and the errors,
+-- bits 5 to 7.
 abbrev pub compared : (register byte : ℕ) → ℕ
 compared register byte =
     if register == 0x0500 then byte % 4
     else if register == 0x0503 then byte / 0x20
-    else if nat_le 0x0508 register && nat_lt register 0x050C then byte
     else 0
 
 -- The bytes that were read from this register on are the same in what is compared.

@@ -63,6 +63,14 @@ rested_as (Some status) half =
 abbrev pub rested_by_answer : Pdu → SlaveHalf → SlaveHalf
 rested_by_answer found shadow = rested_as (shown_status found) shadow
 
+-- The shadow is idle, shows no error, and begins to read words as it takes this datagram.
+pub record BeginsToRead (shadow : SlaveHalf) (d : Pdu) : Type 0 where
+  pub idle : shadow.activity ≡ Idle
+  pub command_error : shadow.registers.command_error ≡ false
+  pub enable_error : shadow.registers.enable_error ≡ false
+  pub fits : IsFit shadow d
+  pub reads : (served_datagram shadow d).half.activity ≡ Reading
+
 -- BOTH
 
 -- The answer is the shadow's, in what is compared. Or it is to a command with which the shadow is busy now, and doesn't count it.
@@ -70,10 +78,15 @@ pub data Agrees (shadow : SlaveHalf) (given found : Pdu) : Type 0 where
   alike : AnswersAlike given found → Agrees shadow given found
   unconfirmed : IsTrue (is_busy shadow.activity) → WritesControl given → given.counter ≡ 1 → found.counter ≡ 0 → Agrees shadow given found
 
--- Both have taken a datagram, and the site goes on: nothing was sent, since the shadow is busy and the datagram writes to control and
--- status; or the slave's answer came back, and agrees with the shadow's.
+-- The shadow has taken a datagram, and the site goes on. Nothing was sent: the shadow is busy, and the datagram writes to control and status;
+-- or the shadow has read words by itself, and rests; or it has shown its registers by itself (code 4, FPRD). Or the slave has taken it too,
+-- and its answer came back, and agrees with the shadow's.
 pub data Exchange (shadow real shadow_after real_after : SlaveHalf) : Type 0 where
   unsent : (d : Pdu) → IsTrue (is_busy shadow.activity) → WritesControl d
+      → shadow_after ≡ (served_datagram shadow d).half → real_after ≡ real → Exchange shadow real shadow_after real_after
+  reads_alone : (d : Pdu) → BeginsToRead shadow d
+      → shadow_after ≡ record (served_datagram shadow d).half { activity = Idle } → real_after ≡ real → Exchange shadow real shadow_after real_after
+  shows_alone : (d : Pdu) → d.command ≡ 4
       → shadow_after ≡ (served_datagram shadow d).half → real_after ≡ real → Exchange shadow real shadow_after real_after
   answered : (d found : Pdu) → IsSent shadow d → (IsTrue (is_busy shadow.activity) → ¬ WritesControl d)
       → Answers d real found real_after

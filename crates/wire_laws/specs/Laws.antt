@@ -1,8 +1,10 @@
 -- Laws that hold for a real slave and its shadow.
 use Rattle.std.specs.Prelude.{◌≡◌, ℕ, false, List}
+use Rattle.ecat_frame.specs.Frame.{Pdu}
 use Rattle.esc_model.specs.SlaveHalf.{SlaveHalf, Idle, powered_up, MayLeave}
+use Rattle.esc_model.specs.Datagrams.{served_datagram}
 use Rattle.wire_laws.specs.Likeness.{IsLike, MayBe}
-use Rattle.wire_laws.specs.Exchanges.{Exchange, Exchanges, Stop}
+use Rattle.wire_laws.specs.Exchanges.{BeginsToRead, Exchange, Exchanges, Stop}
 
 -- A half that is like the shadow is one that the shadow may be.
 abbrev pub LikeIsPossible : Type 0
@@ -35,6 +37,10 @@ PossibleLeavesNoMore = (shadow real : SlaveHalf) (left : List ℕ) → MayBe sha
 abbrev pub AgreedIsPossible : Type 0
 AgreedIsPossible = (shadow real shadow_after real_after : SlaveHalf) → MayBe shadow real
     → Exchange shadow real shadow_after real_after → MayBe shadow_after real_after
+
+-- While a shadow reads words by itself, the real slave, which is sent nothing, is one that it may be.
+abbrev pub ReadAloneIsPossible : Type 0
+ReadAloneIsPossible = (shadow real : SlaveHalf) (d : Pdu) → MayBe shadow real → BeginsToRead shadow d → MayBe (served_datagram shadow d).half real
 
 -- Where the site stops, a power cut leaves of the real slave what it may leave of the shadow.
 abbrev pub StopLeavesNoMore : Type 0

@@ -1,7 +1,7 @@
 //! Laws that hold for a real slave and its shadow. The functions here do nothing: the contract of each is the law.
 
 ghost use Rattle.wire_laws.specs.Amending.{PossibleIsAmended, AmendedStays, AmendedLeavesNoMore, BusyIsPossible, ReadBackIsPossible, OtherIsKept};
-ghost use Rattle.wire_laws.specs.Laws.{BroughtUpIsLike, LikeIsPossible, IsLikeItself, PossibleLeavesNoMore, AgreedIsPossible, RunIsPossible, StopLeavesNoMore};
+ghost use Rattle.wire_laws.specs.Laws.{BroughtUpIsLike, LikeIsPossible, IsLikeItself, PossibleLeavesNoMore, AgreedIsPossible, ReadAloneIsPossible, RunIsPossible, StopLeavesNoMore};
 
 /// A slave as bring-up leaves it is like its shadow. A slave that is like its shadow, but for what is the controller's own, is one that the
 /// shadow may be. What a power cut leaves of any slave that the shadow may be is among what it may leave of the shadow.
@@ -14,8 +14,11 @@ pub fn possible_leaves_no_more()
 
 /// After each answer that agrees with the shadow's the real slave is one that the shadow may be, if it was so before. The slave took the
 /// datagram once or more, as the definition of a slave says (ETG.1000.4, slave information interface), up to what is the controller's own.
+/// So it is where the slave is sent nothing, since the shadow answers by itself: to reads of words while it shows no error, and to reads of
+/// registers.
 pub fn agreed_is_possible()
     ensures agreed { AgreedIsPossible }
+    ensures alone { ReadAloneIsPossible }
     ensures run { RunIsPossible }
 {}
 
