@@ -25,8 +25,9 @@ pub record CameOver (Gives : List ℕ → Type 0) (datagrams : List Pdu) : Type 
 pub record Answered (Gives : List ℕ → Type 0) (from command register : ℕ) (content : List ℕ) : Type 0 where
   pub frame : List Pdu
   pub came : CameOver Gives frame
+  pub place : ℕ
   pub answer : Pdu
-  pub first : slice_get frame 0 ≡ Some answer
+  pub there : slice_get frame place ≡ Some answer
   pub command_is : answer.command ≡ command
   pub from_is : station_of answer.address ≡ from
   pub register_is : register_of answer.address ≡ register
@@ -47,17 +48,17 @@ pub record IsReplyTo (asked : Pdu) (address : ℕ) (answer : Pdu) : Type 0 where
   pub address_is : (asked.command ≡ 4) ⊎ (asked.command ≡ 5) → answer.address ≡ address
   pub content_is : asked.command ≡ 5 → answer.content ≡ asked.content
 
--- A reply that one slave has counted stands at the front of this frame, with the first four bytes of its content.
-pub record IsFrom (asked : Pdu) (address : ℕ) (frame : List Pdu) (reply : Reply) : Type 0 where
+-- A reply that one slave has counted stands at this place of the frame, with the first four bytes of its content.
+pub record IsFrom (asked : Pdu) (address : ℕ) (frame : List Pdu) (place : ℕ) (reply : Reply) : Type 0 where
   pub answer : Pdu
-  pub first : slice_get frame 0 ≡ Some answer
+  pub there : slice_get frame place ≡ Some answer
   pub replies : IsReplyTo asked address answer
   pub counter : answer.counter ≡ 1
   pub front : length answer.content ≤ 4 → take (length answer.content) reply.content ≡ answer.content
 
--- No answer that one slave has counted stands at the front of this frame.
-abbrev pub IsUncounted : (asked : Pdu) → (address : ℕ) → (frame : List Pdu) → Type 0
-IsUncounted asked address frame = (answer : Pdu) → slice_get frame 0 ≡ Some answer → IsReplyTo asked address answer → answer.counter ≢ 1
+-- No answer that one slave has counted stands at this place of the frame.
+abbrev pub IsUncounted : (asked : Pdu) → (address : ℕ) → (frame : List Pdu) → (place : ℕ) → Type 0
+IsUncounted asked address frame place = (answer : Pdu) → slice_get frame place ≡ Some answer → IsReplyTo asked address answer → answer.counter ≢ 1
 
 -- A frame came back for this datagram, and no slave, or several, have counted it.
 pub record Unanswered (Gives : List ℕ → Type 0) (stations : List ℕ) (asked : Pdu) : Type 0 where
@@ -65,7 +66,7 @@ pub record Unanswered (Gives : List ℕ → Type 0) (stations : List ℕ) (asked
   pub came : CameOver Gives frame
   pub address : ℕ
   pub reaches : Reaches stations asked address
-  pub uncounted : IsUncounted asked address frame
+  pub uncounted : IsUncounted asked address frame 0
 
 -- what a reply to a command of this code, which went with this content, says that came back: of a read so many bytes of its front
 abbrev pub back_of : (command : ℕ) → (content front : List ℕ) → List ℕ

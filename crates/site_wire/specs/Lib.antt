@@ -2,4 +2,5 @@ pub mod Access
 pub mod Answering
 pub mod Came
 pub mod Numbers
+pub mod Reading
 pub mod Sending

@@ -11,11 +11,11 @@ ghost use Rattle.site_wire.specs.declared.asking.Hitch.TheVariants as hitch;
 
 use crate::faults::Sighting;
 use crate::fitting::{FPRD, FPWR};
-use crate::numbered::{NumberedWire, Returned};
+use crate::numbered::NumberedWire;
 use crate::pace::{ATTEMPTS, Pace};
 use crate::registers::{APRD, BRD, STATION};
 use crate::wire::Wire;
-use ecat_frame::{Command, Datagram, fp};
+use ecat_frame::{Command, Datagram, Frame, fp};
 use esc_model::station_address;
 use esc_rom::{ACCESS, CONTENT, CONTROL, POLLS, TRIES};
 use std::alloc::{AllocError, AllocFailed};
@@ -117,14 +117,15 @@ fn is_reply(asked: Datagram<'_>, address: u32, answer: Datagram<'_>) -> bool
         && (answer.content == asked.content || code != FPWR)
 }
 
-/// The reply in a frame that came back. Another datagram than the answer to this one counts as not taken.
-fn reply_in(asked: Datagram<'_>, returned: &Returned) -> Reply
-    ensures counted { result.counter ≡ 1 → IsFrom (pdu asked.entry) returned.now.address returned.now.frame result }
-    ensures uncounted { result.counter ≢ 1 → IsUncounted (pdu asked.entry) returned.now.address returned.now.frame }
+/// The reply at a place of a frame that came back. Another datagram than the answer to this one, which went to `address`, counts as not
+/// taken.
+pub(crate) fn reply_at(asked: Datagram<'_>, address: u32, frame: &Frame, place: usize) -> Reply
+    ensures counted { result.counter ≡ 1 → IsFrom (pdu asked.entry) address frame.now place result }
+    ensures uncounted { result.counter ≢ 1 → IsUncounted (pdu asked.entry) address frame.now place }
 {
-    if returned.frame.count() > 0 {
-        let answer = returned.frame.datagram(0);
-        if is_reply(asked, returned.address, answer) {
+    if place < frame.count() {
+        let answer = frame.datagram(place);
+        if is_reply(asked, address, answer) {
             return Reply {
                 content: front_of(answer.content),
                 counter: answer.counter,
@@ -158,7 +159,7 @@ pub(crate) fn ask<W: Wire>(
         counter: 0,
     };
     let returned = wire.pass(datagram)?;
-    Some(reply_in(datagram, &returned))
+    Some(reply_at(datagram, returned.address, &returned.frame, 0))
 }
 
 /// Reads or writes registers of a slave's EEPROM.
@@ -292,7 +293,7 @@ enum Tried {
 }
 
 /// The content of the command to read a word and the next one.
-fn read_content(word: u16) -> [u8; 6]
+pub(crate) fn read_content(word: u16) -> [u8; 6]
     ensures { result ≡ read_command word }
 {
     let [a, b, c, d] = u32::from(word).to_le_bytes();

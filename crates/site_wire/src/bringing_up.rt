@@ -1,15 +1,20 @@
 //! Finding the slaves of a line and reading their EEPROMs, before there is a shadow to compare with.
 ghost use Rattle.std.specs.Prelude.{◌≡◌, ◌<◌, ◌≤◌, false, true, length, slice_index, IfOk, OnOk, IsErr};
-ghost use Rattle.site_wire.specs.Came.{StatusLooked, StateLooked, AllLooked, BlockCame, WordsCame, FoundCame, AllCame};
+ghost use Rattle.std.specs.List.{All};
+ghost use Rattle.site_wire.specs.Came.{StatusLooked, StateLooked, AllLooked, WordsCame, FoundCame, AllCame};
+ghost use Rattle.site_wire.specs.Reading.{NothingTold, AllKept};
 
+use crate::ahead::{Ahead, kept_of, nothing_ahead, pair_of};
 use crate::asking::{
-    Hitch, Last, ask, clear, count_answers, put, read_access, read_pair, read_station, sight, tell,
+    Hitch, Last, ask, clear, count_answers, put, read_access, read_station, sight, tell,
 };
 use crate::faults::{LineFault, SlaveFault};
 use crate::found::{FoundLine, FoundSlave, Sizes, SlaveState};
+use crate::in_step::{Readers, read_in_step};
 use crate::numbered::NumberedWire;
+use crate::reader::Reader;
 use crate::registers::{AL_STATUS, APRD, APWR, BWR, DL_ALIAS, STATION};
-use crate::sizing::{Block, Measured, SizeFound, judge_size, measure};
+use crate::sizing::{SizeFound, judge_size, measure, words_ahead};
 use crate::stations::Stations;
 use crate::wire::Wire;
 use ecat_frame::{Command, fp};
@@ -221,48 +226,157 @@ fn open<W: Wire, C: Clock>(
     clear(wire, clock, slave)
 }
 
-/// Reads so many words of a slave, of which the first 64 were read before.
+/// What is known of the slaves of a line before the turn of each comes.
+#[derive(Drop)]
+struct OpenedLine {
+    states: [SlaveState; 64],
+    /// Why an EEPROM can't be taken.
+    hitches: [Option<Hitch>; 64],
+    /// The words that were read of those that were.
+    ahead: Ahead,
+}
+
+/// Takes the EEPROMs of so many slaves. Gives for each why that can't be done, if so.
+fn open_all<W: Wire, C: Clock>(
+    wire: &mut NumberedWire<W>,
+    clock: &C,
+    slaves: u16,
+    states: &[SlaveState; 64],
+) -> Result<[Option<Hitch>; 64], LineFault>
+    requires { slaves ≤ 64 }
+    ensures { OnOk result (wire.new.stations ≡ wire.old.stations) }
+{
+    let mut hitches = [None; 64];
+    for slave in 0..slaves {
+        match open(wire, clock, slave, states[usize::from(slave)]) {
+            Ok(()) => {}
+            Err(Hitch::Silent) => return Err(LineFault::Silent),
+            Err(hitch) => hitches[usize::from(slave)] = Some(hitch),
+        }
+    }
+    Ok(hitches)
+}
+
+/// Readers of the first words of so many slaves whose EEPROMs were taken.
+fn readers_of_first(stations: &Stations, slaves: u16, hitches: &[Option<Hitch>; 64]) -> Readers
+    requires { slaves ≤ 64 }
+    ensures { All NothingTold result }
+{
+    let mut readers = [Reader::ended(); 64];
+    for slave in 0..slaves {
+        let hitch = hitches[usize::from(slave)];
+        readers[usize::from(slave)] = first_reader(stations.of_slave(slave), hitch);
+    }
+    readers
+}
+
+/// The reader of the first words of a slave, if its EEPROM was taken.
+fn first_reader(station: u16, hitch: Option<Hitch>) -> Reader
+    ensures { NothingTold result }
+{
+    match hitch {
+        Some(_) => Reader::ended(),
+        None => Reader::of_first(station),
+    }
+}
+
+/// Readers of what is behind the first words of so many slaves, where those were read.
+fn readers_of_others<W: Wire>(
+    stations: &Stations,
+    slaves: u16,
+    sizes: &Sizes,
+    ahead: &Ahead,
+) -> Readers
+    requires { slaves ≤ 64 }
+    ensures { All NothingTold result }
+{
+    let mut readers = [Reader::ended(); 64];
+    for slave in 0..slaves {
+        let station = stations.of_slave(slave);
+        let says = kept_of::<W>(ahead, slave, station, 0x3e);
+        readers[usize::from(slave)] = other_reader(station, says, sizes.of_slave(slave));
+    }
+    readers
+}
+
+/// The reader of what is behind the first words of a slave, if what it says of its size was read.
+fn other_reader(station: u16, says: Option<[u8; 4]>, given: Option<u16>) -> Reader
+    ensures { NothingTold result }
+{
+    match says {
+        Some(pair) => Reader::of_others(station, words_ahead(pair, given)),
+        None => Reader::ended(),
+    }
+}
+
+/// Reads the words of so many slaves side by side, as far as each gives them at once.
+fn read_ahead<W: Wire, C: Clock>(
+    alloc: Global,
+    wire: &mut NumberedWire<W>,
+    clock: &C,
+    slaves: u16,
+    hitches: &[Option<Hitch>; 64],
+    sizes: &Sizes,
+) -> Result<Ahead, LineFault>
+    requires { slaves ≤ 64 }
+    ensures same { OnOk result (wire.new.stations ≡ wire.old.stations) }
+    ensures kept { IfOk result (AllKept W.gives) }
+{
+    let mut ahead = nothing_ahead::<W>(alloc, slaves)?;
+    let first = readers_of_first(wire.stations(), slaves, hitches);
+    read_in_step(wire, clock, first, &mut ahead)?;
+    let others = readers_of_others::<W>(wire.stations(), slaves, sizes, &ahead);
+    read_in_step(wire, clock, others, &mut ahead)?;
+    Ok(ahead)
+}
+
+/// Takes the EEPROMs of so many slaves, and reads ahead. On a wire that is lent nothing is read ahead.
+fn open_line<W: Wire, C: Clock>(
+    alloc: Global,
+    wire: &mut NumberedWire<W>,
+    clock: &C,
+    slaves: u16,
+    states: &[SlaveState; 64],
+    sizes: &Sizes,
+) -> Result<OpenedLine, LineFault>
+    requires { slaves ≤ 64 }
+    ensures same { OnOk result (wire.new.stations ≡ wire.old.stations) }
+    ensures kept { IfOk result (λ opened. AllKept W.gives opened.ahead) }
+{
+    let hitches = open_all(wire, clock, slaves, states)?;
+    let read = if wire.is_lent() { 0 } else { slaves };
+    let ahead = read_ahead(alloc, wire, clock, read, &hitches, sizes)?;
+    Ok(OpenedLine {
+        states: *states,
+        hitches,
+        ahead,
+    })
+}
+
+/// Reads so many words of a slave, but for those that were read ahead.
 fn read_words<W: Wire, C: Clock>(
     alloc: Global,
     wire: &mut NumberedWire<W>,
     clock: &C,
     slave: u16,
     words: u16,
-    block: &Block,
+    ahead: &Ahead,
 ) -> Result<Words, Hitch>
     requires slave { slave < 64 }
     requires words { words ≤ 4096 }
+    requires kept { AllKept W.gives ahead.now }
     ensures same { wire.new.stations ≡ wire.old.stations }
-    ensures read { IfOk result (λ words. BlockCame W.gives (slice_index wire.old.stations.by_slave slave) block.now
-        → WordsCame W.gives (slice_index wire.old.stations.by_slave slave) words) }
+    ensures read { IfOk result (WordsCame W.gives (slice_index wire.old.stations.by_slave slave)) }
 {
     let mut bytes = Vec::new(alloc);
-    for pair in block {
-        bytes.extend_from_slice(pair)?;
-    }
-    for place in 32..words / 2 {
-        let pair = read_pair(wire, clock, slave, 2 * place)?;
+    for place in 0..words / 2 {
+        let pair = pair_of(wire, clock, slave, 2 * place, ahead)?;
         bytes.extend_from_slice(&pair)?;
     }
     match Words::from_bytes(alloc, &bytes) {
         Ok(words) => Ok(words),
         Err(_) => Err(Hitch::Memory),
     }
-}
-
-/// Opens a slave, reads its first words, and finds how large its EEPROM is.
-fn open_and_measure<W: Wire, C: Clock>(
-    wire: &mut NumberedWire<W>,
-    clock: &C,
-    slave: u16,
-    state: SlaveState,
-) -> Result<Measured, Hitch>
-    requires { slave < 64 }
-    ensures same { wire.new.stations ≡ wire.old.stations }
-    ensures read { IfOk result (λ measured. BlockCame W.gives (slice_index wire.old.stations.by_slave slave) measured.block) }
-{
-    open(wire, clock, slave, state)?;
-    measure(wire, clock, slave)
 }
 
 /// A slave that can't be worked on.
@@ -292,20 +406,25 @@ fn given_up<W: Wire>(
     }
 }
 
-/// Opens a slave, finds how large its EEPROM is, and reads its words.
+/// Finds how large the EEPROM of a slave is that was taken, and reads its words.
 fn find_slave<W: Wire, C: Clock>(
     alloc: Global,
     wire: &mut NumberedWire<W>,
     clock: &C,
     slave: u16,
-    state: SlaveState,
     sizes: &Sizes,
+    opened: &OpenedLine,
 ) -> Result<FoundSlave, LineFault>
-    requires { slave < 64 }
+    requires slave { slave < 64 }
+    requires kept { AllKept W.gives opened.now.ahead }
     ensures same { wire.new.stations ≡ wire.old.stations }
     ensures words { IfOk result (FoundCame W.gives (slice_index wire.old.stations.by_slave slave)) }
 {
-    let measured = match open_and_measure(wire, clock, slave, state) {
+    let state = opened.states[usize::from(slave)];
+    if let Some(hitch) = opened.hitches[usize::from(slave)] {
+        return given_up(wire, slave, state, None, hitch);
+    }
+    let measured = match measure(wire, clock, slave, &opened.ahead) {
         Ok(measured) => measured,
         Err(hitch) => return given_up(wire, slave, state, None, hitch),
     };
@@ -319,7 +438,7 @@ fn find_slave<W: Wire, C: Clock>(
             });
         }
     };
-    match read_words(alloc, wire, clock, slave, size.words, &measured.block) {
+    match read_words(alloc, wire, clock, slave, size.words, &opened.ahead) {
         Ok(words) => Ok(FoundSlave {
             state,
             size: Some(size),
@@ -343,10 +462,10 @@ fn find_slaves<W: Wire, C: Clock>(
     ensures same { OnOk result (wire.new.stations ≡ wire.old.stations) }
     ensures words { IfOk result (λ found. AllCame W.gives wire.old.stations.by_slave 0 found.items) }
 {
+    let opened = open_line(alloc, wire, clock, slaves, states, sizes)?;
     let mut found = Vec::new(alloc);
     for slave in 0..slaves {
-        let state = states[usize::from(slave)];
-        found.push(find_slave(alloc, wire, clock, slave, state, sizes)?)?;
+        found.push(find_slave(alloc, wire, clock, slave, sizes, &opened)?)?;
     }
     Ok(found)
 }
@@ -377,10 +496,12 @@ pub fn look_along<W: Wire>(wire: &mut NumberedWire<W>) -> Result<LineStates, Lin
 }
 
 /// Brings up a line (ETG.1000.4): counts its slaves, ends addressing by alias, gives each its station address, looks what it is in, takes
-/// its EEPROM from the PDI, finds how large that is, and reads its words. Gives the slaves in the order of the line. Each whose words were
+/// its EEPROM from the PDI, finds how large that is, and reads its words. The words of all slaves are read side by side, by frames with a
+/// datagram for each slave. What a slave doesn't give so is read by frames of one datagram. Gives the slaves in the order of the line. Each whose words were
 /// read is idle then, with bits 13 and 14 of control and status clear.
 ///
-/// On a wire that is lent the slaves keep their addresses, also those by alias, and their AL states aren't read. An EEPROM that its PDI has is
+/// On a wire that is lent the slaves keep their addresses, also those by alias, their AL states aren't read, and each frame has one
+/// datagram for slaves. An EEPROM that its PDI has is
 /// taken by force only where that is allowed, and else it is one that can't be worked on.
 ///
 /// A command that a slave doesn't acknowledge is tried again for half a second, its error cleared before. Polls of a busy slave have

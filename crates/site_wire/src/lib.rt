@@ -1,6 +1,7 @@
 //! A line of slaves on a real wire: bringing it up, and the device behind the shadow that sends each frame and compares its answer.
 #![tactic(auto)]
 
+mod ahead;
 mod amending;
 mod answers;
 mod asking;
@@ -10,9 +11,11 @@ mod ethernet;
 mod faults;
 mod fitting;
 mod found;
+mod in_step;
 mod numbered;
 mod pace;
 mod reach;
+mod reader;
 mod registers;
 mod sizing;
 mod stations;

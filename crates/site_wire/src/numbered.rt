@@ -30,7 +30,14 @@ pub(crate) struct Returned {
     pub(crate) again: bool,
 }
 
-/// A wire on which each frame has a number of its own. It stands behind the frame's datagram, as the address of one that no slave
+/// A frame that came back, and whether it was sent more than once.
+#[derive(Drop)]
+struct Carried {
+    frame: Frame,
+    again: bool,
+}
+
+/// A wire on which each frame has a number of its own. It stands behind the frame's datagrams, as the address of one that no slave
 /// takes, so that late answers to earlier frames are told apart and dropped.
 ///
 /// A wire that is lent belongs to a master, which keeps its line running. On it slaves keep the station addresses that the master gave
@@ -112,7 +119,9 @@ impl<W: Wire> NumberedWire<W> {
     }
 
     /// The station addresses of the slaves.
-    pub(crate) fn stations(&self) -> &Stations {
+    pub(crate) fn stations(&self) -> &Stations
+        ensures { result.now ≡ self.now.stations }
+    {
         &self.stations
     }
 
@@ -134,18 +143,57 @@ impl<W: Wire> NumberedWire<W> {
     {
         let address = self.stations.translated(sent);
         let numbered = self.numbered(sent, address)?;
+        let Carried { frame, again } = self.carried(&numbered)?;
+        Some(Returned {
+            frame,
+            address,
+            again,
+        })
+    }
+
+    /// Sends a frame of these datagrams until it comes back, three times at most, and gives it with the number behind them. None where it
+    /// doesn't. One of more than 1,488 bytes leaves no room for the number, and isn't sent. Station addresses go out as they are.
+    pub(crate) fn pass_all(&mut self, sent: Frame) -> Option<Frame>
+        requires may { self.old.is_lent ≡ true → OnlyEeprom sent }
+        ensures lent { self.new.is_lent ≡ self.old.is_lent }
+        ensures same { self.new.stations ≡ self.old.stations }
+        ensures came { IfSome result (CameOver W.gives) }
+    {
+        let numbered = self.numbered_all(sent)?;
+        let carried = self.carried(&numbered)?;
+        Some(carried.frame)
+    }
+
+    /// Sends the frame until the one of its number comes back, three times at most.
+    fn carried(&mut self, numbered: &Frame) -> Option<Carried>
+        requires may { self.old.is_lent ≡ true → OnlyEeprom numbered.now }
+        ensures lent { self.new.is_lent ≡ self.old.is_lent }
+        ensures same { self.new.stations ≡ self.old.stations }
+        ensures came { IfSome result (λ carried. CameOver W.gives carried.frame) }
+    {
         for sending in 0..SENDINGS {
             let again = sending > 0;
-            self.send(&numbered, again);
+            self.send(numbered, again);
             if let Some(frame) = self.receive(numbered.count()) {
-                return Some(Returned {
-                    frame,
-                    address,
-                    again,
-                });
+                return Some(Carried { frame, again });
             }
         }
         None
+    }
+
+    /// The frame, with the next number behind its datagrams.
+    fn numbered_all(&mut self, sent: Frame) -> Option<Frame>
+        requires may { self.old.is_lent ≡ true → OnlyEeprom sent }
+        ensures may { IfSome result (λ frame. self.old.is_lent ≡ true → OnlyEeprom frame) }
+        ensures lent { self.new.is_lent ≡ self.old.is_lent }
+        ensures same { self.new.stations ≡ self.old.stations }
+    {
+        self.number = self.number.wrapping_add(1);
+        let mut numbered = sent;
+        match numbered.push(NOP, 0, self.number, &[]) {
+            Ok(()) => return Some(numbered),
+            Err(_) => return None,
+        }
     }
 
     /// A frame of the datagram, sent to this address, and the next number behind it.

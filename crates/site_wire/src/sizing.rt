@@ -1,8 +1,10 @@
 //! How large the EEPROM of a slave is.
 ghost use Rattle.std.specs.Prelude.{◌≡◌, ◌<◌, ◌≤◌, slice_index, IfOk};
 ghost use Rattle.site_wire.specs.Came.{BlockCame};
+ghost use Rattle.site_wire.specs.Reading.{AllKept};
 
-use crate::asking::{Hitch, read_in_tries, read_pair};
+use crate::ahead::{Ahead, kept_of, pair_of};
+use crate::asking::{Hitch, read_in_tries};
 use crate::faults::SlaveFault;
 use crate::numbered::NumberedWire;
 use crate::wire::Wire;
@@ -18,7 +20,7 @@ const PROBES: u32 = 16;
 const STARTS: [u16; 7] = [64, 128, 256, 512, 1024, 2048, 4096];
 
 /// Words 0 to 63, in pairs.
-pub(crate) type Block = [[u8; 4]; 32];
+type Block = [[u8; 4]; 32];
 
 /// How large a chip is, as far as reading its words up to word 4,096 tells.
 #[derive(Clone, Copy, Debug, PartialEq, Eq)]
@@ -68,8 +70,6 @@ enum Compared {
 /// What a slave's chip says of its size, and what was found.
 #[derive(Clone, Copy)]
 pub(crate) struct Measured {
-    /// Words 0 to 63.
-    pub(crate) block: Block,
     pub(crate) says: u32,
     pub(crate) extent: Extent,
 }
@@ -79,14 +79,16 @@ fn read_block<W: Wire, C: Clock>(
     wire: &mut NumberedWire<W>,
     clock: &C,
     slave: u16,
+    ahead: &Ahead,
 ) -> Result<Block, Hitch>
     requires { slave < 64 }
     ensures same { wire.new.stations ≡ wire.old.stations }
-    ensures read { IfOk result (λ block. BlockCame W.gives (slice_index wire.old.stations.by_slave slave) block) }
+    ensures read { AllKept W.gives ahead.now
+        → IfOk result (λ block. BlockCame W.gives (slice_index wire.old.stations.by_slave slave) block) }
 {
     let mut block = [[0u8; 4]; 32];
     for pair in 0..32u16 {
-        block[usize::from(pair)] = read_pair(wire, clock, slave, 2 * pair)?;
+        block[usize::from(pair)] = pair_of(wire, clock, slave, 2 * pair, ahead)?;
     }
     Ok(block)
 }
@@ -98,16 +100,22 @@ fn is_uniform(block: &Block) -> bool {
     block.iter().all(|pair| *pair == alike)
 }
 
-/// Reads a word and the next one, which the chip may not have. None where the slave refuses that for a tenth of a second.
+/// Reads a word and the next one, which the chip may not have, unless they were read ahead. None where the slave refuses that for a tenth of a
+/// second.
 fn read_beyond<W: Wire, C: Clock>(
     wire: &mut NumberedWire<W>,
     clock: &C,
     slave: u16,
     word: u16,
+    ahead: &Ahead,
 ) -> Result<Option<[u8; 4]>, Hitch>
     requires { slave < 64 }
     ensures { wire.new.stations ≡ wire.old.stations }
 {
+    let station = wire.stations().of_slave(slave);
+    if let Some(pair) = kept_of::<W>(ahead, slave, station, word) {
+        return Ok(Some(pair));
+    }
     match read_in_tries(wire, clock, slave, word, PROBES) {
         Ok(pair) => Ok(Some(pair)),
         Err(Hitch::Stuck(last)) if last.is_refusal() => Ok(None),
@@ -122,13 +130,14 @@ fn compare_block<W: Wire, C: Clock>(
     slave: u16,
     start: u16,
     block: &Block,
+    ahead: &Ahead,
 ) -> Result<Compared, Hitch>
     requires slave { slave < 64 }
     requires start { start ≤ 4096 }
     ensures { wire.new.stations ≡ wire.old.stations }
 {
     for pair in 0..32u16 {
-        match read_beyond(wire, clock, slave, start + 2 * pair)? {
+        match read_beyond(wire, clock, slave, start + 2 * pair, ahead)? {
             Some(found) if found == block[usize::from(pair)] => {}
             Some(_) => return Ok(Compared::Other),
             None => return Ok(Compared::Ends),
@@ -143,14 +152,15 @@ fn is_rolled<W: Wire, C: Clock>(
     clock: &C,
     slave: u16,
     words: u16,
+    ahead: &Ahead,
 ) -> Result<bool, Hitch>
     requires slave { slave < 64 }
     requires words { words ≤ 4096 }
     ensures { wire.new.stations ≡ wire.old.stations }
 {
     for pair in 0..words / 2 {
-        let here = read_pair(wire, clock, slave, 2 * pair)?;
-        let there = read_beyond(wire, clock, slave, words + 2 * pair)?;
+        let here = pair_of(wire, clock, slave, 2 * pair, ahead)?;
+        let there = read_beyond(wire, clock, slave, words + 2 * pair, ahead)?;
         if there != Some(here) {
             return Ok(false);
         }
@@ -165,6 +175,7 @@ fn end_between<W: Wire, C: Clock>(
     slave: u16,
     from: u16,
     to: u16,
+    ahead: &Ahead,
 ) -> Result<u16, Hitch>
     requires slave { slave < 64 }
     requires to { to ≤ 4096 }
@@ -173,7 +184,7 @@ fn end_between<W: Wire, C: Clock>(
     for block in 0..64u16 {
         let start = 64 * block;
         if start > from && start < to {
-            if read_beyond(wire, clock, slave, start)?.is_none() {
+            if read_beyond(wire, clock, slave, start, ahead)?.is_none() {
                 return Ok(start);
             }
         }
@@ -187,6 +198,7 @@ fn look_along<W: Wire, C: Clock>(
     clock: &C,
     slave: u16,
     block: &Block,
+    ahead: &Ahead,
 ) -> Result<Along, Hitch>
     requires { slave < 64 }
     ensures { wire.new.stations ≡ wire.old.stations }
@@ -197,11 +209,12 @@ fn look_along<W: Wire, C: Clock>(
     };
     for step in 0..STARTS.len() {
         let start = STARTS[step].min(MOST);
-        match compare_block(wire, clock, slave, start, block)? {
+        match compare_block(wire, clock, slave, start, block, ahead)? {
             Compared::Alike => {}
             Compared::Other => along.unlike = start,
             Compared::Ends => {
-                along.ends = Some(end_between(wire, clock, slave, start / 2, start)?);
+                let end = end_between(wire, clock, slave, start / 2, start, ahead)?;
+                along.ends = Some(end);
                 return Ok(along);
             }
         }
@@ -225,11 +238,12 @@ fn find_extent<W: Wire, C: Clock>(
     slave: u16,
     block: &Block,
     says: u32,
+    ahead: &Ahead,
 ) -> Result<Extent, Hitch>
     requires { slave < 64 }
     ensures { wire.new.stations ≡ wire.old.stations }
 {
-    let along = look_along(wire, clock, slave, block)?;
+    let along = look_along(wire, clock, slave, block, ahead)?;
     if let Some(words) = along.ends {
         return Ok(Extent::EndsAt(words));
     }
@@ -241,7 +255,7 @@ fn find_extent<W: Wire, C: Clock>(
         let words = STARTS[step].min(MOST);
         if words > along.unlike {
             let is_plain = u32::from(words) == says && !is_uniform;
-            if is_plain || is_rolled(wire, clock, slave, words)? {
+            if is_plain || is_rolled(wire, clock, slave, words, ahead)? {
                 return Ok(Extent::Repeats(words));
             }
         }
@@ -255,24 +269,41 @@ fn said_by(pair: [u8; 4]) -> u32 {
     64 * (u32::from(u16::from_le_bytes([low, high])) + 1)
 }
 
+/// How many words of an EEPROM are read ahead: so many as are given, or else as its words 0x3E and 0x3F say, up to 4,096. One that says more
+/// than 65,536 words is taken as blank, and no more than its first 64 are read.
+pub(crate) fn words_ahead(pair: [u8; 4], given: Option<u16>) -> u16 {
+    let says = said_by(pair);
+    match given {
+        Some(words) => words,
+        None if says > 65_536 => 64,
+        None => u16::try_from(says).unwrap_or(MOST).min(MOST),
+    }
+}
+
+/// The first place from this word on at which a chip may begin to repeat, and `u16::MAX` where there is none.
+pub(crate) fn block_behind(word: u16) -> u16 {
+    for start in STARTS {
+        if start >= word {
+            return start;
+        }
+    }
+    u16::MAX
+}
+
 /// Finds how large the EEPROM of a slave is: what it says, and what its words show.
 pub(crate) fn measure<W: Wire, C: Clock>(
     wire: &mut NumberedWire<W>,
     clock: &C,
     slave: u16,
+    ahead: &Ahead,
 ) -> Result<Measured, Hitch>
     requires { slave < 64 }
-    ensures same { wire.new.stations ≡ wire.old.stations }
-    ensures read { IfOk result (λ measured. BlockCame W.gives (slice_index wire.old.stations.by_slave slave) measured.block) }
+    ensures { wire.new.stations ≡ wire.old.stations }
 {
-    let block = read_block(wire, clock, slave)?;
+    let block = read_block(wire, clock, slave, ahead)?;
     let says = said_by(block[31]);
-    let extent = find_extent(wire, clock, slave, &block, says)?;
-    Ok(Measured {
-        block,
-        says,
-        extent,
-    })
+    let extent = find_extent(wire, clock, slave, &block, says, ahead)?;
+    Ok(Measured { says, extent })
 }
 
 /// The size that is worked with: the given one, if there is one, or else what is sure, or else what the EEPROM says.

@@ -1,14 +1,9 @@
 use Rattle.std.specs.Prelude.{◌≡◌, slice_index}
-use Rattle.site_wire.specs.Came.{BlockCame, PairsCame}
+use Rattle.site_wire.specs.Came.{PairsCame}
 use Rattle.site_wire.proofs.bringing_up.read_words.Given as goal
-
-abbrev pub invariant-loop-pair : goal.invariant-loop-pair
-invariant-loop-pair g l = BlockCame g.W.Wire.gives (slice_index l.fn.wire.stations.by_slave l.slave) l.block
-    → PairsCame g.W.Wire.gives (slice_index l.fn.wire.stations.by_slave l.slave) l.pair-index l.bytes.items
 
 abbrev pub invariant-loop-place : goal.invariant-loop-place
 invariant-loop-place g l = record {
   same : l.wire.stations ≡ l.fn.wire.stations;
-  read : BlockCame g.W.Wire.gives (slice_index l.fn.wire.stations.by_slave l.slave) l.block
-      → PairsCame g.W.Wire.gives (slice_index l.fn.wire.stations.by_slave l.slave) l.place l.bytes.items;
+  read : PairsCame g.W.Wire.gives (slice_index l.fn.wire.stations.by_slave l.slave) l.place l.bytes.items;
 }

@@ -6,6 +6,6 @@ pub loop-pair-preserved : goal.loop-pair-preserved
 loop-pair-preserved g c = record {
   count = omega (arith, length-set {A = List ℕ});
   same = c.in_ok-block.ensures.same ∙ c.loop-pair.invariant.same;
-  read = block_more g.W.Wire.gives _ _ _ _ _ c.from.ensures (omega arith) c.loop-pair.invariant.read
-      (pair_at g.W.Wire.gives _ _ _ _ _ c.loop-pair.invariant.same c.in_ok-block.ensures.read);
+  read = λ kept. block_more g.W.Wire.gives _ _ _ _ _ c.from.ensures (omega arith) (c.loop-pair.invariant.read kept)
+      (pair_at g.W.Wire.gives _ _ _ _ _ c.loop-pair.invariant.same (c.in_ok-block.ensures.read kept));
 }

@@ -1,0 +1,41 @@
+-- Words of many slaves that are read side by side (ETG.1000.4). `Gives` is what is known of the bytes that the wire gives.
+use Rattle.std.specs.Prelude.{◌≡◌, ℕ, Bool, true, false, List, Option, Some, None}
+use Rattle.std.specs.List.{All}
+use Rattle.site_wire.specs.Came.{Answered, PairCame, read_command}
+use Rattle.site_wire.specs.declared.ahead.Ahead.{Ahead}
+use Rattle.site_wire.specs.declared.ahead.Kept.{Kept}
+use Rattle.site_wire.specs.declared.reader.Phase.{Phase}
+use Rattle.site_wire.specs.declared.reader.Phase.TheVariants as phase
+use Rattle.site_wire.specs.declared.reader.Reader.{Reader}
+
+-- whether the slave has taken the command to read the words, and they aren't fetched yet
+abbrev pub has_told : Phase → Bool
+has_told phase.Tells = false
+has_told phase.Polls = true
+has_told phase.Fetches = true
+has_told phase.Settles = false
+has_told phase.Clears = false
+has_told phase.Ends = false
+
+-- The reader's slave has yet to be told to read.
+abbrev pub NothingTold : Reader → Type 0
+NothingTold reader = has_told reader.phase ≡ false
+
+-- A reader that polls or fetches has an answer of its slave to the command to read its word and the next one.
+abbrev pub IsUnderWay : (Gives : List ℕ → Type 0) → Reader → Type 0
+IsUnderWay Gives reader = has_told reader.phase ≡ true → Answered Gives reader.station 5 0x0502 (read_command reader.word)
+
+-- The second reader is at the same word of the same slave as the first one, and polls or fetches only if that one does.
+pub record GoesOn (before after : Reader) : Type 0 where
+  pub station : after.station ≡ before.station
+  pub word : after.word ≡ before.word
+  pub told : has_told after.phase ≡ true → has_told before.phase ≡ true
+
+-- two words that were kept came over the wire
+abbrev pub KeptCame : (Gives : List ℕ → Type 0) → Option Kept → Type 0
+KeptCame Gives None = Unit {0}
+KeptCame Gives (Some kept) = PairCame Gives kept.station kept.word kept.pair
+
+-- all that were read ahead did
+abbrev pub AllKept : (Gives : List ℕ → Type 0) → Ahead → Type 0
+AllKept Gives ahead = All (KeptCame Gives) ahead.pairs.items

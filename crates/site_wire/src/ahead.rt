@@ -1,0 +1,97 @@
+//! Words that were read ahead, before a slave's turn comes.
+ghost use Rattle.std.specs.Prelude.{◌≡◌, ◌<◌, slice_index, IfSome, IfOk};
+ghost use Rattle.site_wire.specs.Came.{PairCame};
+ghost use Rattle.site_wire.specs.Reading.{KeptCame, AllKept};
+
+use crate::asking::{Hitch, read_pair};
+use crate::numbered::NumberedWire;
+use crate::wire::Wire;
+use std::alloc::{AllocFailed, Global};
+use std::rt::Clock;
+
+/// How many pairs of words of a slave are kept at most: up to word 4,159.
+const PAIRS: usize = 2080;
+
+/// A word of the slave with this station address, and the next one.
+#[derive(Clone, Copy)]
+pub(crate) struct Kept {
+    pub(crate) station: u16,
+    pub(crate) word: u16,
+    pub(crate) pair: [u8; 4],
+}
+
+/// What was read of the slaves of a line: by slave, each pair of words has its place.
+#[derive(Drop)]
+pub(crate) struct Ahead {
+    pairs: Vec<Option<Kept>>,
+}
+
+/// Where a word of a slave has its place.
+fn place_of(slave: u16, word: u16) -> usize {
+    usize::from(slave) * PAIRS + usize::from(word / 2)
+}
+
+/// Nothing of so many slaves.
+pub(crate) fn nothing_ahead<W: Wire>(
+    alloc: Global,
+    slaves: u16,
+) -> Result<Ahead, AllocFailed<Option<Kept>>>
+    ensures { IfOk result (AllKept W.gives) }
+{
+    let mut pairs = Vec::new(alloc);
+    for _place in 0..usize::from(slaves) * PAIRS {
+        pairs.push(None)?;
+    }
+    Ok(Ahead { pairs })
+}
+
+/// Keeps two words of a slave.
+pub(crate) fn keep<W: Wire>(ahead: &mut Ahead, slave: u16, kept: Kept)
+    requires came { PairCame W.gives kept.station kept.word kept.pair }
+    requires kept { AllKept W.gives ahead.old }
+    ensures { AllKept W.gives ahead.new }
+{
+    let place = place_of(slave, kept.word);
+    if place < ahead.pairs.len() {
+        ahead.pairs[place] = Some(kept);
+    }
+}
+
+/// A word of the slave with this station address, and the next one, if they were kept.
+pub(crate) fn kept_of<W: Wire>(
+    ahead: &Ahead,
+    slave: u16,
+    station: u16,
+    word: u16,
+) -> Option<[u8; 4]>
+    ensures { AllKept W.gives ahead.now → IfSome result (PairCame W.gives station word) }
+{
+    let place = place_of(slave, word);
+    if place >= ahead.pairs.len() {
+        return None;
+    }
+    match ahead.pairs[place] {
+        Some(kept) if kept.station == station && kept.word == word => Some(kept.pair),
+        _ => None,
+    }
+}
+
+/// Reads a word and the next one, unless they were read ahead.
+pub(crate) fn pair_of<W: Wire, C: Clock>(
+    wire: &mut NumberedWire<W>,
+    clock: &C,
+    slave: u16,
+    word: u16,
+    ahead: &Ahead,
+) -> Result<[u8; 4], Hitch>
+    requires { slave < 64 }
+    ensures same { wire.new.stations ≡ wire.old.stations }
+    ensures read { AllKept W.gives ahead.now
+        → IfOk result (PairCame W.gives (slice_index wire.old.stations.by_slave slave) word) }
+{
+    let station = wire.stations().of_slave(slave);
+    if let Some(pair) = kept_of::<W>(ahead, slave, station, word) {
+        return Ok(pair);
+    }
+    read_pair(wire, clock, slave, word)
+}
