@@ -1,5 +1,6 @@
 pub mod Access
 pub mod Answering
 pub mod Came
+pub mod Handing
 pub mod Numbers
 pub mod Sending

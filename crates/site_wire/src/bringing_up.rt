@@ -3,10 +3,11 @@ ghost use Rattle.std.specs.Prelude.{◌≡◌, ◌<◌, ◌≤◌, false, true, 
 ghost use Rattle.site_wire.specs.Came.{StatusLooked, StateLooked, AllLooked, BlockCame, WordsCame, FoundCame, AllCame};
 
 use crate::asking::{
-    Hitch, Last, ask, clear, count_answers, put, read_access, read_pair, read_station, sight, tell,
+    Hitch, Last, ask, clear, count_answers, put, read_access, read_pair, read_station, sight,
 };
 use crate::faults::{LineFault, SlaveFault};
 use crate::found::{FoundLine, FoundSlave, Sizes, SlaveState};
+use crate::handing_back::hand_back;
 use crate::numbered::NumberedWire;
 use crate::registers::{AL_STATUS, APRD, APWR, BWR, DL_ALIAS, STATION};
 use crate::sizing::{Block, Measured, SizeFound, judge_size, measure};
@@ -407,18 +408,6 @@ pub fn bring_up<W: Wire, C: Clock>(
         Err(fault) => {
             hand_back(wire, &states);
             Err(fault)
-        }
-    }
-}
-
-/// Hands the EEPROMs of a line back as they were found: bits 0 and 1 of 0x0500 of each slave are written as they were, where they were read
-/// and one of them was set. A slave that doesn't take it is passed over, and a line on which no frame comes back is left.
-pub fn hand_back<W: Wire>(wire: &mut NumberedWire<W>, states: &[SlaveState; 64]) {
-    for slave in 0..64u16 {
-        if let Some(access) = states[usize::from(slave)].access_to_restore() {
-            if tell(wire, slave, Command::Fpwr, ACCESS, &[access]).is_err() {
-                return;
-            }
         }
     }
 }

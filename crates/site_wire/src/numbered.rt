@@ -6,6 +6,7 @@ ghost use Rattle.site_wire.specs.Came.{CameOver, Reaches};
 ghost use Rattle.site_wire.specs.Numbers.{HasNumber};
 ghost use Rattle.site_wire.specs.Sending.{LeavesRunning, OnlyEeprom};
 
+use crate::handing_back::Handed;
 use crate::stations::Stations;
 use crate::wire::Wire;
 use ecat_frame::{Command, Datagram, Frame, MAX_LEN};
@@ -47,6 +48,8 @@ pub struct NumberedWire<W> {
     /// Whether EEPROMs are taken by force.
     is_forced: bool,
     stations: Stations,
+    /// What became of the access to each slave's EEPROM as the line was handed back last.
+    handed: [Handed; 64],
 }
 
 impl<W: Wire> NumberedWire<W> {
@@ -63,6 +66,7 @@ impl<W: Wire> NumberedWire<W> {
             is_lent: false,
             is_forced: true,
             stations: Stations::own(),
+            handed: [Handed::Nothing; 64],
         }
     }
 
@@ -79,6 +83,7 @@ impl<W: Wire> NumberedWire<W> {
             is_lent: true,
             is_forced,
             stations: Stations::unknown(),
+            handed: [Handed::Nothing; 64],
         }
     }
 
@@ -114,6 +119,21 @@ impl<W: Wire> NumberedWire<W> {
     /// The station addresses of the slaves.
     pub(crate) fn stations(&self) -> &Stations {
         &self.stations
+    }
+
+    /// What became of the access to the EEPROM of each slave, by its place, as the line was handed back last.
+    pub fn handed(&self) -> [Handed; 64]
+        ensures { result ≡ self.now.handed }
+    {
+        self.handed
+    }
+
+    /// The line was handed back with these outcomes.
+    pub(crate) fn keep_handed(&mut self, handed: [Handed; 64])
+        ensures handed { self.new.handed ≡ handed }
+        ensures same { self.new.stations ≡ self.old.stations }
+    {
+        self.handed = handed;
     }
 
     /// From now on the slaves have these station addresses.
