@@ -5,9 +5,9 @@
 // lie in a slave's memory isn't said there, so it is read from the slave's EEPROM.
 //
 // Meanwhile it lends the wire to a station that it starts (`sii_wire .. --beside`; docs/EMBEDDING.md says what both may do). The station's
-// standard input is one end of a socket pair, of which each message is an Ethernet frame around an EtherCAT frame. Its datagrams ride in the next cyclic frame, behind the
-// master's own, or in a frame between two cycles, and come back as a message of the same form. Where the frame is lost, or a datagram in it
-// could disturb the line, no message comes back.
+// standard input is one end of a socket pair, of which each message is an Ethernet frame around an EtherCAT frame. Its datagrams ride in the
+// next cyclic frame, behind the master's own, or in a frame between two cycles, and come back as a message of the same form. Where the frame
+// is lost, or a datagram in it could disturb the line, no message comes back.
 //   --period US      how long a cycle takes (1000)
 //   --seconds S      how long to work; 0: until the station has ended, or an interrupt (0)
 // An interface - is a socket that is descriptor 0 and takes Ethernet frames. The last line is

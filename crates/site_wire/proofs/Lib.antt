@@ -3,3 +3,4 @@ mod Due
 mod Only
 mod Sending
 mod Came
+mod Handing

@@ -6,10 +6,11 @@ ghost use Rattle.site_wire.specs.Reading.{NothingTold, AllKept};
 
 use crate::ahead::{Ahead, kept_of, nothing_ahead, pair_of};
 use crate::asking::{
-    Hitch, Last, ask, clear, count_answers, put, read_access, read_station, sight, tell,
+    Hitch, Last, ask, clear, count_answers, put, read_access, read_station, sight,
 };
 use crate::faults::{LineFault, SlaveFault};
 use crate::found::{FoundLine, FoundSlave, Sizes, SlaveState};
+use crate::handing_back::hand_back;
 use crate::in_step::{Readers, read_in_step};
 use crate::numbered::NumberedWire;
 use crate::reader::Reader;
@@ -528,18 +529,6 @@ pub fn bring_up<W: Wire, C: Clock>(
         Err(fault) => {
             hand_back(wire, &states);
             Err(fault)
-        }
-    }
-}
-
-/// Hands the EEPROMs of a line back as they were found: bits 0 and 1 of 0x0500 of each slave are written as they were, where they were read
-/// and one of them was set. A slave that doesn't take it is passed over, and a line on which no frame comes back is left.
-pub fn hand_back<W: Wire>(wire: &mut NumberedWire<W>, states: &[SlaveState; 64]) {
-    for slave in 0..64u16 {
-        if let Some(access) = states[usize::from(slave)].access_to_restore() {
-            if tell(wire, slave, Command::Fpwr, ACCESS, &[access]).is_err() {
-                return;
-            }
         }
     }
 }

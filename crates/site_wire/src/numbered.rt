@@ -6,6 +6,7 @@ ghost use Rattle.site_wire.specs.Came.{CameOver, Reaches};
 ghost use Rattle.site_wire.specs.Numbers.{HasNumber};
 ghost use Rattle.site_wire.specs.Sending.{LeavesRunning, OnlyEeprom};
 
+use crate::handing_back::Handed;
 use crate::stations::Stations;
 use crate::wire::Wire;
 use ecat_frame::{Command, Datagram, Frame, MAX_LEN};
@@ -54,6 +55,8 @@ pub struct NumberedWire<W> {
     /// Whether EEPROMs are taken by force.
     is_forced: bool,
     stations: Stations,
+    /// What became of the access to each slave's EEPROM as the line was handed back last.
+    handed: [Handed; 64],
 }
 
 impl<W: Wire> NumberedWire<W> {
@@ -70,6 +73,7 @@ impl<W: Wire> NumberedWire<W> {
             is_lent: false,
             is_forced: true,
             stations: Stations::own(),
+            handed: [Handed::Nothing; 64],
         }
     }
 
@@ -86,6 +90,7 @@ impl<W: Wire> NumberedWire<W> {
             is_lent: true,
             is_forced,
             stations: Stations::unknown(),
+            handed: [Handed::Nothing; 64],
         }
     }
 
@@ -123,6 +128,21 @@ impl<W: Wire> NumberedWire<W> {
         ensures { result.now ≡ self.now.stations }
     {
         &self.stations
+    }
+
+    /// What became of the access to the EEPROM of each slave, by its place, as the line was handed back last.
+    pub fn handed(&self) -> [Handed; 64]
+        ensures { result ≡ self.now.handed }
+    {
+        self.handed
+    }
+
+    /// The line was handed back with these outcomes.
+    pub(crate) fn keep_handed(&mut self, handed: [Handed; 64])
+        ensures handed { self.new.handed ≡ handed }
+        ensures same { self.new.stations ≡ self.old.stations }
+    {
+        self.handed = handed;
     }
 
     /// From now on the slaves have these station addresses.
