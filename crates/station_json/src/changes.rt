@@ -2,22 +2,11 @@
 ghost use Rattle.std.specs.Prelude.{IfErr};
 ghost use Rattle.station_files.specs.Faults.{IsOfStream};
 
-use crate::row::write_row;
+use crate::row::write_cells;
 use line_changes::ChangedWord;
-use serde::Serialize;
 use station_files::Fault;
 use std::alloc::Global;
 use std::io::Write;
-
-/// A word of a slave that gets another value.
-#[derive(Clone, Copy, Serialize)]
-struct ChangeRow {
-    row: &'static str,
-    slave: u16,
-    word: u16,
-    old: u16,
-    new: u16,
-}
 
 /// Writes a row for each changed word.
 ///
@@ -32,14 +21,14 @@ pub fn write_change_rows<W: Write>(
     ensures { IfErr result IsOfStream }
 {
     for change in changes {
-        let row = ChangeRow {
-            row: "change",
-            slave: change.slave,
-            word: change.at,
-            old: change.old,
-            new: change.new,
-        };
-        write_row(alloc, &row, output)?;
+        let row = [
+            ("row", "change".into()),
+            ("slave", change.slave.into()),
+            ("word", change.at.into()),
+            ("old", change.old.into()),
+            ("new", change.new.into()),
+        ];
+        write_cells(alloc, &row, output)?;
     }
     Ok(())
 }

@@ -5,31 +5,12 @@ ghost use Rattle.station_files.specs.Faults.{IsOfStream};
 
 use crate::diff_categories::write_chains;
 use crate::images::image_of;
-use crate::row::write_row;
+use crate::row::write_cells;
 use image_diff::{Difference, Head, WordChanges, compare};
-use serde::Serialize;
-use sii_words::Run;
+use sii_words::{ImageFile, Run};
 use station_files::{ExitStatus, Fault, Store};
 use std::alloc::Global;
 use std::io::{Read, Write};
-
-/// A number of the head of an image.
-#[derive(Clone, Copy, Serialize)]
-struct HeadRow {
-    row: &'static str,
-    field: &'static str,
-    a: u64,
-    b: u64,
-}
-
-/// A word of the image.
-#[derive(Clone, Copy, Serialize)]
-struct WordRow {
-    row: &'static str,
-    word: u16,
-    a: u16,
-    b: u16,
-}
 
 /// Reads two EEPROM images and prints what they differ in as JSON. They are read as `diff_images` reads them. The status is `Done` where the
 /// images have the same words, and `Refused` where they differ. No file changes.
@@ -50,7 +31,17 @@ pub fn diff_as_json<R: Read, S: Store, W: Write>(
 {
     let first = image_of(alloc, hex, old, input, store)?;
     let second = image_of(alloc, hex, new, input, store)?;
-    let difference = compare(alloc, &first, &second)?;
+    write_comparison(alloc, &first, &second, output)
+}
+
+/// Compares two images and writes what they differ in.
+fn write_comparison<W: Write>(
+    alloc: Global,
+    first: &ImageFile,
+    second: &ImageFile,
+    output: &mut W,
+) -> Result<ExitStatus, Fault> {
+    let difference = compare(alloc, first, second)?;
     write_difference(alloc, &difference, output)?;
     output.flush()?;
     if difference.is_none() {
@@ -88,13 +79,13 @@ fn write_heads<W: Write>(alloc: Global, old: Head, new: Head, output: &mut W) ->
     ];
     for (field, a, b) in fields {
         if a != b {
-            let row = HeadRow {
-                row: "head",
-                field,
-                a,
-                b,
-            };
-            write_row(alloc, &row, output)?;
+            let row = [
+                ("row", "head".into()),
+                ("field", field.into()),
+                ("a", a.into()),
+                ("b", b.into()),
+            ];
+            write_cells(alloc, &row, output)?;
         }
     }
     Ok(())
@@ -115,13 +106,13 @@ fn write_stretch<W: Write>(alloc: Global, old: &Run, new: &Run, output: &mut W) 
 {
     let mut word = old.first;
     for (a, b) in old.words.as_slice().iter().zip(new.words.as_slice().iter()) {
-        let row = WordRow {
-            row: "word",
-            word,
-            a: *a,
-            b: *b,
-        };
-        write_row(alloc, &row, output)?;
+        let row = [
+            ("row", "word".into()),
+            ("word", word.into()),
+            ("a", (*a).into()),
+            ("b", (*b).into()),
+        ];
+        write_cells(alloc, &row, output)?;
         word = word.saturating_add(1);
     }
     Ok(())

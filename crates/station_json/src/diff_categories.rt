@@ -2,60 +2,28 @@
 ghost use Rattle.std.specs.Prelude.{IfErr};
 ghost use Rattle.station_files.specs.Faults.{IsOfStream};
 
-use crate::row::write_row;
-use crate::scalar::Scalar;
-use serde::Serialize;
+use crate::cell::Cell;
+use crate::row::write_cells;
 use station_files::Fault;
 use station_listing::{CategoryLines, Field, ItemListing, Label, Line};
 use std::alloc::Global;
 use std::io::Write;
-
-/// Where the chain of categories of an image is cut off.
-#[derive(Clone, Copy, Serialize)]
-struct CutRow {
-    row: &'static str,
-    image: &'static str,
-    at: usize,
-}
-
-/// The length of a category's content.
-#[derive(Clone, Copy, Serialize)]
-struct LengthRow {
-    row: &'static str,
-    category: u16,
-    #[serde(skip_serializing_if = "Option::is_none")]
-    a: Option<usize>,
-    #[serde(skip_serializing_if = "Option::is_none")]
-    b: Option<usize>,
-}
-
-/// A word of a content whose items aren't known.
-#[derive(Clone, Copy, Serialize)]
-struct ContentRow {
-    row: &'static str,
-    category: u16,
-    word: usize,
-    a: u16,
-    b: u16,
-}
-
-/// A field of an item.
-#[derive(Clone, Copy, Serialize)]
-struct ItemRow<'a> {
-    row: &'static str,
-    item: &'a str,
-    field: &'static str,
-    #[serde(skip_serializing_if = "Option::is_none")]
-    a: Option<Scalar<'a>>,
-    #[serde(skip_serializing_if = "Option::is_none")]
-    b: Option<Scalar<'a>>,
-}
 
 /// One of the two images.
 #[derive(Clone, Copy, PartialEq, Eq)]
 enum Side {
     A,
     B,
+}
+
+impl Side {
+    /// The key of what this image has.
+    fn key(self) -> &'static str {
+        match self {
+            Side::A => "a",
+            Side::B => "b",
+        }
+    }
 }
 
 /// Writes a row for each thing in which the categories of two images differ. Where the chain of one of them is cut off, only that is written.
@@ -92,12 +60,12 @@ fn write_cut<W: Write>(
     let Some(at) = cut else {
         return Ok(());
     };
-    let row = CutRow {
-        row: "runs_out",
-        image,
-        at,
-    };
-    write_row(alloc, &row, output)
+    let row = [
+        ("row", "runs_out".into()),
+        ("image", image.into()),
+        ("at", at.into()),
+    ];
+    write_cells(alloc, &row, output)
 }
 
 /// Writes a row for each thing in which the categories differ. A category is compared with the one of its type that has as many others of
@@ -160,14 +128,12 @@ fn write_lonely<W: Write>(
 ) -> Result<(), Fault>
     ensures { IfErr result IsOfStream }
 {
-    let count = category.words.len();
-    let row = LengthRow {
-        row: "category",
-        category: category.kind,
-        a: if side == Side::A { Some(count) } else { None },
-        b: if side == Side::B { Some(count) } else { None },
-    };
-    write_row(alloc, &row, output)
+    let row = [
+        ("row", "category".into()),
+        ("category", category.kind.into()),
+        (side.key(), category.words.len().into()),
+    ];
+    write_cells(alloc, &row, output)
 }
 
 fn write_pair<W: Write>(
@@ -180,13 +146,13 @@ fn write_pair<W: Write>(
 {
     let (was, is) = (old.words.len(), new.words.len());
     if was != is {
-        let row = LengthRow {
-            row: "category",
-            category: old.kind,
-            a: Some(was),
-            b: Some(is),
-        };
-        write_row(alloc, &row, output)?;
+        let row = [
+            ("row", "category".into()),
+            ("category", old.kind.into()),
+            ("a", was.into()),
+            ("b", is.into()),
+        ];
+        write_cells(alloc, &row, output)?;
     }
     if old.is_read && new.is_read {
         return write_items(alloc, &old.lines, &new.lines, output);
@@ -205,14 +171,14 @@ fn write_content<W: Write>(
 {
     for (word, (a, b)) in old.words.iter().zip(new.words.iter()).enumerate() {
         if a != b {
-            let row = ContentRow {
-                row: "content",
-                category: old.kind,
-                word,
-                a: *a,
-                b: *b,
-            };
-            write_row(alloc, &row, output)?;
+            let row = [
+                ("row", "content".into()),
+                ("category", old.kind.into()),
+                ("word", word.into()),
+                ("a", (*a).into()),
+                ("b", (*b).into()),
+            ];
+            write_cells(alloc, &row, output)?;
         }
     }
     Ok(())
@@ -301,14 +267,27 @@ fn write_field<W: Write>(
     ensures { IfErr result IsOfStream }
 {
     let item = format!(in alloc; "{label}")?;
-    let row = ItemRow {
-        row: "item",
-        item: item.as_str(),
-        field: name_of(old.or(new)),
-        a: old.map(|field| Scalar::of(field.value.as_str())),
-        b: new.map(|field| Scalar::of(field.value.as_str())),
-    };
-    write_row(alloc, &row, output)
+    write_item(alloc, item.as_str(), old, new, output)
+}
+
+/// Writes a row for a field of the item that is printed so.
+fn write_item<'a, W: Write>(
+    alloc: Global,
+    item: &'a str,
+    old: Option<&'a Field>,
+    new: Option<&'a Field>,
+    output: &mut W,
+) -> Result<(), Fault>
+    ensures { IfErr result IsOfStream }
+{
+    let row = [
+        ("row", "item".into()),
+        ("item", item.into()),
+        ("field", name_of(old.or(new)).into()),
+        ("a", value_of(old)),
+        ("b", value_of(new)),
+    ];
+    write_cells(alloc, &row, output)
 }
 
 /// The name of a field; `value` where an item has one field alone.
@@ -316,5 +295,13 @@ fn name_of(field: Option<&Field>) -> &'static str {
     match field {
         Some(field) if !field.name.is_empty() => field.name,
         _ => "value",
+    }
+}
+
+/// The value of a field, if there is one.
+fn value_of<'a>(field: Option<&'a Field>) -> Cell<'a> {
+    match field {
+        Some(field) => Cell::printed(field.value.as_str()),
+        None => Cell::Absent,
     }
 }

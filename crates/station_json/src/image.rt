@@ -2,7 +2,8 @@
 ghost use Rattle.std.specs.Prelude.{IfErr};
 ghost use Rattle.station_files.specs.Faults.{IsOfStream};
 
-use crate::row::write_row;
+use crate::cell::Cell;
+use crate::row::write_cells;
 use serde::Serialize;
 use station_files::Fault;
 use station_listing::{CheckByte, Content, ListedCategory, ListedChain, Listing};
@@ -17,45 +18,6 @@ pub struct Check {
     found: Option<u8>,
     #[serde(skip_serializing_if = "Option::is_none")]
     expected: Option<u8>,
-}
-
-/// The head of an image.
-#[derive(Clone, Copy, Serialize)]
-struct ImageRow {
-    row: &'static str,
-    words: usize,
-    alias: u16,
-    check: Check,
-    vendor: u32,
-    product: u32,
-    revision: u32,
-    serial: u32,
-}
-
-/// A category, with the number of its items under what they are.
-#[derive(Clone, Copy, Serialize)]
-struct CategoryRow {
-    row: &'static str,
-    category: u16,
-    words: usize,
-    #[serde(skip_serializing_if = "Option::is_none")]
-    strings: Option<usize>,
-    #[serde(skip_serializing_if = "Option::is_none")]
-    units: Option<usize>,
-    #[serde(skip_serializing_if = "Option::is_none")]
-    managers: Option<usize>,
-    #[serde(skip_serializing_if = "Option::is_none")]
-    pdos: Option<usize>,
-    #[serde(skip_serializing_if = "Option::is_none")]
-    bad: Option<bool>,
-}
-
-/// Where the chain of categories ends.
-#[derive(Clone, Copy, Serialize)]
-struct EndRow {
-    row: &'static str,
-    #[serde(skip_serializing_if = "Option::is_none")]
-    at: Option<usize>,
 }
 
 impl Check {
@@ -88,26 +50,21 @@ pub(crate) fn write_listing<W: Write>(
 ) -> Result<(), Fault>
     ensures { IfErr result IsOfStream }
 {
-    let row = ImageRow {
-        row: "image",
-        words: listing.count,
-        alias: listing.alias,
-        check: Check::of(listing.check),
-        vendor: listing.identity.vendor,
-        product: listing.identity.product,
-        revision: listing.identity.revision,
-        serial: listing.identity.serial,
-    };
-    write_row(alloc, &row, output)?;
+    let identity = listing.identity;
+    let row = [
+        ("row", "image".into()),
+        ("words", listing.count.into()),
+        ("alias", listing.alias.into()),
+        ("check", Cell::Check(Check::of(listing.check))),
+        ("vendor", identity.vendor.into()),
+        ("product", identity.product.into()),
+        ("revision", identity.revision.into()),
+        ("serial", identity.serial.into()),
+    ];
+    write_cells(alloc, &row, output)?;
     match &listing.chain {
         ListedChain::Whole(categories) => write_categories(alloc, categories, output),
-        ListedChain::RunsOut { at } => {
-            let row = EndRow {
-                row: "runs_out",
-                at: Some(*at),
-            };
-            write_row(alloc, &row, output)
-        }
+        ListedChain::RunsOut { at } => write_end(alloc, "runs_out", Some(*at), output),
     }
 }
 
@@ -119,47 +76,37 @@ fn write_categories<W: Write>(
     ensures { IfErr result IsOfStream }
 {
     for category in categories {
-        write_row(alloc, &row_of(*category), output)?;
+        let row = [
+            ("row", "category".into()),
+            ("category", category.kind.into()),
+            ("words", category.count.into()),
+            cell_of(category.content),
+        ];
+        write_cells(alloc, &row, output)?;
     }
-    let row = EndRow {
-        row: "end",
-        at: None,
-    };
-    write_row(alloc, &row, output)
+    write_end(alloc, "end", None, output)
 }
 
-fn row_of(category: ListedCategory) -> CategoryRow {
-    let row = CategoryRow {
-        row: "category",
-        category: category.kind,
-        words: category.count,
-        strings: None,
-        units: None,
-        managers: None,
-        pdos: None,
-        bad: None,
-    };
-    match category.content {
-        Content::Strings(count) => CategoryRow {
-            strings: Some(count),
-            ..row
-        },
-        Content::Units(count) => CategoryRow {
-            units: Some(count),
-            ..row
-        },
-        Content::Managers(count) => CategoryRow {
-            managers: Some(count),
-            ..row
-        },
-        Content::Pdos(count) => CategoryRow {
-            pdos: Some(count),
-            ..row
-        },
-        Content::Malformed => CategoryRow {
-            bad: Some(true),
-            ..row
-        },
-        Content::Opaque => row,
+/// Writes where the chain of categories ends.
+fn write_end<W: Write>(
+    alloc: Global,
+    row: &str,
+    at: Option<usize>,
+    output: &mut W,
+) -> Result<(), Fault>
+    ensures { IfErr result IsOfStream }
+{
+    write_cells(alloc, &[("row", row.into()), ("at", at.into())], output)
+}
+
+/// What a category's content is: the number of its items under what they are, or that it is bad.
+fn cell_of<'a>(content: Content) -> (&'static str, Cell<'a>) {
+    match content {
+        Content::Strings(count) => ("strings", count.into()),
+        Content::Units(count) => ("units", count.into()),
+        Content::Managers(count) => ("managers", count.into()),
+        Content::Pdos(count) => ("pdos", count.into()),
+        Content::Malformed => ("bad", Cell::Truth(true)),
+        Content::Opaque => ("words", Cell::Absent),
     }
 }

@@ -2,91 +2,14 @@
 ghost use Rattle.std.specs.Prelude.{IfErr};
 ghost use Rattle.station_files.specs.Faults.{IsOfStream};
 
-use crate::names::{Name, Names, text_of};
-use crate::row::write_row;
-use serde::Serialize;
-use sii_cats::{FmmuUnit, FmmuUse, Manager, Pdo, PdoEntry, kind};
+use crate::cell::Cell;
+use crate::names::{Names, text_of};
+use crate::row::write_cells;
+use sii_cats::{FmmuUnit, FmmuUse, Manager, Pdo, kind};
 use station_files::Fault;
 use station_listing::{CategoryLines, General, ItemListing, Items, Line, read_items};
 use std::alloc::Global;
 use std::io::Write;
-
-/// A string.
-#[derive(Clone, Copy, Serialize)]
-struct StringRow<'a> {
-    row: &'static str,
-    string: usize,
-    text: &'a str,
-}
-
-/// What a category General says.
-#[derive(Clone, Copy, Serialize)]
-struct GeneralRow<'a> {
-    row: &'static str,
-    group: Option<Name<'a>>,
-    image: Option<Name<'a>>,
-    order: Option<Name<'a>>,
-    name: Option<Name<'a>>,
-    coe: u8,
-    foe: u8,
-    eoe: u8,
-    soe: u8,
-    ds402: u8,
-    sysman: u8,
-    flags: u8,
-    current: i16,
-}
-
-/// An FMMU. Its use is `other` where only its byte is known.
-#[derive(Clone, Copy, Serialize)]
-struct FmmuRow {
-    row: &'static str,
-    fmmu: usize,
-    usage: &'static str,
-    byte: u8,
-}
-
-/// A sync manager. Its type is `other` where only its byte is known.
-#[derive(Clone, Copy, Serialize)]
-struct ManagerRow {
-    row: &'static str,
-    sm: usize,
-    #[serde(rename = "type")]
-    name: &'static str,
-    byte: u8,
-    start: u16,
-    length: u16,
-    control: u8,
-    status: u8,
-    enable: u8,
-}
-
-/// A PDO.
-#[derive(Clone, Copy, Serialize)]
-struct PdoRow<'a> {
-    row: &'static str,
-    index: u16,
-    entries: usize,
-    sm: Option<u8>,
-    sync: u8,
-    flags: u16,
-    name: Option<Name<'a>>,
-}
-
-/// An entry of a PDO.
-#[derive(Clone, Copy, Serialize)]
-struct EntryRow<'a> {
-    row: &'static str,
-    index: u16,
-    entry: usize,
-    object: u16,
-    subindex: u8,
-    #[serde(rename = "type")]
-    code: u8,
-    bits: u8,
-    flags: u16,
-    name: Option<Name<'a>>,
-}
 
 /// Writes a row for each item of an image.
 ///
@@ -117,7 +40,7 @@ fn write_category<W: Write>(
 {
     match read_items(alloc, category.kind, &category.words)? {
         Items::Strings(_) => write_strings(alloc, &category.lines, output),
-        Items::General(general) => write_row(alloc, &general_row(general, names), output),
+        Items::General(general) => write_general(alloc, general, names, output),
         Items::Units(units) => write_units(alloc, &units, output),
         Items::Managers(managers) => write_managers(alloc, &managers, output),
         Items::Pdos(pdos) => write_pdos(alloc, category.kind, &pdos, names, output),
@@ -129,45 +52,54 @@ fn write_strings<W: Write>(alloc: Global, lines: &[Line], output: &mut W) -> Res
     ensures { IfErr result IsOfStream }
 {
     for (place, line) in lines.iter().enumerate() {
-        let row = StringRow {
-            row: "string",
-            string: place.saturating_add(1),
-            text: text_of(line),
-        };
-        write_row(alloc, &row, output)?;
+        let row = [
+            ("row", "string".into()),
+            ("string", place.saturating_add(1).into()),
+            ("text", text_of(line).into()),
+        ];
+        write_cells(alloc, &row, output)?;
     }
     Ok(())
 }
 
-fn general_row<'a>(general: General, names: Names<'a>) -> GeneralRow<'a> {
-    GeneralRow {
-        row: "general",
-        group: names.name(general.group),
-        image: names.name(general.image),
-        order: names.name(general.order),
-        name: names.name(general.name),
-        coe: general.coe,
-        foe: general.foe,
-        eoe: general.eoe,
-        soe: general.soe,
-        ds402: general.ds402,
-        sysman: general.sysman,
-        flags: general.flags,
-        current: i16::from_le_bytes(general.current.to_le_bytes()),
-    }
+fn write_general<W: Write>(
+    alloc: Global,
+    general: General,
+    names: Names<'_>,
+    output: &mut W,
+) -> Result<(), Fault>
+    ensures { IfErr result IsOfStream }
+{
+    let current = i16::from_le_bytes(general.current.to_le_bytes());
+    let row = [
+        ("row", "general".into()),
+        ("group", names.cell(general.group)),
+        ("image", names.cell(general.image)),
+        ("order", names.cell(general.order)),
+        ("name", names.cell(general.name)),
+        ("coe", general.coe.into()),
+        ("foe", general.foe.into()),
+        ("eoe", general.eoe.into()),
+        ("soe", general.soe.into()),
+        ("ds402", general.ds402.into()),
+        ("sysman", general.sysman.into()),
+        ("flags", general.flags.into()),
+        ("current", Cell::Signed(i64::from(current))),
+    ];
+    write_cells(alloc, &row, output)
 }
 
 fn write_units<W: Write>(alloc: Global, units: &[FmmuUnit], output: &mut W) -> Result<(), Fault>
     ensures { IfErr result IsOfStream }
 {
     for (place, unit) in units.iter().enumerate() {
-        let row = FmmuRow {
-            row: "fmmu",
-            fmmu: place,
-            usage: usage_of(*unit),
-            byte: unit.byte,
-        };
-        write_row(alloc, &row, output)?;
+        let row = [
+            ("row", "fmmu".into()),
+            ("fmmu", place.into()),
+            ("usage", usage_of(*unit).into()),
+            ("byte", unit.byte.into()),
+        ];
+        write_cells(alloc, &row, output)?;
     }
     Ok(())
 }
@@ -190,18 +122,18 @@ fn write_managers<W: Write>(
     ensures { IfErr result IsOfStream }
 {
     for (place, manager) in managers.iter().enumerate() {
-        let row = ManagerRow {
-            row: "sm",
-            sm: place,
-            name: manager_type(manager.kind),
-            byte: manager.kind,
-            start: manager.start,
-            length: manager.length,
-            control: manager.control,
-            status: manager.status,
-            enable: manager.enable,
-        };
-        write_row(alloc, &row, output)?;
+        let row = [
+            ("row", "sm".into()),
+            ("sm", place.into()),
+            ("type", manager_type(manager.kind).into()),
+            ("byte", manager.kind.into()),
+            ("start", manager.start.into()),
+            ("length", manager.length.into()),
+            ("control", manager.control.into()),
+            ("status", manager.status.into()),
+            ("enable", manager.enable.into()),
+        ];
+        write_cells(alloc, &row, output)?;
     }
     Ok(())
 }
@@ -227,27 +159,44 @@ fn write_pdos<W: Write>(
     ensures { IfErr result IsOfStream }
 {
     for pdo in pdos {
-        let row = PdoRow {
-            row: if kind == kind::TXPDOS {
-                "txpdo"
-            } else {
-                "rxpdo"
-            },
-            index: pdo.index,
-            entries: pdo.entries.len(),
-            sm: if pdo.manager == 0xFF {
-                None
-            } else {
-                Some(pdo.manager)
-            },
-            sync: pdo.synchronization,
-            flags: pdo.flags,
-            name: names.name(pdo.name),
-        };
-        write_row(alloc, &row, output)?;
+        write_pdo(alloc, kind, pdo, names, output)?;
         write_entries(alloc, kind, pdo, names, output)?;
     }
     Ok(())
+}
+
+fn write_pdo<W: Write>(
+    alloc: Global,
+    kind: u16,
+    pdo: &Pdo,
+    names: Names<'_>,
+    output: &mut W,
+) -> Result<(), Fault>
+    ensures { IfErr result IsOfStream }
+{
+    let row = [
+        ("row", one_of(kind, "txpdo", "rxpdo").into()),
+        ("index", pdo.index.into()),
+        ("entries", pdo.entries.len().into()),
+        ("sm", manager_cell(pdo.manager)),
+        ("sync", pdo.synchronization.into()),
+        ("flags", pdo.flags.into()),
+        ("name", names.cell(pdo.name)),
+    ];
+    write_cells(alloc, &row, output)
+}
+
+/// The first name for PDOs that a slave sends, and the second for those that it receives.
+fn one_of(kind: u16, sent: &'static str, received: &'static str) -> &'static str {
+    if kind == kind::TXPDOS { sent } else { received }
+}
+
+/// The sync manager of a PDO, if it has one.
+fn manager_cell<'a>(manager: u8) -> Cell<'a> {
+    match manager {
+        0xFF => Cell::Null,
+        _ => manager.into(),
+    }
 }
 
 fn write_entries<W: Write>(
@@ -260,32 +209,18 @@ fn write_entries<W: Write>(
     ensures { IfErr result IsOfStream }
 {
     for (place, entry) in pdo.entries.iter().enumerate() {
-        let row = entry_row(kind, pdo.index, place, *entry, names);
-        write_row(alloc, &row, output)?;
+        let row = [
+            ("row", one_of(kind, "txpdo_entry", "rxpdo_entry").into()),
+            ("index", pdo.index.into()),
+            ("entry", place.saturating_add(1).into()),
+            ("object", entry.index.into()),
+            ("subindex", entry.subindex.into()),
+            ("type", entry.data_type.into()),
+            ("bits", entry.bit_length.into()),
+            ("flags", entry.flags.into()),
+            ("name", names.cell(entry.name)),
+        ];
+        write_cells(alloc, &row, output)?;
     }
     Ok(())
-}
-
-fn entry_row<'a>(
-    kind: u16,
-    index: u16,
-    place: usize,
-    entry: PdoEntry,
-    names: Names<'a>,
-) -> EntryRow<'a> {
-    EntryRow {
-        row: if kind == kind::TXPDOS {
-            "txpdo_entry"
-        } else {
-            "rxpdo_entry"
-        },
-        index,
-        entry: place.saturating_add(1),
-        object: entry.index,
-        subindex: entry.subindex,
-        code: entry.data_type,
-        bits: entry.bit_length,
-        flags: entry.flags,
-        name: names.name(entry.name),
-    }
 }

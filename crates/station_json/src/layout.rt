@@ -2,38 +2,12 @@
 ghost use Rattle.std.specs.Prelude.{◌≡◌, IfErr};
 ghost use Rattle.station_files.specs.Faults.{IsOfStream};
 
-use crate::row::write_row;
-use serde::Serialize;
+use crate::row::write_cells;
 use sii_words::Plant;
 use station_files::{Fault, Store, load_line, load_slaves};
 use station_listing::{Direction, LayoutListing, ListedSegment, list_layout};
 use std::alloc::Global;
 use std::io::Write;
-
-/// The process data of one sync manager. `image` says which process image it is of, where there are two.
-#[derive(Clone, Copy, Serialize)]
-struct SegmentRow<'a> {
-    row: &'static str,
-    #[serde(skip_serializing_if = "Option::is_none")]
-    image: Option<&'a str>,
-    slave: u16,
-    sm: u8,
-    direction: &'static str,
-    offset: u32,
-    size: u32,
-    bits: u32,
-}
-
-/// The sizes of all process data. `image` says which process image it is of, where there are two.
-#[derive(Clone, Copy, Serialize)]
-struct SizesRow<'a> {
-    row: &'static str,
-    #[serde(skip_serializing_if = "Option::is_none")]
-    image: Option<&'a str>,
-    outputs: usize,
-    inputs: usize,
-    counter: u16,
-}
 
 /// Prints the process image of the line whose line file is `line`, as `show_layout` does, as JSON: a row for each segment, and one for the
 /// sizes. No file is written.
@@ -50,13 +24,19 @@ pub fn layout_as_json<S: Store, W: Write>(
 ) -> Result<(), Fault>
     ensures same { S.files store.new ≡ S.files store.old }
 {
-    let line = load_line(alloc, line, store)?;
-    let slaves = load_slaves(alloc, &line, store)?;
-    let plant = Plant::of(slaves);
-    let listing = list_layout(alloc, &plant)?;
+    let listing = list_line(alloc, line, store)?;
     write_layout_rows(alloc, None, &listing, output)?;
     output.flush()?;
     Ok(())
+}
+
+/// Lists the process image of the line whose line file is `line`.
+fn list_line<S: Store>(alloc: Global, line: &str, store: &mut S) -> Result<LayoutListing, Fault>
+    ensures same { S.files store.new ≡ S.files store.old }
+{
+    let line = load_line(alloc, line, store)?;
+    let plant = Plant::of(load_slaves(alloc, &line, store)?);
+    Ok(list_layout(alloc, &plant)?)
 }
 
 /// Writes a row for each segment of a process image, and one for its sizes. `image` says which process image it is, where there are two.
@@ -75,14 +55,14 @@ pub fn write_layout_rows<W: Write>(
     for segment in &listing.segments {
         write_segment(alloc, image, *segment, output)?;
     }
-    let row = SizesRow {
-        row: "sizes",
-        image,
-        outputs: listing.outputs,
-        inputs: listing.inputs,
-        counter: listing.counter,
-    };
-    write_row(alloc, &row, output)
+    let row = [
+        ("row", "sizes".into()),
+        ("image", image.into()),
+        ("outputs", listing.outputs.into()),
+        ("inputs", listing.inputs.into()),
+        ("counter", listing.counter.into()),
+    ];
+    write_cells(alloc, &row, output)
 }
 
 fn write_segment<W: Write>(
@@ -93,18 +73,22 @@ fn write_segment<W: Write>(
 ) -> Result<(), Fault>
     ensures { IfErr result IsOfStream }
 {
-    let row = SegmentRow {
-        row: "segment",
-        image,
-        slave: segment.slave,
-        sm: segment.manager,
-        direction: match segment.direction {
-            Direction::Out => "out",
-            Direction::In => "in",
-        },
-        offset: segment.offset,
-        size: segment.size,
-        bits: segment.bits,
-    };
-    write_row(alloc, &row, output)
+    let row = [
+        ("row", "segment".into()),
+        ("image", image.into()),
+        ("slave", segment.slave.into()),
+        ("sm", segment.manager.into()),
+        ("direction", name_of(segment.direction).into()),
+        ("offset", segment.offset.into()),
+        ("size", segment.size.into()),
+        ("bits", segment.bits.into()),
+    ];
+    write_cells(alloc, &row, output)
+}
+
+fn name_of(direction: Direction) -> &'static str {
+    match direction {
+        Direction::Out => "out",
+        Direction::In => "in",
+    }
 }

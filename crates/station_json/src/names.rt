@@ -1,11 +1,12 @@
 //! The strings of an image, as items refer to them.
 
+use crate::cell::Cell;
 use serde::Serialize;
 use station_listing::{ItemListing, Label, Line};
 
 /// A reference to a string: its number, and the string, where there is one of this number.
 #[derive(Clone, Copy, Serialize)]
-pub(crate) struct Name<'a> {
+pub struct Name<'a> {
     string: u8,
     #[serde(skip_serializing_if = "Option::is_none")]
     text: Option<&'a str>,
@@ -31,13 +32,21 @@ impl<'a> Names<'a> {
     }
 
     /// What a reference to string `number` says; `None` for 0, which refers to none.
-    pub(crate) fn name(self, number: u8) -> Option<Name<'a>> {
+    fn name(self, number: u8) -> Option<Name<'a>> {
         let place = usize::from(number).checked_sub(1)?;
         let text = self.lines.get(place).map(text_of);
         Some(Name {
             string: number,
             text,
         })
+    }
+
+    /// The same as a value of a row: `null` for 0.
+    pub(crate) fn cell(self, number: u8) -> Cell<'a> {
+        match self.name(number) {
+            Some(name) => Cell::Name(name),
+            None => Cell::Null,
+        }
     }
 }
 

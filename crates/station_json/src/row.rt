@@ -2,7 +2,8 @@
 ghost use Rattle.std.specs.Prelude.{IfErr};
 ghost use Rattle.station_files.specs.Faults.{IsOfStream};
 
-use serde::Serialize;
+use crate::cell::Cell;
+use serde::{Described, Serialize, Serializer};
 use station_files::Fault;
 use std::alloc::Global;
 use std::io::Write;
@@ -14,6 +15,42 @@ pub enum Form {
     Text,
     /// As rows of JSON, for programs.
     Json,
+}
+
+/// A row: its keys in order, each with its value.
+#[derive(Clone, Copy)]
+struct Cells<'a> {
+    cells: &'a [(&'static str, Cell<'a>)],
+}
+
+impl Described for Cells<'_> {}
+
+impl Serialize for Cells<'_> {
+    fn serialize<S: Serializer>(&self, out: &mut S) -> Result<(), S::Error> {
+        out.begin_map(Some(self.cells.len()))?;
+        for (key, cell) in self.cells {
+            if !cell.is_absent() {
+                out.key(key)?;
+                cell.serialize(out)?;
+            }
+        }
+        out.end_map()
+    }
+}
+
+/// Writes a row with these keys and values as JSON, on a line of its own. A key whose value is absent is left out.
+///
+/// # Errors
+///
+/// As for `write_row`.
+pub fn write_cells<W: Write>(
+    alloc: Global,
+    cells: &[(&'static str, Cell<'_>)],
+    output: &mut W,
+) -> Result<(), Fault>
+    ensures { IfErr result IsOfStream }
+{
+    write_row(alloc, &Cells { cells }, output)
 }
 
 /// Writes a row as JSON, on a line of its own.

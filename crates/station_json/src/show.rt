@@ -4,6 +4,7 @@ ghost use Rattle.std.specs.Prelude.{◌≡◌};
 use crate::image::write_listing;
 use crate::images::image_of;
 use crate::items::write_items;
+use sii_words::ImageFile;
 use station_files::{ExitStatus, Fault, Store};
 use station_listing::{list_image, list_items};
 use std::alloc::Global;
@@ -28,16 +29,34 @@ pub fn show_as_json<R: Read, S: Store, W: Write>(
     ensures same { S.files store.new ≡ S.files store.old }
 {
     let image = image_of(alloc, hex, file, input, store)?;
-    let listing = list_image(alloc, &image)?;
-    write_listing(alloc, &listing, output)?;
+    let status = write_image(alloc, &image, output)?;
     if all {
-        let items = list_items(alloc, &image)?;
-        write_items(alloc, &items, output)?;
+        write_all_items(alloc, &image, output)?;
     }
     output.flush()?;
+    Ok(status)
+}
+
+/// Writes what the head and the chain of an image say. Returns the status of `show`.
+fn write_image<W: Write>(
+    alloc: Global,
+    image: &ImageFile,
+    output: &mut W,
+) -> Result<ExitStatus, Fault> {
+    let listing = list_image(alloc, image)?;
+    write_listing(alloc, &listing, output)?;
     if listing.is_sound() {
         Ok(ExitStatus::Done)
     } else {
         Ok(ExitStatus::File)
     }
+}
+
+fn write_all_items<W: Write>(
+    alloc: Global,
+    image: &ImageFile,
+    output: &mut W,
+) -> Result<(), Fault> {
+    let items = list_items(alloc, image)?;
+    write_items(alloc, &items, output)
 }
