@@ -144,12 +144,6 @@ pub(crate) fn frames_of(alloc: Global, way: Way) -> Option<u64> {
     }
 }
 
-/// Whether a mishap is tried behind this number of frames: behind each of the last hundred, among which are all that write words, and
-/// behind every thirteenth before.
-fn is_tried(passing: u64, frames: u64) -> bool {
-    passing % 13 == 0 || frames.saturating_sub(passing) <= 100
-}
-
 /// How many sites stop, as frames of a run have this mishap, once behind each number of frames. None where one ends as it may not.
 fn stops(alloc: Global, way: Way, mishap: &(Fate, u32, Why)) -> Option<u32> {
     let (fate, failing, why) = *mishap;
@@ -162,7 +156,7 @@ fn stops(alloc: Global, way: Way, mishap: &(Fate, u32, Why)) -> Option<u32> {
             fate,
         };
         let trouble = Trouble { mishap, cut: None };
-        if is_tried(passing, frames) && is_stopped(alloc, way, &trouble, why)? {
+        if is_stopped(alloc, way, &trouble, why)? {
             stops = stops.saturating_add(1);
         }
     }

@@ -50,11 +50,6 @@ const ERRORS: Option<StopReason> = Some(StopReason::Differs {
     what: Difference::Errors,
 });
 
-const WORDS: Option<StopReason> = Some(StopReason::Differs {
-    slave: 0,
-    what: Difference::Words,
-});
-
 // Words 4, 5 and 6 before and after word 4 is written.
 const OLD: [u16; 3] = [0, 0, 0];
 
@@ -66,7 +61,7 @@ const DEAD: Pattern = Pattern::Fill(0xdead);
 // site stops, and words 4, 5 and 6 then.
 type Case = (Act, u32, u32, u32, Fate, Option<StopReason>, [u16; 3]);
 
-// Frame 0 asks for the word, or for the first two; the others behind it poll.
+// Frame 0 asks to write the word, and those behind it poll, until the slave is idle; then the word is read back.
 const CASES: &[Case] = &[
     (Act::Write, 3, 0, 0, Fate::Passes, GOES_ON, NEW),
     (Act::Read, 3, 0, 0, Fate::Passes, GOES_ON, OLD),
@@ -83,7 +78,9 @@ const CASES: &[Case] = &[
     (Act::Write, 3, 0, 9, Fate::SentTwice, GOES_ON, NEW),
     (Act::Write, 3, 0, 1, Fate::Delayed, GOES_ON, NEW),
     (Act::Write, 3, 1, 1, Fate::Delayed, GOES_ON, NEW),
-    (Act::Read, 1, 3, 1, Fate::Delayed, GOES_ON, OLD),
+    // One poll is sent before words are read, and then none for these.
+    (Act::Read, 3, 0, 3, Fate::LostBefore, SILENT, OLD),
+    (Act::Read, 3, 1, 3, Fate::LostBefore, GOES_ON, OLD),
     // A frame that isn't one any more, or has another number, is sent again.
     (Act::Write, 3, 0, 1, Fate::Turned(0, 1), GOES_ON, NEW),
     (Act::Write, 3, 0, 1, Fate::Turned(8, 1), GOES_ON, NEW),
@@ -110,9 +107,10 @@ const CASES: &[Case] = &[
     (Act::Write, 0, 1, 1, Fate::Turned(13, 0x80), GOES_ON, NEW),
     (Act::Write, 0, 1, 1, Fate::Turned(13, 0x20), GOES_ON, NEW),
     (Act::Write, 0, 1, 1, Fate::Turned(13, 0x40), GOES_ON, NEW),
-    // The words that were read, and who has access.
-    (Act::Read, 0, 3, 1, Fate::Turned(12, 1), WORDS, OLD),
-    (Act::Read, 0, 3, 1, Fate::Turned(15, 0x80), WORDS, OLD),
+    // A word that reads back as another one is issued again.
+    (Act::Write, 0, 4, 1, Fate::Turned(12, 1), GOES_ON, NEW),
+    (Act::Write, 0, 4, 1, Fate::Turned(13, 0x80), GOES_ON, NEW),
+    // Who has access.
     (Act::Look, 0, 0, 1, Fate::Turned(12, 1), ACCESS, OLD),
     (Act::Look, 0, 0, 1, Fate::Turned(12, 2), ACCESS, OLD),
     // The power is cut.
