@@ -7,4 +7,4 @@ mod typed_arguments;
 
 pub use input_script::{INPUT, InputScript, TYPED};
 pub use typed::{is_line, typed_script};
-pub use typed_arguments::{script_of, typed_argument, typed_text};
+pub use typed_arguments::{TYPED_COMMANDS, script_of, typed_text};

@@ -3,7 +3,8 @@
 use crate::input_script::TYPED;
 use crate::typed::{is_line, typed_script};
 use clap::error::ErrorKind;
-use clap::{Arg, ArgAction, ArgMatches, Command, Error};
+use clap::{ArgMatches, Command, Error};
+use command_table::{Argument, Kind};
 use std::alloc::{AllocError, Global};
 
 /// The help text on typed commands.
@@ -12,17 +13,13 @@ const COMMANDS: &str =
 such as 'alias = { slave = 2, value = 7 }' or 'swap = [0, 1]'. Each -e is one command;
 they are submitted in order.";
 
-/// The description of the argument. It stands in place of the argument `SCRIPT`.
-pub fn typed_argument<'a>(alloc: Global) -> Result<Arg<'a>, AllocError> {
-    Arg::new(alloc, "command")
-        .short('e')
-        .long("command")
-        .value_name("COMMAND")
-        .help("A command in place of the script file, as 'alias = { slave = 2, value = 7 }'")
-        .long_help(COMMANDS)
-        .action(ArgAction::Append)
-        .conflicts_with("SCRIPT")
-}
+/// The option with typed commands. It stands in place of the argument `SCRIPT`.
+pub const TYPED_COMMANDS: Argument = Argument {
+    id: "command",
+    kind: Kind::Texts("COMMAND", 'e', "SCRIPT"),
+    help: "A command in place of the script file, as 'alias = { slave = 2, value = 7 }'",
+    long_help: COMMANDS,
+};
 
 /// The name of the script: that of the argument `SCRIPT`, which is required unless commands are typed, or `TYPED`.
 pub fn script_of<'a>(matches: &ArgMatches<'a>) -> &'a str {

@@ -1,3 +1,2 @@
 pub mod Plan
-pub mod Reading
 pub mod Journal

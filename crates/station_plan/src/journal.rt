@@ -5,9 +5,7 @@ ghost use Rattle.station_files.specs.Faults.{IsFaultless};
 ghost use Rattle.station_plan.specs.Journal.{ListsJournal, ListsSite, Restores};
 
 use crate::contents::contents_of;
-use crate::journal_listing::write_journal;
-use crate::journal_rows::{write_journal_rows, write_recovery};
-use crate::reading::{Reading, read_readable};
+use journal_listing::{Reading, read_readable, write_journal, write_journal_rows};
 use jrn_format::JournalFault;
 use line_changes::{ChangedWord, changed_words, write_changes};
 use site_journal::ReadFault;
@@ -15,7 +13,7 @@ use site_mem::{FaultPlan, Pattern};
 use site_shadow::ShadowSite;
 use station_alone::{OpenFault, Recovered, recover};
 use station_files::{ExitStatus, Fault, Store, report_fault, status_of};
-use station_json::{Form, write_change_rows};
+use station_json::{Form, write_cells, write_change_rows};
 use station_session::{Session, load_session, of_open};
 use std::alloc::Global;
 use std::io;
@@ -157,6 +155,21 @@ fn print_restored<W: Write>(
     }
     output.flush()?;
     Ok(())
+}
+
+/// Writes what a recovery would find and write.
+fn write_recovery<W: Write>(
+    alloc: Global,
+    recovered: Recovered,
+    output: &mut W,
+) -> Result<(), Fault> {
+    let row = [
+        ("row", "recovery".into()),
+        ("batches", recovered.batches.into()),
+        ("commands", recovered.commands.into()),
+        ("words", recovered.words.into()),
+    ];
+    write_cells(alloc, &row, output)
 }
 
 /// Writes what a recovery would do, as text.

@@ -5,7 +5,6 @@ ghost use Rattle.station_files.specs.Faults.{IsFaultless};
 ghost use Rattle.station_session.specs.Session.{is_old};
 ghost use Rattle.station_plan.specs.Plan.{IsPlanOf, PlansScript, PlansSite, ServesPlan};
 
-use crate::answer_rows::write_answers;
 use crate::contents::contents_of;
 use crate::plan_listing::print_plan;
 use crate::plan_rows::write_plan;
@@ -20,7 +19,7 @@ use site_mem::FaultPlan;
 use site_shadow::ShadowSite;
 use station_alone::Alone;
 use station_files::{ExitStatus, Fault, Store, report_fault};
-use station_json::Form;
+use station_json::{Form, write_answers};
 use station_session::{Given, Session, load, of_open, open_station};
 use std::alloc::{AllocError, Global};
 use std::io::Write;
@@ -44,8 +43,8 @@ pub struct Planned {
 /// the totals as it prints them, the words that change, the commands that make word 0x3E say another size than the slave has, and the process
 /// image before and after if it changes. Returns the exit status that it would return. No file is written.
 ///
-/// The files are read as `run_script` reads them, with the journal locked, and the first fault is printed and ends the plan. With `Form::Json` the same
-/// is printed as rows of JSON.
+/// The files are read as `run_script` reads them, with the journal locked, and the first fault is printed and ends the plan. With
+/// `Form::Json` the same is printed as rows of JSON.
 pub fn plan_script<S: Store, W: Write, E: Write>(
     alloc: Global,
     name: &str,

@@ -1,21 +1,19 @@
 //! The program as a function of its arguments and streams.
 
-use crate::completions::print_completions;
 use crate::explain::explain;
-use crate::manual::print_manual;
-use crate::{Request, Task, read_arguments};
+use crate::image_serving::{files_of_images, serve_image};
 use clap::Error;
 use clap::error::ErrorKind;
-use line_report::{look_before, report_behind};
+use line_report::{Before, look_before, report_behind};
 use site_progress::Progress;
-use station_files::{
-    ExitStatus, Fault, Store, diff_images, report, report_fault, set_alias, show_image,
-    show_layout, status_of,
+use station_arguments::{
+    PowerCut, Request, RunTask, Task, print_completions, print_manual, read_arguments,
 };
+use station_files::{ExitStatus, Fault, Store, report_fault, show_layout, status_of};
 use station_input::{INPUT, InputScript};
-use station_json::{Form, diff_as_json, layout_as_json, show_as_json};
+use station_json::{Form, layout_as_json};
 use station_plan::{plan_script, show_journal};
-use station_session::{init_line, recover_line, run_script};
+use station_session::{Fuse, init_line, recover_line, run_script};
 use station_troubles::{Files, Heard, Journal, LineNames, tell_more};
 use std::alloc::Global;
 use std::io;
@@ -200,33 +198,20 @@ fn serve_and_tell<
 /// The files that a task reads.
 fn files_of(task: Task<'_>) -> Files<'_> {
     match task {
-        Task::Alias { hex, file, .. } | Task::Show { hex, file, .. } => image_files(file, hex),
-        Task::Diff { hex, old, new, .. } => Files::Pair { old, new, hex },
+        Task::Image(image) => files_of_images(image),
         Task::Explain { .. } | Task::Completions { .. } | Task::Man => Files::Nothing,
         Task::Layout { line, .. } => line_files(line, Journal::Unread, None),
         Task::Init { line } => line_files(line, Journal::New, None),
         Task::Plan { line, script, .. } => line_files(line, Journal::Kept, Some(script)),
-        Task::Run {
-            line,
-            script,
-            capture,
-            ..
-        } => Files::Line(LineNames {
-            line,
+        Task::Run(run) => Files::Line(LineNames {
+            line: run.line,
             journal: Journal::Kept,
-            script: Some(script),
-            capture,
+            script: Some(run.script),
+            capture: run.capture,
         }),
         Task::Recover { line, .. } | Task::Journal { line, .. } => {
             line_files(line, Journal::Kept, None)
         }
-    }
-}
-
-fn image_files(file: Option<&str>, hex: bool) -> Files<'_> {
-    match file {
-        Some(name) => Files::Image { name, hex },
-        None => Files::Input,
     }
 }
 
@@ -258,56 +243,10 @@ fn serve_task<
     faults: &mut E,
 ) -> ExitStatus {
     match task {
-        Task::Alias { value, hex, file } => {
-            match set_alias(alloc, value, hex, file, input, store, output) {
-                Ok(()) => ExitStatus::Done,
-                Err(failure) => report(failure, faults),
-            }
+        Task::Image(image) => serve_image(alloc, image, input, store, output, faults),
+        Task::Layout { line, form } => {
+            status_of(list_layout(alloc, line, form, store, output), faults)
         }
-        Task::Show {
-            hex,
-            all,
-            form: Form::Text,
-            file,
-        } => told(
-            show_image(alloc, hex, all, file, input, store, output),
-            faults,
-        ),
-        Task::Show {
-            hex,
-            all,
-            form: Form::Json,
-            file,
-        } => told(
-            show_as_json(alloc, hex, all, file, input, store, output),
-            faults,
-        ),
-        Task::Diff {
-            hex,
-            form: Form::Text,
-            old,
-            new,
-        } => told(
-            diff_images(alloc, hex, old, new, input, store, output),
-            faults,
-        ),
-        Task::Diff {
-            hex,
-            form: Form::Json,
-            old,
-            new,
-        } => told(
-            diff_as_json(alloc, hex, old, new, input, store, output),
-            faults,
-        ),
-        Task::Layout {
-            line,
-            form: Form::Text,
-        } => status_of(show_layout(alloc, line, store, output), faults),
-        Task::Layout {
-            line,
-            form: Form::Json,
-        } => status_of(layout_as_json(alloc, line, store, output), faults),
         Task::Explain { code } => status_of(explain(alloc, code, output), faults),
         Task::Completions { shell } => status_of(print_completions(alloc, shell, output), faults),
         Task::Man => status_of(print_manual(alloc, output), faults),
@@ -315,32 +254,75 @@ fn serve_task<
         Task::Plan { line, script, form } => {
             plan_script(alloc, line, script, form, store, output, faults)
         }
-        Task::Run {
-            line,
-            script,
-            cut,
-            capture,
-            reports,
-        } => {
-            let looked = look_before(alloc, reports, line, store);
-            let ended = run_script(
-                rt, alloc, line, script, cut, capture, progress, store, output, faults,
-            );
-            let status = told(ended, faults);
-            report_behind(alloc, looked, status, store, output, faults)
-        }
         Task::Journal { line, form } => show_journal(alloc, line, form, store, output, faults),
+        Task::Run(run) => serve_run(rt, alloc, run, progress, store, output, faults),
         Task::Recover { line, reports } => {
             let looked = look_before(alloc, reports, line, store);
             let ended = recover_line(rt, alloc, line, progress, store, output, faults);
-            let status = told(ended, faults);
-            report_behind(alloc, looked, status, store, output, faults)
+            end_report(alloc, looked, ended, store, output, faults)
         }
     }
 }
 
+/// Lists the process image of a line.
+fn list_layout<S: Store, W: Write>(
+    alloc: Global,
+    line: &str,
+    form: Form,
+    store: &mut S,
+    output: &mut W,
+) -> Result<(), Fault> {
+    match form {
+        Form::Text => show_layout(alloc, line, store, output),
+        Form::Json => layout_as_json(alloc, line, store, output),
+    }
+}
+
+/// Runs a script, and prints what has changed if that is asked for.
+fn serve_run<H: Wait + Threads + Clock + Sync, S: Store, W: Write, E: Write, T: Write + Send>(
+    rt: &H,
+    alloc: Global,
+    run: RunTask<'_>,
+    progress: Option<&Progress<T>>,
+    store: &mut S,
+    output: &mut W,
+    faults: &mut E,
+) -> ExitStatus {
+    let RunTask {
+        line,
+        script,
+        capture,
+        ..
+    } = run;
+    let looked = look_before(alloc, run.reports, line, store);
+    let fuse = fuse_of(run.cut);
+    let ended = run_script(
+        rt, alloc, line, script, fuse, capture, progress, store, output, faults,
+    );
+    end_report(alloc, looked, ended, store, output, faults)
+}
+
+/// A planned power cut, as a run takes it.
+fn fuse_of(cut: Option<PowerCut>) -> Option<Fuse> {
+    let PowerCut { writes, left } = cut?;
+    Some(Fuse { writes, left })
+}
+
+/// Prints the fault that a run or a recovery ended with, if there is one, and what has changed if that is asked for.
+fn end_report<S: Store, W: Write, E: Write>(
+    alloc: Global,
+    looked: Result<Option<Before>, Fault>,
+    ended: Result<ExitStatus, Fault>,
+    store: &mut S,
+    output: &mut W,
+    faults: &mut E,
+) -> ExitStatus {
+    let status = told(ended, faults);
+    report_behind(alloc, looked, status, store, output, faults)
+}
+
 /// The exit status that a subcommand ended with, or that of its fault, which is printed.
-fn told<E: Write>(ended: Result<ExitStatus, Fault>, faults: &mut E) -> ExitStatus {
+pub(crate) fn told<E: Write>(ended: Result<ExitStatus, Fault>, faults: &mut E) -> ExitStatus {
     match ended {
         Ok(status) => status,
         Err(fault) => report_fault(fault, faults),

@@ -50,6 +50,22 @@ pub(crate) fn keep(code: Code, looked: Result<(), Bad>) -> Result<(), Bad> {
     }
 }
 
+/// What gives a fault of this code, in these words, if there was memory for them.
+pub(crate) fn found(code: Code, text: Result<String, AllocError>) -> Result<Finding, AllocError> {
+    Ok(Finding { code, text: text? })
+}
+
+/// What gives a fault of this code: the file of this name, and what is wrong with it.
+pub(crate) fn said(
+    alloc: Global,
+    code: Code,
+    name: &str,
+    what: &str,
+) -> Result<Finding, AllocError> {
+    let name = Shown { name };
+    found(code, format!(in alloc; "{name}: {what}"))
+}
+
 /// What is wrong in the text of a file.
 pub(crate) fn in_text(
     alloc: Global,
@@ -58,16 +74,15 @@ pub(crate) fn in_text(
     trouble: &TextTrouble,
 ) -> Result<Finding, AllocError> {
     let (name, what) = (Shown { name }, trouble.what.as_str());
-    let text = match trouble.line {
+    match trouble.line {
         Some(line) if name.name == TYPED => {
             // (a command is the second of its two lines)
             let number = line / 2 + line % 2;
-            format!(in alloc; "-e number {number}: {what}")?
+            found(code, format!(in alloc; "-e number {number}: {what}"))
         }
-        Some(line) => format!(in alloc; "{name}, line {line}: {what}")?,
-        None => format!(in alloc; "{name}: {what}")?,
-    };
-    Ok(Finding { code, text })
+        Some(line) => found(code, format!(in alloc; "{name}, line {line}: {what}")),
+        None => found(code, format!(in alloc; "{name}: {what}")),
+    }
 }
 
 impl fmt::Display for Shown<'_> {

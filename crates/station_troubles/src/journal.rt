@@ -1,6 +1,6 @@
 //! What is wrong with a journal.
 
-use crate::finding::{Bad, Finding, Shown};
+use crate::finding::{Bad, Finding, Shown, found};
 use jrn_format::{JournalFault, scan};
 use sii_words::Words;
 use station_listing::Code;
@@ -39,30 +39,27 @@ fn finding_of(
     fault: JournalFault,
 ) -> Result<Finding, AllocError> {
     let bytes = journal.len();
-    Ok(match fault {
-        JournalFault::Memory => Finding {
-            code: Code::Memory,
-            text: String::new(alloc),
-        },
-        JournalFault::NotAJournal => Finding {
-            code: Code::NotAJournal,
-            text: format!(in alloc;
+    match fault {
+        JournalFault::Memory => found(Code::Memory, Ok(String::new(alloc))),
+        JournalFault::NotAJournal => {
+            let text = format!(in alloc;
                 "{name}: {fault}: it has {bytes} bytes, and a journal has 8 or more and begins with 0xA5"
-            )?,
-        },
-        JournalFault::BadVersion { .. } => Finding {
-            code: Code::BadVersion,
-            text: format!(in alloc; "{name}: {fault}, and 1 and 2 are known")?,
-        },
-        JournalFault::WrongLine => Finding {
-            code: Code::WrongLine,
-            text: other_line(alloc, name, count_of(journal), slaves)?,
-        },
-        JournalFault::BadJournal { .. } => Finding {
-            code: Code::BadJournal,
-            text: format!(in alloc; "{name}: {fault} of {bytes}")?,
-        },
-    })
+            );
+            found(Code::NotAJournal, text)
+        }
+        JournalFault::BadVersion { .. } => {
+            let text = format!(in alloc; "{name}: {fault}, and 1 and 2 are known");
+            found(Code::BadVersion, text)
+        }
+        JournalFault::WrongLine => {
+            let text = other_line(alloc, name, count_of(journal), slaves);
+            found(Code::WrongLine, text)
+        }
+        JournalFault::BadJournal { .. } => {
+            let text = format!(in alloc; "{name}: {fault} of {bytes}");
+            found(Code::BadJournal, text)
+        }
+    }
 }
 
 /// A journal of another line: of another number of slaves, or with a batch that the slaves don't fit.

@@ -27,14 +27,24 @@ pub fn line_trouble(alloc: Global, text: &str) -> Result<Option<TextTrouble>, Al
 
 fn trouble_of(alloc: Global, text: &str) -> Result<TextTrouble, AllocError> {
     match document(alloc, text)? {
-        Ok((table, code)) => match line_spot(&code, &table) {
-            Some(spot) => trouble_at(alloc, text, spot),
-            None => Ok(TextTrouble {
-                line: None,
-                what: String::from_str(alloc, "no line file")?,
-            }),
-        },
+        Ok((table, code)) => trouble_in(alloc, text, &table, &code),
         Err(trouble) => Ok(trouble),
+    }
+}
+
+/// What is wrong in a text with this document, whose strings and comments are blanked in `code`.
+fn trouble_in(
+    alloc: Global,
+    text: &str,
+    table: &Table,
+    code: &[u8],
+) -> Result<TextTrouble, AllocError> {
+    match line_spot(code, table) {
+        Some(spot) => trouble_at(alloc, text, spot),
+        None => Ok(TextTrouble {
+            line: None,
+            what: String::from_str(alloc, "no line file")?,
+        }),
     }
 }
 

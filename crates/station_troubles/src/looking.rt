@@ -1,7 +1,7 @@
 //! Looks again at the files that a subcommand read.
 ghost use Rattle.std.specs.Prelude.{◌≡◌};
 
-use crate::finding::{Bad, Finding, Shown, in_text, is_same, keep};
+use crate::finding::{Bad, Finding, Shown, found, in_text, is_same, keep, said};
 use crate::flaws::TextTrouble;
 use crate::journal::judge_journal;
 use crate::line_text::line_trouble;
@@ -14,6 +14,18 @@ use station_listing::Code;
 use station_text::{HexFault, LineFile, ScriptCommand, read_hex, read_line, read_script};
 use std::alloc::{AllocError, Global};
 use std::io;
+
+/// What is said of a file that isn't hexadecimal text.
+const NO_HEX: &str = "not pairs of hexadecimal digits alone";
+
+/// What is said of the file of a capture that is there, and is none of the others.
+const TAKEN: &str = "the file is there, and is no capture of this program";
+
+/// What is said of a file that isn't there.
+const ABSENT: &str = "there is no such file";
+
+/// What is said of a journal that can't be locked.
+const BUSY: &str = "another station has locked it";
 
 /// The files that a subcommand reads, in the order in which it reads them.
 #[derive(Clone, Copy)]
@@ -169,21 +181,13 @@ fn judge_image(alloc: Global, name: &str, hex: bool, bytes: &[u8]) -> Result<(),
     }
     let text = match str::from_utf8(bytes) {
         Ok(text) => text,
-        Err(_) => return Err(Bad::Found(no_hex(alloc, name)?)),
+        Err(_) => return Err(Bad::Found(said(alloc, Code::BadHex, name, NO_HEX)?)),
     };
     match read_hex(alloc, text) {
         Ok(spelt) => judge_words(alloc, name, &spelt),
-        Err(HexFault::BadHex) => Err(Bad::Found(no_hex(alloc, name)?)),
+        Err(HexFault::BadHex) => Err(Bad::Found(said(alloc, Code::BadHex, name, NO_HEX)?)),
         Err(HexFault::Memory) => Err(Bad::Memory),
     }
-}
-
-fn no_hex(alloc: Global, name: &str) -> Result<Finding, AllocError> {
-    let name = Shown { name };
-    Ok(Finding {
-        code: Code::BadHex,
-        text: format!(in alloc; "{name}: not pairs of hexadecimal digits alone")?,
-    })
 }
 
 /// Judges the bytes of an image: their number, and the check byte.
@@ -198,12 +202,10 @@ fn judge_words(alloc: Global, name: &str, bytes: &[u8]) -> Result<(), Bad> {
 
 fn bad_check(alloc: Global, name: &str, expected: u8) -> Result<Finding, AllocError> {
     let name = Shown { name };
-    Ok(Finding {
-        code: Code::BadCheck,
-        text: format!(in alloc;
-            "{name}: the check byte, the low byte of word 7, must be 0x{expected:02x}"
-        )?,
-    })
+    let text = format!(in alloc;
+        "{name}: the check byte, the low byte of word 7, must be 0x{expected:02x}"
+    );
+    found(Code::BadCheck, text)
 }
 
 fn look_at_line<S: Store>(
@@ -218,11 +220,24 @@ fn look_at_line<S: Store>(
     if is_of_names(code, names) {
         return look_at_names(alloc, code, names, &line, store);
     }
+    look_behind_line(alloc, code, names, &line, store)
+}
+
+/// Looks at the files that are read behind the line file, in order.
+fn look_behind_line<S: Store>(
+    alloc: Global,
+    code: Code,
+    names: LineNames<'_>,
+    line: &LineFile,
+    store: &mut S,
+) -> Result<(), Bad>
+    ensures same { S.files store.new ≡ S.files store.old }
+{
     if names.journal == Journal::Kept {
         keep(code, lock_again(alloc, line.journal.as_str(), store))?;
     }
     images_again(alloc, code, &line.images, true, store)?;
-    keep(code, journal_again(alloc, names.journal, &line, store))?;
+    keep(code, journal_again(alloc, names.journal, line, store))?;
     match names.script {
         Some(script) => look_at_script(alloc, code, script, store),
         None => Ok(()),
@@ -244,25 +259,44 @@ fn look_at_names<S: Store>(
 ) -> Result<(), Bad>
     ensures same { S.files store.new ≡ S.files store.old }
 {
-    let mut files = FilesOfLine::of_line(alloc, line, names.line, names.capture)?;
-    if let Some(script) = names.script {
-        let commands = script_again(alloc, script, store)?;
-        files = files.with_script(alloc, script, &commands)?;
-    }
-    files.judge(alloc, code, store)?;
+    files_again(alloc, names, line, store)?.judge(alloc, code, store)?;
     match names.capture {
-        Some(name) if is_same(code, Code::Exists) => Err(Bad::Found(taken(alloc, name)?)),
+        Some(name) if is_same(code, Code::Exists) => {
+            Err(Bad::Found(said(alloc, Code::Exists, name, TAKEN)?))
+        }
         _ => Ok(()),
     }
 }
 
-/// What is said of the file of a capture that is there, and is none of the others.
-fn taken(alloc: Global, name: &str) -> Result<Finding, AllocError> {
-    let name = Shown { name };
-    Ok(Finding {
-        code: Code::Exists,
-        text: format!(in alloc; "{name}: the file is there, and is no capture of this program")?,
-    })
+/// The files of a subcommand on this line.
+fn files_again<S: Store>(
+    alloc: Global,
+    names: LineNames<'_>,
+    line: &LineFile,
+    store: &mut S,
+) -> Result<FilesOfLine, Bad>
+    ensures same { S.files store.new ≡ S.files store.old }
+{
+    let files = FilesOfLine::of_line(alloc, line, names.line, names.capture)?;
+    match names.script {
+        Some(script) => with_script_again(alloc, files, script, store),
+        None => Ok(files),
+    }
+}
+
+/// These files, with a script and the images that it names.
+fn with_script_again<S: Store>(
+    alloc: Global,
+    files: FilesOfLine,
+    script: &str,
+    store: &mut S,
+) -> Result<FilesOfLine, Bad>
+    ensures same { S.files store.new ≡ S.files store.old }
+{
+    match script_again(alloc, script, store) {
+        Ok(commands) => Ok(files.with_script(alloc, script, &commands)?),
+        Err(bad) => Err(bad),
+    }
 }
 
 fn look_at_script<S: Store>(alloc: Global, code: Code, name: &str, store: &mut S) -> Result<(), Bad>
@@ -279,17 +313,9 @@ fn read_again<S: Store>(alloc: Global, name: &str, store: &mut S) -> Result<Vec<
 {
     match store.read(alloc, name) {
         Ok(Some(bytes)) => Ok(bytes),
-        Ok(None) => Err(Bad::Found(absent(alloc, name)?)),
+        Ok(None) => Err(Bad::Found(said(alloc, Code::File, name, ABSENT)?)),
         Err(error) => Err(unread(alloc, name, &error)?),
     }
-}
-
-fn absent(alloc: Global, name: &str) -> Result<Finding, AllocError> {
-    let name = Shown { name };
-    Ok(Finding {
-        code: Code::File,
-        text: format!(in alloc; "{name}: there is no such file")?,
-    })
 }
 
 /// What an error of the system says of a file.
@@ -298,10 +324,8 @@ fn unread(alloc: Global, name: &str, error: &io::Error) -> Result<Bad, AllocErro
         return Ok(Bad::Memory);
     }
     let name = Shown { name };
-    Ok(Bad::Found(Finding {
-        code: Code::File,
-        text: format!(in alloc; "{name}: {error}")?,
-    }))
+    let finding = found(Code::File, format!(in alloc; "{name}: {error}"))?;
+    Ok(Bad::Found(finding))
 }
 
 fn line_again<S: Store>(alloc: Global, name: &str, store: &mut S) -> Result<LineFile, Bad>
@@ -364,17 +388,9 @@ fn lock_again<S: Store>(alloc: Global, name: &str, store: &mut S) -> Result<(), 
 {
     match store.lock(name) {
         Ok(_lock) => Ok(()),
-        Err(LockFault::Busy) => Err(Bad::Found(busy(alloc, name)?)),
+        Err(LockFault::Busy) => Err(Bad::Found(said(alloc, Code::Busy, name, BUSY)?)),
         Err(LockFault::Io(error)) => Err(unread(alloc, name, &error)?),
     }
-}
-
-fn busy(alloc: Global, name: &str) -> Result<Finding, AllocError> {
-    let name = Shown { name };
-    Ok(Finding {
-        code: Code::Busy,
-        text: format!(in alloc; "{name}: another station has locked it")?,
-    })
 }
 
 /// Reads these image files, up to the first that gives the fault of this code. Images of slaves have whole blocks of 64 words.
@@ -407,27 +423,39 @@ fn image_again<S: Store>(
 
 /// Judges the length of an image file.
 fn judge_size(alloc: Global, name: &str, bytes: usize, is_slave: bool) -> Result<(), Bad> {
-    let name = Shown { name };
-    let words = bytes / 2;
     if bytes % 2 != 0 {
-        return Err(Bad::Found(Finding {
-            code: Code::OddLength,
-            text: format!(in alloc; "{name}: {bytes} bytes, an odd number, and a word has two")?,
-        }));
+        return Err(Bad::Found(odd_length(alloc, name, bytes)?));
     }
-    let text = if is_slave {
-        if is_device_size(words) {
-            return Ok(());
-        }
-        format!(in alloc; "{name}: {words} words, and an EEPROM has 64 to 4096, a multiple of 64")?
-    } else {
-        if is_image_size(words) {
-            return Ok(());
-        }
-        format!(in alloc; "{name}: {words} words, and an image has 64 to 4096")?
-    };
-    let code = Code::BadSize;
-    Err(Bad::Found(Finding { code, text }))
+    let words = bytes / 2;
+    match broken_rule(words, is_slave) {
+        Some(rule) => Err(Bad::Found(bad_size(alloc, name, words, rule)?)),
+        None => Ok(()),
+    }
+}
+
+/// The rule that a number of words breaks, if it does.
+fn broken_rule(words: usize, is_slave: bool) -> Option<&'static str> {
+    if is_slave && !is_device_size(words) {
+        return Some("an EEPROM has 64 to 4096, a multiple of 64");
+    }
+    if !is_slave && !is_image_size(words) {
+        return Some("an image has 64 to 4096");
+    }
+    None
+}
+
+fn odd_length(alloc: Global, name: &str, bytes: usize) -> Result<Finding, AllocError> {
+    let name = Shown { name };
+    let text = format!(in alloc; "{name}: {bytes} bytes, an odd number, and a word has two");
+    found(Code::OddLength, text)
+}
+
+fn bad_size(alloc: Global, name: &str, words: usize, rule: &str) -> Result<Finding, AllocError> {
+    let name = Shown { name };
+    found(
+        Code::BadSize,
+        format!(in alloc; "{name}: {words} words, and {rule}"),
+    )
 }
 
 /// Looks at the journal's file as a subcommand does.

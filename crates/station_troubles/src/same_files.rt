@@ -37,16 +37,8 @@ impl FilesOfLine {
         line_file: &str,
         capture: Option<&str>,
     ) -> Result<FilesOfLine, AllocError> {
+        let roles = roles_of(alloc, line.images.len(), capture.is_some())?;
         let files = FileNames::of_line(alloc, line, line_file, capture)?;
-        let mut roles = Vec::new(alloc);
-        if capture.is_some() {
-            roles.push(Role::Capture)?;
-        }
-        roles.push(Role::Journal)?;
-        for slave in 0..line.images.len() {
-            roles.push(Role::Slave(slave))?;
-        }
-        roles.push(Role::LineFile)?;
         Ok(FilesOfLine { files, roles })
     }
 
@@ -58,10 +50,8 @@ impl FilesOfLine {
         commands: &[ScriptCommand],
     ) -> Result<FilesOfLine, AllocError> {
         let FilesOfLine { files, mut roles } = self;
-        let images = station_files::image_names(alloc, commands)?;
-        let files = files.with_script(alloc, script, &images)?;
-        roles.push(Role::Script)?;
-        push_images(commands, &mut roles)?;
+        push_script(commands, &mut roles)?;
+        let files = files_with_script(alloc, files, script, commands)?;
         Ok(FilesOfLine { files, roles })
     }
 
@@ -136,8 +126,36 @@ fn is_same_file<S: Store>(alloc: Global, one: &str, other: &str, store: &mut S) 
     }
 }
 
-/// Appends what the images of a script are.
-fn push_images(commands: &[ScriptCommand], roles: &mut Vec<Role>) -> Result<(), AllocError> {
+/// What the files of a line of so many slaves are, in the order of `FileNames::of_line`.
+fn roles_of(alloc: Global, slaves: usize, has_capture: bool) -> Result<Vec<Role>, AllocError> {
+    let mut roles = Vec::new(alloc);
+    if has_capture {
+        roles.push(Role::Capture)?;
+    }
+    roles.push(Role::Journal)?;
+    for slave in 0..slaves {
+        roles.push(Role::Slave(slave))?;
+    }
+    roles.push(Role::LineFile)?;
+    Ok(roles)
+}
+
+/// These files, with a script of these commands and the images that it names.
+fn files_with_script(
+    alloc: Global,
+    files: FileNames,
+    script: &str,
+    commands: &[ScriptCommand],
+) -> Result<FileNames, AllocError> {
+    match station_files::image_names(alloc, commands) {
+        Ok(images) => files.with_script(alloc, script, &images),
+        Err(error) => Err(error),
+    }
+}
+
+/// Appends what a script and its images are.
+fn push_script(commands: &[ScriptCommand], roles: &mut Vec<Role>) -> Result<(), AllocError> {
+    roles.push(Role::Script)?;
     for (command, spelt) in commands.iter().enumerate() {
         for _image in 0..images_in(spelt) {
             roles.push(Role::Image(command))?;

@@ -29,14 +29,25 @@ pub fn script_trouble(alloc: Global, text: &str) -> Result<Option<TextTrouble>, 
 /// What is wrong in a text whose first bad command is the one of this place, from 0.
 fn trouble_of(alloc: Global, text: &str, command: usize) -> Result<TextTrouble, AllocError> {
     match document(alloc, text)? {
-        Ok((table, code)) => match script_spot(&code, &table, command) {
-            Some(spot) => trouble_at(alloc, text, spot),
-            None => Ok(TextTrouble {
-                line: None,
-                what: format!(in alloc; "command {command} is none that the program knows")?,
-            }),
-        },
+        Ok((table, code)) => trouble_in(alloc, text, &table, &code, command),
         Err(trouble) => Ok(trouble),
+    }
+}
+
+/// What is wrong in a text with this document, whose strings and comments are blanked in `code`.
+fn trouble_in(
+    alloc: Global,
+    text: &str,
+    table: &Table,
+    code: &[u8],
+    command: usize,
+) -> Result<TextTrouble, AllocError> {
+    match script_spot(code, table, command) {
+        Some(spot) => trouble_at(alloc, text, spot),
+        None => Ok(TextTrouble {
+            line: None,
+            what: format!(in alloc; "command {command} is none that the program knows")?,
+        }),
     }
 }
 

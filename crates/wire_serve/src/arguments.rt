@@ -1,22 +1,23 @@
 //! Reads the arguments of the program; also has the help texts.
 
-use crate::capture_argument::{capture_argument, capture_of};
-use crate::plan_arguments::{plan_command, plan_task};
-use crate::practice::{PowerCut, Practice};
-use crate::quirks::QuirkList;
+use crate::capture_argument::{CAPTURE, capture_of};
+use crate::plan_arguments::{PLAN, plan_task};
 use crate::session_arguments::{
-    Tenure, asked_by_recover, asked_by_run, beside_argument, force_argument, form_of,
-    json_argument, report_argument, resize_argument, take_argument, tenure_of, trust_argument,
-    trust_of, words_argument,
+    BESIDE, FORCE, JSON, REPORT, RESIZE, TAKE, TRUST, Tenure, WORDS, asked_by_recover,
+    asked_by_run, form_of, tenure_of, trust_of,
 };
 use crate::sizes::sizes_of;
 use clap::error::ErrorKind;
-use clap::{Arg, ArgAction, ArgMatches, Command, Error, value_parser};
+use clap::{ArgMatches, Command, Error};
+use command_table::{
+    Argument, Kind, Subcommand, is_digits, refused, with_argument, with_subcommands, word_of,
+};
 use site_wire::Sizes;
-use station_input::{script_of, typed_argument, typed_text};
+use station_input::{TYPED_COMMANDS, script_of, typed_text};
 use station_json::Form;
 use std::alloc::{AllocError, Global};
 use wire_session::Asked;
+use wire_slaves::{PowerCut, Practice, QuirkList};
 
 /// A command line: what it asks for, and where its text and its frames go.
 #[derive(Drop)]
@@ -219,6 +220,187 @@ with --cut until the power fails, in the midst of the word with number K, counte
 from 1 as the slaves begin to write them: its file then holds W in place of the
 word. Start the program again to switch the slaves on.";
 
+/// The help text on the folder of a backup.
+const FOLDER_HELP: &str =
+    "Writes the line file, the image files and the journal into FOLDER, which has to be
+there, under names that begin with the date and the time in UTC, as
+FOLDER/20261126-211500.toml and FOLDER/20261126-211500-s0.bin, and prints the name of
+the line file. Nothing that is there is written over.";
+
+/// The help text on quirks.
+const QUIRKS_HELP: &str =
+    "What the slaves do as some controllers and chips do: items that are separated by
+commas, each for all slaves, or for slave S alone where S: stands before it.
+
+  chip=N       the chip has N words, 1 to 65536; addresses behind them roll over
+  busy=N       busy with a command for N datagrams; 2 where nothing is said
+  read=T       busy with a read for T microseconds
+  write=T      busy with a write for T microseconds
+  programs=T   the chip programs a word for T microseconds once the slave shows
+               idle: each command meanwhile ends with a missing acknowledge
+  missed=K     the first K commands end with a missing acknowledge
+  each=K       each command whose number is a multiple of K does
+  blocks       an error that is set blocks commands until command 000 clears it
+  aliasing     alias addressing is on as the power comes
+  state=N      the AL state: 1 Init, 2 Pre-Op, 4 Safe-Op, 8 Op
+  held         the PDI holds the EEPROM as the power comes
+  station=N    the slave has this station address, and keeps it
+  restarts=K   this slave alone loses its power for a moment behind frame K
+  cut=K        this slave alone loses its power for a moment in its word K
+  left=W       what a word in flight is left as then
+  S:cable=K    behind K frames the cable behind slave S is pulled
+
+A blank slave is an image file whose bytes are all 0xff. An image file may have up
+to 65536 words here; what its word 0x3E says is up to you.
+
+Example:
+  sii_wire -i eth1 slaves line.toml --quirks 0:chip=128,missed=2,blocks";
+
+pub(crate) const LINE: Argument = Argument {
+    id: "LINE",
+    kind: Kind::Word,
+    help: "The line file: the slaves' image files and the journal's, in TOML",
+    long_help: "",
+};
+
+/// The line file of `backup`, where the files don't go to a folder.
+const BACKED_LINE: Argument = Argument {
+    kind: Kind::WordUnless("to"),
+    ..LINE
+};
+
+pub(crate) const SCRIPT: Argument = Argument {
+    id: "SCRIPT",
+    kind: Kind::WordUnless("command"),
+    help: "The script file: the commands in order, in TOML",
+    long_help: "",
+};
+
+const FOLDER: Argument = Argument {
+    id: "to",
+    kind: Kind::TextWithout("FOLDER", "LINE"),
+    help: "Writes a backup of its own into this folder, under the date and the time",
+    long_help: FOLDER_HELP,
+};
+
+const TEXT: Argument = Argument {
+    id: "text",
+    kind: Kind::Text("FILE"),
+    help: "The file that text is added to; it has to be there",
+    long_help: "",
+};
+
+/// The second line of a fault.
+const VERBOSE: Argument = Argument {
+    id: "verbose",
+    kind: Kind::GlobalFlag,
+    help: "Says of a fault of the line what was seen, what it usually is, and what to do",
+    long_help: "Says of a fault of the line what was seen, what it usually is, and what to do, in a second line. Without this option the line \
+        comes where standard error is a terminal.",
+};
+
+const CUT: Argument = Argument {
+    id: "cut",
+    kind: Kind::Large("K"),
+    help: "Cuts the slaves' power in the midst of word K, 0 to 4294967295",
+    long_help: "",
+};
+
+const LEFT: Argument = Argument {
+    id: "left",
+    kind: Kind::Small("W"),
+    help: "What the torn word leaves, 0 to 65535; 0 where nothing is said",
+    long_help: "",
+};
+
+const QUIRKS: Argument = Argument {
+    id: "quirks",
+    kind: Kind::Text("LIST"),
+    help: "What the slaves do as some controllers and chips do, such as 0:chip=128,missed=2",
+    long_help: QUIRKS_HELP,
+};
+
+const SCAN: Subcommand = Subcommand {
+    name: "scan",
+    about: "Prints what the slaves of the line are",
+    long_about: "Brings up the line and reads the EEPROM of each slave. No word and no file is written, but for that of --capture.",
+    after_help: "Example:\n  sii_wire -i eth0 scan",
+    after_long_help: SCAN_ANSWERS,
+    arguments: &[WORDS, JSON, BESIDE, TAKE, CAPTURE],
+};
+
+const BACKUP: Subcommand = Subcommand {
+    name: "backup",
+    about: "Writes the words of each slave to its image file",
+    long_about: "Brings up the line, reads the EEPROM of each slave, writes its words to its image file, and makes an empty journal if there is \
+        none. No word of a slave is written.",
+    after_help: "Examples:\n  sii_wire -i eth0 backup line.toml\n  sii_wire -i eth0 backup --to backups",
+    after_long_help: BACKUP_FILES,
+    arguments: &[BACKED_LINE, FOLDER, WORDS, BESIDE, TAKE, CAPTURE],
+};
+
+const INIT: Subcommand = Subcommand {
+    name: "init",
+    about: "Makes an empty journal for the line",
+    long_about: "Brings up the line, and makes an empty journal for as many slaves. No word of a slave is written.",
+    after_help: "Example:\n  sii_wire -i eth0 init line.toml",
+    after_long_help: INIT_ANSWERS,
+    arguments: &[LINE, BESIDE, TAKE, TRUST, CAPTURE],
+};
+
+const RUN: Subcommand = Subcommand {
+    name: "run",
+    about: "Runs the commands of a script on the line",
+    long_about: RUN_TASK,
+    after_help: RUN_EXAMPLES,
+    after_long_help: RUN_ANSWERS,
+    arguments: &[
+        LINE,
+        SCRIPT,
+        TYPED_COMMANDS,
+        BESIDE,
+        FORCE,
+        TRUST,
+        RESIZE,
+        REPORT,
+        CAPTURE,
+    ],
+};
+
+const RECOVER: Subcommand = Subcommand {
+    name: "recover",
+    about: "Recovers the line after a power cut",
+    long_about: "Brings up the line, does what is live in its journal, and writes the words of each slave to its image file.",
+    after_help: "Example:\n  sii_wire -i eth0 recover line.toml",
+    after_long_help: RECOVER_ANSWERS,
+    arguments: &[LINE, BESIDE, TAKE, TRUST, REPORT, CAPTURE],
+};
+
+const SLAVES: Subcommand = Subcommand {
+    name: "slaves",
+    about: "Serves a line of slaves to practise on",
+    long_about: "Reads a line file and the EEPROM images that it names, and answers on the wire as slaves with these words do.",
+    after_help: "Example:\n  sii_wire -i eth1 slaves line.toml",
+    after_long_help: SLAVES_LIFE,
+    arguments: &[LINE, CUT, LEFT, QUIRKS],
+};
+
+/// The subcommands in the order of the help; `explain` follows them.
+const SUBCOMMANDS: &[Subcommand] = &[SCAN, BACKUP, INIT, RUN, PLAN, RECOVER, SLAVES];
+
+/// The description of the command line, with all subcommands.
+fn program<'a>(alloc: Global) -> Result<Command<'a>, AllocError> {
+    let plain = Command::new(alloc, "sii_wire")
+        .about("Works on the SII EEPROMs of a line of EtherCAT slaves on a wire")
+        .version(VERSION)
+        .after_help(STARTING)
+        .subcommand_required(true);
+    let program = with_argument(alloc, plain, TEXT)?;
+    let program = with_argument(alloc, program, VERBOSE)?;
+    let program = with_subcommands(alloc, program, SUBCOMMANDS)?;
+    program.subcommand(Command::new(alloc, "explain").about("Says what the codes of faults mean"))
+}
+
 /// Reads a command line. The first word is the program's name.
 ///
 /// # Errors
@@ -284,7 +466,7 @@ fn backup_task<'a>(matches: &ArgMatches<'a>, sizes: Sizes) -> Task<'a> {
     match matches.get_str("to") {
         Some(folder) => Task::BackupTo { folder, sizes },
         None => Task::Backup {
-            line: line_of(matches),
+            line: word_of(matches, "LINE"),
             sizes,
         },
     }
@@ -308,13 +490,13 @@ fn plain_task<'a>(matches: &ArgMatches<'a>) -> Option<Task<'a>> {
     }
     if let Some(init) = matches.subcommand_matches("init") {
         return Some(Task::Init {
-            line: line_of(init),
+            line: word_of(init, "LINE"),
             asked: trust_of(init),
         });
     }
     if let Some(run) = matches.subcommand_matches("run") {
         return Some(Task::Run {
-            line: line_of(run),
+            line: word_of(run, "LINE"),
             script: script_of(run),
             asked: asked_by_run(run),
         });
@@ -324,14 +506,9 @@ fn plain_task<'a>(matches: &ArgMatches<'a>) -> Option<Task<'a>> {
     }
     let recover = matches.subcommand_matches("recover")?;
     Some(Task::Recover {
-        line: line_of(recover),
+        line: word_of(recover, "LINE"),
         asked: asked_by_recover(recover),
     })
-}
-
-/// The name of the line file. It is required, so it is there.
-pub(crate) fn line_of<'a>(matches: &ArgMatches<'a>) -> &'a str {
-    matches.get_str("LINE").unwrap_or("")
 }
 
 /// The task of `slaves`. `--left` is checked even without `--cut`.
@@ -358,256 +535,8 @@ fn slaves_task<'a>(command: &mut Command<'a>, matches: &ArgMatches<'a>) -> Resul
         );
     };
     Ok(Task::Slaves(Practice {
-        line: line_of(matches),
+        line: word_of(matches, "LINE"),
         cut,
         quirks,
     }))
-}
-
-/// The description of the command line, with all subcommands.
-fn program<'a>(alloc: Global) -> Result<Command<'a>, AllocError> {
-    let program = Command::new(alloc, "sii_wire")
-        .about("Works on the SII EEPROMs of a line of EtherCAT slaves on a wire")
-        .version(VERSION)
-        .after_help(STARTING)
-        .subcommand_required(true)
-        .arg(text_argument(alloc))?
-        .arg(verbose_argument(alloc))?;
-    let program = with_subcommand(program, scan_command(alloc))?;
-    let program = with_subcommand(program, backup_command(alloc))?;
-    let program = with_subcommand(program, init_command(alloc))?;
-    let program = with_subcommand(program, run_command(alloc))?;
-    let program = with_subcommand(program, plan_command(alloc))?;
-    let program = with_subcommand(program, recover_command(alloc))?;
-    let program = with_subcommand(program, slaves_command(alloc))?;
-    with_subcommand(program, explain_command(alloc))
-}
-
-/// The command with one more subcommand, if that one could be made.
-fn with_subcommand<'a>(
-    command: Command<'a>,
-    subcommand: Result<Command<'a>, AllocError>,
-) -> Result<Command<'a>, AllocError> {
-    command.subcommand(subcommand?)
-}
-
-fn text_argument<'a>(alloc: Global) -> Arg<'a> {
-    Arg::new(alloc, "text")
-        .long("text")
-        .value_name("FILE")
-        .help("The file that text is added to; it has to be there")
-}
-
-fn verbose_argument<'a>(alloc: Global) -> Arg<'a> {
-    Arg::new(alloc, "verbose")
-        .long("verbose")
-        .help("Says of a fault of the line what was seen, what it usually is, and what to do")
-        .long_help(
-            "Says of a fault of the line what was seen, what it usually is, and what to do, in a second line. Without this option the line \
-            comes where standard error is a terminal.",
-        )
-        .action(ArgAction::SetTrue)
-        .global(true)
-}
-
-fn scan_command<'a>(alloc: Global) -> Result<Command<'a>, AllocError> {
-    Command::new(alloc, "scan")
-        .about("Prints what the slaves of the line are")
-        .long_about(
-            "Brings up the line and reads the EEPROM of each slave. No word and no file is written, but for that of --capture.",
-        )
-        .after_help("Example:\n  sii_wire -i eth0 scan")
-        .after_long_help(SCAN_ANSWERS)
-        .arg(words_argument(alloc))?
-        .arg(json_argument(alloc))?
-        .arg(beside_argument(alloc))?
-        .arg(take_argument(alloc)?)?
-        .arg(capture_argument(alloc))
-}
-
-pub(crate) fn line_argument<'a>(alloc: Global) -> Arg<'a> {
-    Arg::new(alloc, "LINE")
-        .help("The line file: the slaves' image files and the journal's, in TOML")
-        .required(true)
-}
-
-fn backup_command<'a>(alloc: Global) -> Result<Command<'a>, AllocError> {
-    Command::new(alloc, "backup")
-        .about("Writes the words of each slave to its image file")
-        .long_about(
-            "Brings up the line, reads the EEPROM of each slave, writes its words to its image file, and makes an empty journal if there is \
-            none. No word of a slave is written.",
-        )
-        .after_help(
-            "Examples:\n  sii_wire -i eth0 backup line.toml\n  sii_wire -i eth0 backup --to backups",
-        )
-        .after_long_help(BACKUP_FILES)
-        .arg(backed_line_argument(alloc)?)?
-        .arg(folder_argument(alloc)?)?
-        .arg(words_argument(alloc))?
-        .arg(beside_argument(alloc))?
-        .arg(take_argument(alloc)?)?
-        .arg(capture_argument(alloc))
-}
-
-/// The line file of `backup`, where the files don't go to a folder.
-fn backed_line_argument<'a>(alloc: Global) -> Result<Arg<'a>, AllocError> {
-    Arg::new(alloc, "LINE")
-        .help("The line file: the slaves' image files and the journal's, in TOML")
-        .required_unless_present("to")
-}
-
-/// The help text on the folder of a backup.
-const FOLDER: &str =
-    "Writes the line file, the image files and the journal into FOLDER, which has to be
-there, under names that begin with the date and the time in UTC, as
-FOLDER/20261126-211500.toml and FOLDER/20261126-211500-s0.bin, and prints the name of
-the line file. Nothing that is there is written over.";
-
-fn folder_argument<'a>(alloc: Global) -> Result<Arg<'a>, AllocError> {
-    Arg::new(alloc, "to")
-        .long("to")
-        .value_name("FOLDER")
-        .help("Writes a backup of its own into this folder, under the date and the time")
-        .long_help(FOLDER)
-        .conflicts_with("LINE")
-}
-
-fn init_command<'a>(alloc: Global) -> Result<Command<'a>, AllocError> {
-    Command::new(alloc, "init")
-        .about("Makes an empty journal for the line")
-        .long_about(
-            "Brings up the line, and makes an empty journal for as many slaves. No word of a slave is written.",
-        )
-        .after_help("Example:\n  sii_wire -i eth0 init line.toml")
-        .after_long_help(INIT_ANSWERS)
-        .arg(line_argument(alloc))?
-        .arg(beside_argument(alloc))?
-        .arg(take_argument(alloc)?)?
-        .arg(trust_argument(alloc))?
-        .arg(capture_argument(alloc))
-}
-
-pub(crate) fn script_argument<'a>(alloc: Global) -> Result<Arg<'a>, AllocError> {
-    Arg::new(alloc, "SCRIPT")
-        .help("The script file: the commands in order, in TOML")
-        .required_unless_present("command")
-}
-
-fn run_command<'a>(alloc: Global) -> Result<Command<'a>, AllocError> {
-    Command::new(alloc, "run")
-        .about("Runs the commands of a script on the line")
-        .long_about(RUN_TASK)
-        .after_help(RUN_EXAMPLES)
-        .after_long_help(RUN_ANSWERS)
-        .arg(line_argument(alloc))?
-        .arg(script_argument(alloc)?)?
-        .arg(typed_argument(alloc)?)?
-        .arg(beside_argument(alloc))?
-        .arg(force_argument(alloc))?
-        .arg(trust_argument(alloc))?
-        .arg(resize_argument(alloc))?
-        .arg(report_argument(alloc))?
-        .arg(capture_argument(alloc))
-}
-
-fn recover_command<'a>(alloc: Global) -> Result<Command<'a>, AllocError> {
-    Command::new(alloc, "recover")
-        .about("Recovers the line after a power cut")
-        .long_about(
-            "Brings up the line, does what is live in its journal, and writes the words of each slave to its image file.",
-        )
-        .after_help("Example:\n  sii_wire -i eth0 recover line.toml")
-        .after_long_help(RECOVER_ANSWERS)
-        .arg(line_argument(alloc))?
-        .arg(beside_argument(alloc))?
-        .arg(take_argument(alloc)?)?
-        .arg(trust_argument(alloc))?
-        .arg(report_argument(alloc))?
-        .arg(capture_argument(alloc))
-}
-
-fn cut_argument<'a>(alloc: Global) -> Arg<'a> {
-    Arg::new(alloc, "cut")
-        .long("cut")
-        .value_name("K")
-        .help("Cuts the slaves' power in the midst of word K, 0 to 4294967295")
-        .value_parser(value_parser!(u32))
-}
-
-fn left_argument<'a>(alloc: Global) -> Arg<'a> {
-    Arg::new(alloc, "left")
-        .long("left")
-        .value_name("W")
-        .help("What the torn word leaves, 0 to 65535; 0 where nothing is said")
-        .value_parser(value_parser!(u16))
-}
-
-/// The help text on quirks.
-const QUIRKS: &str =
-    "What the slaves do as some controllers and chips do: items that are separated by
-commas, each for all slaves, or for slave S alone where S: stands before it.
-
-  chip=N       the chip has N words, 1 to 65536; addresses behind them roll over
-  busy=N       busy with a command for N datagrams; 2 where nothing is said
-  read=T       busy with a read for T microseconds
-  write=T      busy with a write for T microseconds
-  programs=T   the chip programs a word for T microseconds once the slave shows
-               idle: each command meanwhile ends with a missing acknowledge
-  missed=K     the first K commands end with a missing acknowledge
-  each=K       each command whose number is a multiple of K does
-  blocks       an error that is set blocks commands until command 000 clears it
-  aliasing     alias addressing is on as the power comes
-  state=N      the AL state: 1 Init, 2 Pre-Op, 4 Safe-Op, 8 Op
-  held         the PDI holds the EEPROM as the power comes
-  station=N    the slave has this station address, and keeps it
-  restarts=K   this slave alone loses its power for a moment behind frame K
-  cut=K        this slave alone loses its power for a moment in its word K
-  left=W       what a word in flight is left as then
-  S:cable=K    behind K frames the cable behind slave S is pulled
-
-A blank slave is an image file whose bytes are all 0xff. An image file may have up
-to 65536 words here; what its word 0x3E says is up to you.
-
-Example:
-  sii_wire -i eth1 slaves line.toml --quirks 0:chip=128,missed=2,blocks";
-
-fn quirks_argument<'a>(alloc: Global) -> Arg<'a> {
-    Arg::new(alloc, "quirks")
-        .long("quirks")
-        .value_name("LIST")
-        .help("What the slaves do as some controllers and chips do, such as 0:chip=128,missed=2")
-        .long_help(QUIRKS)
-}
-
-fn slaves_command<'a>(alloc: Global) -> Result<Command<'a>, AllocError> {
-    Command::new(alloc, "slaves")
-        .about("Serves a line of slaves to practise on")
-        .long_about(
-            "Reads a line file and the EEPROM images that it names, and answers on the wire as slaves with these words do.",
-        )
-        .after_help("Example:\n  sii_wire -i eth1 slaves line.toml")
-        .after_long_help(SLAVES_LIFE)
-        .arg(line_argument(alloc))?
-        .arg(cut_argument(alloc))?
-        .arg(left_argument(alloc))?
-        .arg(quirks_argument(alloc))
-}
-
-fn explain_command<'a>(alloc: Global) -> Result<Command<'a>, AllocError> {
-    Ok(Command::new(alloc, "explain").about("Says what the codes of faults mean"))
-}
-
-/// Whether a text has digits only: a sign is not taken.
-fn is_digits(text: &str) -> bool {
-    text.bytes().all(|byte| byte.is_ascii_digit())
-}
-
-/// The error for wrong arguments: this message, and the usage.
-fn refused<'a>(
-    command: &mut Command<'a>,
-    kind: ErrorKind,
-    message: &str,
-) -> Result<Task<'a>, Error> {
-    Err(command.error(kind, message)?)
 }

@@ -1,10 +1,10 @@
 //! The argument that names a capture file.
 
-use clap::{Arg, ArgMatches};
-use std::alloc::Global;
+use clap::ArgMatches;
+use command_table::{Argument, Kind};
 
 /// The help text on capture files.
-const CAPTURE: &str =
+const CAPTURE_FILE: &str =
     "Writes each frame to FILE as it goes over the wire, also one that is sent again, and
 each EtherCAT frame that comes, in the pcap format with times in nanoseconds: open
 it with Wireshark or tshark. The source address tells the way: 00:10:20:30:40:50
@@ -16,14 +16,13 @@ Example:
   sii_wire -i eth0 run line.toml script.toml --capture frames.pcap
   tshark -r frames.pcap";
 
-/// The description of the argument.
-pub(crate) fn capture_argument<'a>(alloc: Global) -> Arg<'a> {
-    Arg::new(alloc, "capture")
-        .long("capture")
-        .value_name("FILE")
-        .help("Writes the frames on the wire to FILE, in the pcap format")
-        .long_help(CAPTURE)
-}
+/// The option.
+pub(crate) const CAPTURE: Argument = Argument {
+    id: "capture",
+    kind: Kind::Text("FILE"),
+    help: "Writes the frames on the wire to FILE, in the pcap format",
+    long_help: CAPTURE_FILE,
+};
 
 /// The name of the capture file, if the subcommand has one.
 pub(crate) fn capture_of<'a>(matches: &ArgMatches<'a>) -> Option<&'a str> {

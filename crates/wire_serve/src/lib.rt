@@ -6,16 +6,12 @@ mod capture_argument;
 mod dated;
 mod explain;
 mod plan_arguments;
-mod practice;
-mod quirks;
 mod serving;
 mod session_arguments;
 mod sizes;
 
 pub use arguments::{Arguments, Task, read_arguments};
 pub use dated::name_at;
-pub use practice::{PowerCut, Practice, serve_slaves};
-pub use quirks::QuirkList;
 pub use serving::{refuse_text, refuse_words, serve, show_usage};
 pub use session_arguments::Tenure;
 pub use station_files::FileStore;

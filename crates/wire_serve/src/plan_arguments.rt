@@ -1,15 +1,12 @@
 //! The arguments of `plan`.
 
 use crate::Task;
-use crate::arguments::{line_argument, line_of, script_argument};
-use crate::capture_argument::capture_argument;
-use crate::session_arguments::{
-    asked_by_run, beside_argument, force_argument, form_of, json_argument, resize_argument,
-    trust_argument,
-};
-use clap::{ArgMatches, Command};
-use station_input::{script_of, typed_argument};
-use std::alloc::{AllocError, Global};
+use crate::arguments::{LINE, SCRIPT};
+use crate::capture_argument::CAPTURE;
+use crate::session_arguments::{BESIDE, FORCE, JSON, RESIZE, TRUST, asked_by_run, form_of};
+use clap::ArgMatches;
+use command_table::{Subcommand, word_of};
+use station_input::{TYPED_COMMANDS, script_of};
 
 /// The help text on what `plan` prints.
 const PLAN_ANSWERS: &str = "Answers, which sii_station plan --help lists in full:
@@ -32,30 +29,31 @@ const PLAN_EXAMPLES: &str = "Examples:
   sii_wire -i eth0 plan line.toml script.toml
   sii_wire -i eth0 plan line.toml -e 'alias = { slave = 2, value = 7 }'";
 
-pub(crate) fn plan_command<'a>(alloc: Global) -> Result<Command<'a>, AllocError> {
-    Command::new(alloc, "plan")
-        .about("Says what a script would do to the line, and does nothing")
-        .long_about(
-            "Brings up the line, and prints how run would answer each command of the script, which words of which slaves would change, and \
-            how much would be written.",
-        )
-        .after_help(PLAN_EXAMPLES)
-        .after_long_help(PLAN_ANSWERS)
-        .arg(line_argument(alloc))?
-        .arg(script_argument(alloc)?)?
-        .arg(typed_argument(alloc)?)?
-        .arg(json_argument(alloc))?
-        .arg(beside_argument(alloc))?
-        .arg(force_argument(alloc))?
-        .arg(trust_argument(alloc))?
-        .arg(resize_argument(alloc))?
-        .arg(capture_argument(alloc))
-}
+/// The subcommand `plan`.
+pub(crate) const PLAN: Subcommand = Subcommand {
+    name: "plan",
+    about: "Says what a script would do to the line, and does nothing",
+    long_about: "Brings up the line, and prints how run would answer each command of the script, which words of which slaves would change, and \
+        how much would be written.",
+    after_help: PLAN_EXAMPLES,
+    after_long_help: PLAN_ANSWERS,
+    arguments: &[
+        LINE,
+        SCRIPT,
+        TYPED_COMMANDS,
+        JSON,
+        BESIDE,
+        FORCE,
+        TRUST,
+        RESIZE,
+        CAPTURE,
+    ],
+};
 
 /// The task of `plan`. The names are required, so they are there.
 pub(crate) fn plan_task<'a>(plan: &ArgMatches<'a>) -> Task<'a> {
     Task::Plan {
-        line: line_of(plan),
+        line: word_of(plan, "LINE"),
         script: script_of(plan),
         asked: asked_by_run(plan),
         form: form_of(plan),

@@ -3,7 +3,6 @@
 use crate::arguments::{Arguments, Task};
 use crate::dated::dated_name;
 use crate::explain::explain;
-use crate::practice::serve_slaves;
 use crate::session_arguments::Tenure;
 use clap::Error;
 use clap::error::ErrorKind;
@@ -25,6 +24,7 @@ use wire_session::{
     CaptureNames, Named, WireFault, backup_line, begin_journal, init_on_wire, keep_capture_apart,
     plan_on_wire, recover_line, run_script, scan_line,
 };
+use wire_slaves::serve_slaves;
 
 /// Carries out a command line on the wire that is read and written by these two, and returns the exit status: `Done`; `Refused` where a
 /// command was refused; `File` for a file or its form; `Device` for the line; or `Memory`. The frames are numbered from the one behind
@@ -202,14 +202,10 @@ fn do_task<H: Wait + Threads + Clock + Sync, W: Wire + Send + Drop, S: Store, O:
         Task::Recover { line, asked } => {
             all_done(recover_line(rt, alloc, wire, line, asked, store, output))
         }
-        Task::Slaves(practice) => all_done(serve_slaves(
-            rt,
-            alloc,
-            practice,
-            wire.wire(),
-            store,
-            output,
-        )),
+        Task::Slaves(practice) => {
+            serve_slaves(rt, alloc, practice, wire.wire(), store, output)?;
+            Ok(ExitStatus::Done)
+        }
         Task::Explain => {
             explain(alloc, output)?;
             Ok(ExitStatus::Done)

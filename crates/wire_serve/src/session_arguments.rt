@@ -1,13 +1,12 @@
 //! The arguments that say how large EEPROMs are, and what is asked for on a line.
 
-use clap::{Arg, ArgAction, ArgMatches};
-use line_report::REPORT;
+use clap::ArgMatches;
+use command_table::{Argument, Kind};
 use station_json::Form;
-use std::alloc::{AllocError, Global};
 use wire_session::Asked;
 
 /// The help text on sizes.
-const WORDS: &str =
+const WORDS_HELP: &str =
     "How many words the EEPROMs of slaves have, as their data sheets say it: 64 to 4096, a
 multiple of 64. It is needed for blank EEPROMs, whose size can't be told. Later
 calls take the size of each slave from its image file.
@@ -15,64 +14,56 @@ calls take the size of each slave from its image file.
 Example:
   sii_wire -i eth0 backup line.toml --words 0=512,3=1024";
 
-/// The description of the argument with the sizes of EEPROMs.
-pub(crate) fn words_argument<'a>(alloc: Global) -> Arg<'a> {
-    Arg::new(alloc, "words")
-        .long("words")
-        .value_name("SLAVE=N,..")
-        .help("How many words the EEPROMs of these slaves have")
-        .long_help(WORDS)
-}
+/// The sizes of EEPROMs.
+pub(crate) const WORDS: Argument = Argument {
+    id: "words",
+    kind: Kind::Text("SLAVE=N,.."),
+    help: "How many words the EEPROMs of these slaves have",
+    long_help: WORDS_HELP,
+};
 
-/// The description of a flag.
-fn flag<'a>(alloc: Global, name: &'a str, help: &'a str) -> Arg<'a> {
-    Arg::new(alloc, name)
-        .long(name)
-        .help(help)
-        .action(ArgAction::SetTrue)
-}
+pub(crate) const TRUST: Argument = Argument {
+    id: "trust-images",
+    kind: Kind::Flag,
+    help: "Goes by the size of an image file even where the EEPROM is found to be smaller",
+    long_help: "",
+};
 
-pub(crate) fn trust_argument<'a>(alloc: Global) -> Arg<'a> {
-    flag(
-        alloc,
-        "trust-images",
-        "Goes by the size of an image file even where the EEPROM is found to be smaller",
-    )
-}
+pub(crate) const FORCE: Argument = Argument {
+    id: "force",
+    kind: Kind::Flag,
+    help: "Works on slaves above Pre-Operational too, and takes EEPROMs that their PDI has",
+    long_help: "",
+};
 
-pub(crate) fn force_argument<'a>(alloc: Global) -> Arg<'a> {
-    flag(
-        alloc,
-        "force",
-        "Works on slaves above Pre-Operational too, and takes EEPROMs that their PDI has",
-    )
-}
+pub(crate) const RESIZE: Argument = Argument {
+    id: "resize",
+    kind: Kind::Flag,
+    help: "Lets commands make word 0x3e tell another size than the EEPROM has",
+    long_help: "",
+};
 
 /// The help text on work beside a master.
-const BESIDE: &str =
+const BESIDE_HELP: &str =
     "A master keeps the line running, and lends the wire. Slaves keep the station addresses
 that it gave them, and nothing is written but registers 0x0500 to 0x050f, those of the
 EEPROM. An EEPROM that was offered to a PDI is asked for, and is handed back at the end.";
 
-/// The description of the flag for work beside a master.
-pub(crate) fn beside_argument<'a>(alloc: Global) -> Arg<'a> {
-    flag(
-        alloc,
-        "beside",
-        "Works beside a master that lends the wire, and leaves its line running",
-    )
-    .long_help(BESIDE)
-}
+/// Work beside a master.
+pub(crate) const BESIDE: Argument = Argument {
+    id: "beside",
+    kind: Kind::Flag,
+    help: "Works beside a master that lends the wire, and leaves its line running",
+    long_help: BESIDE_HELP,
+};
 
-/// The description of the flag that takes EEPROMs beside a master.
-pub(crate) fn take_argument<'a>(alloc: Global) -> Result<Arg<'a>, AllocError> {
-    flag(
-        alloc,
-        "force",
-        "Takes EEPROMs that their PDI has beside a master too",
-    )
-    .requires_arg("beside")
-}
+/// Beside a master, EEPROMs are taken from PDIs that have them.
+pub(crate) const TAKE: Argument = Argument {
+    id: "force",
+    kind: Kind::FlagWith("beside"),
+    help: "Takes EEPROMs that their PDI has beside a master too",
+    long_help: "",
+};
 
 /// Whose the wire is.
 #[derive(Clone, Copy)]
@@ -93,34 +84,26 @@ pub(crate) fn tenure_of(matches: &ArgMatches<'_>) -> Tenure {
     }
 }
 
-pub(crate) fn resize_argument<'a>(alloc: Global) -> Arg<'a> {
-    flag(
-        alloc,
-        "resize",
-        "Lets commands make word 0x3e tell another size than the EEPROM has",
-    )
-}
-
-/// The description of the flag for a report at the end.
-pub(crate) fn report_argument<'a>(alloc: Global) -> Arg<'a> {
-    flag(
-        alloc,
-        "report",
-        "Prints at the end which words have changed, and whether the line is in order",
-    )
-    .long_help(REPORT)
-}
+/// A report at the end.
+pub(crate) const REPORT: Argument = Argument {
+    id: "report",
+    kind: Kind::Flag,
+    help: "Prints at the end which words have changed, and whether the line is in order",
+    long_help: line_report::REPORT,
+};
 
 /// The help text on JSON.
-const JSON: &str =
+const JSON_HELP: &str =
     "Prints JSON in place of text: an object for each slave, on a line of its own. Numbers
 are JSON numbers, and the keys are named as in the text. Later versions may add keys
 and rows; pass over what you don't know. Faults and the exit status stay as they are.";
 
-/// The description of the flag for JSON.
-pub(crate) fn json_argument<'a>(alloc: Global) -> Arg<'a> {
-    flag(alloc, "json", "Prints JSON, one object a line").long_help(JSON)
-}
+pub(crate) const JSON: Argument = Argument {
+    id: "json",
+    kind: Kind::Flag,
+    help: "Prints JSON, one object a line",
+    long_help: JSON_HELP,
+};
 
 /// The form that a subcommand with this flag was asked for.
 pub(crate) fn form_of(matches: &ArgMatches<'_>) -> Form {

@@ -1,10 +1,10 @@
 //! The argument of `run` that names a capture file.
 
-use clap::{Arg, ArgMatches};
-use std::alloc::Global;
+use clap::ArgMatches;
+use command_table::{Argument, Kind};
 
 /// The help text on capture files.
-const CAPTURE: &str =
+const CAPTURE_FILE: &str =
     "Writes each frame of the line to FILE, as it goes to the slaves and as it comes
 back, in the pcap format with times in nanoseconds: open it with Wireshark or
 tshark, which read its EtherCAT datagrams. Of frames with process data it has
@@ -17,14 +17,13 @@ Example:
   sii_station run line.toml script.toml --capture frames.pcap
   tshark -r frames.pcap";
 
-/// The description of the argument.
-pub(crate) fn capture_argument<'a>(alloc: Global) -> Arg<'a> {
-    Arg::new(alloc, "capture")
-        .long("capture")
-        .value_name("FILE")
-        .help("Writes the frames of the line to FILE, in the pcap format")
-        .long_help(CAPTURE)
-}
+/// The option.
+pub(crate) const CAPTURE: Argument = Argument {
+    id: "capture",
+    kind: Kind::Text("FILE"),
+    help: "Writes the frames of the line to FILE, in the pcap format",
+    long_help: CAPTURE_FILE,
+};
 
 /// The name of the capture file, if there is one.
 pub(crate) fn capture_of<'a>(matches: &ArgMatches<'a>) -> Option<&'a str> {

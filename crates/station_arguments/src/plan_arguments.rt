@@ -1,11 +1,10 @@
 //! The arguments of `plan` and `journal`.
 
-use crate::Task;
-use crate::arguments::{line_argument, script_argument};
-use crate::json_argument::{form_of, json_argument};
-use clap::{ArgMatches, Command};
-use station_input::{script_of, typed_argument};
-use std::alloc::{AllocError, Global};
+use crate::arguments::{LINE, SCRIPT, Task};
+use crate::json_argument::{JSON, form_of};
+use clap::ArgMatches;
+use command_table::{Subcommand, word_of};
+use station_input::{TYPED_COMMANDS, script_of};
 
 /// The help text on what `plan` prints, and on its exit status.
 const PLAN_ANSWERS: &str = "Answers:
@@ -69,47 +68,41 @@ journal, 5 no memory.
 Example:
   sii_station journal line.toml";
 
-pub(crate) fn plan_command<'a>(alloc: Global) -> Result<Command<'a>, AllocError> {
-    Command::new(alloc, "plan")
-        .about("Says what a script would do to a line, and does nothing")
-        .long_about(
-            "Reads what run would read, and prints how run would answer each command, which words of which slaves would change, how much \
-            would be written, and the process image before and after if it would change. No file is written.",
-        )
-        .after_help("Example:\n  sii_station plan line.toml script.toml")
-        .after_long_help(PLAN_ANSWERS)
-        .arg(line_argument(alloc))?
-        .arg(script_argument(alloc)?)?
-        .arg(typed_argument(alloc)?)?
-        .arg(json_argument(alloc))
-}
+/// The subcommand `plan`.
+pub(crate) const PLAN: Subcommand = Subcommand {
+    name: "plan",
+    about: "Says what a script would do to a line, and does nothing",
+    long_about: "Reads what run would read, and prints how run would answer each command, which words of which slaves would change, how much \
+        would be written, and the process image before and after if it would change. No file is written.",
+    after_help: "Example:\n  sii_station plan line.toml script.toml",
+    after_long_help: PLAN_ANSWERS,
+    arguments: &[LINE, SCRIPT, TYPED_COMMANDS, JSON],
+};
 
-pub(crate) fn journal_command<'a>(alloc: Global) -> Result<Command<'a>, AllocError> {
-    Command::new(alloc, "journal")
-        .about("Says what a journal holds, and what a recovery would do")
-        .long_about(
-            "Reads a line file, the EEPROM images and the journal that it names, and prints the journal's header, the batches that aren't \
-            done with their commands, and which words of which slaves a recovery would change. Of a damaged journal it prints what can be \
-            read, and where it is damaged. No file is written.",
-        )
-        .after_help("Example:\n  sii_station journal line.toml")
-        .after_long_help(JOURNAL_ANSWERS)
-        .arg(line_argument(alloc))?
-        .arg(json_argument(alloc))
-}
+/// The subcommand `journal`.
+pub(crate) const JOURNAL: Subcommand = Subcommand {
+    name: "journal",
+    about: "Says what a journal holds, and what a recovery would do",
+    long_about: "Reads a line file, the EEPROM images and the journal that it names, and prints the journal's header, the batches that aren't \
+        done with their commands, and which words of which slaves a recovery would change. Of a damaged journal it prints what can be \
+        read, and where it is damaged. No file is written.",
+    after_help: "Example:\n  sii_station journal line.toml",
+    after_long_help: JOURNAL_ANSWERS,
+    arguments: &[LINE, JSON],
+};
 
 /// The task of `plan` or `journal`, if one of them was given. The names are required, so they are there.
 pub(crate) fn planning_task<'a>(matches: &ArgMatches<'a>) -> Option<Task<'a>> {
     if let Some(plan) = matches.subcommand_matches("plan") {
         return Some(Task::Plan {
-            line: plan.get_str("LINE").unwrap_or(""),
+            line: word_of(plan, "LINE"),
             script: script_of(plan),
             form: form_of(plan),
         });
     }
     let journal = matches.subcommand_matches("journal")?;
     Some(Task::Journal {
-        line: journal.get_str("LINE").unwrap_or(""),
+        line: word_of(journal, "LINE"),
         form: form_of(journal),
     })
 }

@@ -1,4 +1,4 @@
-//! Prints what a journal's file holds.
+//! What a journal's file holds, as text.
 
 use crate::reading::Reading;
 use jrn_format::{
@@ -14,11 +14,7 @@ use std::io::Write;
 /// # Errors
 ///
 /// As the output answers.
-pub(crate) fn write_journal<W: Write>(
-    file: &[u8],
-    reading: &Reading,
-    output: &mut W,
-) -> io::Result<()> {
+pub fn write_journal<W: Write>(file: &[u8], reading: &Reading, output: &mut W) -> io::Result<()> {
     if file.len() < AREA_START || gate(file) != OPEN {
         return Ok(());
     }

@@ -1,4 +1,4 @@
-//! The subcommand `slaves`: a line to practise on, whose slaves hold the words of image files.
+//! A line to practise on, whose slaves hold the words of image files.
 
 use crate::quirks::QuirkList;
 use ecat_frame::{Frame, MAX_LEN};
@@ -13,7 +13,6 @@ use std::io;
 use std::io::Write;
 use std::rt::Clock;
 use wire_practice::{NO_QUIRKS, PracticeFiles, PracticeLine, PracticeSlave, Quirks};
-use wire_session::WireFault;
 
 /// What a slave does of which nothing is said: it stays busy with a command for two datagrams.
 const PLAIN: Quirks = Quirks {
@@ -71,7 +70,7 @@ pub fn serve_slaves<C: Clock, W: Wire, S: Store, O: Write>(
     wire: &mut W,
     store: &mut S,
     output: &mut O,
-) -> Result<(), WireFault> {
+) -> Result<(), Fault> {
     let line = load_line(alloc, practice.line, store)?;
     let mut slaves = switch_on(alloc, &line, practice.quirks, store)?;
     serve_frames(clock, &mut slaves, practice.cut, wire, output)
@@ -165,7 +164,7 @@ fn answer<W: Wire, F: RandomAccessFile>(
     cut: Option<PowerCut>,
     wire: &mut W,
     mut frame: Frame,
-) -> Result<bool, WireFault> {
+) -> Result<bool, Fault> {
     slaves.take(&mut frame)?;
     match cut {
         Some(cut) if slaves.begun() >= cut.word => {
@@ -187,7 +186,7 @@ fn serve_frames<C: Clock, W: Wire, F: RandomAccessFile, O: Write>(
     cut: Option<PowerCut>,
     wire: &mut W,
     output: &mut O,
-) -> Result<(), WireFault> {
+) -> Result<(), Fault> {
     let mut empty = 0u32;
     for _turn in 0..u64::MAX {
         let heard = hear(wire)?;
@@ -203,13 +202,13 @@ fn serve_frames<C: Clock, W: Wire, F: RandomAccessFile, O: Write>(
             Heard::Empty => empty = empty.saturating_add(1),
         }
         if empty >= EMPTY_READS {
-            return Err(WireFault::Station(Fault::File));
+            return Err(Fault::File);
         }
     }
     Ok(())
 }
 
-fn print_cut<O: Write>(word: u32, output: &mut O) -> Result<(), WireFault> {
+fn print_cut<O: Write>(word: u32, output: &mut O) -> Result<(), Fault> {
     writeln!(output, "power cut at word {word}")?;
     output.flush()?;
     Ok(())

@@ -1,10 +1,46 @@
 //! The arguments of the subcommands that read EEPROM images: `show`, `alias` and `diff`.
 
-use crate::arguments::{Task, is_digits, refused};
-use crate::json_argument::{form_of, json_argument};
+use crate::json_argument::{JSON, form_of};
 use clap::error::ErrorKind;
-use clap::{Arg, ArgAction, ArgMatches, Command, Error, value_parser};
-use std::alloc::{AllocError, Global};
+use clap::{ArgMatches, Command, Error};
+use command_table::{Argument, Kind, Subcommand, is_digits, refused, word_of};
+use station_json::Form;
+
+/// What a subcommand that reads EEPROM images is asked for.
+#[derive(Clone, Copy)]
+pub enum ImageTask<'a> {
+    /// Sets the configured station alias of an image.
+    Alias {
+        /// The new alias.
+        value: u16,
+        /// Whether input and output are hexadecimal text.
+        hex: bool,
+        /// The name of the image's file; `None` for standard input.
+        file: Option<&'a str>,
+    },
+    /// Prints the listing of an image.
+    Show {
+        /// Whether the image is hexadecimal text.
+        hex: bool,
+        /// Whether each item is printed too.
+        all: bool,
+        /// Text, or rows of JSON.
+        form: Form,
+        /// The name of the image's file; `None` for standard input.
+        file: Option<&'a str>,
+    },
+    /// Prints what two images differ in.
+    Diff {
+        /// Whether the images are hexadecimal text.
+        hex: bool,
+        /// Text, or rows of JSON.
+        form: Form,
+        /// The name of the first image's file; `None` for standard input.
+        old: Option<&'a str>,
+        /// The name of the second image's file; `None` for standard input.
+        new: Option<&'a str>,
+    },
+}
 
 /// The help text on what `show` prints, and on its exit status.
 const SHOW_ANSWERS: &str = "Answers:
@@ -65,92 +101,95 @@ Example:
   sii_station diff drive.bin backup/drive.bin
   sii_station diff drive.bin - < backup/drive.bin";
 
-fn hex_argument<'a>(alloc: Global, help: &'a str) -> Arg<'a> {
-    Arg::new(alloc, "hex")
-        .long("hex")
-        .help(help)
-        .action(ArgAction::SetTrue)
-}
+const FILE: Argument = Argument {
+    id: "FILE",
+    kind: Kind::OptionalWord,
+    help: "The image file; standard input where it is left out, or -",
+    long_help: "",
+};
 
-fn all_argument<'a>(alloc: Global) -> Arg<'a> {
-    Arg::new(alloc, "all")
-        .long("all")
-        .help("Prints each string, FMMU, sync manager and PDO too, with their names")
-        .action(ArgAction::SetTrue)
-}
+const ALL: Argument = Argument {
+    id: "all",
+    kind: Kind::Flag,
+    help: "Prints each string, FMMU, sync manager and PDO too, with their names",
+    long_help: "",
+};
 
-fn file_argument<'a>(alloc: Global) -> Arg<'a> {
-    Arg::new(alloc, "FILE").help("The image file; standard input where it is left out, or -")
-}
+/// Input that is hexadecimal text.
+const HEX: Argument = Argument {
+    id: "hex",
+    kind: Kind::Flag,
+    help: "Reads hexadecimal text in place of bytes",
+    long_help: "",
+};
 
-/// The description of `show`.
-pub fn show_command<'a>(alloc: Global) -> Result<Command<'a>, AllocError> {
-    Command::new(alloc, "show")
-        .about("Prints what an EEPROM image says")
-        .long_about(
-            "Reads the image of a slave's EEPROM from FILE, or from standard input, and prints its alias, whether its check byte is right, its \
-            identity and its categories. An image has 64 to 4096 words, low byte first.",
-        )
-        .after_help("Example:\n  sii_station show slave.bin\n  sii_station show < slave.bin")
-        .after_long_help(SHOW_ANSWERS)
-        .arg(file_argument(alloc))?
-        .arg(all_argument(alloc))?
-        .arg(json_argument(alloc))?
-        .arg(hex_argument(alloc, "Reads hexadecimal text in place of bytes"))
-}
+/// Input and output that are hexadecimal text.
+const HEX_BOTH_WAYS: Argument = Argument {
+    id: "hex",
+    kind: Kind::Flag,
+    help: "Reads and writes hexadecimal text in place of bytes",
+    long_help: "",
+};
 
-fn value_argument<'a>(alloc: Global) -> Arg<'a> {
-    Arg::new(alloc, "VALUE")
-        .help("The new alias, 0 to 65535")
-        .required(true)
-        .value_parser(value_parser!(u16))
-}
+const VALUE: Argument = Argument {
+    id: "VALUE",
+    kind: Kind::SmallWord,
+    help: "The new alias, 0 to 65535",
+    long_help: "",
+};
 
-/// The description of `alias`.
-pub fn alias_command<'a>(alloc: Global) -> Result<Command<'a>, AllocError> {
-    Command::new(alloc, "alias")
-        .about(
-            "Sets the configured station alias of an EEPROM image, and the check byte that goes with it",
-        )
-        .long_about(
-            "Reads the image of a slave's EEPROM from FILE, or from standard input, sets the configured station alias and the check byte that \
-            goes with it, and writes the image to standard output. FILE stays as it is. An image has 64 to 4096 words, low byte first.",
-        )
-        .after_help(
-            "Example:\n  sii_station alias 1001 slave.bin > renamed.bin\n  sii_station alias 1001 < slave.bin > renamed.bin",
-        )
-        .arg(value_argument(alloc))?
-        .arg(file_argument(alloc))?
-        .arg(hex_argument(alloc, "Reads and writes hexadecimal text in place of bytes"))
-}
+const FIRST: Argument = Argument {
+    id: "A",
+    kind: Kind::Word,
+    help: "The file of the first image; - for standard input",
+    long_help: "",
+};
 
-/// The description of `diff`.
-pub fn diff_command<'a>(alloc: Global) -> Result<Command<'a>, AllocError> {
-    let old = Arg::new(alloc, "A")
-        .help("The file of the first image; - for standard input")
-        .required(true);
-    let new = Arg::new(alloc, "B")
-        .help("The file of the second image; - for standard input")
-        .required(true);
-    Command::new(alloc, "diff")
-        .about("Prints what two EEPROM images differ in")
-        .long_about(
-            "Reads two images of slaves' EEPROMs and prints what they differ in, a line for each: their lengths, alias, check byte, identity, \
-            what their categories say, and the words. One of the two may be standard input. An image has 64 to 4096 words, low byte first.",
-        )
-        .after_help("Example:\n  sii_station diff drive.bin backup/drive.bin")
-        .after_long_help(DIFF_ANSWERS)
-        .arg(old)?
-        .arg(new)?
-        .arg(json_argument(alloc))?
-        .arg(hex_argument(alloc, "Reads hexadecimal text in place of bytes"))
-}
+const SECOND: Argument = Argument {
+    id: "B",
+    kind: Kind::Word,
+    help: "The file of the second image; - for standard input",
+    long_help: "",
+};
+
+/// The subcommand `show`.
+pub(crate) const SHOW: Subcommand = Subcommand {
+    name: "show",
+    about: "Prints what an EEPROM image says",
+    long_about: "Reads the image of a slave's EEPROM from FILE, or from standard input, and prints its alias, whether its check byte is right, its \
+        identity and its categories. An image has 64 to 4096 words, low byte first.",
+    after_help: "Example:\n  sii_station show slave.bin\n  sii_station show < slave.bin",
+    after_long_help: SHOW_ANSWERS,
+    arguments: &[FILE, ALL, JSON, HEX],
+};
+
+/// The subcommand `alias`.
+pub(crate) const ALIAS: Subcommand = Subcommand {
+    name: "alias",
+    about: "Sets the configured station alias of an EEPROM image, and the check byte that goes with it",
+    long_about: "Reads the image of a slave's EEPROM from FILE, or from standard input, sets the configured station alias and the check byte that \
+        goes with it, and writes the image to standard output. FILE stays as it is. An image has 64 to 4096 words, low byte first.",
+    after_help: "Example:\n  sii_station alias 1001 slave.bin > renamed.bin\n  sii_station alias 1001 < slave.bin > renamed.bin",
+    after_long_help: "",
+    arguments: &[VALUE, FILE, HEX_BOTH_WAYS],
+};
+
+/// The subcommand `diff`.
+pub(crate) const DIFF: Subcommand = Subcommand {
+    name: "diff",
+    about: "Prints what two EEPROM images differ in",
+    long_about: "Reads two images of slaves' EEPROMs and prints what they differ in, a line for each: their lengths, alias, check byte, identity, \
+        what their categories say, and the words. One of the two may be standard input. An image has 64 to 4096 words, low byte first.",
+    after_help: "Example:\n  sii_station diff drive.bin backup/drive.bin",
+    after_long_help: DIFF_ANSWERS,
+    arguments: &[FIRST, SECOND, JSON, HEX],
+};
 
 /// The task of `show`, `alias` or `diff`; `None` where another subcommand was given.
 pub fn image_task<'a>(
     command: &mut Command<'a>,
     matches: &ArgMatches<'a>,
-) -> Result<Option<Task<'a>>, Error> {
+) -> Result<Option<ImageTask<'a>>, Error> {
     if let Some(show) = matches.subcommand_matches("show") {
         return Ok(Some(show_task(show)));
     }
@@ -163,8 +202,8 @@ pub fn image_task<'a>(
     Ok(None)
 }
 
-fn show_task<'a>(matches: &ArgMatches<'a>) -> Task<'a> {
-    Task::Show {
+fn show_task<'a>(matches: &ArgMatches<'a>) -> ImageTask<'a> {
+    ImageTask::Show {
         hex: matches.get_flag("hex"),
         all: matches.get_flag("all"),
         form: form_of(matches),
@@ -173,10 +212,13 @@ fn show_task<'a>(matches: &ArgMatches<'a>) -> Task<'a> {
 }
 
 /// The value is required, and may have digits only.
-fn alias_task<'a>(command: &mut Command<'a>, matches: &ArgMatches<'a>) -> Result<Task<'a>, Error> {
-    let text = matches.get_str("VALUE").unwrap_or("");
+fn alias_task<'a>(
+    command: &mut Command<'a>,
+    matches: &ArgMatches<'a>,
+) -> Result<ImageTask<'a>, Error> {
+    let text = word_of(matches, "VALUE");
     match matches.get_one::<u16>("VALUE") {
-        Some(value) if is_digits(text) => Ok(Task::Alias {
+        Some(value) if is_digits(text) => Ok(ImageTask::Alias {
             value,
             hex: matches.get_flag("hex"),
             file: file_of(matches, "FILE"),
@@ -190,7 +232,10 @@ fn alias_task<'a>(command: &mut Command<'a>, matches: &ArgMatches<'a>) -> Result
 }
 
 /// Both names are required. Only one of the images can be read from standard input.
-fn diff_task<'a>(command: &mut Command<'a>, matches: &ArgMatches<'a>) -> Result<Task<'a>, Error> {
+fn diff_task<'a>(
+    command: &mut Command<'a>,
+    matches: &ArgMatches<'a>,
+) -> Result<ImageTask<'a>, Error> {
     let old = file_of(matches, "A");
     let new = file_of(matches, "B");
     if old.is_none() && new.is_none() {
@@ -200,7 +245,7 @@ fn diff_task<'a>(command: &mut Command<'a>, matches: &ArgMatches<'a>) -> Result<
             "only one of A and B can be standard input",
         );
     }
-    Ok(Task::Diff {
+    Ok(ImageTask::Diff {
         hex: matches.get_flag("hex"),
         form: form_of(matches),
         old,

@@ -1,72 +1,34 @@
 //! Reads the arguments of the program; also has the help texts.
 
-use crate::capture_arguments::{capture_argument, capture_of};
+use crate::capture_arguments::{CAPTURE, capture_of};
 use crate::completions::Shell;
-use crate::image_arguments::{alias_command, diff_command, image_task, show_command};
-use crate::json_argument::{form_of, json_argument};
-use crate::plan_arguments::{journal_command, plan_command, planning_task};
-use crate::progress_arguments::{is_quiet, quiet_argument, report_argument};
-use crate::shell_arguments::{completions_command, man_command, shell_of};
+use crate::image_arguments::{ALIAS, DIFF, ImageTask, SHOW, image_task};
+use crate::json_argument::{JSON, form_of};
+use crate::plan_arguments::{JOURNAL, PLAN, planning_task};
+use crate::progress_arguments::{QUIET, REPORT, is_quiet};
+use crate::shell_arguments::{COMPLETIONS, MAN, shell_of};
 use clap::error::ErrorKind;
-use clap::{Arg, ArgAction, ArgMatches, Command, Error, value_parser};
-use station_input::{script_of, typed_argument, typed_text};
+use clap::{ArgMatches, Command, Error};
+use command_table::{
+    Argument, Kind, Subcommand, is_digits, refused, with_argument, with_subcommands, word_of,
+};
+use station_input::{TYPED_COMMANDS, script_of, typed_text};
 use station_json::Form;
 use station_listing::{Code, find_code};
-use station_session::Fuse;
 use std::alloc::{AllocError, Global};
 
 /// What a command line asks for: a subcommand with its arguments.
 #[derive(Clone, Copy)]
 pub enum Task<'a> {
-    /// Sets the configured station alias of an image.
-    Alias {
-        /// The new alias.
-        value: u16,
-        /// Whether input and output are hexadecimal text.
-        hex: bool,
-        /// The name of the image's file; `None` for standard input.
-        file: Option<&'a str>,
-    },
-    /// Prints the listing of an image.
-    Show {
-        /// Whether the image is hexadecimal text.
-        hex: bool,
-        /// Whether each item is printed too.
-        all: bool,
-        /// Text, or rows of JSON.
-        form: Form,
-        /// The name of the image's file; `None` for standard input.
-        file: Option<&'a str>,
-    },
-    /// Prints what two images differ in.
-    Diff {
-        /// Whether the images are hexadecimal text.
-        hex: bool,
-        /// Text, or rows of JSON.
-        form: Form,
-        /// The name of the first image's file; `None` for standard input.
-        old: Option<&'a str>,
-        /// The name of the second image's file; `None` for standard input.
-        new: Option<&'a str>,
-    },
+    /// Reads images.
+    Image(ImageTask<'a>),
     /// Makes an empty journal for a line.
     Init {
         /// The name of the line file.
         line: &'a str,
     },
     /// Runs a script on a line.
-    Run {
-        /// The name of the line file.
-        line: &'a str,
-        /// The name of the script file.
-        script: &'a str,
-        /// A planned power cut, if there is one.
-        cut: Option<Fuse>,
-        /// The name of the file for a capture, if there is one.
-        capture: Option<&'a str>,
-        /// Whether what has changed is printed at the end.
-        reports: bool,
-    },
+    Run(RunTask<'a>),
     /// Recovers a line.
     Recover {
         /// The name of the line file.
@@ -111,23 +73,38 @@ pub enum Task<'a> {
     },
 }
 
+/// A planned power cut.
+#[derive(Clone, Copy)]
+pub struct PowerCut {
+    /// How many writes to the journal and to the slaves pass before it.
+    pub writes: u32,
+    /// What a torn write leaves.
+    pub left: u16,
+}
+
+/// What `run` is asked for.
+#[derive(Clone, Copy)]
+pub struct RunTask<'a> {
+    /// The name of the line file.
+    pub line: &'a str,
+    /// The name of the script file.
+    pub script: &'a str,
+    /// A planned power cut, if there is one.
+    pub cut: Option<PowerCut>,
+    /// The name of the file for a capture, if there is one.
+    pub capture: Option<&'a str>,
+    /// Whether what has changed is printed at the end.
+    pub reports: bool,
+}
+
 impl<'a> Task<'a> {
     /// The task with the script of this name, where its script is to come from standard input (`-`).
-    pub(crate) fn with_script(self, name: &'a str) -> Option<Task<'a>> {
+    pub fn with_script(self, name: &'a str) -> Option<Task<'a>> {
         match self {
-            Task::Run {
-                line,
-                script: "-",
-                cut,
-                capture,
-                reports,
-            } => Some(Task::Run {
-                line,
+            Task::Run(run) if run.script == "-" => Some(Task::Run(RunTask {
                 script: name,
-                cut,
-                capture,
-                reports,
-            }),
+                ..run
+            })),
             Task::Plan {
                 line,
                 script: "-",
@@ -263,6 +240,137 @@ Exit status: 0 done, 2 wrong usage, 3 a file or its form, or no process image,
 Example:
   sii_station layout line.toml";
 
+/// The line file of a subcommand.
+pub(crate) const LINE: Argument = Argument {
+    id: "LINE",
+    kind: Kind::Word,
+    help: "The line file: the slaves' image files and the journal's",
+    long_help: LINE_FILE,
+};
+
+/// The script file of a subcommand.
+pub(crate) const SCRIPT: Argument = Argument {
+    id: "SCRIPT",
+    kind: Kind::WordUnless("command"),
+    help: "The script file: the commands, in order; - for standard input",
+    long_help: SCRIPT_FILE,
+};
+
+/// The second line of a fault.
+const VERBOSE: Argument = Argument {
+    id: "verbose",
+    kind: Kind::GlobalFlag,
+    help: "Says of a fault which file it is about, and what is wrong there",
+    long_help: "Says of a fault which file it is about, what is wrong there and where, in a second line. Without this option the line comes \
+        where standard error is a terminal.",
+};
+
+const FUSE: Argument = Argument {
+    id: "fuse",
+    kind: Kind::Large("K"),
+    help: "Cuts the power once K writes have passed, 0 to 4294967295",
+    long_help: "",
+};
+
+const LEFT: Argument = Argument {
+    id: "left",
+    kind: Kind::Small("W"),
+    help: "What a torn write leaves, 0 to 65535; 0 where nothing is said",
+    long_help: "",
+};
+
+const EXPLAINED: Argument = Argument {
+    id: "CODE",
+    kind: Kind::OptionalWord,
+    help: "The number or the name of a fault or a refusal",
+    long_help: "",
+};
+
+const INIT: Subcommand = Subcommand {
+    name: "init",
+    about: "Formats the journal of a line of slaves",
+    long_about: "Reads a line file and the EEPROM images that it names, and makes an empty journal in the file that it names for it. That file \
+        must not be there yet.",
+    after_help: "Example:\n  sii_station init line.toml",
+    after_long_help: INIT_ANSWERS,
+    arguments: &[LINE],
+};
+
+const RUN: Subcommand = Subcommand {
+    name: "run",
+    about: "Runs a script of commands on a line of slaves",
+    long_about: "Reads a line file, the EEPROM images and the journal that it names and a script file, submits the script's commands in order \
+        and prints the answer to each, brings them to the slaves by way of the journal, and saves images and journal.",
+    after_help: "Examples:\n  sii_station run line.toml script.toml\n  sii_station run line.toml -e 'alias = { slave = 2, value = 7 }'",
+    after_long_help: RUN_ANSWERS,
+    arguments: &[
+        LINE,
+        SCRIPT,
+        TYPED_COMMANDS,
+        FUSE,
+        LEFT,
+        CAPTURE,
+        REPORT,
+        QUIET,
+    ],
+};
+
+const RECOVER: Subcommand = Subcommand {
+    name: "recover",
+    about: "Ends what a run has left in the journal",
+    long_about: "Reads a line file, the EEPROM images and the journal that it names, brings to the slaves what the journal holds, and saves \
+        images and journal. A journal of version 1 becomes one of version 2.",
+    after_help: "Example:\n  sii_station recover line.toml",
+    after_long_help: RECOVER_ANSWERS,
+    arguments: &[LINE, REPORT, QUIET],
+};
+
+const LAYOUT: Subcommand = Subcommand {
+    name: "layout",
+    about: "Prints the process image of a line of slaves",
+    long_about: "Reads a line file and the EEPROM images that it names, and prints where the process data of each sync manager lies in the \
+        process image, then the sizes of outputs and inputs in bytes and the working counter that is expected. No file is written.",
+    after_help: "Example:\n  sii_station layout line.toml",
+    after_long_help: LAYOUT_ANSWERS,
+    arguments: &[LINE, JSON],
+};
+
+const EXPLAIN: Subcommand = Subcommand {
+    name: "explain",
+    about: "Says what the code of a fault or a refusal means",
+    long_about: "Prints what the code of a fault or a refusal means, why it comes and what to do about it. Without CODE it prints that of all codes.",
+    after_help: "Example:\n  sii_station explain 15\n  sii_station explain BadCheck",
+    after_long_help: "",
+    arguments: &[EXPLAINED],
+};
+
+/// All subcommands, in the order of the help.
+const SUBCOMMANDS: &[Subcommand] = &[
+    SHOW,
+    DIFF,
+    ALIAS,
+    INIT,
+    PLAN,
+    RUN,
+    JOURNAL,
+    RECOVER,
+    LAYOUT,
+    EXPLAIN,
+    COMPLETIONS,
+    MAN,
+];
+
+/// The description of the command line, with all subcommands.
+pub(crate) fn station<'a>(alloc: Global) -> Result<Command<'a>, AllocError> {
+    let plain = Command::new(alloc, "sii_station")
+        .about("Reprograms the SII EEPROMs of a line of EtherCAT slaves")
+        .version(VERSION)
+        .after_help("Example:\n  sii_station alias 1001 < slave.bin > renamed.bin")
+        .subcommand_required(true);
+    let station = with_argument(alloc, plain, VERBOSE)?;
+    with_subcommands(alloc, station, SUBCOMMANDS)
+}
+
 /// Reads a command line. The first word is the program's name.
 ///
 /// # Errors
@@ -294,7 +402,7 @@ fn read_words<'a>(
 /// The task of the subcommand that was given.
 fn task_of<'a>(command: &mut Command<'a>, matches: &ArgMatches<'a>) -> Result<Task<'a>, Error> {
     if let Some(task) = image_task(command, matches)? {
-        return Ok(task);
+        return Ok(Task::Image(task));
     }
     if let Some(run) = matches.subcommand_matches("run") {
         return run_task(command, run);
@@ -334,153 +442,10 @@ fn plain_task<'a>(matches: &ArgMatches<'a>) -> Option<Task<'a>> {
     Some(layout_task(layout))
 }
 
-/// The description of the command line, with all subcommands.
-pub(crate) fn station<'a>(alloc: Global) -> Result<Command<'a>, AllocError> {
-    let station = Command::new(alloc, "sii_station")
-        .about("Reprograms the SII EEPROMs of a line of EtherCAT slaves")
-        .version(VERSION)
-        .after_help("Example:\n  sii_station alias 1001 < slave.bin > renamed.bin")
-        .subcommand_required(true)
-        .arg(verbose_argument(alloc))?;
-    let station = with_subcommand(station, show_command(alloc))?;
-    let station = with_subcommand(station, diff_command(alloc))?;
-    let station = with_subcommand(station, alias_command(alloc))?;
-    let station = with_subcommand(station, init_command(alloc))?;
-    let station = with_subcommand(station, plan_command(alloc))?;
-    let station = with_subcommand(station, run_command(alloc))?;
-    let station = with_subcommand(station, journal_command(alloc))?;
-    let station = with_subcommand(station, recover_command(alloc))?;
-    let station = with_subcommand(station, layout_command(alloc))?;
-    let station = with_subcommand(station, explain_command(alloc))?;
-    let station = with_subcommand(station, completions_command(alloc))?;
-    station.subcommand(man_command(alloc))
-}
-
-fn verbose_argument<'a>(alloc: Global) -> Arg<'a> {
-    Arg::new(alloc, "verbose")
-        .long("verbose")
-        .help("Says of a fault which file it is about, and what is wrong there")
-        .long_help(
-            "Says of a fault which file it is about, what is wrong there and where, in a second line. Without this option the line comes \
-            where standard error is a terminal.",
-        )
-        .action(ArgAction::SetTrue)
-        .global(true)
-}
-
-/// The command with one more subcommand, if that one could be made.
-fn with_subcommand<'a>(
-    command: Command<'a>,
-    subcommand: Result<Command<'a>, AllocError>,
-) -> Result<Command<'a>, AllocError> {
-    command.subcommand(subcommand?)
-}
-
-fn init_command<'a>(alloc: Global) -> Result<Command<'a>, AllocError> {
-    Command::new(alloc, "init")
-        .about("Formats the journal of a line of slaves")
-        .long_about(
-            "Reads a line file and the EEPROM images that it names, and makes an empty journal in the file that it names for it. That file \
-            must not be there yet.",
-        )
-        .after_help("Example:\n  sii_station init line.toml")
-        .after_long_help(INIT_ANSWERS)
-        .arg(line_argument(alloc))
-}
-
-pub(crate) fn script_argument<'a>(alloc: Global) -> Result<Arg<'a>, AllocError> {
-    Arg::new(alloc, "SCRIPT")
-        .help("The script file: the commands, in order; - for standard input")
-        .long_help(SCRIPT_FILE)
-        .required_unless_present("command")
-}
-
-fn run_command<'a>(alloc: Global) -> Result<Command<'a>, AllocError> {
-    Command::new(alloc, "run")
-        .about("Runs a script of commands on a line of slaves")
-        .long_about(
-            "Reads a line file, the EEPROM images and the journal that it names and a script file, submits the script's commands in order \
-            and prints the answer to each, brings them to the slaves by way of the journal, and saves images and journal.",
-        )
-        .after_help(
-            "Examples:\n  sii_station run line.toml script.toml\n  sii_station run line.toml -e 'alias = { slave = 2, value = 7 }'",
-        )
-        .after_long_help(RUN_ANSWERS)
-        .arg(line_argument(alloc))?
-        .arg(script_argument(alloc)?)?
-        .arg(typed_argument(alloc)?)?
-        .arg(fuse_argument(alloc))?
-        .arg(left_argument(alloc))?
-        .arg(capture_argument(alloc))?
-        .arg(report_argument(alloc))?
-        .arg(quiet_argument(alloc))
-}
-
-fn fuse_argument<'a>(alloc: Global) -> Arg<'a> {
-    Arg::new(alloc, "fuse")
-        .long("fuse")
-        .value_name("K")
-        .help("Cuts the power once K writes have passed, 0 to 4294967295")
-        .value_parser(value_parser!(u32))
-}
-
-fn left_argument<'a>(alloc: Global) -> Arg<'a> {
-    Arg::new(alloc, "left")
-        .long("left")
-        .value_name("W")
-        .help("What a torn write leaves, 0 to 65535; 0 where nothing is said")
-        .value_parser(value_parser!(u16))
-}
-
-fn recover_command<'a>(alloc: Global) -> Result<Command<'a>, AllocError> {
-    Command::new(alloc, "recover")
-        .about("Ends what a run has left in the journal")
-        .long_about(
-            "Reads a line file, the EEPROM images and the journal that it names, brings to the slaves what the journal holds, and saves \
-            images and journal. A journal of version 1 becomes one of version 2.",
-        )
-        .after_help("Example:\n  sii_station recover line.toml")
-        .after_long_help(RECOVER_ANSWERS)
-        .arg(line_argument(alloc))?
-        .arg(report_argument(alloc))?
-        .arg(quiet_argument(alloc))
-}
-
-fn layout_command<'a>(alloc: Global) -> Result<Command<'a>, AllocError> {
-    Command::new(alloc, "layout")
-        .about("Prints the process image of a line of slaves")
-        .long_about(
-            "Reads a line file and the EEPROM images that it names, and prints where the process data of each sync manager lies in the \
-            process image, then the sizes of outputs and inputs in bytes and the working counter that is expected. No file is written.",
-        )
-        .after_help("Example:\n  sii_station layout line.toml")
-        .after_long_help(LAYOUT_ANSWERS)
-        .arg(line_argument(alloc))?
-        .arg(json_argument(alloc))
-}
-
-pub(crate) fn line_argument<'a>(alloc: Global) -> Arg<'a> {
-    Arg::new(alloc, "LINE")
-        .help("The line file: the slaves' image files and the journal's")
-        .long_help(LINE_FILE)
-        .required(true)
-}
-
-fn explain_command<'a>(alloc: Global) -> Result<Command<'a>, AllocError> {
-    let code = Arg::new(alloc, "CODE").help("The number or the name of a fault or a refusal");
-    Command::new(alloc, "explain")
-        .about("Says what the code of a fault or a refusal means")
-        .long_about(
-            "Prints what the code of a fault or a refusal means, why it comes and what to do about it. Without CODE it prints that of all codes.",
-        )
-        .after_help("Example:\n  sii_station explain 15\n  sii_station explain BadCheck")
-        .arg(code)
-}
-
 /// The name is required, so it is there.
 fn init_task<'a>(matches: &ArgMatches<'a>) -> Task<'a> {
     Task::Init {
-        line: matches.get_str("LINE").unwrap_or(""),
+        line: word_of(matches, "LINE"),
     }
 }
 
@@ -497,22 +462,22 @@ fn run_task<'a>(command: &mut Command<'a>, matches: &ArgMatches<'a>) -> Result<T
     }
     let left = matches.get_one::<u16>("left").unwrap_or(0);
     let cut = match matches.get_one::<u32>("fuse") {
-        Some(writes) => Some(Fuse { writes, left }),
+        Some(writes) => Some(PowerCut { writes, left }),
         None => None,
     };
-    Ok(Task::Run {
-        line: matches.get_str("LINE").unwrap_or(""),
+    Ok(Task::Run(RunTask {
+        line: word_of(matches, "LINE"),
         script: script_of(matches),
         cut,
         capture: capture_of(matches),
         reports: matches.get_flag("report"),
-    })
+    }))
 }
 
 /// The name is required, so it is there.
 fn recover_task<'a>(matches: &ArgMatches<'a>) -> Task<'a> {
     Task::Recover {
-        line: matches.get_str("LINE").unwrap_or(""),
+        line: word_of(matches, "LINE"),
         reports: matches.get_flag("report"),
     }
 }
@@ -520,14 +485,9 @@ fn recover_task<'a>(matches: &ArgMatches<'a>) -> Task<'a> {
 /// The name is required, so it is there.
 fn layout_task<'a>(matches: &ArgMatches<'a>) -> Task<'a> {
     Task::Layout {
-        line: matches.get_str("LINE").unwrap_or(""),
+        line: word_of(matches, "LINE"),
         form: form_of(matches),
     }
-}
-
-/// Whether a text has digits only: a sign is not taken.
-pub fn is_digits(text: &str) -> bool {
-    text.bytes().all(|byte| byte.is_ascii_digit())
 }
 
 /// A code is given by its number or its name.
@@ -546,13 +506,4 @@ fn explain_task<'a>(
             "CODE is the number or the name of a fault or a refusal",
         ),
     }
-}
-
-/// The error for wrong arguments: this message, and the usage.
-pub fn refused<'a>(
-    command: &mut Command<'a>,
-    kind: ErrorKind,
-    message: &str,
-) -> Result<Task<'a>, Error> {
-    Err(command.error(kind, message)?)
 }

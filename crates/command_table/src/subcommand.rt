@@ -1,0 +1,97 @@
+//! The subcommands of a program, as rows of a table.
+
+use crate::argument::{Argument, text_or};
+use clap::{Arg, Command};
+use std::alloc::{AllocError, Global};
+
+/// A subcommand, with its help texts and its arguments.
+#[derive(Clone, Copy)]
+pub struct Subcommand {
+    /// Its name.
+    pub name: &'static str,
+    /// What it does, in one line.
+    pub about: &'static str,
+    /// What `--help` says of it at its head.
+    pub long_about: &'static str,
+    /// What stands at the end of the help.
+    pub after_help: &'static str,
+    /// What stands at the end of `--help`; empty where that is the same.
+    pub after_long_help: &'static str,
+    /// Its arguments, in the order of the help.
+    pub arguments: &'static [Argument],
+}
+
+impl Subcommand {
+    /// The subcommand as `clap` takes it.
+    ///
+    /// # Errors
+    ///
+    /// Memory was refused.
+    fn described<'a>(self, alloc: Global) -> Result<Command<'a>, AllocError> {
+        let command = Command::new(alloc, self.name)
+            .about(self.about)
+            .long_about(self.long_about)
+            .after_help(self.after_help)
+            .after_long_help(text_or(self.after_long_help, self.after_help));
+        with_arguments(alloc, command, self.arguments)
+    }
+}
+
+/// The command with these arguments behind those that it has.
+fn with_arguments<'a>(
+    alloc: Global,
+    command: Command<'a>,
+    arguments: &[Argument],
+) -> Result<Command<'a>, AllocError> {
+    let mut command = command;
+    for argument in arguments {
+        command = with_described(command, argument.described(alloc))?;
+    }
+    Ok(command)
+}
+
+/// The command with one more argument, if that one could be made.
+fn with_described<'a>(
+    command: Command<'a>,
+    argument: Result<Arg<'a>, AllocError>,
+) -> Result<Command<'a>, AllocError> {
+    command.arg(argument?)
+}
+
+/// The command with one more argument.
+///
+/// # Errors
+///
+/// Memory was refused.
+pub fn with_argument<'a>(
+    alloc: Global,
+    command: Command<'a>,
+    argument: Argument,
+) -> Result<Command<'a>, AllocError> {
+    with_described(command, argument.described(alloc))
+}
+
+/// The command with these subcommands behind those that it has.
+///
+/// # Errors
+///
+/// Memory was refused.
+pub fn with_subcommands<'a>(
+    alloc: Global,
+    command: Command<'a>,
+    subcommands: &[Subcommand],
+) -> Result<Command<'a>, AllocError> {
+    let mut command = command;
+    for subcommand in subcommands {
+        command = with_subcommand(command, subcommand.described(alloc))?;
+    }
+    Ok(command)
+}
+
+/// The command with one more subcommand, if that one could be made.
+fn with_subcommand<'a>(
+    command: Command<'a>,
+    subcommand: Result<Command<'a>, AllocError>,
+) -> Result<Command<'a>, AllocError> {
+    command.subcommand(subcommand?)
+}
