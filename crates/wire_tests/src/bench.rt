@@ -6,7 +6,9 @@ use sii_words::Words;
 use site_core::{Issued, Settled, Site};
 use site_file::{FileDevice, OpenFiles, RandomAccessFile};
 use site_shadow::{Parts, Pattern, ShadowSite};
-use site_wire::{NumberedWire, Sizes, SlaveState, StopReason, WireDevice, WireSite, bring_up};
+use site_wire::{
+    LiveLine, NumberedWire, Sizes, SlaveState, StopReason, Wire, WireDevice, WireSite, bring_up,
+};
 use std::alloc::Global;
 use std::io;
 use wire_practice::{
@@ -103,8 +105,8 @@ impl Bench {
     }
 }
 
-// A word of a slave.
-fn word_at(slave: &Slave, place: usize) -> u16 {
+/// A word of a slave.
+pub(crate) fn word_at(slave: &Slave, place: usize) -> u16 {
     if place == 4 && slave.alias != 0 {
         return slave.alias;
     }
@@ -126,6 +128,19 @@ fn switched_on(alloc: Global, slave: &Slave) -> Option<PracticeSlave> {
     PracticeSlave::switched_on(alloc, &image, slave.quirks).ok()
 }
 
+/// A line of these slaves, just switched on, with a cable that is pulled, if there is one. None: memory was refused.
+pub(crate) fn line_of(
+    alloc: Global,
+    slaves: &[Slave],
+    cable: Option<Cable>,
+) -> Option<PracticeLine> {
+    let mut switched = Vec::new(alloc);
+    for slave in slaves {
+        switched.push(switched_on(alloc, slave)?).ok()?;
+    }
+    Some(PracticeLine::of(switched, cable))
+}
+
 /// A wire with these slaves, and with a cable that is pulled, if there is one. None: memory was refused.
 pub(crate) fn wire_of<'f>(
     alloc: Global,
@@ -133,11 +148,7 @@ pub(crate) fn wire_of<'f>(
     slaves: &[Slave],
     cable: Option<Cable>,
 ) -> Option<TestWire<'f>> {
-    let mut switched = Vec::new(alloc);
-    for slave in slaves {
-        switched.push(switched_on(alloc, slave)?).ok()?;
-    }
-    let line = PracticeLine::of(switched, cable);
+    let line = line_of(alloc, slaves, cable)?;
     Some(NumberedWire::new(PracticeWire::new(line, &bench.clock), 7))
 }
 
@@ -175,6 +186,29 @@ fn parts_of(alloc: Global, plant: Vec<Words>) -> Option<Parts> {
     })
 }
 
+/// Brings up the line on this wire. Gives its parts, and what the slaves were in. None if it isn't brought up, or memory was refused.
+pub(crate) fn brought_up<W: Wire>(
+    alloc: Global,
+    bench: &Bench,
+    wire: &mut NumberedWire<W>,
+) -> Option<(Parts, [SlaveState; 64])> {
+    let line = bring_up(alloc, wire, &bench.clock, &Sizes::unknown()).ok()?;
+    let states = line.states();
+    let parts = parts_of(alloc, line.into_words(alloc).ok()?)?;
+    if !parts.is_whole() {
+        return None;
+    }
+    Some((parts, states))
+}
+
+/// The device on this wire.
+pub(crate) fn device_on<'f, W: Wire>(
+    bench: &'f Bench,
+    wire: NumberedWire<W>,
+) -> WireDevice<'f, LiveLine<W>, NoFile, PracticeClock> {
+    WireDevice::new(wire, &bench.clock, FileDevice::new(&bench.files))
+}
+
 /// Brings up the line on this wire without trouble, and makes a site of it, with this trouble from then on. Gives what the slaves were in too.
 /// None if the line isn't brought up, or memory was refused.
 pub(crate) fn site_on<'f>(
@@ -184,17 +218,8 @@ pub(crate) fn site_on<'f>(
     trouble: &Trouble,
 ) -> Option<(TestSite<'f>, [SlaveState; 64])> {
     let mut wire = troubled(wire, &NO_TROUBLE);
-    let line = bring_up(alloc, &mut wire, &bench.clock, &Sizes::unknown()).ok()?;
-    let states = line.states();
-    let parts = parts_of(alloc, line.into_words(alloc).ok()?)?;
-    if !parts.is_whole() {
-        return None;
-    }
-    let device = WireDevice::new(
-        troubled(wire, trouble),
-        &bench.clock,
-        FileDevice::new(&bench.files),
-    );
+    let (parts, states) = brought_up(alloc, bench, &mut wire)?;
+    let device = device_on(bench, troubled(wire, trouble));
     Some((ShadowSite::of_parts(alloc, parts, device), states))
 }
 

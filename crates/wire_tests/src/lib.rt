@@ -1,14 +1,22 @@
-//! Tests of a line on a wire in memory: frames that are lost, doubled, late and falsified, slaves with the quirks of real ones, and slaves
-//! that lose their power.
+//! Tests of a line on a wire in memory: frames that are lost, doubled, late and falsified, slaves with the quirks of real ones, slaves
+//! that lose their power, and a master that lends its wire.
 #![tactic(auto)]
 
 #[cfg(test)]
 mod bench;
 #[cfg(test)]
+mod beside;
+#[cfg(test)]
 mod causes;
+#[cfg(test)]
+mod handing;
+#[cfg(test)]
+mod master;
 #[cfg(test)]
 mod mishaps;
 #[cfg(test)]
 mod quirks;
+#[cfg(test)]
+mod side_by_side;
 #[cfg(test)]
 mod sizes;

@@ -1,14 +1,13 @@
 //! Words that are written to slaves with the quirks of real ones, and the power of these cut at each word and at each frame.
 
 use crate::bench::{
-    Bench, Content, NO_TROUBLE, Slave, TestWire, Trouble, WELL, settled, site_on, taken_off,
-    wire_of,
+    Bench, Content, NO_TROUBLE, Slave, Trouble, WELL, settled, site_on, taken_off, wire_of,
 };
 use site_core::{Settled, Site};
 use site_shadow::Pattern;
 use site_wire::hand_back;
 use std::alloc::Global;
-use wire_practice::{NO_QUIRKS, PowerLoss, Quirks};
+use wire_practice::{NO_QUIRKS, PowerLoss, PracticeLine, Quirks};
 
 // What a slave does, and whether it is found above Pre-Operational, and with its PDI.
 type Case = (Quirks, bool, bool);
@@ -190,8 +189,8 @@ fn is_written(site: &mut impl Site, word: u16, value: u16) -> bool {
     false
 }
 
-// How many of the words are written before the site stops.
-fn count_written(site: &mut impl Site) -> usize {
+/// How many of the words are written before the site stops.
+pub(crate) fn count_written(site: &mut impl Site) -> usize {
     for place in 0..3usize {
         if !is_written(site, 4 + place as u16, NEW[place]) {
             return place;
@@ -200,9 +199,9 @@ fn count_written(site: &mut impl Site) -> usize {
     3
 }
 
-// Whether so many words are in the chip, and those behind the next one are as they were.
-fn has_so_many(wire: &mut TestWire<'_>, count: usize) -> bool {
-    match wire.wire().line().words(0) {
+/// Whether so many words are in the chip of slave 0, and those behind the next one are as they were.
+pub(crate) fn has_so_many(line: &PracticeLine, count: usize) -> bool {
+    match line.words(0) {
         Some([_, _, _, _, a, b, c, ..]) => {
             let words = [*a, *b, *c];
             for place in 0..3usize {
@@ -236,14 +235,14 @@ fn outcome_of(alloc: Global, slaves: &[Slave], trouble: &Trouble) -> Option<Outc
     let (mut site, _states) = site_on(alloc, &bench, wire, trouble)?;
     let count = count_written(&mut site);
     let (mut wire, _reason) = taken_off(site);
-    let is_kept = has_so_many(&mut wire, count);
+    let is_kept = has_so_many(wire.wire().line(), count);
     let (mut site, _states) = site_on(alloc, &bench, wire, &NO_TROUBLE)?;
     let completed = count_written(&mut site);
     let (mut wire, reason) = taken_off(site);
     Some(Outcome {
         count,
         is_kept,
-        is_completed: completed == 3 && reason.is_none() && has_so_many(&mut wire, 3),
+        is_completed: completed == 3 && reason.is_none() && has_so_many(wire.wire().line(), 3),
     })
 }
 
@@ -256,7 +255,7 @@ fn is_written_so(alloc: Global, case: &Case) -> Option<bool> {
     let first = states[0];
     let count = count_written(&mut site);
     let (mut wire, reason) = taken_off(site);
-    let is_kept = count == 3 && reason.is_none() && has_so_many(&mut wire, 3);
+    let is_kept = count == 3 && reason.is_none() && has_so_many(wire.wire().line(), 3);
     hand_back(&mut wire, &states);
     let (site, again) = site_on(alloc, &bench, wire, &NO_TROUBLE)?;
     drop(site);

@@ -1,0 +1,244 @@
+//! A master in memory that lends its wire: it carries one message in a turn, and does with them what a master may do.
+
+use ecat_frame::Frame;
+use site_wire::Wire;
+use std::io;
+use wire_practice::{PracticeClock, PracticeLine};
+
+/// How long a turn is, in microseconds.
+const TURN: u64 = 1_000;
+
+/// For how many turns a station waits for an answer.
+pub(crate) const TIME_OUT: u64 = 100;
+
+/// The most bytes of a message.
+const LONGEST: usize = 64;
+
+/// How many answers a master keeps.
+const ROOM: usize = 8;
+
+/// What a master does with messages. Each message or answer is one whose number, from 1, is a multiple of this; 0: none.
+#[derive(Clone, Copy)]
+pub(crate) struct Habits {
+    /// Each message that it drops.
+    pub drops: u32,
+    /// For how many turns a message waits before it goes over the wire. A later one takes its place.
+    pub waits: u64,
+    /// Each answer that it drops.
+    pub loses: u32,
+    /// For how many turns an answer waits.
+    pub holds: u64,
+    /// Each answer that waits for this many turns more.
+    pub delays: (u32, u64),
+    /// Each answer that comes twice.
+    pub doubles: u32,
+    /// Whether of several answers the one that came last is given first.
+    pub is_turned: bool,
+    /// Behind how many messages it ends.
+    pub ends: Option<u32>,
+}
+
+/// One that hands each answer back in the next turn.
+pub(crate) const PROMPT: Habits = Habits {
+    drops: 0,
+    waits: 0,
+    loses: 0,
+    holds: 1,
+    delays: (0, 0),
+    doubles: 0,
+    is_turned: false,
+    ends: None,
+};
+
+/// A message, or an answer.
+#[derive(Clone, Copy)]
+struct Message {
+    bytes: [u8; LONGEST],
+    length: usize,
+    /// The turn in which it goes on.
+    due: u64,
+}
+
+/// A master that lends its wire.
+#[derive(Drop)]
+pub(crate) struct Master<'c> {
+    clock: &'c PracticeClock,
+    line: PracticeLine,
+    habits: Habits,
+    turn: u64,
+    /// How many messages came, and how many went over the wire.
+    messages: u32,
+    answers: u32,
+    /// The message that waits.
+    waiting: Option<Message>,
+    /// The answers that wait.
+    ready: [Option<Message>; ROOM],
+}
+
+/// Whether this is a multiple of a number that isn't 0.
+fn is_each(count: u32, each: u32) -> bool {
+    count.checked_rem(each) == Some(0)
+}
+
+fn message_of(bytes: &[u8], due: u64) -> Message {
+    let mut message = Message {
+        bytes: [0; LONGEST],
+        length: bytes.len().min(LONGEST),
+        due,
+    };
+    for (place, byte) in bytes.iter().enumerate() {
+        if let Some(slot) = message.bytes.get_mut(place) {
+            *slot = *byte;
+        }
+    }
+    message
+}
+
+impl<'c> Master<'c> {
+    /// A master of this line.
+    pub(crate) fn new(line: PracticeLine, clock: &'c PracticeClock, habits: Habits) -> Master<'c> {
+        Master {
+            clock,
+            line,
+            habits,
+            turn: 0,
+            messages: 0,
+            answers: 0,
+            waiting: None,
+            ready: [None; ROOM],
+        }
+    }
+
+    /// The slaves.
+    pub(crate) fn line(&self) -> &PracticeLine {
+        &self.line
+    }
+
+    /// How many messages came.
+    pub(crate) fn messages(&self) -> u32 {
+        self.messages
+    }
+
+    /// Another master takes the line over, with nothing that waits.
+    pub(crate) fn begin_anew(&mut self, habits: Habits) {
+        self.habits = habits;
+        self.messages = 0;
+        self.answers = 0;
+        self.waiting = None;
+        self.ready = [None; ROOM];
+    }
+
+    fn has_ended(&self) -> bool {
+        match self.habits.ends {
+            Some(messages) => self.messages > messages,
+            None => false,
+        }
+    }
+
+    /// Turns pass up to this one, if it isn't past.
+    fn pass_to(&mut self, turn: u64) {
+        let turns = turn.saturating_sub(self.turn);
+        self.turn = turn.max(self.turn);
+        self.clock.pass(turns.saturating_mul(TURN));
+        self.line.pass_time(self.clock.now());
+    }
+
+    /// The message that waits goes over the wire, if its turn comes by this one.
+    fn exchange(&mut self, until: u64) {
+        match self.waiting {
+            Some(message) if message.due <= until => {
+                self.waiting = None;
+                self.pass_to(message.due);
+                self.carry(&message);
+            }
+            _ => {}
+        }
+    }
+
+    /// A message goes through the slaves.
+    fn carry(&mut self, message: &Message) {
+        let length = message.length.min(LONGEST);
+        if let Ok(mut frame) = Frame::parse(&message.bytes[..length]) {
+            self.line.take(&mut frame);
+            self.come_back(frame.as_bytes());
+        }
+    }
+
+    /// An answer came back.
+    fn come_back(&mut self, bytes: &[u8]) {
+        self.answers = self.answers.saturating_add(1);
+        if is_each(self.answers, self.habits.loses) {
+            return;
+        }
+        let (each, more) = self.habits.delays;
+        let mut due = self.turn.saturating_add(self.habits.holds);
+        if is_each(self.answers, each) {
+            due = due.saturating_add(more);
+        }
+        self.keep(message_of(bytes, due));
+        if is_each(self.answers, self.habits.doubles) {
+            self.keep(message_of(bytes, due));
+        }
+    }
+
+    /// An answer waits. It is dropped where there is no room.
+    fn keep(&mut self, answer: Message) {
+        for slot in &mut self.ready {
+            if slot.is_none() {
+                *slot = Some(answer);
+                return;
+            }
+        }
+    }
+
+    /// Where the answer stands that is given next, if one comes by this turn.
+    fn next(&self, until: u64) -> Option<usize> {
+        let mut found = None;
+        for (place, slot) in self.ready.iter().enumerate() {
+            let is_due = slot.is_some_and(|answer| answer.due <= until);
+            if is_due && (found.is_none() || self.habits.is_turned) {
+                found = Some(place);
+            }
+        }
+        found
+    }
+
+    /// The answer that is given next, if one comes by this turn.
+    fn take_answer(&mut self, until: u64) -> Option<Message> {
+        let place = self.next(until)?;
+        let slot = self.ready.get_mut(place)?;
+        slot.take()
+    }
+}
+
+impl Wire for Master<'_> {
+    ghost gives = { λ _. Unit {0} };
+
+    fn send(&mut self, bytes: &[u8]) -> io::Result<()> {
+        self.messages = self.messages.saturating_add(1);
+        if self.has_ended() {
+            return Err(io::Error::other("it has ended"));
+        }
+        if !is_each(self.messages, self.habits.drops) {
+            let due = self.turn.saturating_add(self.habits.waits);
+            self.waiting = Some(message_of(bytes, due));
+        }
+        Ok(())
+    }
+
+    fn receive(&mut self, bytes: &mut [u8]) -> io::Result<usize> {
+        if self.has_ended() {
+            return Err(io::Error::other("it has ended"));
+        }
+        let until = self.turn.saturating_add(TIME_OUT);
+        self.exchange(until);
+        let Some(answer) = self.take_answer(until) else {
+            self.pass_to(until);
+            return Err(io::Error::other("nothing comes"));
+        };
+        self.pass_to(answer.due);
+        let length = answer.length.min(bytes.len()).min(LONGEST);
+        bytes[..length].copy_from_slice(&answer.bytes[..length]);
+        Ok(length)
+    }
+}
