@@ -1,4 +1,6 @@
 //! Lines on a wire in memory, and words that are written to them.
+ghost use Rattle.std.specs.Prelude.{IfSome};
+ghost use Rattle.site_shadow.specs.Parts.{AreWhole};
 
 use esc_model::{RomHalf, station_address};
 use esc_rom::{issue, settle};
@@ -191,7 +193,9 @@ pub(crate) fn brought_up<W: Wire>(
     alloc: Global,
     bench: &Bench,
     wire: &mut NumberedWire<W>,
-) -> Option<(Parts, [SlaveState; 64])> {
+) -> Option<(Parts, [SlaveState; 64])>
+    ensures { IfSome result (λ found. AreWhole found.0) }
+{
     let line = bring_up(alloc, wire, &bench.clock, &Sizes::unknown()).ok()?;
     let states = line.states();
     let parts = parts_of(alloc, line.into_words(alloc).ok()?)?;

@@ -1,4 +1,5 @@
 //! A station beside a master that lends its wire, with all that a master may do with messages, and slaves as a master leaves them.
+ghost use Rattle.site_shadow.specs.Parts.{AreWhole};
 
 use crate::bench::{Bench, Content, Slave, brought_up, device_on, line_of};
 use crate::master::{Habits, Master, PROMPT, TIME_OUT};
@@ -139,7 +140,9 @@ fn written_on<'f>(
     bench: &'f Bench,
     wire: NumberedWire<Master<'f>>,
     found: (Parts, [SlaveState; 64]),
-) -> (NumberedWire<Master<'f>>, Outcome) {
+) -> (NumberedWire<Master<'f>>, Outcome)
+    requires { AreWhole found.0 }
+{
     let (parts, states) = found;
     let mut site = ShadowSite::of_parts(alloc, parts, device_on(bench, wire));
     let count = count_written(&mut site);

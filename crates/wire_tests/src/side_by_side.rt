@@ -14,6 +14,9 @@ enum Outcome {
     Wrong,
 }
 
+// What becomes of three slaves.
+type Three = (Outcome, Outcome, Outcome);
+
 // How many frames are sent before those with a datagram for each of three slaves: a broadcast, another one, and three addresses; AL status
 // and access of three; and for each of three access by force, access given back, a poll and a clearing.
 const BEFORE: u32 = 2 + 3 + 2 * 3 + 4 * 3;
@@ -96,7 +99,7 @@ const GOOD_LINE: Line = Line {
 
 // What becomes of the slaves of a line that is brought up, how many frames were sent, and after how many microseconds. None: it can't be brought
 // up, or memory was refused.
-fn found_on(alloc: Global, line: &Line, count: usize) -> Option<([Outcome; 3], u64, u64)> {
+fn found_on(alloc: Global, line: &Line, count: usize) -> Option<(Three, u64, u64)> {
     let [first, second, third] = line.quirks;
     let slaves = [slave_of(first), slave_of(second), slave_of(third)];
     let bench = Bench::new(alloc);
@@ -110,7 +113,8 @@ fn found_on(alloc: Global, line: &Line, count: usize) -> Option<([Outcome; 3], u
             outcomes[place] = outcome_of(&slaves[place], found);
         }
     }
-    Some((outcomes, wire.sent(), bench.clock.now()))
+    let [one, two, three] = outcomes;
+    Some(((one, two, three), wire.sent(), bench.clock.now()))
 }
 
 // Whether the words of all three slaves are read where one frame has this fate.
@@ -124,7 +128,7 @@ fn are_read(alloc: Global, passing: u32, fate: Fate) -> bool {
         ..GOOD_LINE
     };
     match found_on(alloc, &line, 3) {
-        Some((outcomes, _, _)) => outcomes == [Outcome::Read; 3],
+        Some((outcomes, _, _)) => outcomes == (READ, READ, READ),
         None => false,
     }
 }
@@ -147,7 +151,8 @@ fn lost_and_doubled_frames_are_asked_again(rt: HostRuntime) {
 
 // How many frames are sent to so many slaves of 64 words, whose chips repeat. None: not all are read.
 fn frames_for(alloc: Global, count: usize) -> Option<u64> {
-    let (outcomes, frames, _) = found_on(alloc, &GOOD_LINE, count)?;
+    let ((one, two, three), frames, _) = found_on(alloc, &GOOD_LINE, count)?;
+    let outcomes = [one, two, three];
     for outcome in outcomes.iter().take(count) {
         if *outcome != Outcome::Read {
             return None;
@@ -206,28 +211,32 @@ const UNPLUGGED: Outcome = Outcome::Dead(Cause::CableOrPower);
 const MUTE: Outcome = Outcome::Dead(Cause::NoAcknowledge);
 
 // Slaves side by side, a cable that is pulled, and what becomes of them.
-const LINES: &[([Quirks; 3], Option<Cable>, [Outcome; 3])] = &[
-    ([NO_QUIRKS, BUSY, SLOW], None, [READ, READ, READ]),
-    ([SLOW, MISSES, BUSY], None, [READ, READ, READ]),
+type Case = ((Quirks, Quirks, Quirks), Option<Cable>, Three);
+
+const LINES: &[Case] = &[
+    ((NO_QUIRKS, BUSY, SLOW), None, (READ, READ, READ)),
+    ((SLOW, MISSES, BUSY), None, (READ, READ, READ)),
     (
-        [NO_QUIRKS, LOSES_POWER, SLOW],
+        (NO_QUIRKS, LOSES_POWER, SLOW),
         None,
-        [READ, RESTARTED, READ],
+        (READ, RESTARTED, READ),
     ),
     (
-        [BUSY, NEVER_ACKNOWLEDGES, NO_QUIRKS],
+        (BUSY, NEVER_ACKNOWLEDGES, NO_QUIRKS),
         None,
-        [READ, MUTE, READ],
+        (READ, MUTE, READ),
     ),
     (
-        [NO_QUIRKS, MISSES, NO_QUIRKS],
+        (NO_QUIRKS, MISSES, NO_QUIRKS),
         Some(PULLED),
-        [READ, READ, UNPLUGGED],
+        (READ, READ, UNPLUGGED),
     ),
 ];
 
-// What becomes of these slaves.
-fn outcomes_of(alloc: Global, quirks: [Quirks; 3], cable: Option<Cable>) -> Option<[Outcome; 3]> {
+// What becomes of the slaves of a case.
+fn outcomes_of(alloc: Global, case: &Case) -> Option<Three> {
+    let ((first, second, third), cable, _) = *case;
+    let quirks = [first, second, third];
     let line = Line {
         quirks,
         cable,
@@ -239,8 +248,9 @@ fn outcomes_of(alloc: Global, quirks: [Quirks; 3], cable: Option<Cable>) -> Opti
 
 #[test]
 fn slaves_differ(rt: HostRuntime) {
-    for (quirks, cable, outcomes) in LINES {
-        assert!(rt; outcomes_of(rt.alloc(), *quirks, *cable) == Some(*outcomes));
+    for case in LINES {
+        let (_, _, outcomes) = *case;
+        assert!(rt; outcomes_of(rt.alloc(), case) == Some(outcomes));
     }
 }
 
@@ -260,5 +270,5 @@ fn slow_slaves_are_read_at_the_same_time(rt: HostRuntime) {
     let (Some(one), Some(three)) = (time_of(rt.alloc(), 1), time_of(rt.alloc(), 3)) else {
         panic!(rt; "a line isn't brought up");
     };
-    assert!(rt; one >= 256 * 2_000 && three <= one + one / 10);
+    assert!(rt; one >= 256 * 2_000 && three <= one.saturating_add(one / 10));
 }
