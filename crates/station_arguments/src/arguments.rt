@@ -344,21 +344,89 @@ const EXPLAIN: Subcommand = Subcommand {
     arguments: &[EXPLAINED],
 };
 
-/// All subcommands, in the order of the help.
-const SUBCOMMANDS: &[Subcommand] = &[
-    SHOW,
-    DIFF,
-    ALIAS,
-    INIT,
-    PLAN,
-    RUN,
-    JOURNAL,
-    RECOVER,
-    LAYOUT,
-    EXPLAIN,
-    COMPLETIONS,
-    MAN,
-];
+// A table that a function names becomes part of what is proved of it, so each row stands in a function of its own.
+
+fn show_row() -> Subcommand {
+    SHOW
+}
+
+fn diff_row() -> Subcommand {
+    DIFF
+}
+
+fn alias_row() -> Subcommand {
+    ALIAS
+}
+
+fn init_row() -> Subcommand {
+    INIT
+}
+
+fn plan_row() -> Subcommand {
+    PLAN
+}
+
+fn run_row() -> Subcommand {
+    RUN
+}
+
+fn journal_row() -> Subcommand {
+    JOURNAL
+}
+
+fn recover_row() -> Subcommand {
+    RECOVER
+}
+
+fn layout_row() -> Subcommand {
+    LAYOUT
+}
+
+fn explain_row() -> Subcommand {
+    EXPLAIN
+}
+
+fn completions_row() -> Subcommand {
+    COMPLETIONS
+}
+
+fn man_row() -> Subcommand {
+    MAN
+}
+
+/// How many subcommands there are.
+const SUBCOMMANDS: usize = 12;
+
+/// The subcommands, in the order of the help.
+fn row(number: usize) -> Option<Subcommand> {
+    match number {
+        0 => Some(show_row()),
+        1 => Some(diff_row()),
+        2 => Some(alias_row()),
+        3 => Some(init_row()),
+        4 => Some(plan_row()),
+        5 => Some(run_row()),
+        6 => Some(journal_row()),
+        7 => Some(recover_row()),
+        8 => Some(layout_row()),
+        9 => Some(explain_row()),
+        10 => Some(completions_row()),
+        11 => Some(man_row()),
+        _ => None,
+    }
+}
+
+/// The command with the subcommand of this number behind those that it has.
+fn with_row<'a>(
+    alloc: Global,
+    command: Command<'a>,
+    number: usize,
+) -> Result<Command<'a>, AllocError> {
+    match row(number) {
+        Some(subcommand) => with_subcommands(alloc, command, &[subcommand]),
+        None => Ok(command),
+    }
+}
 
 /// The description of the command line, with all subcommands.
 pub(crate) fn station<'a>(alloc: Global) -> Result<Command<'a>, AllocError> {
@@ -367,8 +435,11 @@ pub(crate) fn station<'a>(alloc: Global) -> Result<Command<'a>, AllocError> {
         .version(VERSION)
         .after_help("Example:\n  sii_station alias 1001 < slave.bin > renamed.bin")
         .subcommand_required(true);
-    let station = with_argument(alloc, plain, VERBOSE)?;
-    with_subcommands(alloc, station, SUBCOMMANDS)
+    let mut station = with_argument(alloc, plain, VERBOSE)?;
+    for number in 0..SUBCOMMANDS {
+        station = with_row(alloc, station, number)?;
+    }
+    Ok(station)
 }
 
 /// Reads a command line. The first word is the program's name.

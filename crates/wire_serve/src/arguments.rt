@@ -385,8 +385,64 @@ const SLAVES: Subcommand = Subcommand {
     arguments: &[LINE, CUT, LEFT, QUIRKS],
 };
 
+// A table that a function names becomes part of what is proved of it, so each row stands in a function of its own.
+
+fn scan_row() -> Subcommand {
+    SCAN
+}
+
+fn backup_row() -> Subcommand {
+    BACKUP
+}
+
+fn init_row() -> Subcommand {
+    INIT
+}
+
+fn run_row() -> Subcommand {
+    RUN
+}
+
+fn plan_row() -> Subcommand {
+    PLAN
+}
+
+fn recover_row() -> Subcommand {
+    RECOVER
+}
+
+fn slaves_row() -> Subcommand {
+    SLAVES
+}
+
+/// How many subcommands there are beside `explain`.
+const SUBCOMMANDS: usize = 7;
+
 /// The subcommands in the order of the help; `explain` follows them.
-const SUBCOMMANDS: &[Subcommand] = &[SCAN, BACKUP, INIT, RUN, PLAN, RECOVER, SLAVES];
+fn row(number: usize) -> Option<Subcommand> {
+    match number {
+        0 => Some(scan_row()),
+        1 => Some(backup_row()),
+        2 => Some(init_row()),
+        3 => Some(run_row()),
+        4 => Some(plan_row()),
+        5 => Some(recover_row()),
+        6 => Some(slaves_row()),
+        _ => None,
+    }
+}
+
+/// The command with the subcommand of this number behind those that it has.
+fn with_row<'a>(
+    alloc: Global,
+    command: Command<'a>,
+    number: usize,
+) -> Result<Command<'a>, AllocError> {
+    match row(number) {
+        Some(subcommand) => with_subcommands(alloc, command, &[subcommand]),
+        None => Ok(command),
+    }
+}
 
 /// The description of the command line, with all subcommands.
 fn program<'a>(alloc: Global) -> Result<Command<'a>, AllocError> {
@@ -396,8 +452,10 @@ fn program<'a>(alloc: Global) -> Result<Command<'a>, AllocError> {
         .after_help(STARTING)
         .subcommand_required(true);
     let program = with_argument(alloc, plain, TEXT)?;
-    let program = with_argument(alloc, program, VERBOSE)?;
-    let program = with_subcommands(alloc, program, SUBCOMMANDS)?;
+    let mut program = with_argument(alloc, program, VERBOSE)?;
+    for number in 0..SUBCOMMANDS {
+        program = with_row(alloc, program, number)?;
+    }
     program.subcommand(Command::new(alloc, "explain").about("Says what the codes of faults mean"))
 }
 
