@@ -2,7 +2,7 @@ use Rattle.station_session.proofs.Ending.{old-by}
 use Rattle.wire_session.proofs.planning.plan_copy.Goals as goal
 
 pub plan_line-requires-clause-old : goal.plan_line-requires-clause-old
-plan_line-requires-clause-old g c κs lives =
+plan_line-requires-clause-old g c =
     old-by c.args.slaves.now c.args.journal.items c.in_ok-site.site c.is_old-was_old.result
     c.in_ok-site.ensures (rw c.deref.ensures.value at c.is_old-was_old.ensures)
 

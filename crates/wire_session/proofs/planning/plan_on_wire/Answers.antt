@@ -1,13 +1,20 @@
+use Rattle.std.proofs.lemmas.Result.{IfOk-weaker}
+use Rattle.wire_session.specs.Planning.{PlansFound, PlansOnWire}
 use Rattle.wire_session.proofs.planning.plan_on_wire.Goals as goal
 
 pub returns-in-Ok-clause-plans : goal.returns-in-Ok-clause-plans
-returns-in-Ok-clause-plans g c = record {
-  line = c.in-Ok.given.found.line;
-  plant = c.in-Ok.given.found.slaves.items;
-  bytes = c.in-Ok.given.found.journal.items;
-  found = c.in-Ok.ensures.found;
-  commands = c.in-Ok.given.commands.items;
-  spelt = c.in-Ok.ensures.spelt;
-  apart = c.in-Ok.ensures.apart;
-  plans = c.plan_found.ensures;
-}
+returns-in-Ok-clause-plans g c =
+    let given = c.in-Ok.given in
+    IfOk-weaker c.plan_found.result (PlansFound given.found.slaves.items given.found.journal.items given.commands.items)
+    (PlansOnWire g.S.Store.leads (g.S.Store.files c.args.store.now) c.args.named.line.now c.args.named.script.now)
+    (λ status plans. record {
+      line = given.found.line;
+      plant = given.found.slaves.items;
+      bytes = given.found.journal.items;
+      found = c.in-Ok.ensures.found;
+      commands = given.commands.items;
+      spelt = c.in-Ok.ensures.spelt;
+      apart = c.in-Ok.ensures.apart;
+      plans = plans;
+    })
+    c.plan_found.ensures
