@@ -66,7 +66,11 @@ pub fn changes_since<S: Store>(
 }
 
 /// The words that the image files of a line hold.
-fn words_now<S: Store>(alloc: Global, line: &LineFile, store: &mut S) -> Result<Plant, Fault>
+pub(crate) fn words_now<S: Store>(
+    alloc: Global,
+    line: &LineFile,
+    store: &mut S,
+) -> Result<Plant, Fault>
     ensures spelt { IfOk result (λ plant. SpellsSlaves (S.files store.old) line.now plant) }
     ensures failed { IfErr result IsOfStream }
     ensures same { S.files store.new ≡ S.files store.old }

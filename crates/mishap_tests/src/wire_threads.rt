@@ -8,7 +8,7 @@ use runner_cases::asks::command;
 use runner_cases::line::THREE;
 use runner_cases::runs::{ASKS, Way, kept_by};
 use runner_cases::sites::{PATTERNS, open};
-use script_session::serve_by_threads;
+use script_session::{Work, serve_by_threads};
 use sii_edit::Command;
 use site_core::Site;
 use site_mem::Pattern;
@@ -72,7 +72,11 @@ fn run<D: Device + Copy + Send, R: Wait + Threads + Sync>(
     let Some(station) = opened(alloc, site) else {
         return Some(());
     };
-    let left = serve_by_threads(rt, alloc, station, 3, commands, text).ok()?;
+    let work = Work {
+        commands,
+        tells_events: false,
+    };
+    let left = serve_by_threads(rt, alloc, station, 3, work, text).ok()?;
     drop(left);
     Some(())
 }

@@ -7,13 +7,16 @@ mod apart;
 mod asked;
 mod closing;
 mod commands;
+mod events;
 mod rounds;
 mod submitter;
 mod submitting;
 mod threads;
 mod together;
+mod work;
 
 pub use closing::Ending;
 pub use commands::serve_commands;
 pub use station_threads::CloseFault;
 pub use threads::{Left, serve_by_threads};
+pub use work::Work;

@@ -4,6 +4,7 @@ ghost use Rattle.std.specs.Prelude.{◌≡◌, None};
 
 use crate::asked::Asked;
 use crate::submitting::submit_and_wait;
+use crate::work::Work;
 use sii_edit::Command;
 use station_files::{ExitStatus, Fault};
 use station_threads::{Client, Desk, Receipt, Refusals, Share, Tickets};
@@ -21,6 +22,8 @@ pub(crate) struct Submitter<'o, T: Tickets, R: Refusals, C: Asked, O: Write> {
     pub(crate) alloc: Global,
     /// The commands; none once they are submitted.
     pub(crate) commands: Vec<Command>,
+    /// Whether it prints how many are durable and settled, as it happens.
+    pub(crate) tells_events: bool,
     pub(crate) output: &'o mut O,
     pub(crate) share: Share<T, R>,
     pub(crate) status: ExitStatus,
@@ -50,7 +53,10 @@ impl<'o, T: Tickets, R: Refusals, C: Asked, O: Write> Client<T, R> for Submitter
             self.alloc,
             desk,
             &mut self.share,
-            commands,
+            Work {
+                commands,
+                tells_events: self.tells_events,
+            },
             self.output,
             &mut self.status,
         );

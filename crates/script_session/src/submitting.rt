@@ -5,6 +5,8 @@ ghost use Rattle.station_files.specs.Faults.{IsOfStream};
 ghost use Rattle.script_session.specs.Asking.{AreInOrder, Asks, AsksAll, GivesUp, Receives};
 
 use crate::answers::{print_accepted, print_refused, refused_as};
+use crate::events::tell_events;
+use crate::work::Work;
 use book_model::{Status, SubmitRefusal};
 use sii_edit::{Cause, Command, Refusal};
 use station_files::{ExitStatus, Fault};
@@ -169,7 +171,8 @@ fn receive_all<T: Tickets, R: Refusals, W: Wait>(
     Ok(receipts)
 }
 
-/// Submits the commands in order, prints the answer to each, and waits until all accepted ones are durable.
+/// Submits the commands in order, prints the answer to each, tells what happens to them if that is asked for, and waits until all accepted
+/// ones are durable.
 ///
 /// # Errors
 ///
@@ -180,13 +183,20 @@ pub(crate) fn submit_and_wait<T: Tickets, R: Refusals, O: Write, W: Wait>(
     alloc: Global,
     desk: &Desk<T, R>,
     share: &mut Share<T, R>,
-    commands: Vec<Command>,
+    work: Work,
     output: &mut O,
     status: &mut ExitStatus,
 ) -> Result<Vec<Receipt>, Fault>
-    ensures received { IfOk result (λ receipts. Receives commands.items status.old status.new share.old share.new receipts.items) }
+    ensures received { IfOk result (λ receipts. Receives work.commands.items status.old status.new share.old share.new receipts.items) }
     ensures failed { IfErr result GivesUp }
 {
+    let Work {
+        commands,
+        tells_events,
+    } = work;
     let tickets = ask_all(rt, alloc, desk, share, commands, output, status)?;
+    if tells_events {
+        tell_events(rt, desk, output)?;
+    }
     receive_all(rt, alloc, desk, tickets)
 }

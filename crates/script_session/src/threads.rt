@@ -12,6 +12,7 @@ use crate::asked::Asked;
 use crate::closing::{AtDesk, Ending, hand_in};
 use crate::submitter::Submitter;
 use crate::together::put_together;
+use crate::work::Work;
 use book_core::Core;
 use esc_model::RomHalf;
 use sii_edit::Command;
@@ -40,8 +41,8 @@ pub struct Left<S> {
 }
 
 /// Serves the commands by threads on the line of this station, which has `slaves` slaves, and puts the line together again. Prints the
-/// answer to each command, and the totals. If a thread can't be started, no command is submitted. The station must not have accepted a
-/// command yet.
+/// answer to each command, what is told of them as it happens, and the totals. If a thread can't be started, no command is submitted. The
+/// station must not have accepted a command yet.
 ///
 /// # Errors
 ///
@@ -53,20 +54,20 @@ pub fn serve_by_threads<D: Device + Copy + Send, O: Write, W: Wait + Threads + S
     alloc: Global,
     alone: Alone<ShadowSite<D>>,
     slaves: usize,
-    commands: Vec<Command>,
+    work: Work,
     output: &mut O,
 ) -> Result<Left<ShadowSite<D>>, Fault>
     requires { alone.book.accepted ≡ [] }
     ensures line { IfOk result (λ left. IsLineOf slaves left.site.line) }
-    ensures left { IfOk result (λ left. LeavesSo alone commands.items left.ending left.site) }
-    ensures unserved { IfOk result (λ left. left.ending.is_driven ≡ false → left.unserved.items ≡ commands.items) }
+    ensures left { IfOk result (λ left. LeavesSo alone work.commands.items left.ending left.site) }
+    ensures unserved { IfOk result (λ left. left.ending.is_driven ≡ false → left.unserved.items ≡ work.commands.items) }
 {
     let (core, site) = alone.into_parts();
     let (sites, room) = match prepare(alloc, site, core.capacity(), slaves) {
         Ok(prepared) => prepared,
         Err(fault) => {
             drop(core);
-            drop(commands);
+            drop(work);
             return Err(fault);
         }
     };
@@ -77,7 +78,7 @@ pub fn serve_by_threads<D: Device + Copy + Send, O: Write, W: Wait + Threads + S
         BlankLedger::new(2),
         BlankLedger::new(2),
         sites,
-        commands,
+        work,
         output,
     )?;
     put_back(alloc, room, slaves, at)
@@ -149,7 +150,7 @@ fn serve_at_desk<
     tickets: BlankLedger,
     refusals: BlankLedger,
     sites: Sites<ShadowSite<D>>,
-    commands: Vec<Command>,
+    work: Work,
     output: &'o mut O,
 ) -> Result<AtDesk<ShadowSite<D>>, AllocError>
     requires core { core ≡ T.opened }
@@ -157,7 +158,7 @@ fn serve_at_desk<
     requires tickets { (tickets.name ≡ T.name) × (tickets.count ≡ T.parts) }
     requires refusals { (refusals.name ≡ R.name) × (refusals.count ≡ R.parts) }
     requires parts { (1 < tickets.count) × (1 < refusals.count) }
-    requires commands { commands.items ≡ C.commands }
+    requires commands { work.commands.items ≡ C.commands }
     requires owned { OwnParts (λ (s : SiteValue). s.line) sites.disk sites.slaves.items sites.cycle }
     requires long { 8 + core.capacity ≤ length sites.disk.seen.state.disk.bytes }
     ensures of_sites { IfOk result (λ at. AreEndsOfParts sites at.ends) }
@@ -165,10 +166,10 @@ fn serve_at_desk<
     ensures unserved { IfOk result (λ at. at.ending.is_driven ≡ false → at.unserved.items ≡ C.commands) }
 {
     match open_desk::<T, R>(alloc, core, tickets, refusals) {
-        Ok(opened) => serve_opened::<T, R, C, D, O, W>(rt, alloc, opened, sites, commands, output),
+        Ok(opened) => serve_opened::<T, R, C, D, O, W>(rt, alloc, opened, sites, work, output),
         Err(AllocError) => {
             drop(sites);
-            drop(commands);
+            drop(work);
             Err(AllocError)
         }
     }
@@ -188,12 +189,12 @@ fn serve_opened<
     alloc: Global,
     opened: Opened<T, R>,
     sites: Sites<ShadowSite<D>>,
-    commands: Vec<Command>,
+    work: Work,
     output: &'o mut O,
 ) -> Result<AtDesk<ShadowSite<D>>, AllocError>
     requires room { (opened.room.items ≡ []) × (1 ≤ vec_capacity opened.room) }
     requires share { opened.share ≡ no_counts }
-    requires commands { commands.items ≡ C.commands }
+    requires commands { work.commands.items ≡ C.commands }
     requires owned { OwnParts (λ (s : SiteValue). s.line) sites.disk sites.slaves.items sites.cycle }
     requires long { opened.desk.limit ≤ length sites.disk.seen.state.disk.bytes }
     ensures of_sites { IfOk result (λ at. AreEndsOfParts sites at.ends) }
@@ -201,9 +202,14 @@ fn serve_opened<
     ensures unserved { IfOk result (λ at. at.ending.is_driven ≡ false → at.unserved.items ≡ C.commands) }
 {
     let Opened { desk, share, room } = opened;
+    let Work {
+        commands,
+        tells_events,
+    } = work;
     let submitter = Submitter::<'o, T, R, C, O> {
         alloc,
         commands,
+        tells_events,
         output,
         share,
         status: ExitStatus::Done,

@@ -8,7 +8,7 @@ ghost use Rattle.site_wire.specs.declared.answers.Comparison.TheVariants.{Alike,
 use crate::asking::Last;
 use crate::faults::Difference;
 use crate::fitting::{FPRD, FPWR, register_of, waits_for_rest};
-use crate::numbered::Returned;
+use crate::numbered::{Carried, Returned};
 use crate::stations::address_back;
 use ecat_frame::{Command, Datagram};
 use esc_model::RomHalf;
@@ -44,7 +44,25 @@ impl Answer {
     /// The first datagram of a frame that came back. One that isn't the answer to this one counts as not taken.
     pub(crate) fn of(asked: Datagram<'_>, returned: &Returned) -> Option<Answer> {
         let found = returned.frame.datagrams().next()?;
-        let address = address_back(asked.address, returned.address, found.address);
+        Some(Answer::read(asked, returned.address, found, returned.again))
+    }
+
+    /// The datagram at this place of a frame that came back, in which this one went to `sent`. Another one counts as not taken.
+    pub(crate) fn at(
+        asked: Datagram<'_>,
+        sent: u32,
+        carried: &Carried,
+        place: usize,
+    ) -> Option<Answer> {
+        if place >= carried.frame.count() {
+            return None;
+        }
+        Some(Answer::read(asked, sent, carried.frame.datagram(place), carried.again))
+    }
+
+    /// What came back as `found` of this datagram, which went to `sent`. One that isn't its answer counts as not taken.
+    fn read(asked: Datagram<'_>, sent: u32, found: Datagram<'_>, again: bool) -> Answer {
+        let address = address_back(asked.address, sent, found.address);
         let is_to = asked.command.code() == found.command.code()
             && asked.index == found.index
             && asked.address == address
@@ -53,15 +71,15 @@ impl Answer {
         let mut front = [0u8; LONGEST];
         let count = length.min(LONGEST);
         front[..count].copy_from_slice(&found.content[..count]);
-        Some(Answer {
+        Answer {
             command: found.command,
             index: found.index,
             address,
             counter: if is_to { found.counter } else { 0 },
             length,
             front,
-            again: returned.again,
-        })
+            again,
+        }
     }
 
     /// What it tells of the slave.

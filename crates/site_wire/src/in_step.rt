@@ -98,7 +98,7 @@ pub(crate) fn read_in_step<W: Wire, C: Clock>(
         let Some(returned) = wire.pass_all(asked) else {
             return Err(LineFault::Silent);
         };
-        if take_answers::<W>(&returned, &mut readers, ahead) {
+        if take_answers::<W>(&returned.frame, &mut readers, ahead) {
             pace = Pace::of_polls();
         } else {
             pace.pause(clock);

@@ -13,6 +13,7 @@ mod fitting;
 mod found;
 mod handing_back;
 mod in_step;
+mod joining;
 mod numbered;
 mod pace;
 mod reach;

@@ -33,9 +33,9 @@ pub(crate) struct Returned {
 
 /// A frame that came back, and whether it was sent more than once.
 #[derive(Drop)]
-struct Carried {
-    frame: Frame,
-    again: bool,
+pub(crate) struct Carried {
+    pub(crate) frame: Frame,
+    pub(crate) again: bool,
 }
 
 /// A wire on which each frame has a number of its own. It stands behind the frame's datagrams, as the address of one that no slave
@@ -173,15 +173,14 @@ impl<W: Wire> NumberedWire<W> {
 
     /// Sends a frame of these datagrams until it comes back, three times at most, and gives it with the number behind them. None where it
     /// doesn't. One of more than 1,488 bytes leaves no room for the number, and isn't sent. Station addresses go out as they are.
-    pub(crate) fn pass_all(&mut self, sent: Frame) -> Option<Frame>
+    pub(crate) fn pass_all(&mut self, sent: Frame) -> Option<Carried>
         requires may { self.old.is_lent ≡ true → OnlyEeprom sent }
         ensures lent { self.new.is_lent ≡ self.old.is_lent }
         ensures same { self.new.stations ≡ self.old.stations }
-        ensures came { IfSome result (CameOver W.gives) }
+        ensures came { IfSome result (λ carried. CameOver W.gives carried.frame) }
     {
         let numbered = self.numbered_all(sent)?;
-        let carried = self.carried(&numbered)?;
-        Some(carried.frame)
+        self.carried(&numbered)
     }
 
     /// Sends the frame until the one of its number comes back, three times at most.

@@ -1,13 +1,16 @@
 //! How a device reaches the slaves of a wire.
 ghost use Rattle.std.specs.List.{All};
 ghost use Rattle.wire_laws.specs.Due.{IsDue};
-ghost use Rattle.site_wire.specs.Sending.{IsForEeprom};
+ghost use Rattle.std.specs.Prelude.{◌<◌};
+ghost use Rattle.ecat_frame.specs.Frame.{pdu};
+ghost use Rattle.site_wire.specs.Sending.{IsForEeprom, OnlyEeprom};
 
 use crate::answers::Answer;
 use crate::asking::{Last, sight};
 use crate::faults::{Sighting, StopReason};
 use crate::fitting::only_datagram;
-use crate::numbered::NumberedWire;
+use crate::joining::Board;
+use crate::numbered::{Carried, NumberedWire};
 use crate::wire::Wire;
 use ecat_frame::{Datagram, Frame};
 use esc_model::{FIRST_STATION, RomHalf};
@@ -62,6 +65,23 @@ impl<W: Wire> LiveLine<W> {
     pub fn frames(&self) -> (u64, u64) {
         (self.wire.sent(), self.wire.resent())
     }
+
+    /// Of how many slaves a frame takes datagrams.
+    fn joined(&self) -> usize {
+        if self.wire.is_lent() { 1 } else { 64 }
+    }
+
+    /// Sends a frame for the EEPROMs of several slaves until it comes back, three times at most. None where it doesn't, and the line stops
+    /// then, with what is said about the slave that sent it.
+    fn pass_all(&mut self, frame: Frame, about: (u16, Last)) -> Option<Carried>
+        requires { OnlyEeprom frame }
+    {
+        let carried = self.wire.pass_all(frame);
+        if carried.is_none() {
+            self.stop(StopReason::Silent, Some(about));
+        }
+        carried
+    }
 }
 
 impl<W: Wire> Reach for LiveLine<W> {
@@ -108,10 +128,12 @@ fn unanswered(sent: Datagram<'_>) -> (u16, Last) {
     (station.wrapping_sub(FIRST_STATION), last)
 }
 
-/// A line on a wire under a lock of its own, for the devices of several threads. The lock is held while one frame is exchanged.
+/// A line on a wire under a lock of its own, for the devices of several threads. The lock is held while one frame is exchanged. What the
+/// others have to send meanwhile stands on a board, and the next frame takes all of it.
 #[derive(Drop)]
 pub struct LockedLine<W> {
     lock: Mutex<LiveLine<W>>,
+    board: Mutex<Board>,
 }
 
 impl<W: Wire> LockedLine<W> {
@@ -119,6 +141,7 @@ impl<W: Wire> LockedLine<W> {
     pub fn new(line: LiveLine<W>) -> LockedLine<W> {
         LockedLine {
             lock: Mutex::new(line),
+            board: Mutex::new(Board::new()),
         }
     }
 
@@ -127,6 +150,7 @@ impl<W: Wire> LockedLine<W> {
         SharedLine {
             rt,
             lock: &self.lock,
+            board: &self.board,
         }
     }
 
@@ -146,11 +170,13 @@ impl<W: Wire> LockedLine<W> {
     }
 }
 
-/// A line that several devices share. Their frames go one by one, so that those for different slaves take turns.
+/// A line that several devices share. One frame takes the datagrams of all that wait for it, unless the wire is lent: a master takes frames of
+/// one datagram.
 #[derive(Drop)]
 pub struct SharedLine<'a, R: Wait, W> {
     rt: &'a R,
     lock: &'a Mutex<LiveLine<W>>,
+    board: &'a Mutex<Board>,
 }
 
 impl<'a, R: Wait, W> Copy for SharedLine<'a, R, W> {}
@@ -165,8 +191,43 @@ impl<'a, R: Wait, W> Clone for SharedLine<'a, R, W> {
     }
 }
 
+impl<'a, R: Wait, W: Wire> SharedLine<'a, R, W> {
+    /// The answer to the datagram of this slave, which was put down: it came with another one's frame, or a frame of all that waits is sent.
+    fn join(&self, slave: usize, about: (u16, Last)) -> Option<Answer>
+        requires { slave < 64 }
+    {
+        let mut line = self.lock.lock(self.rt);
+        if !self.board.lock(self.rt).is_answered(slave) {
+            self.carry(&mut line, slave, about);
+        }
+        self.board.lock(self.rt).take(slave)
+    }
+
+    /// Sends a frame of all that waits, from this slave on, and puts the answers down.
+    fn carry(&self, line: &mut LiveLine<W>, slave: usize, about: (u16, Last))
+        requires { slave < 64 }
+    {
+        if line.reason.is_some() {
+            return;
+        }
+        let slaves = line.joined();
+        let frame = self
+            .board
+            .lock(self.rt)
+            .collect(slave, slaves, line.wire.stations());
+        let carried = line.pass_all(frame, about);
+        self.board.lock(self.rt).answer(&carried);
+    }
+}
+
 impl<'a, R: Wait, W: Wire> Reach for SharedLine<'a, R, W> {
     fn pass(&mut self, half: &RomHalf, frame: &Frame) -> Option<Answer> {
+        let asked = only_datagram(frame)?;
+        let about = unanswered(asked);
+        let slave = usize::from(about.0);
+        if slave < 64 && self.board.lock(self.rt).put(slave, asked) {
+            return self.join(slave, about);
+        }
         self.lock.lock(self.rt).pass(half, frame)
     }
 

@@ -3,12 +3,10 @@ ghost use Rattle.std.specs.Prelude.{IfErr};
 
 use crate::plan::Planned;
 use line_changes::write_changes;
-use sii_image::ImageFault;
+use line_report::spell_layout;
 use sii_size::Resize;
-use sii_words::Plant;
 use station_files::Fault;
-use station_listing::{Code, list_layout};
-use std::alloc::{AllocError, Global};
+use std::alloc::Global;
 use std::io;
 use std::io::Write;
 
@@ -51,13 +49,4 @@ fn write_resizes<W: Write>(resizes: &[Resize], output: &mut W) -> io::Result<()>
         )?;
     }
     Ok(())
-}
-
-/// The process image of a line with these contents, as `layout` prints it.
-fn spell_layout(alloc: Global, plant: &Plant) -> Result<String, AllocError> {
-    match list_layout(alloc, plant) {
-        Ok(listing) => format!(in alloc; "{listing}"),
-        Err(ImageFault::ImageOverLimit) => format!(in alloc; "none: {}\n", Code::ImageOverLimit),
-        Err(ImageFault::Memory) => Err(AllocError {}),
-    }
 }

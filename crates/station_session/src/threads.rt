@@ -8,7 +8,7 @@ ghost use Rattle.station_session.specs.Session.{EndsStation, HoldsBehind, SavesB
 
 use crate::faults::of_open;
 use crate::site::save_site;
-use script_session::{CloseFault, Ending, Left, serve_by_threads, serve_commands};
+use script_session::{CloseFault, Ending, Left, Work, serve_by_threads, serve_commands};
 use sii_edit::Command;
 use site_shadow::{Device, ShadowSite};
 use station_alone::{Alone, recover};
@@ -40,7 +40,11 @@ pub(crate) fn run_threads<
     requires none { alone.book.accepted ≡ [] }
     ensures { EndsStation false (S.files store.old) (S.files store.new) line.now alone commands.items result }
 {
-    match serve_by_threads(rt, alloc, alone, line.images.len(), commands, output) {
+    let work = Work {
+        commands,
+        tells_events: false,
+    };
+    match serve_by_threads(rt, alloc, alone, line.images.len(), work, output) {
         Ok(left) => end_threads(alloc, line, left, store, output, faults),
         Err(fault) => report_fault(fault, faults),
     }

@@ -3,7 +3,7 @@
 use crate::capture_argument::{CAPTURE, capture_of};
 use crate::plan_arguments::{PLAN, plan_task};
 use crate::session_arguments::{
-    BESIDE, FORCE, JSON, REPORT, RESIZE, TAKE, TRUST, Tenure, WORDS, asked_by_recover,
+    BESIDE, EVENTS, FORCE, JSON, REPORT, RESIZE, TAKE, TRUST, Tenure, WORDS, asked_by_recover,
     asked_by_run, form_of, tenure_of, trust_of,
 };
 use crate::sizes::sizes_of;
@@ -363,6 +363,7 @@ const RUN: Subcommand = Subcommand {
         TRUST,
         RESIZE,
         REPORT,
+        EVENTS,
         CAPTURE,
     ],
 };

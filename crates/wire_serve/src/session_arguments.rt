@@ -114,6 +114,21 @@ pub(crate) fn form_of(matches: &ArgMatches<'_>) -> Form {
     }
 }
 
+/// What happens, as it happens.
+pub(crate) const EVENTS: Argument = Argument {
+    id: "events",
+    kind: Kind::Flag,
+    help: "Prints what happens to the commands as it happens, for programs",
+    long_help: "Prints behind the answers, each line as soon as it is so:
+  event durable N  N commands are durable by now
+  event settled N  N commands are settled by now
+  event access P uncounted
+                   slave P didn't take the access to its EEPROM back at the end;
+                   or: silent, no frame came back
+  event image L    the process image is another one: L lines follow, as layout
+                   prints it. It counts once the slaves start again",
+};
+
 /// What the flags of `run` ask for.
 pub(crate) fn asked_by_run(matches: &ArgMatches<'_>) -> Asked {
     Asked {
@@ -121,6 +136,7 @@ pub(crate) fn asked_by_run(matches: &ArgMatches<'_>) -> Asked {
         is_forced: matches.get_flag("force"),
         resizes: matches.get_flag("resize"),
         reports: matches.get_flag("report"),
+        tells_events: matches.get_flag("events"),
     }
 }
 

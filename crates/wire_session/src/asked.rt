@@ -11,9 +11,28 @@ pub struct Asked {
     pub resizes: bool,
     /// What has changed on the line is printed at the end.
     pub reports: bool,
+    /// It is printed as it happens how many commands are durable and settled, and at the end whether the process image is another one.
+    pub tells_events: bool,
+}
+
+/// What is told of the work on a line, beside its answers.
+#[derive(Clone, Copy)]
+pub(crate) struct Tells {
+    /// What has changed, at the end.
+    pub(crate) report: bool,
+    /// How many commands are durable and settled, as it happens, and at the end whether the process image is another one.
+    pub(crate) events: bool,
 }
 
 impl Asked {
+    /// What is to be told.
+    pub(crate) fn tells(self) -> Tells {
+        Tells {
+            report: self.reports,
+            events: self.tells_events,
+        }
+    }
+
     /// Nothing more than where nothing is said.
     pub fn nothing() -> Asked {
         Asked {
@@ -21,6 +40,7 @@ impl Asked {
             is_forced: false,
             resizes: false,
             reports: false,
+            tells_events: false,
         }
     }
 }

@@ -6,7 +6,7 @@ ghost use Rattle.station_files.specs.LineFiles.{SpellsLine};
 ghost use Rattle.station_files.specs.Faults as station;
 ghost use Rattle.wire_session.specs.Opening.{IsFound};
 
-use crate::asked::Asked;
+use crate::asked::{Asked, Tells};
 use crate::faults::WireFault;
 use crate::judging::{judge_slaves, judge_states};
 use crate::sizes::sizes_of_images;
@@ -31,8 +31,8 @@ pub(crate) struct Found<L> {
     pub(crate) journal: Vec<u8>,
     /// The lock of the journal, which keeps other stations away.
     pub(crate) lock: L,
-    /// Whether what changes is to be printed at the end.
-    pub(crate) reports: bool,
+    /// What is to be told of the work.
+    pub(crate) tells: Tells,
 }
 
 /// Reads the line file `name`, locks the journal, brings up the line on this wire, and reads the journal. No file changes, and no word of
@@ -78,7 +78,7 @@ pub(crate) fn find_line<W: Wire, C: Clock, S: Store>(
             states,
             journal,
             lock,
-            reports: asked.reports,
+            tells: asked.tells(),
         }),
         Err(fault) => {
             hand_back(wire, &states);

@@ -68,7 +68,7 @@ fn plan_found<L: Drop, O: Write>(
         states: _,
         journal,
         lock: _lock,
-        reports: _,
+        tells: _,
     } = found;
     plan_copy(alloc, &slaves, journal, commands, form, output)
 }

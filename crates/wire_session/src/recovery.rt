@@ -80,7 +80,7 @@ fn recover_found<R: Wait + Clock, W: Wire + Drop, S: Store, O: Write>(
         states,
         journal,
         lock: _lock,
-        reports,
+        tells,
     } = found;
     let locked = LockedLine::new(LiveLine::new(wire));
     let ended = recover_on(rt, alloc, &line, &slaves, journal, &locked, store, output);
@@ -89,7 +89,7 @@ fn recover_found<R: Wait + Clock, W: Wire + Drop, S: Store, O: Write>(
     drop(wire);
     let words = Plant::of(slaves);
     let before = Before { line, words };
-    report_end(alloc, reports, &before, ended, store, output)
+    report_end(alloc, tells, &before, ended, store, output)
 }
 
 /// Opens the journal of a line, and recovers the line.

@@ -3,20 +3,23 @@ ghost use Rattle.std.specs.Prelude.{◌≡◌, IfErr};
 ghost use Rattle.station_files.specs.Faults.{IsOfStream};
 ghost use Rattle.wire_session.specs.Reporting.{IsReported};
 
+use crate::asked::Tells;
 use crate::faults::WireFault;
-use line_report::{Before, print_report};
+use line_report::{Before, print_image, print_report};
+use site_wire::Handed;
 use station_files::{Fault, Store};
 use std::alloc::Global;
 use std::io::Write;
 
-/// Prints what has changed on a line since `before`, if that is asked for and the work on it has ended without a fault. No file changes.
+/// Prints whether the process image of a line is another one than `before`, and what has changed on it, as far as that is asked for, if the work
+/// on it has ended without a fault. No file changes.
 ///
 /// # Errors
 ///
 /// The fault that ended the work. Else `File` or `Memory`, as an image file or the output answers.
 pub(crate) fn report_end<T: Copy, S: Store, O: Write>(
     alloc: Global,
-    is_asked: bool,
+    tells: Tells,
     before: &Before,
     ended: Result<T, WireFault>,
     store: &mut S,
@@ -26,7 +29,7 @@ pub(crate) fn report_end<T: Copy, S: Store, O: Write>(
     ensures same { S.files store.new ≡ S.files store.old }
 {
     match ended {
-        Ok(value) => match print_asked(alloc, is_asked, before, store, output) {
+        Ok(value) => match print_asked(alloc, tells, before, store, output) {
             Ok(()) => Ok(value),
             Err(fault) => Err(WireFault::Station(fault)),
         },
@@ -34,10 +37,51 @@ pub(crate) fn report_end<T: Copy, S: Store, O: Write>(
     }
 }
 
-/// Prints what has changed on a line since `before`, if that is asked for.
+/// Names the slaves whose EEPROM couldn't be handed back as it was found, if events are told, behind work that ended so.
+///
+/// # Errors
+///
+/// The fault that ended the work. Else `File` or `Memory`, as the output answers.
+pub(crate) fn tell_handed<T: Copy, O: Write>(
+    tells: Tells,
+    handed: [Handed; 64],
+    ended: Result<T, WireFault>,
+    output: &mut O,
+) -> Result<T, WireFault>
+    ensures reported { IsReported ended result }
+{
+    if !tells.events {
+        return ended;
+    }
+    let told = print_handed(&handed, output);
+    match ended {
+        Ok(value) => match told {
+            Ok(()) => Ok(value),
+            Err(fault) => Err(WireFault::Station(fault)),
+        },
+        Err(fault) => Err(fault),
+    }
+}
+
+/// Prints a line for each slave whose EEPROM couldn't be handed back.
+fn print_handed<O: Write>(handed: &[Handed; 64], output: &mut O) -> Result<(), Fault>
+    ensures failed { IfErr result IsOfStream }
+{
+    for (slave, one) in handed.iter().enumerate() {
+        match one {
+            Handed::Nothing | Handed::Back => {}
+            Handed::Uncounted => writeln!(output, "event access {slave} uncounted")?,
+            Handed::Silent => writeln!(output, "event access {slave} silent")?,
+        }
+    }
+    output.flush()?;
+    Ok(())
+}
+
+/// Prints whether the process image is another one than `before`, and what has changed, as far as that is asked for.
 fn print_asked<S: Store, O: Write>(
     alloc: Global,
-    is_asked: bool,
+    tells: Tells,
     before: &Before,
     store: &mut S,
     output: &mut O,
@@ -45,7 +89,10 @@ fn print_asked<S: Store, O: Write>(
     ensures failed { IfErr result IsOfStream }
     ensures same { S.files store.new ≡ S.files store.old }
 {
-    if is_asked {
+    if tells.events {
+        print_image(alloc, before, store, output)?;
+    }
+    if tells.report {
         return print_report(alloc, before, store, output);
     }
     Ok(())

@@ -14,9 +14,10 @@ use crate::faults::{WireFault, why_ended};
 use crate::judging::judge_commands;
 use crate::naming::{Named, keep_script_apart};
 use crate::opening::{Found, find_line, open_journal};
-use crate::reporting::report_end;
+use crate::reporting::{report_end, tell_handed};
 use crate::threads::run_threads;
 use line_report::Before;
+use script_session::Work;
 use sii_edit::Command;
 use sii_words::{Plant, Words};
 use site_file::FileDevice;
@@ -158,18 +159,23 @@ fn run_found<W: Wire + Send + Drop, S: Store, O: Write, R: Wait + Threads + Cloc
         states,
         journal,
         lock: _lock,
-        reports,
+        tells,
     } = found;
+    let work = Work {
+        commands,
+        tells_events: tells.events,
+    };
     let locked = LockedLine::new(LiveLine::new(wire));
     let ended = run_opened(
-        rt, alloc, &line, &slaves, journal, &locked, commands, store, output,
+        rt, alloc, &line, &slaves, journal, &locked, work, store, output,
     );
     let mut wire = locked.into_line().into_wire();
     hand_back(&mut wire, &states);
+    let ended = tell_handed(tells, wire.handed(), ended, output);
     drop(wire);
     let words = Plant::of(slaves);
     let before = Before { line, words };
-    report_end(alloc, reports, &before, ended, store, output)
+    report_end(alloc, tells, &before, ended, store, output)
 }
 
 /// Opens the journal of a line, and runs the commands.
@@ -180,22 +186,20 @@ fn run_opened<W: Wire + Send + Drop, S: Store, O: Write, R: Wait + Threads + Clo
     slaves: &[Words],
     journal: Vec<u8>,
     locked: &LockedLine<W>,
-    commands: Vec<Command>,
+    work: Work,
     store: &mut S,
     output: &mut O,
 ) -> Result<ExitStatus, WireFault>
     requires some { 1 ≤ length slaves.now }
     requires most { length slaves.now ≤ 64 }
     requires count { length slaves.now ≡ length line.now.images.items }
-    ensures { EndsFound result (S.files store.old) (S.files store.new) line.now slaves.now journal.items commands.items }
+    ensures { EndsFound result (S.files store.old) (S.files store.new) line.now slaves.now journal.items work.commands.items }
 {
     let files = open_journal(alloc, line, store)?;
     let was_old = is_old(&journal);
     let device = WireDevice::shared(locked.shared(rt), rt, FileDevice::new(&files));
     let site = site_of(alloc, slaves, journal, device)?;
-    run_on_wire(
-        rt, alloc, line, locked, site, was_old, commands, store, output,
-    )
+    run_on_wire(rt, alloc, line, locked, site, was_old, work, store, output)
 }
 
 /// Runs the commands on this site, and tells of a fault why the line on the wire has stopped, if it has.
@@ -206,16 +210,16 @@ fn run_on_wire<D: Device + Copy + Send, W: Wire, S: Store, O: Write, R: Wait + T
     locked: &LockedLine<W>,
     site: ShadowSite<D>,
     was_old: bool,
-    commands: Vec<Command>,
+    work: Work,
     store: &mut S,
     output: &mut O,
 ) -> Result<ExitStatus, WireFault>
     requires disk { IsTrue site.line.has_disk }
     requires owned { OwnsAll site.line }
     requires old { was_old ≡ is_old site.seen.state.disk.bytes }
-    ensures { EndsSite result (S.files store.old) (S.files store.new) line.now site commands.items }
+    ensures { EndsSite result (S.files store.old) (S.files store.new) line.now site work.commands.items }
 {
-    match run_site(rt, alloc, line, site, was_old, commands, store, output) {
+    match run_site(rt, alloc, line, site, was_old, work, store, output) {
         Ok(status) => Ok(status),
         Err(fault) => Err(why_ended(locked.reason(rt), locked.seen(rt), fault)),
     }
@@ -228,20 +232,20 @@ fn run_site<D: Device + Copy + Send, S: Store, O: Write, R: Wait + Threads + Syn
     line: &LineFile,
     site: ShadowSite<D>,
     was_old: bool,
-    commands: Vec<Command>,
+    work: Work,
     store: &mut S,
     output: &mut O,
 ) -> Result<ExitStatus, WireFault>
     requires disk { IsTrue site.line.has_disk }
     requires owned { OwnsAll site.line }
     requires old { was_old ≡ is_old site.seen.state.disk.bytes }
-    ensures { EndsSite result (S.files store.old) (S.files store.new) line.now site commands.items }
+    ensures { EndsSite result (S.files store.old) (S.files store.new) line.now site work.commands.items }
 {
     match open_station(alloc, site, was_old, None) {
-        Ok(alone) => run_threads(rt, alloc, line, alone, commands, store, output),
+        Ok(alone) => run_threads(rt, alloc, line, alone, work, store, output),
         Err((left, fault)) => {
             drop(left);
-            drop(commands);
+            drop(work);
             Err(WireFault::Station(of_open(fault)))
         }
     }

@@ -9,7 +9,7 @@ ghost use Rattle.wire_session.specs.Backup.{IsOfStream};
 ghost use Rattle.wire_session.specs.Running.{Ends, EndsServing};
 
 use crate::faults::WireFault;
-use script_session::{Ending, Left, serve_by_threads, serve_commands};
+use script_session::{Ending, Left, Work, serve_by_threads, serve_commands};
 use sii_edit::Command;
 use site_shadow::{Device, ShadowSite};
 use station_alone::{Alone, recover};
@@ -28,14 +28,14 @@ pub(crate) fn run_threads<D: Device + Copy + Send, S: Store, O: Write, R: Wait +
     alloc: Global,
     line: &LineFile,
     alone: Alone<ShadowSite<D>>,
-    commands: Vec<Command>,
+    work: Work,
     store: &mut S,
     output: &mut O,
 ) -> Result<ExitStatus, WireFault>
     requires none { alone.book.accepted ≡ [] }
-    ensures { EndsServing false result (S.files store.old) (S.files store.new) line.now alone commands.items }
+    ensures { EndsServing false result (S.files store.old) (S.files store.new) line.now alone work.commands.items }
 {
-    match serve_by_threads(rt, alloc, alone, line.images.len(), commands, output) {
+    match serve_by_threads(rt, alloc, alone, line.images.len(), work, output) {
         Ok(left) => end_threads(alloc, line, left, store, output),
         Err(fault) => Err(WireFault::Station(fault)),
     }
