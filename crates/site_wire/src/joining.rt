@@ -1,33 +1,18 @@
 //! What the devices of a shared line have to send. One frame takes all that waits.
-ghost use Rattle.std.specs.Prelude.{◌≡◌, ◌<◌, ◌/◌, ◌^◌, ◌⊎◌};
+ghost use Rattle.std.specs.Prelude.{◌≡◌, ◌≢◌, ◌↔◌, ℕ, ◌<◌, IsTrue};
 ghost use Rattle.ecat_frame.specs.Frame.{pdu};
-ghost use Rattle.ecat_frame.specs.declared.command.Command.TheVariants.{Fprd, Fpwr};
-ghost use Rattle.site_wire.specs.Sending.{InEeprom, IsForEeprom, OnlyEeprom};
+ghost use Rattle.site_wire.specs.declared.joining.Stage.TheVariants.{Free};
+ghost use Rattle.site_wire.specs.Joining.{stage_of, is_at_end, answer_in, ComesToRest};
+ghost use Rattle.site_wire.specs.Sending.{IsForEeprom, OnlyEeprom};
 
 use crate::answers::Answer;
-use crate::fitting::FPWR;
 use crate::numbered::Carried;
+use crate::order::Order;
 use crate::stations::Stations;
-use ecat_frame::{Command, Datagram, Frame};
-
-/// The registers of an EEPROM: a datagram for them has so many bytes at most.
-const LONGEST: usize = 16;
+use ecat_frame::{Datagram, Frame};
 
 /// How many slaves a line has at most.
 const SLAVES: usize = 64;
-
-/// A datagram for the EEPROM of a slave.
-#[derive(Clone, Copy)]
-struct Order {
-    /// Whether it writes registers. Otherwise it reads them.
-    is_write: bool,
-    index: u8,
-    address: u32,
-    /// How many bytes of the content it has.
-    length: usize,
-    content: [u8; LONGEST],
-    ghost inside: { InEeprom (address / 2 ^ 16) length },
-}
 
 /// How far the datagram of a slave is.
 #[derive(Clone, Copy)]
@@ -48,60 +33,6 @@ pub(crate) struct Board {
     stages: [Stage; SLAVES],
 }
 
-impl Order {
-    /// This datagram.
-    fn of(asked: Datagram<'_>) -> Order
-        requires { IsForEeprom (pdu asked) }
-    {
-        let length = asked.content.len();
-        let mut content = [0u8; LONGEST];
-        content[..length].copy_from_slice(asked.content);
-        Order {
-            is_write: asked.command.code() == FPWR,
-            index: asked.index,
-            address: asked.address,
-            length,
-            content,
-        }
-    }
-
-    fn command(&self) -> Command
-        ensures { (result ≡ Fprd) ⊎ (result ≡ Fpwr) }
-    {
-        if self.is_write {
-            Command::Fpwr
-        } else {
-            Command::Fprd
-        }
-    }
-
-    /// It, as a datagram.
-    fn datagram(&self) -> Datagram<'_>
-        ensures { result.address ≡ self.now.address }
-    {
-        Datagram {
-            command: self.command(),
-            index: self.index,
-            address: self.address,
-            content: &self.content[..self.length],
-            counter: 0,
-        }
-    }
-
-    /// Puts it behind the datagrams of a frame, to this address. Returns whether there was room.
-    fn put_in(&self, frame: &mut Frame, address: u32) -> bool
-        requires register { address / 2 ^ 16 ≡ self.now.address / 2 ^ 16 }
-        requires only { OnlyEeprom frame.old }
-        ensures only { OnlyEeprom frame.new }
-    {
-        let content = &self.content[..self.length];
-        match frame.push(self.command(), self.index, address, content) {
-            Ok(()) => return true,
-            Err(_) => return false,
-        }
-    }
-}
-
 impl Board {
     /// A board on which nothing stands.
     pub(crate) fn new() -> Board {
@@ -114,6 +45,8 @@ impl Board {
     pub(crate) fn put(&mut self, slave: usize, asked: Datagram<'_>) -> bool
         requires slave { slave < 64 }
         requires eeprom { IsForEeprom (pdu asked) }
+        ensures free { IsTrue result ↔ (stage_of self.old.stages slave ≡ Free) }
+        ensures others { (other : ℕ) → other ≢ slave → stage_of self.new.stages other ≡ stage_of self.old.stages other }
     {
         match self.stages[slave] {
             Stage::Free => {
@@ -127,6 +60,9 @@ impl Board {
     /// The datagram of this slave is at an end: gives its answer, if it has one.
     pub(crate) fn take(&mut self, slave: usize) -> Option<Answer>
         requires { slave < 64 }
+        ensures answer { result ≡ answer_in (stage_of self.old.stages slave) }
+        ensures free { stage_of self.new.stages slave ≡ Free }
+        ensures others { (other : ℕ) → other ≢ slave → stage_of self.new.stages other ≡ stage_of self.old.stages other }
     {
         let stage = self.stages[slave];
         self.stages[slave] = Stage::Free;
@@ -139,6 +75,7 @@ impl Board {
     /// Whether the frame with the datagram of this slave is at an end.
     pub(crate) fn is_answered(&self, slave: usize) -> bool
         requires { slave < 64 }
+        ensures { result ≡ is_at_end (stage_of self.now.stages slave) }
     {
         matches!(self.stages[slave], Stage::Answered(_))
     }
@@ -170,7 +107,9 @@ impl Board {
     }
 
     /// Each datagram of the frame under way has its answer in the one that came back, if it did.
-    pub(crate) fn answer(&mut self, carried: &Option<Carried>) {
+    pub(crate) fn answer(&mut self, carried: &Option<Carried>)
+        ensures { (slave : ℕ) → slave < 64 → ComesToRest (stage_of self.old.stages slave) (stage_of self.new.stages slave) }
+    {
         for slave in 0..SLAVES {
             if let Stage::Sent(order, address, place) = self.stages[slave] {
                 let answer = match carried {

@@ -15,6 +15,7 @@ mod handing_back;
 mod in_step;
 mod joining;
 mod numbered;
+mod order;
 mod pace;
 mod reach;
 mod reader;

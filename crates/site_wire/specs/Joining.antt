@@ -1,0 +1,29 @@
+-- What devices that share a line have put down for the next frame, by slave.
+use Rattle.std.specs.Prelude.{◌≡◌, ℕ, ◌<◌, Bool, true, false, List, slice_index_or, Option, None, Some}
+use Rattle.site_wire.specs.declared.answers.Answer.{Answer}
+use Rattle.site_wire.specs.declared.joining.Stage.{Stage}
+use Rattle.site_wire.specs.declared.joining.Stage.TheVariants as stage
+
+-- how far the datagram of the slave at this place of the line is
+abbrev pub stage_of : List Stage → (slave : ℕ) → Stage
+stage_of stages slave = slice_index_or stages slave stage.Free
+
+-- whether its frame is back, or lost
+abbrev pub is_at_end : Stage → Bool
+is_at_end (stage.Answered answer) = true
+is_at_end other = false
+
+-- the answer that came
+abbrev pub answer_in : Stage → Option Answer
+answer_in (stage.Answered answer) = answer
+answer_in other = None
+
+-- it isn't in a frame under way
+abbrev pub IsAtRest : Stage → Type 0
+IsAtRest (stage.Sent order address place) = ⊥
+IsAtRest other = Unit {0}
+
+-- The stage is the same, unless the datagram was in a frame under way: then that is at an end.
+abbrev pub ComesToRest : Stage → Stage → Type 0
+ComesToRest (stage.Sent order address place) new = is_at_end new ≡ true
+ComesToRest other new = new ≡ other
