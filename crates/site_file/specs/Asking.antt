@@ -27,8 +27,13 @@ pub data AsksToRead (file : LineFile) (old : ℕ) : (new : ℕ) → Type 0 where
   piece : (mid new at count : ℕ) (done : Bool) → AsksToRead file old mid → Asks mid new (asked file (reads at count) done ∷ [])
       → AsksToRead file old new
 
--- A word is written to a file, and then the file is synced. A call that fails is the last one.
-pub data WritesWord (file : LineFile) (word value old : ℕ) : (done : Bool) (new : ℕ) → Type 0 where
-  written : (done : Bool) (new : ℕ) → Asks old new (asked file (writes_word word value) true ∷ asked file syncs done ∷ [])
-      → WritesWord file word value old done new
-  unwritten : (new : ℕ) → Asks old new (asked file (writes_word word value) false ∷ []) → WritesWord file word value old false new
+-- These calls write a word to a file, and then sync the file. One that fails is the last one.
+pub data WordCalls (file : LineFile) (word value : ℕ) : (calls : List Asked) (done : Bool) → Type 0 where
+  reaches_sync : (done : Bool) → WordCalls file word value (asked file (writes_word word value) true ∷ asked file syncs done ∷ []) done
+  unwritten : WordCalls file word value (asked file (writes_word word value) false ∷ []) false
+
+-- A word is written to a file, which is synced then, and nothing else is asked.
+pub record WritesWord (file : LineFile) (word value old : ℕ) (done : Bool) (new : ℕ) : Type 0 where
+  pub calls : List Asked
+  pub asks : Asks old new calls
+  pub are : WordCalls file word value calls done

@@ -84,6 +84,7 @@ impl<'f, F: RandomAccessFile> FileDevice<'f, F> {
 }
 
 /// Writes a word to an image and syncs it. Returns whether both succeeded.
+#[tactic(auto, using(crate::proofs::SeveralCalls::word_unwritten, crate::proofs::SeveralCalls::word_written))]
 fn write_word<F: RandomAccessFile>(
     asking: &mut Asking<'_, F>,
     image: NamedFile<'_, F>,

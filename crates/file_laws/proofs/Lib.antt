@@ -1,0 +1,4 @@
+mod ImageBytes
+mod Images
+mod Words
+mod Journals
