@@ -52,6 +52,6 @@ word_left (w ∷ ws) (suc n) at (a ∷ b ∷ image) at_is inside long bytes same
     let first : Some a ≡ Some (w % 256) = same 0 (inl (omega arith)) in
     let second : Some b ≡ Some (w / 256) = same 1 (inl (omega arith)) in
     let rest : (held : ℕ) × (image ≡ bytes_of (slice_set ws n held)) = word_left ws n (n * 2) image refl (omega arith) (omega arith)
-        (λ k. bytes (suc (suc k))) (λ place out. same (suc (suc place)) (further at n place begins out)) in
+    (λ k. bytes (suc (suc k))) (λ place out. same (suc (suc place)) (further at n place begins out)) in
     let rest_is : image ≡ bytes_of (slice_set ws n rest.0) = rest.1 in
     (rest.0, cc)

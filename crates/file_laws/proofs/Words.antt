@@ -66,10 +66,10 @@ split (call ∷ calls) others old new becomes =
 
 pub words_are_durable : WordsAreDurable
 words_are_durable file words laters calls later none becomes = becomes
-words_are_durable file words laters calls later (more word value one others behind inside short are rest) becomes =
-    let parts : (mid : File) × BecomesBy one (image_of words) mid × BecomesBy others mid later = split one others (image_of words) later becomes in
-    let first : parts.0 ≡ image_of (slice_set words word value) = durable file words word value one parts.0 inside short are parts.1 in
-    words_are_durable file (slice_set words word value) laters others later rest (subst (λ (f : File). BecomesBy others f later) first parts.2)
+words_are_durable file words laters calls later (more before one mid word value so_far inside short are) becomes =
+    let parts : (then : File) × BecomesBy before (image_of words) then × BecomesBy one then later = split before one (image_of words) later becomes in
+    let first : parts.0 ≡ image_of mid = words_are_durable file words mid before parts.0 so_far parts.1 in
+    durable file mid word value one later inside short are (subst (λ (f : File). BecomesBy one f later) first parts.2)
 
 -- WHAT MAY BE LEFT
 
@@ -85,7 +85,7 @@ left_of : (half : SlaveHalf) (write : WordWrite) (image : List ℕ) → IsFlying
 left_of half write image flying bytes stop =
     let long : length (bytes_of half.words) ≤ length image = (let e : min (length (bytes_of half.words)) (length (bytes_of half.words)) ≤ length image = stop.no_shorter in omega arith) in
     let left : (held : ℕ) × (image ≡ bytes_of (slice_set half.words write.word held)) =
-        word_left half.words write.word (write.word * 2) image refl flying.inside long bytes (λ place out. stop.bytes place (out, tt)) in
+    word_left half.words write.word (write.word * 2) image refl flying.inside long bytes (λ place out. stop.bytes place (out, tt)) in
     record {
       words = slice_set half.words write.word left.0;
       image_is = left.1;
@@ -108,4 +108,4 @@ word_may_hold_anything file half write calls done image flying (reaches_sync d) 
 word_may_hold_anything file half write calls done image flying (reaches_sync d) bytes (inr (mid, is, inr behind)) =
     let same : Becomes syncs done (laid half.words write.word write.value) behind.0 = subst (λ (f : File). Becomes syncs done f behind.0) is behind.1 in
     left_of half write image flying bytes (begun half.words write.word write.value image flying.inside
-        (sync_image done (laid half.words write.word write.value) behind.0 image refl same behind.2))
+    (sync_image done (laid half.words write.word write.value) behind.0 image refl same behind.2))

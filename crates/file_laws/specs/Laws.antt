@@ -42,12 +42,11 @@ WordMayHoldAnything = (file : LineFile) (half : SlaveHalf) (write : WordWrite) (
     → IsFlying half write → WordCalls file write.word write.value calls done
     → ((k : ℕ) → slice_index image k < 256) → MayBeLeft calls (image_of half.words) image → IsLeftOf half image
 
--- Words are written to a file, one after the other, and each of them is synced.
+-- Words are written to a file, one after the other, and each of them is synced: these calls make of `words` the words `laters`.
 pub data WordsCalls (file : LineFile) (words : List ℕ) : (calls : List Asked) (laters : List ℕ) → Type 0 where
   none : WordsCalls file words [] words
-  more : (word value : ℕ) (one others : List Asked) (laters : List ℕ) → word < length words → value < 2 ^ 16
-      → WordCalls file word value one true → WordsCalls file (slice_set words word value) others laters
-      → WordsCalls file words (one ++ others) laters
+  more : (calls one : List Asked) (mid : List ℕ) (word value : ℕ) → WordsCalls file words calls mid → word < length mid → value < 2 ^ 16
+      → WordCalls file word value one true → WordsCalls file words (calls ++ one) (slice_set mid word value)
 
 -- Behind them the image holds the words, all synced.
 abbrev pub WordsAreDurable : Type 0

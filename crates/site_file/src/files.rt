@@ -1,8 +1,10 @@
 //! The journal and the EEPROM images of a line as files.
-ghost use Rattle.std.specs.Prelude.{◌≡◌, true, false, [], Some, None, OnOk, OnErr, if◌then◌else◌};
+ghost use Rattle.std.specs.Prelude.{◌≡◌, true, false, [], Some, None, OnOk, OnErr, IfSome, IfNone, IsTrue, if◌then◌else◌};
 ghost use Rattle.esc_model.specs.SlaveHalf.{in_flight};
 ghost use Rattle.site_shadow.specs.declared.device.Passing.TheVariants.{Passes, Fails, Stops};
+ghost use Rattle.site_shadow.specs.declared.device.Resting.TheVariants.{Stays};
 ghost use Rattle.site_shadow.specs.declared.pattern.Pattern.TheVariants as patterns;
+ghost use Rattle.site_file.specs.declared.asking.LineFile.TheVariants as line_file;
 ghost use Rattle.site_file.specs.Calls.{writes, syncs};
 ghost use Rattle.site_file.specs.Asking.{HasLog, AsksToRead, WritesWord};
 
@@ -34,6 +36,9 @@ pub struct OpenFiles<F> {
 /// If the system reports an error, the call on the journal that met it fails with `Disk`, and the next call stops the site; an error on an
 /// image stops the site at once. A later sync that succeeds would prove nothing. The site also stops if the journal has other bytes than
 /// the shadow. What one copy of the device has met the others don't know.
+///
+/// Its contracts say what each call asks of which file, in which order, and that nothing else is asked: the log that the device has by a moment,
+/// `HasLog`. A copy begins with the log as it was then; each part of a line asks its own file alone, so that the log of its copy is the file's.
 #[derive(Drop)]
 pub struct FileDevice<'f, F> {
     asking: Asking<'f, F>,
@@ -68,6 +73,17 @@ impl<'f, F: RandomAccessFile> FileDevice<'f, F> {
         }
     }
 
+    /// The journal, as long as no call has failed.
+    fn sound_journal(&self) -> Option<NamedFile<'f, F>>
+        ensures some { IfSome result (λ journal. (self.now.has_failed ≡ false) × (journal.name ≡ line_file.Journal)) }
+        ensures none { IfNone result (IsTrue self.now.has_failed) }
+    {
+        if self.has_failed {
+            return None;
+        }
+        Some(self.asking.journal())
+    }
+
     /// The outcome of a call on the journal. Remembers a failure.
     fn end_call(&mut self, ended: io::Result<()>) -> Passing
         ensures ok { OnOk ended ((result ≡ Passes) × (self.new ≡ self.old)) }
@@ -80,6 +96,15 @@ impl<'f, F: RandomAccessFile> FileDevice<'f, F> {
                 Passing::Fails
             }
         }
+    }
+
+    /// A half stays busy, since its word could not be written. Remembers the failure.
+    fn stay(&mut self) -> Resting
+        ensures stays { result ≡ Stays }
+        ensures failed { self.new ≡ record self.old { has_failed = true } }
+    {
+        self.has_failed = true;
+        Resting::Stays
     }
 }
 
@@ -145,10 +170,9 @@ impl<'f, F: RandomAccessFile> Device for FileDevice<'f, F> {
     fn len(&mut self, length: usize) -> Passing
         ensures { AsksLength self.old result self.new }
     {
-        if self.has_failed {
+        let Some(journal) = self.sound_journal() else {
             return Passing::Stops(Pattern::Old);
-        }
-        let journal = self.asking.journal();
+        };
         match self.asking.len(journal) {
             Ok(found) => compared(found == length as u64),
             Err(error) => self.end_call(Err(error)),
@@ -158,10 +182,9 @@ impl<'f, F: RandomAccessFile> Device for FileDevice<'f, F> {
     fn read(&mut self, at: usize, held: &[u8]) -> Passing
         ensures { ReadsJournal self.old result self.new }
     {
-        if self.has_failed {
+        let Some(journal) = self.sound_journal() else {
             return Passing::Stops(Pattern::Old);
-        }
-        let journal = self.asking.journal();
+        };
         match has_bytes(&mut self.asking, journal, at, held) {
             Ok(same) => compared(same),
             Err(error) => self.end_call(Err(error)),
@@ -171,10 +194,9 @@ impl<'f, F: RandomAccessFile> Device for FileDevice<'f, F> {
     fn write(&mut self, at: usize, bytes: &[u8]) -> Passing
         ensures { CallsJournal (writes at bytes.now) self.old result self.new }
     {
-        if self.has_failed {
+        let Some(journal) = self.sound_journal() else {
             return Passing::Stops(Pattern::Old);
-        }
-        let journal = self.asking.journal();
+        };
         let written = self.asking.write(journal, bytes, at as u64);
         self.end_call(written)
     }
@@ -182,10 +204,9 @@ impl<'f, F: RandomAccessFile> Device for FileDevice<'f, F> {
     fn sync(&mut self) -> Passing
         ensures { CallsJournal syncs self.old result self.new }
     {
-        if self.has_failed {
+        let Some(journal) = self.sound_journal() else {
             return Passing::Stops(Pattern::Old);
-        }
-        let journal = self.asking.journal();
+        };
         let synced = self.asking.sync(journal);
         self.end_call(synced)
     }
@@ -212,14 +233,12 @@ impl<'f, F: RandomAccessFile> Device for FileDevice<'f, F> {
             return Resting::Stays;
         }
         let Some(image) = self.asking.image(slave) else {
-            self.has_failed = true;
-            return Resting::Stays;
+            return self.stay();
         };
         if write_word(&mut self.asking, image, write) {
             return Resting::Well;
         }
-        self.has_failed = true;
-        Resting::Stays
+        self.stay()
     }
 
     fn taken(

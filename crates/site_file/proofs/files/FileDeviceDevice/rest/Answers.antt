@@ -9,5 +9,5 @@ returns-then-write_word g c =
 
 pub returns : goal.returns
 returns g c =
-    fails c.in-Some.write (sym c.in-Some.ensures.write) c.if-self.false
-    (rw c.in-Some-image.ensures.name at c.if-write_word.ensures) refl refl
+    rw (c.stay-2.ensures.stays, c.stay-2.ensures.failed) (fails c.in-Some.write (sym c.in-Some.ensures.write) c.if-self.false
+    (rw c.in-Some-image.ensures.name at c.if-write_word.ensures) refl refl)
