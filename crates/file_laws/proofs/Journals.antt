@@ -30,7 +30,9 @@ after_failure shadow after at count image long failed stop = record {
 pub failed_write_leaves_no_more : FailedWriteLeavesNoMore
 failed_write_leaves_no_more shadow after at bytes later image long failed becomes stop =
     let there : StopImage becomes.0.disk image = subst (λ (f : File). StopImage f.disk image) becomes.2 stop in
-    after_failure shadow after at (length bytes) image long failed (StopImage-failed shadow becomes.0.disk at (length bytes) image becomes.1.disk there)
+    let begun : StopImage (write_begun shadow at (length bytes)) image =
+    StopImage-failed shadow becomes.0.disk at (length bytes) image becomes.1.disk there in
+    after_failure shadow after at (length bytes) image long failed begun
 
 pub sync_follows : SyncFollows
 sync_follows shadow later becomes = becomes.2 ∙ becomes.1.all refl

@@ -2,3 +2,5 @@ mod ImageBytes
 mod Images
 mod Words
 mod Journals
+mod Possible
+mod Holding

@@ -39,8 +39,8 @@ laid_synced : (words : List ℕ) (word value : ℕ) → word < length words → 
 laid_synced words word value inside short =
     ap (λ (bytes : List ℕ). sound (record { bytes = bytes; unsynced = []; synced_length = length bytes })) (laid_bytes words word value inside short)
 
-durable_if : (file : LineFile) (words : List ℕ) (word value : ℕ) (calls : List Asked) (done : Bool) (later : File) → word < length words → value < 2 ^ 16
-    → done ≡ true → WordCalls file word value calls done → BecomesBy calls (image_of words) later → later ≡ image_of (slice_set words word value)
+durable_if : (file : LineFile) (words : List ℕ) (word value : ℕ) (calls : List Asked) (done : Bool) (later : File) → word < length words
+    → value < 2 ^ 16 → done ≡ true → WordCalls file word value calls done → BecomesBy calls (image_of words) later → later ≡ image_of (slice_set words word value)
 durable_if file words word value calls done later inside short is_done unwritten becomes = absurd cc
 durable_if file words word value calls done later inside short is_done (reaches_sync d) becomes =
     let synced_it : Becomes syncs true becomes.0 becomes.2.0 = subst (λ (b : Bool). Becomes syncs b becomes.0 becomes.2.0) is_done becomes.2.1 in
@@ -57,7 +57,7 @@ word_is_durable file half write calls later flying are becomes =
     durable file half.words write.word write.value calls later flying.inside flying.short are becomes
 
 -- calls one after the other
-split : (calls others : List Asked) (old new : File) → BecomesBy (calls ++ others) old new
+pub split : (calls others : List Asked) (old new : File) → BecomesBy (calls ++ others) old new
     → (mid : File) × BecomesBy calls old mid × BecomesBy others mid new
 split [] others old new becomes = (old, refl, becomes)
 split (call ∷ calls) others old new becomes =
@@ -83,13 +83,15 @@ flying_is (Writing word value) write e =
 left_of : (half : SlaveHalf) (write : WordWrite) (image : List ℕ) → IsFlying half write → ((k : ℕ) → slice_index image k < 256)
     → StopImage (write_begun (image_of half.words).disk (write.word * 2) 2) image → IsLeftOf half image
 left_of half write image flying bytes stop =
-    let long : length (bytes_of half.words) ≤ length image = (let e : min (length (bytes_of half.words)) (length (bytes_of half.words)) ≤ length image = stop.no_shorter in omega arith) in
-    let left : (held : ℕ) × (image ≡ bytes_of (slice_set half.words write.word held)) =
-    word_left half.words write.word (write.word * 2) image refl flying.inside long bytes (λ place out. stop.bytes place (out, tt)) in
+    let words = half.words in
+    let shortest : min (length (bytes_of words)) (length (bytes_of words)) ≤ length image = stop.no_shorter in
+    let left : (held : ℕ) × (image ≡ bytes_of (slice_set words write.word held)) =
+    word_left words write.word (write.word * 2) image refl flying.inside (omega arith) bytes (λ place out. stop.bytes place (out, tt)) in
+    let after : List ℕ = slice_set words write.word left.0 in
     record {
-      words = slice_set half.words write.word left.0;
+      words = after;
       image_is = left.1;
-      left = subst (λ (a : Activity). MayHold a half.words (slice_set half.words write.word left.0)) (sym (flying_is half.activity write flying.flying)) (left.0, refl);
+      left = subst (λ (a : Activity). MayHold a words after) (sym (flying_is half.activity write flying.flying)) (left.0, refl);
     }
 
 -- an image of the file as it was written is one of the file while it was written
@@ -104,8 +106,10 @@ word_may_hold_anything file half write calls done image flying unwritten bytes (
     left_of half write image flying bytes (StopImage-failed (image_of half.words).disk behind.0.disk (write.word * 2) 2 image behind.1.disk behind.2)
 word_may_hold_anything file half write calls done image flying (reaches_sync d) bytes (inl stop) = left_of half write image flying bytes stop
 word_may_hold_anything file half write calls done image flying (reaches_sync d) bytes (inr (mid, is, inl stop)) =
-    left_of half write image flying bytes (begun half.words write.word write.value image flying.inside (subst (λ (f : File). StopImage f.disk image) is stop))
+    let there : StopImage (laid half.words write.word write.value).disk image = subst (λ (f : File). StopImage f.disk image) is stop in
+    left_of half write image flying bytes (begun half.words write.word write.value image flying.inside there)
 word_may_hold_anything file half write calls done image flying (reaches_sync d) bytes (inr (mid, is, inr behind)) =
-    let same : Becomes syncs done (laid half.words write.word write.value) behind.0 = subst (λ (f : File). Becomes syncs done f behind.0) is behind.1 in
-    left_of half write image flying bytes (begun half.words write.word write.value image flying.inside
-    (sync_image done (laid half.words write.word write.value) behind.0 image refl same behind.2))
+    let old : File = laid half.words write.word write.value in
+    let same : Becomes syncs done old behind.0 = subst (λ (f : File). Becomes syncs done f behind.0) is behind.1 in
+    let there : StopImage old.disk image = sync_image done old behind.0 image refl same behind.2 in
+    left_of half write image flying bytes (begun half.words write.word write.value image flying.inside there)

@@ -79,3 +79,14 @@ SyncFollows = (shadow : Disk) (later : File) → BecomesBy (asked Journal syncs 
 abbrev pub SyncLeavesNoMore : Type 0
 SyncLeavesNoMore = (shadow : Disk) (done : Bool) (image : List ℕ) → MayBeLeft (asked Journal syncs done ∷ []) (sound shadow) image
     → StopImage shadow image
+
+-- THE DEFINITIONS
+
+-- Whatever is asked of a file, and however that ends, there is a file that it leads to.
+abbrev pub SomethingBecomes : Type 0
+SomethingBecomes = (calls : List Asked) (old : File) → (new : File) × BecomesBy calls old new
+
+-- A power cut as a word is written may leave any other in its place.
+abbrev pub AnyWordMayBeLeft : Type 0
+AnyWordMayBeLeft = (file : LineFile) (half : SlaveHalf) (write : WordWrite) (calls : List Asked) (done : Bool) (held : ℕ) → IsFlying half write
+    → WordCalls file write.word write.value calls done → MayBeLeft calls (image_of half.words) (bytes_of (slice_set half.words write.word held))

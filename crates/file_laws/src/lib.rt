@@ -5,4 +5,4 @@
 
 mod laws;
 
-pub use laws::{journal_follows, word_is_kept};
+pub use laws::{device_holds, each_log_has_a_file, journal_follows, word_is_kept};
