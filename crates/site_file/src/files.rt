@@ -1,8 +1,17 @@
 //! The journal and the EEPROM images of a line as files.
+ghost use Rattle.std.specs.Prelude.{◌≡◌, true, false, [], Some, None, OnOk, OnErr, IfSome, IfNone, IsTrue, if◌then◌else◌};
+ghost use Rattle.esc_model.specs.SlaveHalf.{in_flight};
+ghost use Rattle.site_shadow.specs.declared.device.Passing.TheVariants.{Passes, Fails, Stops};
+ghost use Rattle.site_shadow.specs.declared.device.Resting.TheVariants.{Stays};
+ghost use Rattle.site_shadow.specs.declared.pattern.Pattern.TheVariants as patterns;
+ghost use Rattle.site_file.specs.declared.asking.LineFile.TheVariants as line_file;
+ghost use Rattle.site_file.specs.Calls.{writes, syncs};
+ghost use Rattle.site_file.specs.Asking.{HasLog, AsksToRead, WritesWord};
 
 use crate::access::RandomAccessFile;
+use crate::asking::{Asking, NamedFile};
 use ecat_frame::Frame;
-use esc_model::RomHalf;
+use esc_model::{RomHalf, WordWrite};
 use site_shadow::{Device, Passing, Pattern, Resting, ShadowSite};
 use std::alloc::AllocError;
 use std::io;
@@ -27,9 +36,12 @@ pub struct OpenFiles<F> {
 /// If the system reports an error, the call on the journal that met it fails with `Disk`, and the next call stops the site; an error on an
 /// image stops the site at once. A later sync that succeeds would prove nothing. The site also stops if the journal has other bytes than
 /// the shadow. What one copy of the device has met the others don't know.
+///
+/// Its contracts say what each call asks of which file, in which order, and that nothing else is asked: the log that the device has by a moment,
+/// `HasLog`. A copy begins with the log as it was then; each part of a line asks its own file alone, so that the log of its copy is the file's.
 #[derive(Drop)]
 pub struct FileDevice<'f, F> {
-    files: &'f OpenFiles<F>,
+    asking: Asking<'f, F>,
     /// Whether a call of this copy on a file has failed. From then on this copy writes no file.
     has_failed: bool,
 }
@@ -51,15 +63,32 @@ impl<'f, F> Clone for FileDevice<'f, F> {
 
 impl<'f, F: RandomAccessFile> FileDevice<'f, F> {
     /// Makes the device of these files. They must hold what the shadow holds, synced.
-    pub fn new(files: &'f OpenFiles<F>) -> FileDevice<'f, F> {
+    pub fn new(files: &'f OpenFiles<F>) -> FileDevice<'f, F>
+        ensures nothing { HasLog result.asking.calls [] }
+        ensures begins { result.has_failed ≡ false }
+    {
         FileDevice {
-            files,
+            asking: Asking::of(files),
             has_failed: false,
         }
     }
 
+    /// The journal, as long as no call has failed.
+    fn sound_journal(&self) -> Option<NamedFile<'f, F>>
+        ensures some { IfSome result (λ journal. (self.now.has_failed ≡ false) × (journal.name ≡ line_file.Journal)) }
+        ensures none { IfNone result (IsTrue self.now.has_failed) }
+    {
+        if self.has_failed {
+            return None;
+        }
+        Some(self.asking.journal())
+    }
+
     /// The outcome of a call on the journal. Remembers a failure.
-    fn end_call(&mut self, ended: io::Result<()>) -> Passing {
+    fn end_call(&mut self, ended: io::Result<()>) -> Passing
+        ensures ok { OnOk ended ((result ≡ Passes) × (self.new ≡ self.old)) }
+        ensures err { OnErr ended ((result ≡ Fails) × (self.new ≡ record self.old { has_failed = true })) }
+    {
         match ended {
             Ok(()) => Passing::Passes,
             Err(_) => {
@@ -69,18 +98,38 @@ impl<'f, F: RandomAccessFile> FileDevice<'f, F> {
         }
     }
 
-    /// Writes a word to the slave's image and syncs it. Returns whether both succeeded.
-    fn write_word(&self, slave: usize, word: u16, value: u16) -> bool {
-        let Some(image) = self.files.images.get(slave) else {
-            return false;
-        };
-        let place = u64::from(word) * 2;
-        image.write_all_at(&value.to_le_bytes(), place).is_ok() && image.sync_data().is_ok()
+    /// A half stays busy, since its word could not be written. Remembers the failure.
+    fn stay(&mut self) -> Resting
+        ensures stays { result ≡ Stays }
+        ensures failed { self.new ≡ record self.old { has_failed = true } }
+    {
+        self.has_failed = true;
+        Resting::Stays
     }
 }
 
+/// Writes a word to an image and syncs it. Returns whether both succeeded.
+#[tactic(auto, using(crate::proofs::SeveralCalls::word_unwritten, crate::proofs::SeveralCalls::word_written))]
+fn write_word<F: RandomAccessFile>(
+    asking: &mut Asking<'_, F>,
+    image: NamedFile<'_, F>,
+    write: WordWrite,
+) -> bool
+    ensures { WritesWord image.entry.name write.word write.value asking.old.calls result asking.new.calls }
+{
+    let place = u64::from(write.word) * 2;
+    match asking.write(image, &write.value.to_le_bytes(), place) {
+        Ok(()) => {}
+        Err(_) => return false,
+    }
+    let synced = asking.sync(image);
+    synced.is_ok()
+}
+
 /// The outcome of a call in which the journal was compared with the shadow.
-fn compared(same: bool) -> Passing {
+fn compared(same: bool) -> Passing
+    ensures { result ≡ (if same then Passes else Stops patterns.New) }
+{
     if same {
         Passing::Passes
     } else {
@@ -93,13 +142,20 @@ fn compared(same: bool) -> Passing {
 /// # Errors
 ///
 /// If they can't be read.
-fn has_bytes<F: RandomAccessFile>(file: &F, at: usize, bytes: &[u8]) -> io::Result<bool> {
+fn has_bytes<F: RandomAccessFile>(
+    asking: &mut Asking<'_, F>,
+    file: NamedFile<'_, F>,
+    at: usize,
+    bytes: &[u8],
+) -> io::Result<bool>
+    ensures { AsksToRead file.entry.name asking.old.calls asking.new.calls }
+{
     let mut buffer = [0u8; PIECE];
     let mut place = at as u64;
     for piece in bytes.chunks(PIECE) {
         let count = piece.len().min(PIECE);
         let found = &mut buffer[..count];
-        file.read_exact_at(found, place)?;
+        asking.read(file, found, place)?;
         if &*found != piece {
             return Ok(false);
         }
@@ -109,43 +165,56 @@ fn has_bytes<F: RandomAccessFile>(file: &F, at: usize, bytes: &[u8]) -> io::Resu
 }
 
 impl<'f, F: RandomAccessFile> Device for FileDevice<'f, F> {
-    fn len(&mut self, length: usize) -> Passing {
-        if self.has_failed {
+    ghost use Rattle.site_file.specs.Device.{CallsJournal, AsksLength, ReadsJournal, Rests};
+
+    fn len(&mut self, length: usize) -> Passing
+        ensures { AsksLength self.old result self.new }
+    {
+        let Some(journal) = self.sound_journal() else {
             return Passing::Stops(Pattern::Old);
-        }
-        match self.files.journal.len() {
+        };
+        match self.asking.len(journal) {
             Ok(found) => compared(found == length as u64),
             Err(error) => self.end_call(Err(error)),
         }
     }
 
-    fn read(&mut self, at: usize, held: &[u8]) -> Passing {
-        if self.has_failed {
+    fn read(&mut self, at: usize, held: &[u8]) -> Passing
+        ensures { ReadsJournal self.old result self.new }
+    {
+        let Some(journal) = self.sound_journal() else {
             return Passing::Stops(Pattern::Old);
-        }
-        match has_bytes(&self.files.journal, at, held) {
+        };
+        match has_bytes(&mut self.asking, journal, at, held) {
             Ok(same) => compared(same),
             Err(error) => self.end_call(Err(error)),
         }
     }
 
-    fn write(&mut self, at: usize, bytes: &[u8]) -> Passing {
-        if self.has_failed {
+    fn write(&mut self, at: usize, bytes: &[u8]) -> Passing
+        ensures { CallsJournal (writes at bytes.now) self.old result self.new }
+    {
+        let Some(journal) = self.sound_journal() else {
             return Passing::Stops(Pattern::Old);
-        }
-        let written = self.files.journal.write_all_at(bytes, at as u64);
+        };
+        let written = self.asking.write(journal, bytes, at as u64);
         self.end_call(written)
     }
 
-    fn sync(&mut self) -> Passing {
-        if self.has_failed {
+    fn sync(&mut self) -> Passing
+        ensures { CallsJournal syncs self.old result self.new }
+    {
+        let Some(journal) = self.sound_journal() else {
             return Passing::Stops(Pattern::Old);
-        }
-        let synced = self.files.journal.sync_data();
+        };
+        let synced = self.asking.sync(journal);
         self.end_call(synced)
     }
 
-    fn exchange(&mut self, _slave: usize, _half: &RomHalf, _frame: &Frame) -> Passing {
+    fn exchange(&mut self, _slave: usize, _half: &RomHalf, _frame: &Frame) -> Passing
+        ensures passes { result ≡ (if self.old.has_failed then Stops patterns.Old else Passes) }
+        ensures same { self.new ≡ self.old }
+    {
         if self.has_failed {
             return Passing::Stops(Pattern::Old);
         }
@@ -154,18 +223,22 @@ impl<'f, F: RandomAccessFile> Device for FileDevice<'f, F> {
 
     /// Writes a word in flight to its image and syncs it; then the half becomes idle. Until then a power cut may leave anything in the
     /// word. If that fails, the half stays busy, and the site stops at once.
-    fn rest(&mut self, slave: usize, half: &RomHalf, _k: usize) -> Resting {
+    fn rest(&mut self, slave: usize, half: &RomHalf, _k: usize) -> Resting
+        ensures { Rests slave (in_flight half.now.activity) self.old result self.new }
+    {
         let Some(write) = half.in_flight() else {
             return Resting::Well;
         };
         if self.has_failed {
             return Resting::Stays;
         }
-        if self.write_word(slave, write.word, write.value) {
+        let Some(image) = self.asking.image(slave) else {
+            return self.stay();
+        };
+        if write_word(&mut self.asking, image, write) {
             return Resting::Well;
         }
-        self.has_failed = true;
-        Resting::Stays
+        self.stay()
     }
 
     fn taken(
@@ -175,14 +248,20 @@ impl<'f, F: RandomAccessFile> Device for FileDevice<'f, F> {
         _answer: &Frame,
         _k: usize,
         _added: u16,
-    ) -> Option<Pattern> {
+    ) -> Option<Pattern>
+        ensures stops { result ≡ (if self.old.has_failed then Some patterns.Old else None) }
+        ensures same { self.new ≡ self.old }
+    {
         if self.has_failed {
             return Some(Pattern::Old);
         }
         None
     }
 
-    fn cycle(&mut self, _frame: &Frame) -> Passing {
+    fn cycle(&mut self, _frame: &Frame) -> Passing
+        ensures passes { result ≡ (if self.old.has_failed then Stops patterns.Old else Passes) }
+        ensures same { self.new ≡ self.old }
+    {
         if self.has_failed {
             return Passing::Stops(Pattern::Old);
         }

@@ -2,6 +2,7 @@
 #![tactic(auto)]
 
 mod access;
+mod asking;
 mod files;
 
 pub use access::RandomAccessFile;

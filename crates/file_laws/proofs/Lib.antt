@@ -1,0 +1,6 @@
+mod ImageBytes
+mod Images
+mod Words
+mod Journals
+mod Possible
+mod Holding

@@ -1,0 +1,42 @@
+//! Laws of the files behind a shadow. The functions here do nothing: the contract of each is the law.
+
+ghost use Rattle.file_laws.specs.DeviceLaws.{NewHolds, RestHolds, WriteHolds, SyncHolds, LengthHolds, ReadHolds};
+ghost use Rattle.file_laws.specs.Laws.{OneFileIsAsked, WordIsDurable, WordMayHoldAnything, WordsAreDurable, WriteFollows, WriteMayHoldAnything, FailedWriteLeavesNoMore, SyncFollows, SyncLeavesNoMore, SomethingBecomes, AnyWordMayBeLeft};
+
+/// Once a half has come to rest on a device of files, the image of its slave holds its words, the new one among them, all of it synced; so it is
+/// behind any number of words. Until then, whatever fails, a power cut leaves in the image what it may leave of the half: anything in the
+/// two bytes of the word in flight, and no other change. No other file is asked anything.
+pub fn word_is_kept()
+    ensures others { OneFileIsAsked }
+    ensures durable { WordIsDurable }
+    ensures at_each_moment { WordMayHoldAnything }
+    ensures all { WordsAreDurable }
+{}
+
+/// As long as no call has failed the journal's file is the shadow's disk: its bytes, and which of them are synced. While a call is under way, and
+/// behind one that failed, a power cut leaves of the file what it may leave of the shadow.
+pub fn journal_follows()
+    ensures write { WriteFollows }
+    ensures in_a_write { WriteMayHoldAnything }
+    ensures failed_write { FailedWriteLeavesNoMore }
+    ensures sync { SyncFollows }
+    ensures in_a_sync { SyncLeavesNoMore }
+{}
+
+/// The definitions of this crate are neither empty nor too narrow. Whatever was asked of a file, and however that ended, there is a file that it
+/// leads to; and a power cut as a word is written may leave any other in its place.
+pub fn each_log_has_a_file()
+    ensures becomes { SomethingBecomes }
+    ensures torn { AnyWordMayBeLeft }
+{}
+
+/// What a device asks, as its contracts say it, leaves its files as the shadow is: after each call that goes well, whatever a file may have become
+/// by all that it was asked until then, it is the journal that is the shadow's disk, or the image of the words of a slave's half.
+pub fn device_holds<F>()
+    ensures begins { NewHolds }
+    ensures rest { RestHolds F }
+    ensures write { WriteHolds F }
+    ensures sync { SyncHolds F }
+    ensures length { LengthHolds F }
+    ensures read { ReadHolds F }
+{}

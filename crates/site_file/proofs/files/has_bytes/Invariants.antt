@@ -1,0 +1,9 @@
+use Rattle.site_file.specs.Asking.{AsksToRead}
+use Rattle.site_file.proofs.files.has_bytes.Given as goal
+
+abbrev pub invariant-loop-piece : goal.invariant-loop-piece
+invariant-loop-piece g l = record {
+  can_next : (goal.iterator-loop-piece g).can_next l.piece-iterator;
+  is_finite : (goal.iterator-loop-piece g).is_finite l.piece-iterator;
+  reads : AsksToRead l.file.name l.fn.asking.calls l.asking.calls;
+}
