@@ -9,9 +9,13 @@ abbrev pub commands_part : Stage → List ℕ
 commands_part stage =
     if stage.commands == 0 then [] else codes "commands " ++ decimal stage.durable ++ codes " of " ++ decimal stage.commands ++ codes " durable, "
 
+-- how many words were asked for; nothing where none was
+abbrev pub read_part : Stage → List ℕ
+read_part stage = if stage.read == 0 then [] else codes "words " ++ decimal stage.read ++ codes " read, "
+
 -- how many words are written and how many slaves are busy, and nothing behind that
 abbrev pub words_part : Stage → List ℕ
 words_part stage = codes "words " ++ decimal stage.words ++ codes " written, " ++ decimal stage.busy ++ codes " slaves busy" ++ 27 ∷ codes "[K"
 
 abbrev pub line : Stage → List ℕ
-line stage = (13 ∷ commands_part stage) ++ words_part stage
+line stage = ((13 ∷ commands_part stage) ++ read_part stage) ++ words_part stage

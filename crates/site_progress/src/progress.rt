@@ -27,8 +27,9 @@ const ERASE: &[u8] = b"\r\x1b[K";
 pub struct Progress<T> {
     commands: AtomicU64,
     durable: AtomicU64,
+    read: AtomicU64,
     words: AtomicU64,
-    /// Bit i stands for slave i, which is writing a word.
+    /// Bit i stands for slave i, which is busy with a word.
     busy: AtomicU64,
     line: Mutex<Line<T>>,
 }
@@ -77,6 +78,7 @@ impl<T: Write> Progress<T> {
         Some(Progress {
             commands: AtomicU64::new(0),
             durable: AtomicU64::new(0),
+            read: AtomicU64::new(0),
             words: AtomicU64::new(0),
             busy: AtomicU64::new(0),
             line: Mutex::new(Line {
@@ -98,13 +100,18 @@ impl<T: Write> Progress<T> {
         self.durable.fetch_add(commands, SeqCst);
     }
 
+    /// Counts words that a slave was asked for.
+    pub fn add_read(&self, words: u64) {
+        self.read.fetch_add(words, SeqCst);
+    }
+
     /// Counts a word that a slave has written.
-    pub(crate) fn add_word(&self) {
+    pub fn add_word(&self) {
         self.words.fetch_add(1, SeqCst);
     }
 
-    /// Remembers whether a slave is writing a word.
-    pub(crate) fn set_busy(&self, slave: usize, is_busy: bool) {
+    /// Remembers whether a slave is busy with a word.
+    pub fn set_busy(&self, slave: usize, is_busy: bool) {
         if slave >= 64 {
             return;
         }
@@ -120,13 +127,14 @@ impl<T: Write> Progress<T> {
         Stage {
             commands: self.commands.load(SeqCst),
             durable: self.durable.load(SeqCst),
+            read: self.read.load(SeqCst),
             words: self.words.load(SeqCst),
             busy: self.busy.load(SeqCst).count_ones(),
         }
     }
 
     /// Draws the line, if its time has come and no other thread is at it.
-    pub(crate) fn look<R: Clock>(&self, rt: &R) {
+    pub fn look<R: Clock>(&self, rt: &R) {
         let Ok(now) = rt.monotonic() else {
             return;
         };

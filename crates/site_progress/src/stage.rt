@@ -1,6 +1,6 @@
 //! How far a run is, and the line that tells it.
 ghost use Rattle.std.specs.Prelude.{◌≡◌, ◌++◌, [], ◌∷◌, IfOk, OnOk};
-ghost use Rattle.site_progress.specs.Line.{commands_part, line, words_part};
+ghost use Rattle.site_progress.specs.Line.{commands_part, line, read_part, words_part};
 
 use arrayvec::ArrayVec;
 use std::io;
@@ -16,9 +16,11 @@ pub struct Stage {
     pub commands: u64,
     /// How many of them are in the journal for good.
     pub durable: u64,
+    /// How many words of slaves were asked for.
+    pub read: u64,
     /// How many words the slaves have written.
     pub words: u64,
-    /// How many slaves are writing a word.
+    /// How many slaves are busy with a word.
     pub busy: u32,
 }
 
@@ -33,6 +35,7 @@ pub fn line_of(stage: Stage) -> io::Result<ArrayVec<u8, LONGEST>>
     let mut text = ArrayVec::new();
     text.write_all(b"\r")?;
     put_commands(&mut text, stage)?;
+    put_read(&mut text, stage)?;
     put_words(&mut text, stage)?;
     Ok(text)
 }
@@ -47,6 +50,17 @@ fn put_commands(text: &mut ArrayVec<u8, LONGEST>, stage: Stage) -> io::Result<()
         return Ok(());
     }
     write!(text, "commands {durable} of {commands} durable, ")
+}
+
+/// Appends how many words were asked for, if any was.
+fn put_read(text: &mut ArrayVec<u8, LONGEST>, stage: Stage) -> io::Result<()>
+    ensures { OnOk result (text.new.items ≡ text.old.items ++ read_part stage) }
+{
+    let read = stage.read;
+    if read == 0 {
+        return Ok(());
+    }
+    write!(text, "words {read} read, ")
 }
 
 /// Appends how many words are written and how many slaves are busy.

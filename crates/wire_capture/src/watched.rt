@@ -1,0 +1,124 @@
+//! A wire whose work is counted.
+
+use ecat_frame::{Command, Datagram, Frame};
+use site_progress::Progress;
+use site_wire::Wire;
+use std::io;
+use std::io::Write;
+use std::rt::Clock;
+
+/// The register of control and status of an EEPROM (ETG.1000.4).
+const CONTROL: u32 = 0x0502;
+
+/// A wire, and the progress for which the frames that go over it count, if there is one. It answers each call as the wire does.
+///
+/// A slave is busy from the command to read or write a word to the poll that shows it idle. What is sent again counts again.
+#[derive(Drop)]
+pub struct WatchedWire<'p, W, T, R> {
+    wire: W,
+    progress: Option<&'p Progress<T>>,
+    rt: &'p R,
+    /// The station addresses of the slaves that were told a command, in that order.
+    stations: [u16; 64],
+    /// How many there are.
+    told: usize,
+}
+
+/// What a datagram says of words.
+#[derive(Clone, Copy)]
+enum Word {
+    Nothing,
+    /// Two words are to be read.
+    Asked,
+    /// A word is to be written.
+    Told,
+    /// The slave is idle.
+    Idle,
+}
+
+/// What a datagram says of words.
+fn word_in(datagram: Datagram<'_>) -> Word {
+    if datagram.address / 65536 != CONTROL {
+        return Word::Nothing;
+    }
+    match (datagram.command, datagram.content) {
+        (Command::Fpwr, [_, command, _, _, _, _, ..]) if command % 8 == 1 => Word::Asked,
+        (Command::Fpwr, [_, command, _, _, _, _, ..]) if command % 8 == 2 => Word::Told,
+        (Command::Fprd, [_, status]) if datagram.counter == 1 && *status < 0x80 => Word::Idle,
+        _ => Word::Nothing,
+    }
+}
+
+impl<'p, W: Wire, T: Write, R: Clock> WatchedWire<'p, W, T, R> {
+    /// Makes the wire whose frames count for this progress.
+    pub fn new(wire: W, progress: Option<&'p Progress<T>>, rt: &'p R) -> WatchedWire<'p, W, T, R> {
+        WatchedWire {
+            wire,
+            progress,
+            rt,
+            stations: [0; 64],
+            told: 0,
+        }
+    }
+
+    /// The place of a slave among those that were told a command.
+    fn place_of(&mut self, station: u16) -> usize {
+        for place in 0..self.told.min(64) {
+            if self.stations[place] == station {
+                return place;
+            }
+        }
+        let place = self.told;
+        if place < 64 {
+            self.stations[place] = station;
+            self.told = place + 1;
+        }
+        place
+    }
+
+    /// Counts what a datagram says.
+    fn note(&mut self, progress: &Progress<T>, datagram: Datagram<'_>) {
+        let is_busy = match word_in(datagram) {
+            Word::Nothing => return,
+            Word::Asked => {
+                progress.add_read(2);
+                true
+            }
+            Word::Told => {
+                progress.add_word();
+                true
+            }
+            Word::Idle => false,
+        };
+        let place = self.place_of((datagram.address % 65536) as u16);
+        progress.set_busy(place, is_busy);
+    }
+
+    /// Counts what a frame says.
+    fn note_frame(&mut self, bytes: &[u8]) {
+        let Some(progress) = self.progress else {
+            return;
+        };
+        if let Ok(frame) = Frame::parse(bytes) {
+            for datagram in frame.datagrams() {
+                self.note(progress, datagram);
+            }
+        }
+        progress.look(self.rt);
+    }
+}
+
+impl<'p, W: Wire, T: Write, R: Clock> Wire for WatchedWire<'p, W, T, R> {
+    ghost gives = { W.gives };
+
+    fn send(&mut self, frame: &[u8]) -> io::Result<()> {
+        self.note_frame(frame);
+        self.wire.send(frame)
+    }
+
+    fn receive(&mut self, bytes: &mut [u8]) -> io::Result<usize> {
+        let count = self.wire.receive(bytes)?;
+        self.note_frame(&bytes[..count.min(bytes.len())]);
+        Ok(count)
+    }
+}
