@@ -2,6 +2,8 @@
 #![tactic(auto)]
 
 #[cfg(test)]
+mod joined;
+#[cfg(test)]
 mod wire_runs;
 #[cfg(test)]
 mod wire_threads;

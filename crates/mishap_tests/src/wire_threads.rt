@@ -21,7 +21,7 @@ use std::thread::Threads;
 use wire_practice::{Fate, Mishap, PracticeWire};
 
 /// What a run without trouble prints.
-const ANSWERS: &str = "command 0 accepted 0
+pub(crate) const ANSWERS: &str = "command 0 accepted 0
 command 1 accepted 1
 command 2 accepted 2
 accepted 3 durable 3 settled 3
@@ -53,7 +53,7 @@ fn opened<S: Site + Drop>(alloc: Global, site: S) -> Option<Alone<S>>
 }
 
 /// The three commands. None: memory was refused.
-fn commands(alloc: Global) -> Option<Vec<Command>> {
+pub(crate) fn commands(alloc: Global) -> Option<Vec<Command>> {
     let mut commands = Vec::new(alloc);
     for ask in ASKS {
         commands.push(command(alloc, ask)?).ok()?;
@@ -62,7 +62,7 @@ fn commands(alloc: Global) -> Option<Vec<Command>> {
 }
 
 /// Runs the commands by threads on this site. None: memory was refused.
-fn run<D: Device + Copy + Send, R: Wait + Threads + Sync>(
+pub(crate) fn run<D: Device + Copy + Send, R: Wait + Threads + Sync>(
     rt: &R,
     alloc: Global,
     site: ShadowSite<D>,

@@ -6,7 +6,7 @@ use site_file::{FileDevice, OpenFiles, RandomAccessFile};
 use site_mem::{Parts, Pattern};
 use site_shadow::ShadowSite;
 use site_wire::{
-    LiveLine, LockedLine, NumberedWire, SharedSite, Sizes, StopReason, WireDevice, WireSite,
+    LiveLine, LockedLine, NumberedWire, SharedSite, Sizes, StopReason, Wire, WireDevice, WireSite,
     bring_up,
 };
 use std::alloc::Global;
@@ -34,8 +34,8 @@ pub(crate) type Shared<'f, 'c, R> = SharedSite<'f, R, PracticeWire<'c>, JournalF
 /// What a line on a wire rests on: its journal's file, and a clock.
 #[derive(Drop)]
 pub(crate) struct Bench {
-    files: OpenFiles<JournalFile>,
-    clock: PracticeClock,
+    pub(crate) files: OpenFiles<JournalFile>,
+    pub(crate) clock: PracticeClock,
 }
 
 /// What goes wrong on a wire, from the moment on at which its line is brought up.
@@ -103,16 +103,24 @@ impl RandomAccessFile for JournalFile {
     }
 }
 
+/// The slaves of this line on a wire, just switched on. None: memory was refused.
+pub(crate) fn practice_of<'f>(
+    alloc: Global,
+    bench: &'f Bench,
+    line: &Line,
+) -> Option<PracticeWire<'f>> {
+    let plant = plant_of(alloc, line.slaves)?;
+    let slaves = PracticeLine::power_up(alloc, &plant, DELAY).ok()?;
+    Some(PracticeWire::new(slaves, &bench.clock))
+}
+
 /// A wire with the slaves of this line, just switched on. None: memory was refused.
 pub(crate) fn wire_of<'f>(
     alloc: Global,
     bench: &'f Bench,
     line: &Line,
 ) -> Option<NumberedWire<PracticeWire<'f>>> {
-    let plant = plant_of(alloc, line.slaves)?;
-    let slaves = PracticeLine::power_up(alloc, &plant, DELAY).ok()?;
-    let wire = PracticeWire::new(slaves, &bench.clock);
-    Some(NumberedWire::new(wire, 7))
+    Some(NumberedWire::new(practice_of(alloc, bench, line)?, 7))
 }
 
 /// The file of the line's journal, and a clock. None: memory was refused.
@@ -166,10 +174,10 @@ pub(crate) fn site_on<'f>(
 }
 
 /// Brings up the line on this wire. Gives its parts, with the bytes of the journal's file.
-fn parts_on(
+pub(crate) fn parts_on<W: Wire>(
     alloc: Global,
     bench: &Bench,
-    wire: &mut NumberedWire<PracticeWire<'_>>,
+    wire: &mut NumberedWire<W>,
 ) -> Option<Parts> {
     let line = bring_up(alloc, wire, &bench.clock, &Sizes::unknown()).ok()?;
     let plant = line.into_words(alloc).ok()?;

@@ -1,0 +1,94 @@
+//! A run by threads on a wire on which each frame takes a while, so that the others have something to send meanwhile.
+
+use crate::wire_threads::{ANSWERS, commands, run};
+use crate::wires::{Bench, bench_of, parts_on, practice_of};
+use ecat_frame::Frame;
+use runner_cases::line::THREE;
+use site_file::FileDevice;
+use site_shadow::ShadowSite;
+use site_wire::{LiveLine, LockedLine, NumberedWire, Wire, WireDevice};
+use std::alloc::Global;
+use std::rt::Clock;
+use std::sync::Wait;
+use std::thread::Threads;
+use std::time::Duration;
+use std::{io, thread};
+
+/// How long a frame takes, in microseconds.
+const PAUSE: u64 = 500;
+
+/// A wire on which each frame takes a while, once it is slow.
+#[derive(Drop)]
+struct SlowWire<'r, W, C> {
+    wire: W,
+    clock: &'r C,
+    is_slow: bool,
+    /// How many datagrams a frame has had at most since, without its number.
+    most: usize,
+}
+
+impl<'r, W: Wire, C: Clock> Wire for SlowWire<'r, W, C> {
+    ghost gives = { W.gives };
+
+    fn send(&mut self, frame: &[u8]) -> io::Result<()> {
+        if self.is_slow {
+            if let Ok(sent) = Frame::parse(frame) {
+                self.most = self.most.max(sent.count().saturating_sub(1));
+            }
+            thread::sleep(self.clock, Duration::from_micros(PAUSE));
+        }
+        self.wire.send(frame)
+    }
+
+    fn receive(&mut self, bytes: &mut [u8]) -> io::Result<usize> {
+        self.wire.receive(bytes)
+    }
+}
+
+/// What a run by threads has printed, and how many datagrams its frames had at most. None: memory was refused, or the line isn't brought up.
+fn ended<R: Wait + Threads + Clock + Sync>(
+    rt: &R,
+    alloc: Global,
+    bench: &Bench,
+) -> Option<(Vec<u8>, usize)> {
+    let slow = SlowWire {
+        wire: practice_of(alloc, bench, &THREE)?,
+        clock: rt,
+        is_slow: false,
+        most: 0,
+    };
+    let mut wire = NumberedWire::new(slow, 7);
+    let parts = parts_on(alloc, bench, &mut wire)?;
+    if !parts.is_whole() {
+        return None;
+    }
+    wire.wire().is_slow = true;
+    let locked = LockedLine::new(LiveLine::new(wire));
+    let device = WireDevice::shared(
+        locked.shared(rt),
+        &bench.clock,
+        FileDevice::new(&bench.files),
+    );
+    let site = ShadowSite::of_parts(alloc, parts, device);
+    let mut text = Vec::new(alloc);
+    run(rt, alloc, site, commands(alloc)?, &mut text)?;
+    let most = locked.into_line().into_wire().wire().most;
+    Some((text, most))
+}
+
+/// Whether a run prints what it should, and a frame of it has the datagrams of several slaves.
+fn is_joined<R: Wait + Threads + Clock + Sync>(rt: &R, alloc: Global) -> Option<bool> {
+    let bench = bench_of(alloc, &THREE)?;
+    let (text, most) = ended(rt, alloc, &bench)?;
+    Some(text.as_slice() == ANSWERS.as_bytes() && (most == 2 || most == 3))
+}
+
+// Threads decide themselves when they have something to send, so it is tried a few times.
+#[test]
+fn a_frame_takes_what_several_threads_have_to_send(rt: HostRuntime) {
+    let mut is_seen = false;
+    for _run in 0..20u32 {
+        is_seen = is_seen || is_joined(&rt, rt.alloc()) == Some(true);
+    }
+    assert!(rt; is_seen);
+}
