@@ -1,7 +1,5 @@
 -- What the files are behind a call of a device.
 use Rattle.std.proofs.Common.{◌≡◌, ℕ, Bool, true, false, List, [], ◌∷◌, ◌++◌, length, Some, None, if◌then◌else◌, refl, sym, ap, subst, ◌∙◌}
-use Rattle.std.proofs.lemmas.Bool.{eqb-true}
-use Rattle.std.specs.List.{AllByRecursion}
 use Rattle.esc_model.specs.declared.rest.WordWrite.{WordWrite}
 use Rattle.site_core.specs.Disk.{Disk}
 use Rattle.site_shadow.specs.declared.device.Passing.{Passing}
@@ -15,39 +13,8 @@ use Rattle.file_laws.specs.Files.{File, sound, image_of, Becomes, BecomesBy}
 use Rattle.file_laws.specs.Held.{is_same, of_file, with_file, AreHeld}
 use Rattle.file_laws.specs.DeviceLaws.{NewHolds, RestHolds, WriteHolds, SyncHolds, LengthHolds, ReadHolds}
 use Rattle.file_laws.proofs.Journals.{write_follows, sync_follows}
+use Rattle.file_laws.proofs.OneFile.{AllOf, is_same-true, of_file-append, of_file-same, of_file-other}
 use Rattle.file_laws.proofs.Words.{one_file, word_is_durable, split}
-
--- ONE FILE OF SEVERAL
-
-is_same-true : (a b : LineFile) → is_same a b ≡ true → a ≡ b
-is_same-true Journal Journal e = refl
-is_same-true Journal (Image slave) e = absurd cc
-is_same-true (Image slave) Journal e = absurd cc
-is_same-true (Image slave) (Image other) e = ap Image (eqb-true slave other e)
-
-of_file-append : (name : LineFile) (calls others : List Asked) → of_file name (calls ++ others) ≡ of_file name calls ++ of_file name others
-of_file-append name [] others = refl
-of_file-append name (call ∷ calls) others =
-    let rest : of_file name (calls ++ others) ≡ of_file name calls ++ of_file name others = of_file-append name calls others in
-    elim (is_same name call.file) as (λ b. (if b then call ∷ of_file name (calls ++ others) else of_file name (calls ++ others))
-    ≡ (if b then call ∷ of_file name calls else of_file name calls) ++ of_file name others)
-    [ true ↦ ap (λ (l : List Asked). call ∷ l) rest | false ↦ rest ]
-
-abbrev AllOf : LineFile → List Asked → Type 0
-AllOf file calls = AllByRecursion (λ call. call.file ≡ file) calls
-
-of_file-same : (name file : LineFile) (calls : List Asked) → AllOf file calls → is_same name file ≡ true → of_file name calls ≡ calls
-of_file-same name file [] all same = refl
-of_file-same name file (call ∷ calls) all same =
-    let here : is_same name call.file ≡ true = ap (λ (f : LineFile). is_same name f) all.0 ∙ same in
-    ap (λ (b : Bool). if b then call ∷ of_file name calls else of_file name calls) here
-    ∙ ap (λ (l : List Asked). call ∷ l) (of_file-same name file calls all.1 same)
-
-of_file-other : (name file : LineFile) (calls : List Asked) → AllOf file calls → is_same name file ≡ false → of_file name calls ≡ []
-of_file-other name file [] all other = refl
-of_file-other name file (call ∷ calls) all other =
-    let here : is_same name call.file ≡ false = ap (λ (f : LineFile). is_same name f) all.0 ∙ other in
-    ap (λ (b : Bool). if b then call ∷ of_file name calls else of_file name calls) here ∙ of_file-other name file calls all.1 other
 
 -- CALLS IN A ROW
 

@@ -3,4 +3,6 @@ mod Images
 mod Words
 mod Journals
 mod Possible
+mod OneFile
 mod Holding
+mod Leaving

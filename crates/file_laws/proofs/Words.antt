@@ -1,5 +1,5 @@
 -- Words that are written to an image.
-use Rattle.std.proofs.Common.{◌≡◌, ℕ, ◌*◌, ◌/◌, ◌%◌, ◌<◌, ◌≤◌, ◌^◌, min, Bool, true, false, List, [], ◌∷◌, ◌++◌, length, slice_index, slice_set, Some, None, refl, sym, ap, subst, ◌∙◌, inl, inr, arith}
+use Rattle.std.proofs.Common.{◌≡◌, ℕ, ◌*◌, ◌/◌, ◌%◌, ◌<◌, ◌≤◌, ◌^◌, min, Bool, true, false, List, [], ◌∷◌, ◌++◌, length, slice_set, Some, None, refl, sym, ap, subst, ◌∙◌, inl, inr, arith}
 use Rattle.std.specs.Int.{w16, to_le_bytes}
 use Rattle.esc_model.specs.declared.rest.WordWrite.{WordWrite}
 use Rattle.esc_model.specs.SlaveHalf.{SlaveHalf, Activity, Idle, Reading, Writing, in_flight, MayHold}
@@ -9,7 +9,7 @@ use Rattle.site_core.proofs.Overlays.{StopImage-written, StopImage-failed}
 use Rattle.site_file.specs.declared.asking.LineFile.{LineFile}
 use Rattle.site_file.specs.Calls.{Asked, syncs}
 use Rattle.site_file.specs.Asking.{WordCalls, reaches_sync, unwritten}
-use Rattle.file_laws.specs.Files.{File, sound, image_of, Becomes, BecomesBy, MayBeLeft}
+use Rattle.file_laws.specs.Files.{File, IsBytes, sound, image_of, Becomes, BecomesBy, MayBeLeft}
 use Rattle.file_laws.specs.Laws.{OneFileIsAsked, IsFlying, IsLeftOf, WordIsDurable, WordMayHoldAnything, WordsCalls, none, more, WordsAreDurable}
 use Rattle.file_laws.proofs.ImageBytes.{word_laid, word_inside, word_left}
 use Rattle.file_laws.proofs.Images.{sync_image}
@@ -80,7 +80,7 @@ flying_is (Writing word value) write e =
     let same : (record { word = word; value = value }) ≡ write = cc in ap (λ (w : WordWrite). Writing w.word w.value) same
 
 -- An image in which the word's two bytes may be anything is left of the half.
-left_of : (half : SlaveHalf) (write : WordWrite) (image : List ℕ) → IsFlying half write → ((k : ℕ) → slice_index image k < 256)
+pub left_of : (half : SlaveHalf) (write : WordWrite) (image : List ℕ) → IsFlying half write → IsBytes image
     → StopImage (write_begun (image_of half.words).disk (write.word * 2) 2) image → IsLeftOf half image
 left_of half write image flying bytes stop =
     let words = half.words in

@@ -1,5 +1,5 @@
 -- What a file holds as it is asked (POSIX: pread, pwrite, fdatasync), and what a power cut may leave of it.
-use Rattle.std.specs.Prelude.{◌≡◌, ◌⊎◌, ℕ, ◌≤◌, min, Bool, true, false, List, [], ◌∷◌, length, slice_get, IsTrue}
+use Rattle.std.specs.Prelude.{◌≡◌, ◌⊎◌, ℕ, ◌<◌, ◌≤◌, min, Bool, true, false, List, [], ◌∷◌, length, slice_get, slice_index, IsTrue}
 use Rattle.site_core.specs.Disk.{Disk, IsSynced, StopImage, WriteFailed, write_begun, written, synced}
 use Rattle.site_file.specs.Calls.{Call, Asked, tells_length, reads, writes, syncs}
 use Rattle.sii_words.specs.Words.{bytes_of}
@@ -12,6 +12,10 @@ pub record File : Type 0 where
 -- a file on which no call has failed
 abbrev pub sound : Disk → File
 sound disk = record { disk = disk; is_sound = true }
+
+-- each of them is a byte
+abbrev pub IsBytes : List ℕ → Type 0
+IsBytes image = (place : ℕ) → slice_index image place < 256
 
 -- an EEPROM image of these words, all of it synced
 abbrev pub image_of : List ℕ → File

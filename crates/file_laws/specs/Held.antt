@@ -3,8 +3,9 @@ use Rattle.std.specs.Prelude.{◌≡◌, ℕ, ◌==◌, Bool, true, false, List,
 use Rattle.site_file.specs.declared.asking.LineFile.{LineFile}
 use Rattle.site_file.specs.declared.asking.LineFile.TheVariants.{Journal, Image}
 use Rattle.site_file.specs.Calls.{Asked}
-use Rattle.site_file.specs.Asking.{HasLog}
-use Rattle.file_laws.specs.Files.{File, BecomesBy}
+use Rattle.site_file.specs.Asking.{HasLog, Asks}
+use Rattle.site_core.specs.Disk.{StopImage}
+use Rattle.file_laws.specs.Files.{File, IsBytes, BecomesBy, MayBeLeft}
 
 abbrev pub is_same : LineFile → LineFile → Bool
 is_same Journal Journal = true
@@ -26,3 +27,12 @@ pub record AreHeld (begun : LineFile → File) (moment : ℕ) (held : LineFile �
   pub log : List Asked
   pub has : HasLog moment log
   pub each : (name : LineFile) (later : File) → BecomesBy (of_file name log) (begun name) later → later ≡ held name
+
+-- Between two moments a device asks its files this: at each moment of it, before, in and behind each call, a power cut leaves in this file an image
+-- of those named, and in each other what it may leave of it as it is held.
+pub record LeavesOnly (Left : List ℕ → Type 0) (name : LineFile) (held : LineFile → File) (old new : ℕ) : Type 0 where
+  pub calls : List Asked
+  pub asks : Asks old new calls
+  pub here : (image : List ℕ) → IsBytes image → MayBeLeft (of_file name calls) (held name) image → Left image
+  pub others : (other : LineFile) (image : List ℕ) → is_same other name ≡ false → MayBeLeft (of_file other calls) (held other) image
+      → StopImage (held other).disk image

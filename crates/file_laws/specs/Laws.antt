@@ -1,5 +1,5 @@
 -- Laws of the files behind a shadow.
-use Rattle.std.specs.Prelude.{◌≡◌, ℕ, ◌<◌, ◌≤◌, ◌^◌, Bool, true, false, List, [], ◌∷◌, ◌++◌, length, slice_index, slice_set, Option, Some}
+use Rattle.std.specs.Prelude.{◌≡◌, ℕ, ◌<◌, ◌≤◌, ◌^◌, Bool, true, false, List, [], ◌∷◌, ◌++◌, length, slice_set, Option, Some}
 use Rattle.std.specs.List.{AllByRecursion}
 use Rattle.esc_model.specs.declared.rest.WordWrite.{WordWrite}
 use Rattle.esc_model.specs.SlaveHalf.{SlaveHalf, in_flight, settled, MayLeave}
@@ -9,7 +9,7 @@ use Rattle.site_file.specs.declared.asking.LineFile.{LineFile}
 use Rattle.site_file.specs.declared.asking.LineFile.TheVariants.{Journal}
 use Rattle.site_file.specs.Calls.{Asked, asked, writes, syncs}
 use Rattle.site_file.specs.Asking.{WordCalls}
-use Rattle.file_laws.specs.Files.{File, sound, image_of, BecomesBy, MayBeLeft}
+use Rattle.file_laws.specs.Files.{File, IsBytes, sound, image_of, BecomesBy, MayBeLeft}
 
 -- WORDS
 
@@ -40,7 +40,7 @@ pub record IsLeftOf (half : SlaveHalf) (image : List ℕ) : Type 0 where
 abbrev pub WordMayHoldAnything : Type 0
 WordMayHoldAnything = (file : LineFile) (half : SlaveHalf) (write : WordWrite) (calls : List Asked) (done : Bool) (image : List ℕ)
     → IsFlying half write → WordCalls file write.word write.value calls done
-    → ((k : ℕ) → slice_index image k < 256) → MayBeLeft calls (image_of half.words) image → IsLeftOf half image
+    → IsBytes image → MayBeLeft calls (image_of half.words) image → IsLeftOf half image
 
 -- Words are written to a file, one after the other, and each of them is synced: these calls make of `words` the words `laters`.
 pub data WordsCalls (file : LineFile) (words : List ℕ) : (calls : List Asked) (laters : List ℕ) → Type 0 where

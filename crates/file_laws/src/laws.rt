@@ -1,6 +1,6 @@
 //! Laws of the files behind a shadow. The functions here do nothing: the contract of each is the law.
 
-ghost use Rattle.file_laws.specs.DeviceLaws.{NewHolds, RestHolds, WriteHolds, SyncHolds, LengthHolds, ReadHolds};
+ghost use Rattle.file_laws.specs.DeviceLaws.{NewHolds, RestHolds, WriteHolds, SyncHolds, LengthHolds, ReadHolds, RestLeavesNoMore, WriteLeavesNoMore, SyncOfLeavesNoMore};
 ghost use Rattle.file_laws.specs.Laws.{OneFileIsAsked, WordIsDurable, WordMayHoldAnything, WordsAreDurable, WriteFollows, WriteMayHoldAnything, FailedWriteLeavesNoMore, SyncFollows, SyncLeavesNoMore, SomethingBecomes, AnyWordMayBeLeft};
 
 /// Once a half has come to rest on a device of files, the image of its slave holds its words, the new one among them, all of it synced; so it is
@@ -39,4 +39,12 @@ pub fn device_holds<F>()
     ensures sync { SyncHolds F }
     ensures length { LengthHolds F }
     ensures read { ReadHolds F }
+{}
+
+/// At each moment of a call of a device, whatever is answered, a power cut leaves of the file that is asked what it may leave of the shadow: of an
+/// image any value of the word in flight, of the journal anything in the range that is written. No other file changes.
+pub fn device_leaves_no_more<F>()
+    ensures rest { RestLeavesNoMore F }
+    ensures write { WriteLeavesNoMore F }
+    ensures sync { SyncOfLeavesNoMore F }
 {}

@@ -5,4 +5,6 @@
 
 mod laws;
 
-pub use laws::{device_holds, each_log_has_a_file, journal_follows, word_is_kept};
+pub use laws::{
+    device_holds, device_leaves_no_more, each_log_has_a_file, journal_follows, word_is_kept,
+};
