@@ -1,8 +1,7 @@
 mod access;
 mod captured_wire;
-mod cycle;
 mod frames;
-pub(crate) mod process_data;
+mod process_data;
 mod process_half;
 mod recorder;
 mod rom_half;
@@ -15,6 +14,13 @@ use sii_words::Words;
 use site_core::Site;
 use site_mem::{MemSite, Parts};
 use std::alloc::Global;
+
+// Writes bytes over others, from a place on.
+fn put(bytes: &mut [u8], from: usize, new: &[u8]) {
+    for (byte, value) in bytes.iter_mut().skip(from).zip(new) {
+        *byte = *value;
+    }
+}
 
 // 64 words: zeros, but for the check byte.
 fn zero_words(alloc: Global) -> Option<Words> {

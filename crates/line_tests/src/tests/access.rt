@@ -12,35 +12,31 @@ pub(super) enum Access {
     // It is settled. It was taken or not.
     Settle(u16, bool, Result<Settled, DeviceFault>),
     Open(u16, Result<(), RomFault>),
-    // All words of slave 0 are read.
-    Read(Result<&'static [u16], RomFault>),
+    // All 64 words of slave 0 are read: zeros, but for the check byte 0x30 and this alias.
+    Read(Result<u16, RomFault>),
 }
-
-// 64 words: zeros, but for the check byte; then with alias 1, which the check byte doesn't fit.
-pub(super) const ZERO_WORDS: &[u16] = &[
-    0, 0, 0, 0, 0, 0, 0, 0x30, 0, 0, 0, 0, 0, 0, 0, 0, 0, 0, 0, 0, 0, 0, 0, 0, 0, 0, 0, 0, 0, 0, 0,
-    0, 0, 0, 0, 0, 0, 0, 0, 0, 0, 0, 0, 0, 0, 0, 0, 0, 0, 0, 0, 0, 0, 0, 0, 0, 0, 0, 0, 0, 0, 0, 0,
-    0,
-];
-
-pub(super) const WITH_ALIAS: &[u16] = &[
-    0, 0, 0, 0, 1, 0, 0, 0x30, 0, 0, 0, 0, 0, 0, 0, 0, 0, 0, 0, 0, 0, 0, 0, 0, 0, 0, 0, 0, 0, 0, 0,
-    0, 0, 0, 0, 0, 0, 0, 0, 0, 0, 0, 0, 0, 0, 0, 0, 0, 0, 0, 0, 0, 0, 0, 0, 0, 0, 0, 0, 0, 0, 0, 0,
-    0,
-];
 
 // Word 4 of slave 0 is issued as 1 and taken, and it is settled.
 pub(super) const TAKEN: Access = Access::Issue(0, 4, 1, Ok(Issued::Taken));
 
 pub(super) const WRITTEN: Access = Access::Settle(0, true, Ok(Settled::Written));
 
-fn is_read(alloc: Global, site: &mut impl Site, answer: Result<&[u16], RomFault>) -> bool {
+// 64 words: zeros, but for the check byte and this alias.
+fn words_with(alias: u16) -> [u16; 64] {
+    let mut words = [0u16; 64];
+    words[4] = alias;
+    words[7] = 0x30;
+    words
+}
+
+fn is_read(alloc: Global, site: &mut impl Site, answer: Result<u16, RomFault>) -> bool {
     if !site.owns(0) {
         return false;
     }
-    match read_all(alloc, site, 0) {
-        Ok(words) => answer == Ok(words.as_slice()),
-        Err(fault) => answer == Err(fault),
+    match (read_all(alloc, site, 0), answer) {
+        (Ok(words), Ok(alias)) => words.as_slice() == words_with(alias).as_slice(),
+        (Err(fault), Err(wanted)) => fault == wanted,
+        _ => false,
     }
 }
 

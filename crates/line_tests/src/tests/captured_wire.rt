@@ -1,7 +1,6 @@
 //! What a capture of a wire holds, on which frames are lost, doubled and falsified.
 
-use super::zero_words;
-use crate::devices::put;
+use super::{put, zero_words};
 use site_capture::Capture;
 use site_file::RandomAccessFile;
 use site_wire::{NumberedWire, Sizes, bring_up};

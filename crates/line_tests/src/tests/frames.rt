@@ -7,15 +7,25 @@ const ISSUE: &[u8] = &[
     0x14, 0x10, 5, 0, 0x01, 0x10, 0x02, 0x05, 8, 0, 0, 0, 0x01, 0x02, 4, 0, 0, 0, 1, 0, 0, 0,
 ];
 
-// A command, its address and its content, and the bytes of a frame with only this datagram.
-const SPELLED: &[(Command, u32, &[u8], &[u8])] = &[
-    (
+// Bytes, and the frame that they are.
+#[derive(Clone, Copy)]
+enum Case {
+    // A command, its address and its content, and the bytes of a frame with only this datagram.
+    Spelled(Command, u32, &'static [u8], &'static [u8]),
+    // Bytes that are no frame, and the place of the first fault.
+    Broken(&'static [u8], usize),
+    // A frame, its number of datagrams, and their canonical encoding.
+    Read(&'static [u8], usize, &'static [u8]),
+}
+
+const CASES: &[Case] = &[
+    Case::Spelled(
         Command::Fpwr,
         0x0502_1001,
         &[0x01, 0x02, 4, 0, 0, 0, 1, 0],
         ISSUE,
     ),
-    (
+    Case::Spelled(
         Command::Fpwr,
         0x0502_1001,
         &[0x00, 0x01, 8, 0, 0, 0],
@@ -23,7 +33,7 @@ const SPELLED: &[(Command, u32, &[u8], &[u8])] = &[
             0x12, 0x10, 5, 0, 0x01, 0x10, 0x02, 0x05, 6, 0, 0, 0, 0x00, 0x01, 8, 0, 0, 0, 0, 0,
         ],
     ),
-    (
+    Case::Spelled(
         Command::Fprd,
         0x0502_1001,
         &[0, 0],
@@ -31,7 +41,7 @@ const SPELLED: &[(Command, u32, &[u8], &[u8])] = &[
             0x0e, 0x10, 4, 0, 0x01, 0x10, 0x02, 0x05, 2, 0, 0, 0, 0, 0, 0, 0,
         ],
     ),
-    (
+    Case::Spelled(
         Command::Fprd,
         0x0508_1001,
         &[0; 4],
@@ -39,7 +49,7 @@ const SPELLED: &[(Command, u32, &[u8], &[u8])] = &[
             0x10, 0x10, 4, 0, 0x01, 0x10, 0x08, 0x05, 4, 0, 0, 0, 0, 0, 0, 0, 0, 0,
         ],
     ),
-    (
+    Case::Spelled(
         Command::Lrw,
         0,
         &[0xaa, 0, 0, 0, 0, 0, 0],
@@ -47,16 +57,12 @@ const SPELLED: &[(Command, u32, &[u8], &[u8])] = &[
             0x13, 0x10, 12, 0, 0, 0, 0, 0, 7, 0, 0, 0, 0xaa, 0, 0, 0, 0, 0, 0, 0, 0,
         ],
     ),
-];
-
-// Bytes that are no frame, and the place of the first fault.
-const BROKEN: &[(&[u8], usize)] = &[
     // Another type.
-    (&[0x14, 0x20, 0, 0], 1),
+    Case::Broken(&[0x14, 0x20, 0, 0], 1),
     // Too few bytes for a datagram.
-    (&[5, 0x10, 4, 0, 0, 0, 0], 2),
+    Case::Broken(&[5, 0x10, 4, 0, 0, 0, 0], 2),
     // Content and working counter are cut off.
-    (
+    Case::Broken(
         &[
             0x14, 0x10, 5, 0, 0x01, 0x10, 0x02, 0x05, 9, 0, 0, 0, 0x01, 0x02, 4, 0, 0, 0, 1, 0, 0,
             0,
@@ -64,7 +70,7 @@ const BROKEN: &[(&[u8], usize)] = &[
         2,
     ),
     // Bit 15 is set, but no datagram follows.
-    (
+    Case::Broken(
         &[
             0x14, 0x10, 5, 0, 0x01, 0x10, 0x02, 0x05, 8, 0x80, 0, 0, 0x01, 0x02, 4, 0, 0, 0, 1, 0,
             0, 0,
@@ -72,7 +78,7 @@ const BROKEN: &[(&[u8], usize)] = &[
         22,
     ),
     // Two surplus bytes inside the stated length.
-    (
+    Case::Broken(
         &[
             0x16, 0x10, 5, 0, 0x01, 0x10, 0x02, 0x05, 8, 0, 0, 0, 0x01, 0x02, 4, 0, 0, 0, 1, 0, 0,
             0, 0, 0,
@@ -80,7 +86,7 @@ const BROKEN: &[(&[u8], usize)] = &[
         22,
     ),
     // The stated length is greater than the number of bytes that follow.
-    (
+    Case::Broken(
         &[
             0x22, 0x10, 4, 0, 0x01, 0x10, 0x02, 0x05, 2, 0x80, 0, 0, 0, 0, 0, 0, 5, 0, 0x01, 0x10,
             0x02, 0x05, 9, 0,
@@ -88,19 +94,15 @@ const BROKEN: &[(&[u8], usize)] = &[
         0,
     ),
     // The second datagram is cut off.
-    (
+    Case::Broken(
         &[
             0x16, 0x10, 4, 0, 0x01, 0x10, 0x02, 0x05, 2, 0x80, 0, 0, 0, 0, 0, 0, 5, 0, 0x01, 0x10,
             0x02, 0x05, 8, 0,
         ],
         16,
     ),
-];
-
-// A frame, its number of datagrams, and their canonical encoding.
-const READ: &[(&[u8], usize, &[u8])] = &[
     // With padding.
-    (
+    Case::Read(
         &[
             0x14, 0x10, 5, 0, 0x01, 0x10, 0x02, 0x05, 8, 0, 0, 0, 0x01, 0x02, 4, 0, 0, 0, 1, 0, 0,
             0, 0, 0, 0, 0, 0, 0, 0, 0, 0, 0, 0, 0, 0, 0, 0, 0, 0, 0, 0, 0, 0, 0, 0, 0,
@@ -109,7 +111,7 @@ const READ: &[(&[u8], usize, &[u8])] = &[
         ISSUE,
     ),
     // With reserved bits, the circulating bit and an IRQ set.
-    (
+    Case::Read(
         &[
             0x14, 0x18, 5, 0, 0x01, 0x10, 0x02, 0x05, 8, 0x78, 0x34, 0x12, 0x01, 0x02, 4, 0, 0, 0,
             1, 0, 0, 0,
@@ -118,7 +120,7 @@ const READ: &[(&[u8], usize, &[u8])] = &[
         ISSUE,
     ),
     // Without datagrams.
-    (&[0, 0x10, 7, 7], 0, &[0, 0x10]),
+    Case::Read(&[0, 0x10, 7, 7], 0, &[0, 0x10]),
 ];
 
 // An index, the content and the counter with which the poll or the issue of one frame is answered, and the frame's bytes after that.
@@ -165,37 +167,12 @@ fn is_spelled_as(command: Command, address: u32, content: &[u8], bytes: &[u8]) -
     frame.push(command, 0, address, content).is_ok() && frame.as_bytes() == bytes
 }
 
-#[test]
-fn a_datagram_has_these_bytes(rt: HostRuntime) {
-    assert!(rt; fp(0x1001, 0x0502) == 0x0502_1001);
-    for (command, address, content, bytes) in SPELLED {
-        assert!(rt;
-            is_spelled_as(*command, *address, content, bytes)
-                && reads_as(bytes, *command, *address, content)
-        );
-    }
-}
-
 // The place of the first fault in these bytes, if they are no frame.
 fn fault_in(bytes: &[u8]) -> Option<usize> {
     match Frame::parse(bytes) {
         Err(FrameFault::BadFrame { at }) => Some(at),
         Err(FrameFault::FrameFull) | Ok(_) => None,
     }
-}
-
-#[test]
-fn bytes_that_are_no_frame(rt: HostRuntime) {
-    for count in 0..22usize {
-        assert!(rt; fault_in(&ISSUE[..count]) == Some(0));
-    }
-    for (bytes, place) in BROKEN {
-        assert!(rt; fault_in(bytes) == Some(*place));
-    }
-    // A stated length above 1,498.
-    let mut long = [0u8; 1501];
-    long[..2].copy_from_slice(&[0xdb, 0x15]);
-    assert!(rt; fault_in(&long) == Some(0));
 }
 
 // Whether these bytes are read as this number of datagrams, with this canonical encoding.
@@ -206,11 +183,42 @@ fn is_read_as(bytes: &[u8], count: usize, spelling: &[u8]) -> bool {
     frame.count() == count && frame.as_bytes() == spelling
 }
 
-#[test]
-fn padding_and_free_bits_are_ignored(rt: HostRuntime) {
-    for (bytes, count, spelling) in READ {
-        assert!(rt; is_read_as(bytes, *count, spelling));
+// Whether the bytes are this frame, or none.
+fn comes(case: &Case) -> bool {
+    match *case {
+        Case::Spelled(command, address, content, bytes) => {
+            is_spelled_as(command, address, content, bytes)
+                && reads_as(bytes, command, address, content)
+        }
+        Case::Broken(bytes, place) => fault_in(bytes) == Some(place),
+        Case::Read(bytes, count, spelling) => is_read_as(bytes, count, spelling),
     }
+}
+
+fn all_come(cases: &[Case]) -> bool {
+    for case in cases {
+        if !comes(case) {
+            return false;
+        }
+    }
+    true
+}
+
+#[test]
+fn frames_are_spelled_and_read(rt: HostRuntime) {
+    assert!(rt; fp(0x1001, 0x0502) == 0x0502_1001);
+    assert!(rt; all_come(CASES));
+}
+
+// A frame that is cut off; one with a stated length above 1,498.
+#[test]
+fn bytes_that_are_no_frame(rt: HostRuntime) {
+    for count in 0..22usize {
+        assert!(rt; fault_in(&ISSUE[..count]) == Some(0));
+    }
+    let mut long = [0u8; 1501];
+    long[..2].copy_from_slice(&[0xdb, 0x15]);
+    assert!(rt; fault_in(&long) == Some(0));
 }
 
 // A frame of as many datagrams without content as there is room for. Their codes and indices are 0, 1 and so on.

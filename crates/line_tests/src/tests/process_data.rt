@@ -1,7 +1,6 @@
 //! A line of slaves in memory whose process data is configured and exchanged as their EEPROMs describe it.
 
-use super::{process_halves, process_line};
-use crate::devices::put;
+use super::{process_halves, process_line, put};
 use cyclic::{CycleFault, configure, reconfigure, turn};
 use ecat_frame::{Command, Frame, fp};
 use esc_model::ProcessHalf;
@@ -12,7 +11,7 @@ use site_mem::MemSite;
 use std::alloc::Global;
 
 // A slave with a byte of outputs and four bytes of inputs: its SyncM, RXPDO and TXPDO categories.
-pub(crate) const BOTH: &[u8] = &[
+pub(super) const BOTH: &[u8] = &[
     41, 0, 16, 0, 0x00, 0x10, 0x80, 0x00, 0x26, 0x00, 0x01, 0x01, 0x80, 0x10, 0x80, 0x00, 0x22,
     0x00, 0x01, 0x02, 0x00, 0x11, 0x01, 0x00, 0x24, 0x00, 0x01, 0x03, 0x80, 0x11, 0x04, 0x00, 0x20,
     0x00, 0x01, 0x04, 51, 0, 8, 0, 0x00, 0x16, 0x01, 0x02, 0x00, 0x00, 0x00, 0x00, 0x00, 0x70,
@@ -22,36 +21,13 @@ pub(crate) const BOTH: &[u8] = &[
 ];
 
 // A slave with twelve bits of inputs.
-pub(crate) const INPUTS: &[u8] = &[
+pub(super) const INPUTS: &[u8] = &[
     41, 0, 4, 0, 0x00, 0x10, 0x02, 0x00, 0x20, 0x00, 0x01, 0x04, 50, 0, 8, 0, 0x00, 0x1a, 0x01,
     0x00, 0x00, 0x00, 0x00, 0x00, 0x00, 0x60, 0x01, 0x00, 0x00, 0x0c, 0x00, 0x00, 0xff, 0xff,
 ];
 
 // A slave without process data.
 const NOTHING: &[u8] = &[0xff, 0xff];
-
-// Slave, register, and the bytes that it holds once the two slaves are configured.
-const CONFIGURED: &[(u16, u16, &[u8])] = &[
-    (0, 0x0810, &[0x00, 0x11, 0x01, 0x00, 0x24, 0x00, 0x01, 0x00]),
-    (
-        0,
-        0x0600,
-        &[0, 0, 0, 0, 1, 0, 0, 7, 0x00, 0x11, 0, 2, 1, 0, 0, 0],
-    ),
-    (0, 0x0818, &[0x80, 0x11, 0x04, 0x00, 0x20, 0x00, 0x01, 0x00]),
-    (
-        0,
-        0x0610,
-        &[1, 0, 0, 0, 4, 0, 0, 7, 0x80, 0x11, 0, 1, 1, 0, 0, 0],
-    ),
-    (1, 0x0800, &[0x00, 0x10, 0x02, 0x00, 0x20, 0x00, 0x01, 0x00]),
-    (
-        1,
-        0x0600,
-        &[5, 0, 0, 0, 2, 0, 0, 7, 0x00, 0x10, 0, 1, 1, 0, 0, 0],
-    ),
-    (1, 0x0610, &[0; 112]),
-];
 
 // Slave, address, and the inputs that its memory holds there.
 const STANDING: &[(usize, u16, &[u8])] = &[
@@ -79,7 +55,7 @@ fn words_of(alloc: Global, categories: &[u8]) -> Option<Words> {
 }
 
 // A line of slaves with these categories.
-pub(crate) fn plant_of(alloc: Global, categories: &[&[u8]]) -> Option<Plant> {
+fn plant_of(alloc: Global, categories: &[&[u8]]) -> Option<Plant> {
     let mut slaves = Vec::new(alloc);
     for of_slave in categories {
         slaves.push(words_of(alloc, of_slave)?).ok()?;
@@ -121,28 +97,19 @@ pub(super) fn line_of(alloc: Global, stations: &[u16]) -> Option<MemSite> {
     process_line(alloc, 512, process)
 }
 
-// Whether a register of a slave reads as these bytes.
-fn holds(site: &mut impl Site, slave: u16, register: u16, bytes: &[u8]) -> bool {
+// Whether a datagram for a register of a station comes back from the process halves with these bytes at its end.
+fn is_cycled(
+    site: &mut impl Site,
+    command: Command,
+    address: u32,
+    content: &[u8],
+    back: &[u8],
+) -> bool {
     let mut frame = Frame::new();
-    let zeros = [0u8; 112];
-    let count = bytes.len().min(112);
-    let address = fp(0x1001 + slave.min(64), register);
-    let is_read = frame
-        .push(Command::Fprd, 0, address, &zeros[..count])
-        .is_ok()
+    frame.push(command, 0, address, content).is_ok()
         && site.has_process()
-        && site.cycle(&mut frame).is_ok();
-    is_read && frame.count() == 1 && frame.datagram(0).content == bytes
-}
-
-// Whether the two slaves are configured as `CONFIGURED` says.
-fn is_configured(site: &mut impl Site) -> bool {
-    for (slave, register, bytes) in CONFIGURED {
-        if !holds(site, *slave, *register, bytes) {
-            return false;
-        }
-    }
-    true
+        && site.cycle(&mut frame).is_ok()
+        && frame.as_bytes().ends_with(back)
 }
 
 // Whether a turn with these outputs has this answer, and leaves these inputs.
@@ -172,16 +139,18 @@ enum Act {
     // It is reconfigured from none to its process data, and back.
     Come,
     Go,
-    // The two slaves are configured as `CONFIGURED` says.
-    Show,
     // A turn with these outputs has this answer, and leaves these inputs.
     Turn(&'static [u8], Result<u16, CycleFault>, Inputs),
     // So has one without process data.
     Idle,
-    // Slave, register, and the bytes that it holds.
-    Hold(u16, u16, &'static [u8]),
-    // Slave 1 takes no part in anything from now on.
-    Mute,
+    // A station takes these bytes for a register.
+    Write(u16, u16, &'static [u8]),
+    // A register of a station is read, in place of these zeros: it holds these bytes, and one station has read it.
+    Read(u16, u16, &'static [u8], &'static [u8]),
+    // A byte of outputs and six of inputs go round, and come back as this frame.
+    Exchange(&'static [u8]),
+    // Whether each slave takes no part in anything from now on.
+    Mute(bool, bool),
     // The next frame is lost.
     Lose,
 }
@@ -194,38 +163,143 @@ const MISSED: Result<u16, CycleFault> = Err(CycleFault::WrongCounter {
 
 const LOST: Result<u16, CycleFault> = Err(CycleFault::Lost);
 
+// What the registers hold once the two slaves are configured.
+const CONFIGURED: &[Act] = &[
+    Act::Read(
+        0x1001,
+        0x0810,
+        &[0; 8],
+        &[0x00, 0x11, 0x01, 0x00, 0x24, 0x00, 0x01, 0x00, 1, 0],
+    ),
+    Act::Read(
+        0x1001,
+        0x0600,
+        &[0; 16],
+        &[0, 0, 0, 0, 1, 0, 0, 7, 0x00, 0x11, 0, 2, 1, 0, 0, 0, 1, 0],
+    ),
+    Act::Read(
+        0x1001,
+        0x0818,
+        &[0; 8],
+        &[0x80, 0x11, 0x04, 0x00, 0x20, 0x00, 0x01, 0x00, 1, 0],
+    ),
+    Act::Read(
+        0x1001,
+        0x0610,
+        &[0; 16],
+        &[1, 0, 0, 0, 4, 0, 0, 7, 0x80, 0x11, 0, 1, 1, 0, 0, 0, 1, 0],
+    ),
+    Act::Read(
+        0x1002,
+        0x0800,
+        &[0; 8],
+        &[0x00, 0x10, 0x02, 0x00, 0x20, 0x00, 0x01, 0x00, 1, 0],
+    ),
+    Act::Read(
+        0x1002,
+        0x0600,
+        &[0; 16],
+        &[5, 0, 0, 0, 2, 0, 0, 7, 0x00, 0x10, 0, 1, 1, 0, 0, 0, 1, 0],
+    ),
+    Act::Read(0x1002, 0x0610, &[0; 112], NO_UNITS),
+];
+
+// Seven FMMUs that are cleared, and the counter of a station that reads them.
+const NO_UNITS: &[u8] = &[
+    0, 0, 0, 0, 0, 0, 0, 0, 0, 0, 0, 0, 0, 0, 0, 0, 0, 0, 0, 0, 0, 0, 0, 0, 0, 0, 0, 0, 0, 0, 0, 0,
+    0, 0, 0, 0, 0, 0, 0, 0, 0, 0, 0, 0, 0, 0, 0, 0, 0, 0, 0, 0, 0, 0, 0, 0, 0, 0, 0, 0, 0, 0, 0, 0,
+    0, 0, 0, 0, 0, 0, 0, 0, 0, 0, 0, 0, 0, 0, 0, 0, 0, 0, 0, 0, 0, 0, 0, 0, 0, 0, 0, 0, 0, 0, 0, 0,
+    0, 0, 0, 0, 0, 0, 0, 0, 0, 0, 0, 0, 0, 0, 0, 0, 1, 0,
+];
+
 const EXCHANGED: &[Act] = &[
-    Act::Configure,
-    Act::Show,
     Act::Turn(&[0xaa], Ok(4), BACK),
-    Act::Hold(0, 0x1100, &[0xaa]),
-    Act::Mute,
+    Act::Read(0x1001, 0x1100, &[0], &[0xaa, 1, 0]),
+    Act::Mute(false, true),
     Act::Turn(&[0xaa], MISSED, KEPT),
     Act::Lose,
     Act::Turn(&[0xaa], LOST, KEPT),
 ];
 
-const RECONFIGURED: &[Act] = &[
-    Act::Clear,
-    Act::Idle,
-    Act::Come,
-    Act::Show,
+const NONE_AT_FIRST: &[Act] = &[Act::Clear, Act::Idle, Act::Come];
+
+const GONE: &[Act] = &[
     Act::Go,
-    Act::Hold(0, 0x0600, &[0; 112]),
-    Act::Hold(1, 0x0600, &[0; 112]),
+    Act::Read(0x1001, 0x0600, &[0; 112], NO_UNITS),
+    Act::Read(0x1002, 0x0600, &[0; 112], NO_UNITS),
+];
+
+// FMMUs and sync managers are written by hand, and so are other inputs. Then slaves are muted, each alone, both and none.
+const BY_HAND: &[Act] = &[
+    Act::Write(0x1001, 0x0600, &[0; 128]),
+    Act::Write(
+        0x1001,
+        0x0810,
+        &[0x00, 0x11, 0x01, 0x00, 0x24, 0x00, 0x01, 0x00],
+    ),
+    Act::Write(
+        0x1001,
+        0x0600,
+        &[0, 0, 0, 0, 1, 0, 0, 7, 0x00, 0x11, 0, 2, 1, 0, 0, 0],
+    ),
+    Act::Write(
+        0x1001,
+        0x0818,
+        &[0x80, 0x11, 0x04, 0x00, 0x20, 0x00, 0x01, 0x00],
+    ),
+    Act::Write(
+        0x1001,
+        0x0610,
+        &[1, 0, 0, 0, 4, 0, 0, 7, 0x80, 0x11, 0, 1, 1, 0, 0, 0],
+    ),
+    Act::Write(0x1002, 0x0600, &[0; 128]),
+    Act::Write(
+        0x1002,
+        0x0800,
+        &[0x00, 0x10, 0x02, 0x00, 0x20, 0x00, 0x01, 0x00],
+    ),
+    Act::Write(
+        0x1002,
+        0x0600,
+        &[5, 0, 0, 0, 2, 0, 0, 7, 0x00, 0x10, 0, 1, 1, 0, 0, 0],
+    ),
+    Act::Write(0x1001, 0x1180, &[0x15, 0x26, 0x37, 0x48]),
+    Act::Write(0x1002, 0x1000, &[0x59, 0x0a]),
+    Act::Exchange(&[
+        0x13, 0x10, 0x0c, 0, 0, 0, 0, 0, 0x07, 0, 0, 0, 0xaa, 0x15, 0x26, 0x37, 0x48, 0x59, 0x0a,
+        4, 0,
+    ]),
+    Act::Mute(false, true),
+    Act::Exchange(&[
+        0x13, 0x10, 0x0c, 0, 0, 0, 0, 0, 0x07, 0, 0, 0, 0xaa, 0x15, 0x26, 0x37, 0x48, 0, 0, 3, 0,
+    ]),
+    Act::Mute(true, false),
+    Act::Exchange(&[
+        0x13, 0x10, 0x0c, 0, 0, 0, 0, 0, 0x07, 0, 0, 0, 0xaa, 0, 0, 0, 0, 0x59, 0x0a, 1, 0,
+    ]),
+    Act::Mute(true, true),
+    Act::Exchange(&[
+        0x13, 0x10, 0x0c, 0, 0, 0, 0, 0, 0x07, 0, 0, 0, 0xaa, 0, 0, 0, 0, 0, 0, 0, 0,
+    ]),
+    Act::Mute(false, false),
+    Act::Exchange(&[
+        0x13, 0x10, 0x0c, 0, 0, 0, 0, 0, 0x07, 0, 0, 0, 0xaa, 0x15, 0x26, 0x37, 0x48, 0x59, 0x0a,
+        4, 0,
+    ]),
+    Act::Read(0x1001, 0x1100, &[0], &[0xaa, 1, 0]),
 ];
 
 // 0x15cd is the last byte of the sync manager's area.
 const LONGEST_OUTPUTS: &[Act] = &[
     Act::Configure,
     Act::Turn(&[7; 1486], Ok(2), KEPT),
-    Act::Hold(0, 0x15cd, &[7]),
+    Act::Read(0x1001, 0x15cd, &[0], &[7, 1, 0]),
 ];
 
 const LONGEST_INPUTS: &[Act] = &[
     Act::Configure,
     Act::Turn(&[], Ok(1), ALL_BACK),
-    Act::Hold(0, 0x15cd, &[0]),
+    Act::Read(0x1001, 0x15cd, &[0], &[0, 1, 0]),
 ];
 
 fn is_configured_for(site: &mut impl Site, plan: &Plan) -> bool {
@@ -236,6 +310,15 @@ fn is_reconfigured(site: &mut impl Site, old: &Plan, new: &Plan) -> bool {
     site.has_process() && reconfigure(site, old, new).is_ok()
 }
 
+// The output of an exchange, and what stands in place of its inputs.
+const OUT: &[u8] = &[0xaa, 0, 0, 0, 0, 0, 0];
+
+fn mute(site: &mut MemSite, first: bool, second: bool) -> bool {
+    site.mute(0, first);
+    site.mute(1, second);
+    true
+}
+
 // Whether the act has come to what it must.
 fn comes(site: &mut MemSite, plan: &Plan, none: &Plan, act: &Act) -> bool {
     match *act {
@@ -243,14 +326,16 @@ fn comes(site: &mut MemSite, plan: &Plan, none: &Plan, act: &Act) -> bool {
         Act::Clear => is_configured_for(site, none),
         Act::Come => is_reconfigured(site, none, plan),
         Act::Go => is_reconfigured(site, plan, none),
-        Act::Show => is_configured(site),
         Act::Turn(outputs, answer, left) => turns(site, plan, outputs, answer, &left),
         Act::Idle => turns(site, none, &[], Ok(0), &KEPT),
-        Act::Hold(slave, register, bytes) => holds(site, slave, register, bytes),
-        Act::Mute => {
-            site.mute(1, true);
-            true
+        Act::Write(station, register, content) => {
+            is_cycled(site, Command::Fpwr, fp(station, register), content, &[1, 0])
         }
+        Act::Read(station, register, zeros, back) => {
+            is_cycled(site, Command::Fprd, fp(station, register), zeros, back)
+        }
+        Act::Exchange(back) => is_cycled(site, Command::Lrw, 0, OUT, back),
+        Act::Mute(first, second) => mute(site, first, second),
         Act::Lose => {
             site.fail_once(0);
             true
@@ -267,39 +352,61 @@ fn all_come(site: &mut MemSite, plan: &Plan, none: &Plan, acts: &[Act]) -> bool 
     true
 }
 
+fn each_comes(site: &mut MemSite, plan: &Plan, none: &Plan, all: &[&[Act]]) -> bool {
+    for acts in all {
+        if !all_come(site, plan, none, acts) {
+            return false;
+        }
+    }
+    true
+}
+
 // Whether all acts come to what they must on a line of slaves with these categories.
 fn goes_so(
     alloc: Global,
     stations: &[u16],
     categories: &[&[u8]],
     nothing: &[&[u8]],
-    acts: &[Act],
+    all: &[&[Act]],
 ) -> Option<bool> {
     let plan = plan_of(alloc, categories)?;
     let none = plan_of(alloc, nothing)?;
     let mut site = line_of(alloc, stations)?;
-    let come = all_come(&mut site, &plan, &none, acts);
+    let come = each_comes(&mut site, &plan, &none, all);
     drop(site);
     Some(come)
 }
 
+// Whether all acts come to what they must on a line of two slaves.
+fn two_go_so(alloc: Global, all: &[&[Act]]) -> Option<bool> {
+    goes_so(
+        alloc,
+        &[0x1001, 0x1002],
+        &[BOTH, INPUTS],
+        &[NOTHING, NOTHING],
+        all,
+    )
+}
+
 #[test]
 fn two_slaves_exchange_data(rt: HostRuntime) {
-    for acts in [EXCHANGED, RECONFIGURED] {
-        assert!(rt;
-            goes_so(
-                rt.alloc(),
-                &[0x1001, 0x1002],
-                &[BOTH, INPUTS],
-                &[NOTHING, NOTHING],
-                acts,
-            ) == Some(true)
-        );
-    }
+    let alloc = rt.alloc();
+    assert!(rt; two_go_so(alloc, &[&[Act::Configure], CONFIGURED, EXCHANGED]) == Some(true));
+}
+
+#[test]
+fn two_slaves_are_reconfigured(rt: HostRuntime) {
+    let alloc = rt.alloc();
+    assert!(rt; two_go_so(alloc, &[NONE_AT_FIRST, CONFIGURED, GONE]) == Some(true));
+}
+
+#[test]
+fn two_slaves_are_configured_by_hand(rt: HostRuntime) {
+    assert!(rt; two_go_so(rt.alloc(), &[BY_HAND]) == Some(true));
 }
 
 // Categories of a slave with one sync manager: 46 entries of 255 bits and one of this many, of which 158 make 1,486 bytes.
-pub(crate) fn longest(direction: u8, kind: u8, last: u8) -> [u8; 402] {
+fn longest(direction: u8, kind: u8, last: u8) -> [u8; 402] {
     let mut bytes = [0u8; 402];
     bytes[..12].copy_from_slice(&[
         41, 0, 4, 0, 0x00, 0x10, 0xce, 0x05, 0x24, 0x00, 0x01, direction,
@@ -315,7 +422,7 @@ pub(crate) fn longest(direction: u8, kind: u8, last: u8) -> [u8; 402] {
 
 // Whether all acts come to what they must on a line of one slave.
 fn goes_alone(alloc: Global, categories: &[u8], acts: &[Act]) -> Option<bool> {
-    goes_so(alloc, &[0x1001], &[categories], &[NOTHING], acts)
+    goes_so(alloc, &[0x1001], &[categories], &[NOTHING], &[acts])
 }
 
 #[test]

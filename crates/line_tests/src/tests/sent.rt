@@ -2,7 +2,7 @@
 //! are those of the format's description; the others were spelt by hand: two bytes of header with the length of the datagram, then command
 //! (4 reads, 5 writes), index, station, register, length, IRQ, content and working counter.
 
-use super::access::{Access, TAKEN, WRITTEN, ZERO_WORDS, all_come};
+use super::access::{Access, TAKEN, WRITTEN, all_come};
 use super::process_data::{BOTH, INPUTS, line_of, plan_of};
 use super::recorder::{Recorder, behind};
 use super::{ISSUE, line};
@@ -133,7 +133,7 @@ fn reads(alloc: Global) -> bool {
         return false;
     };
     let mut recorder = Recorder::of(alloc, site, 0, 0);
-    let is_read = all_come(alloc, &mut recorder, &[Access::Read(Ok(ZERO_WORDS))]);
+    let is_read = all_come(alloc, &mut recorder, &[Access::Read(Ok(0))]);
     let is_so = match behind_a_read(recorder.sent()) {
         Some(left) => left.is_empty(),
         None => false,

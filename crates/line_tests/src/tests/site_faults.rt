@@ -1,6 +1,6 @@
 //! What is done with a line in memory and its disk, and what faults and power cuts leave of them.
 
-use super::access::{self, Access, TAKEN, WITH_ALIAS, WRITTEN};
+use super::access::{self, Access, TAKEN, WRITTEN};
 use super::{ISSUE, line_with};
 use ecat_frame::{Command, Frame, fp};
 use esc_rom::RomFault;
@@ -74,7 +74,7 @@ const WORDS: &[Case] = &[
             Deed::Access(TAKEN),
             Deed::Access(WRITTEN),
             Deed::Access(Access::Open(0, Ok(()))),
-            Deed::Access(Access::Read(Ok(WITH_ALIAS))),
+            Deed::Access(Access::Read(Ok(1))),
         ],
         words: &[(1, false)],
         ..ONE
@@ -89,7 +89,7 @@ const WORDS: &[Case] = &[
             Deed::Access(TAKEN),
             Deed::Access(WRITTEN),
             Deed::Access(Access::Open(0, Ok(()))),
-            Deed::Access(Access::Read(Ok(WITH_ALIAS))),
+            Deed::Access(Access::Read(Ok(1))),
         ],
         words: &[(1, false)],
         ..ONE
@@ -104,7 +104,7 @@ const WORDS: &[Case] = &[
             Deed::Access(TAKEN),
             Deed::Access(WRITTEN),
             Deed::Access(Access::Open(0, Ok(()))),
-            Deed::Access(Access::Read(Ok(WITH_ALIAS))),
+            Deed::Access(Access::Read(Ok(1))),
         ],
         words: &[(1, false)],
         ..ONE
@@ -117,7 +117,7 @@ const WORDS: &[Case] = &[
             Deed::Access(TAKEN),
             Deed::Access(WRITTEN),
             Deed::Access(Access::Open(0, Ok(()))),
-            Deed::Access(Access::Read(Ok(WITH_ALIAS))),
+            Deed::Access(Access::Read(Ok(1))),
         ],
         words: &[(1, false)],
         ..ONE
@@ -479,8 +479,16 @@ fn all_go_so(alloc: Global, cases: &[Case]) -> bool {
 }
 
 #[test]
-fn deeds_come_to_what_they_must(rt: HostRuntime) {
-    for cases in [WORDS, CUTS, SNAPSHOTS] {
-        assert!(rt; all_go_so(rt.alloc(), cases));
-    }
+fn words_are_written_and_faults_met(rt: HostRuntime) {
+    assert!(rt; all_go_so(rt.alloc(), WORDS));
+}
+
+#[test]
+fn power_is_cut(rt: HostRuntime) {
+    assert!(rt; all_go_so(rt.alloc(), CUTS));
+}
+
+#[test]
+fn snapshots_are_taken(rt: HostRuntime) {
+    assert!(rt; all_go_so(rt.alloc(), SNAPSHOTS));
 }

@@ -74,19 +74,6 @@ fn file_of(alloc: Global, head: &[u8], first: &[u8], second: &[u8]) -> Result<Ve
     Ok(file)
 }
 
-/// Reads a journal of which this many bytes are there.
-fn read(
-    alloc: Global,
-    head: &[u8],
-    first: &[u8],
-    second: &[u8],
-    sizes: &[u16],
-    count: usize,
-) -> Result<Journal, JournalFault> {
-    let file = file_of(alloc, head, first, second)?;
-    scan(alloc, file.get(..count).unwrap_or(file.as_slice()), sizes)
-}
-
 fn has_runs(entries: &[Entry], runs: usize) -> bool {
     match entries {
         [entry] => entry.number == 0 && entry.runs.as_slice().len() == runs,
@@ -108,217 +95,263 @@ fn are_like(batches: &[Batch], wanted: &[(u8, u8, usize)]) -> bool {
     batches.len() == wanted.len()
 }
 
-/// A header, the bytes in front of the halves, the number of words of each slave, the form, and what is live.
-type Live = (
-    &'static [u8],
-    &'static [u8],
-    &'static [u8],
-    &'static [u16],
-    Form,
-    &'static [(u8, u8, usize)],
-);
+/// What is read from the file of a journal.
+#[derive(Clone, Copy)]
+enum Found {
+    /// A journal of this form; of each live batch half, generation and number of runs.
+    Live(Form, &'static [(u8, u8, usize)]),
+    Refused(JournalFault),
+}
 
-const LIVE: &[Live] = &[
-    (&TWO, SWAP, &[], &[64, 64], Form::Two, &[(0, 0, 4)]),
-    (&TWO, &[], ALIAS, &[64, 64], Form::Two, &[(1, 0, 2)]),
-    (&TWO, &[], &[], &[64, 64], Form::Two, &[]),
+/// A journal's file, and what is read from it.
+#[derive(Clone, Copy)]
+struct Case {
+    head: &'static [u8],
+    /// The bytes in front of the halves.
+    first: &'static [u8],
+    second: &'static [u8],
+    /// The number of words of each slave.
+    sizes: &'static [u16],
+    /// How many bytes are there.
+    count: usize,
+    found: Found,
+}
+
+/// No batch is live.
+const TWO_SLAVES: Case = Case {
+    head: &TWO,
+    first: &[],
+    second: &[],
+    sizes: &[64, 64],
+    count: 4104,
+    found: Found::Live(Form::Two, &[]),
+};
+
+/// A batch of two slaves that can't be read, and another line.
+const BAD_BATCH: Case = Case {
+    found: Found::Refused(JournalFault::BadJournal { at: 8 }),
+    ..TWO_SLAVES
+};
+
+const WRONG_LINE: Case = Case {
+    found: Found::Refused(JournalFault::WrongLine),
+    ..TWO_SLAVES
+};
+
+/// A journal of version 1 for one slave.
+const ONE_SLAVE: Case = Case {
+    head: ONE,
+    first: PLAIN,
+    sizes: &[64],
+    found: Found::Live(Form::One, &[(0, 0, 2)]),
+    ..TWO_SLAVES
+};
+
+/// A journal of one slave whose migration was cut.
+const CUT_MOVING: Case = Case {
+    head: TORN,
+    first: MARK,
+    found: Found::Live(Form::Moving, &[]),
+    ..ONE_SLAVE
+};
+
+const CASES: &[Case] = &[
+    Case {
+        first: SWAP,
+        found: Found::Live(Form::Two, &[(0, 0, 4)]),
+        ..TWO_SLAVES
+    },
+    Case {
+        second: ALIAS,
+        found: Found::Live(Form::Two, &[(1, 0, 2)]),
+        ..TWO_SLAVES
+    },
+    TWO_SLAVES,
     // What stands behind a closed gate isn't read.
-    (
-        &TWO,
-        &[0x00, 0xa5, 0xff, 0xff],
-        &[0x01, 0xa5],
-        &[64, 64],
-        Form::Two,
-        &[],
-    ),
-    (
-        &TWO,
-        OF_255,
-        EMPTY,
-        &[64, 64],
-        Form::Two,
-        &[(0, 255, 0), (1, 0, 0)],
-    ),
-    (
-        &TWO,
-        EMPTY,
-        OF_255,
-        &[64, 64],
-        Form::Two,
-        &[(1, 255, 0), (0, 0, 0)],
-    ),
-    (
-        &TWO,
-        OF_4,
-        OF_3,
-        &[64, 64],
-        Form::Two,
-        &[(1, 3, 0), (0, 4, 0)],
-    ),
-    (ONE, PLAIN, &[], &[64], Form::One, &[(0, 0, 2)]),
-    (TORN, MARK, &[], &[64], Form::Moving, &[]),
-];
-
-/// Whether the journal has this form, and these batches are live.
-fn is_live(alloc: Global, row: &Live) -> bool {
-    let (head, first, second, sizes, form, wanted) = *row;
-    match read(alloc, head, first, second, sizes, 4104) {
-        Ok(journal) => journal.form == form && are_like(journal.batches.as_slice(), wanted),
-        Err(_fault) => false,
-    }
-}
-
-#[test]
-fn live_batches_are_found(rt: HostRuntime) {
-    for row in LIVE {
-        assert!(rt; is_live(rt.alloc(), row));
-    }
-}
-
-const AT_8: JournalFault = JournalFault::BadJournal { at: 8 };
-
-const AT_4: JournalFault = JournalFault::BadJournal { at: 4 };
-
-const CUT: JournalFault = JournalFault::BadJournal { at: 4104 };
-
-/// The header of a refused journal, the bytes in front of its halves, the number of words of each slave, and the fault.
-type Refused = (
-    &'static [u8],
-    &'static [u8],
-    &'static [u8],
-    &'static [u16],
-    JournalFault,
-);
-
-const REFUSED: &[Refused] = &[
+    Case {
+        first: &[0x00, 0xa5, 0xff, 0xff],
+        second: &[0x01, 0xa5],
+        ..TWO_SLAVES
+    },
+    Case {
+        first: OF_255,
+        second: EMPTY,
+        found: Found::Live(Form::Two, &[(0, 255, 0), (1, 0, 0)]),
+        ..TWO_SLAVES
+    },
+    Case {
+        first: EMPTY,
+        second: OF_255,
+        found: Found::Live(Form::Two, &[(1, 255, 0), (0, 0, 0)]),
+        ..TWO_SLAVES
+    },
+    Case {
+        first: OF_4,
+        second: OF_3,
+        found: Found::Live(Form::Two, &[(1, 3, 0), (0, 4, 0)]),
+        ..TWO_SLAVES
+    },
+    ONE_SLAVE,
+    CUT_MOVING,
     // Generations that don't follow one another.
-    (&TWO, EMPTY, OF_2, &[64, 64], AT_8),
-    (&TWO, OF_2, EMPTY, &[64, 64], AT_8),
-    (&TWO, OF_3, OF_3, &[64, 64], AT_8),
-    (&TWO, MIXED, &[], &[64, 64], AT_8),
+    Case {
+        first: EMPTY,
+        second: OF_2,
+        ..BAD_BATCH
+    },
+    Case {
+        first: OF_2,
+        second: EMPTY,
+        ..BAD_BATCH
+    },
+    Case {
+        first: OF_3,
+        second: OF_3,
+        ..BAD_BATCH
+    },
+    Case {
+        first: MIXED,
+        ..BAD_BATCH
+    },
     // Longer than the half, and just so long that no gate stands behind it.
-    (
-        &TWO,
-        &[0xa5, 0x00, 0xff, 0xff, 0xff, 0xff],
-        &[],
-        &[64, 64],
-        AT_8,
-    ),
-    (
-        &TWO,
-        &[0xa5, 0x00, 0xfa, 0x07, 0x00, 0x00],
-        &[],
-        &[64, 64],
-        AT_8,
-    ),
+    Case {
+        first: &[0xa5, 0x00, 0xff, 0xff, 0xff, 0xff],
+        ..BAD_BATCH
+    },
+    Case {
+        first: &[0xa5, 0x00, 0xfa, 0x07, 0x00, 0x00],
+        ..BAD_BATCH
+    },
     // No command.
-    (
-        &TWO,
-        &[0xa5, 0x00, 0x02, 0x00, 0x00, 0x00, 0x00, 0x00, 0x00],
-        &[],
-        &[64, 64],
-        AT_8,
-    ),
+    Case {
+        first: &[0xa5, 0x00, 0x02, 0x00, 0x00, 0x00, 0x00, 0x00, 0x00],
+        ..BAD_BATCH
+    },
     // A run of no words.
-    (
-        &TWO,
-        &[
+    Case {
+        first: &[
             0xa5, 0, 0x12, 0, 0, 0, 1, 0, 0, 0, 0, 0, 0, 0, 0, 0, 1, 0, 0, 0, 0, 0, 0, 0, 0,
         ],
-        &[],
-        &[64, 64],
-        AT_8,
-    ),
+        ..BAD_BATCH
+    },
     // A byte left over.
-    (
-        &TWO,
-        &[
+    Case {
+        first: &[
             0xa5, 0, 0x0d, 0, 0, 0, 1, 0, 0, 0, 0, 0, 0, 0, 0, 0, 0, 0, 0, 0,
         ],
-        &[],
-        &[64, 64],
-        AT_8,
-    ),
+        ..BAD_BATCH
+    },
     // A second half that can't be read begins at byte 2,056.
-    (
-        &TWO,
-        &[],
-        &[0xa5],
-        &[64, 64],
-        JournalFault::BadJournal { at: 2056 },
-    ),
+    Case {
+        second: &[0xa5],
+        found: Found::Refused(JournalFault::BadJournal { at: 2056 }),
+        ..TWO_SLAVES
+    },
     // Another line: a slave more, a word that isn't there, a slave that isn't there.
-    (&TWO, SWAP, &[], &[64, 64, 64], JournalFault::WrongLine),
-    (&TWO, SWAP, &[], &[64, 7], JournalFault::WrongLine),
-    (
-        &TWO,
-        &[
+    Case {
+        first: SWAP,
+        sizes: &[64, 64, 64],
+        ..WRONG_LINE
+    },
+    Case {
+        first: SWAP,
+        sizes: &[64, 7],
+        ..WRONG_LINE
+    },
+    Case {
+        first: &[
             0xa5, 0, 0x14, 0, 0, 0, 1, 0, 0, 0, 0, 0, 0, 0, 0, 0, 1, 0, 2, 0, 0, 0, 1, 0, 0, 0, 0,
         ],
-        &[],
-        &[64, 64],
-        JournalFault::WrongLine,
-    ),
+        ..WRONG_LINE
+    },
     // Headers that a line of one slave of 64 words refuses.
-    (
-        &[0x00, 2, 1, 0, 0x00, 0x10, 0, 0],
-        &[],
-        &[],
-        &[64],
-        JournalFault::NotAJournal,
-    ),
-    (
-        &[0xa5, 9, 1, 0, 0x00, 0x10, 0, 0],
-        &[],
-        &[],
-        &[64],
-        JournalFault::BadVersion { found: 9 },
-    ),
-    (
-        &[0xa5, 2, 2, 0, 0x00, 0x10, 0, 0],
-        &[],
-        &[],
-        &[64],
-        JournalFault::WrongLine,
-    ),
-    (
-        &[0xa5, 0x77, 2, 0, 0x00, 0x10, 0, 0],
-        MARK,
-        &[],
-        &[64],
-        JournalFault::WrongLine,
-    ),
+    Case {
+        head: &[0x00, 2, 1, 0, 0x00, 0x10, 0, 0],
+        first: &[],
+        found: Found::Refused(JournalFault::NotAJournal),
+        ..ONE_SLAVE
+    },
+    Case {
+        head: &[0xa5, 9, 1, 0, 0x00, 0x10, 0, 0],
+        first: &[],
+        found: Found::Refused(JournalFault::BadVersion { found: 9 }),
+        ..ONE_SLAVE
+    },
+    Case {
+        head: &[0xa5, 2, 2, 0, 0x00, 0x10, 0, 0],
+        sizes: &[64],
+        ..WRONG_LINE
+    },
+    Case {
+        head: &[0xa5, 0x77, 2, 0, 0x00, 0x10, 0, 0],
+        first: MARK,
+        sizes: &[64],
+        ..WRONG_LINE
+    },
     // The mark behind an open gate is none.
-    (
-        &[0xa5, 0x77, 1, 0, 0x00, 0x10, 0, 0],
-        &[0xa5, 0x4d, 0x49, 0x47, 0x32],
-        &[],
-        &[64],
-        JournalFault::BadVersion { found: 0x77 },
-    ),
-    (&[0xa5, 2, 1, 0, 0xff, 0x0f, 0, 0], &[], &[], &[64], AT_4),
-    (&[0xa5, 2, 1, 0, 0x01, 0x00, 0x40, 0], &[], &[], &[64], AT_4),
-    (&[0xa5, 2, 1, 0, 0x01, 0x10, 0, 0], &[], &[], &[64], CUT),
+    Case {
+        first: &[0xa5, 0x4d, 0x49, 0x47, 0x32],
+        found: Found::Refused(JournalFault::BadVersion { found: 0x77 }),
+        ..CUT_MOVING
+    },
+    Case {
+        head: &[0xa5, 2, 1, 0, 0xff, 0x0f, 0, 0],
+        first: &[],
+        found: Found::Refused(JournalFault::BadJournal { at: 4 }),
+        ..ONE_SLAVE
+    },
+    Case {
+        head: &[0xa5, 2, 1, 0, 0x01, 0x00, 0x40, 0],
+        first: &[],
+        found: Found::Refused(JournalFault::BadJournal { at: 4 }),
+        ..ONE_SLAVE
+    },
+    Case {
+        head: &[0xa5, 2, 1, 0, 0x01, 0x10, 0, 0],
+        first: &[],
+        found: Found::Refused(JournalFault::BadJournal { at: 4104 }),
+        ..ONE_SLAVE
+    },
+    // Too few bytes for the mark of a migration, and just enough.
+    Case {
+        count: 12,
+        found: Found::Refused(JournalFault::BadVersion { found: 0x77 }),
+        ..CUT_MOVING
+    },
+    Case {
+        count: 13,
+        found: Found::Refused(JournalFault::BadJournal { at: 13 }),
+        ..CUT_MOVING
+    },
 ];
 
-/// Why this much of a journal can't be read, if it can't.
-fn fault_of(
-    alloc: Global,
-    head: &[u8],
-    first: &[u8],
-    second: &[u8],
-    sizes: &[u16],
-    count: usize,
-) -> Option<JournalFault> {
-    read(alloc, head, first, second, sizes, count).err()
+/// Whether this is read from a journal.
+fn is_found(journal: &Journal, found: &Found) -> bool {
+    match *found {
+        Found::Live(form, batches) => {
+            journal.form == form && are_like(journal.batches.as_slice(), batches)
+        }
+        Found::Refused(_) => false,
+    }
 }
 
-#[test]
-fn journals_are_refused(rt: HostRuntime) {
-    let alloc = rt.alloc();
-    for (head, first, second, sizes, fault) in REFUSED {
-        assert!(rt; fault_of(alloc, head, first, second, sizes, 4104) == Some(*fault));
+/// Whether this is read from the file.
+fn is_read(alloc: Global, case: &Case) -> Result<bool, AllocError> {
+    let file = file_of(alloc, case.head, case.first, case.second)?;
+    let bytes = file.as_slice();
+    match scan(alloc, bytes.get(..case.count).unwrap_or(bytes), case.sizes) {
+        Ok(journal) => Ok(is_found(&journal, &case.found)),
+        Err(fault) => Ok(matches!(case.found, Found::Refused(wanted) if wanted == fault)),
     }
+}
+
+fn are_read(alloc: Global, cases: &[Case]) -> bool {
+    for case in cases {
+        if is_read(alloc, case) != Ok(true) {
+            return false;
+        }
+    }
+    true
 }
 
 /// The fault of a journal that is cut off after this many bytes.
@@ -329,20 +362,21 @@ fn cut_fault(size: usize) -> JournalFault {
     JournalFault::BadJournal { at: size }
 }
 
-/// How many bytes are left of a cut migration, and the fault: they are too few for the mark, or just enough.
-const CUT_MOVING: &[(usize, JournalFault)] = &[
-    (12, JournalFault::BadVersion { found: 0x77 }),
-    (13, JournalFault::BadJournal { at: 13 }),
-];
+#[test]
+fn journals_are_read(rt: HostRuntime) {
+    assert!(rt; are_read(rt.alloc(), CASES));
+}
 
 #[test]
 fn files_cut_short(rt: HostRuntime) {
-    let alloc = rt.alloc();
     for size in 0..4104usize {
-        assert!(rt; fault_of(alloc, &TWO, SWAP, &[], &[64, 64], size) == Some(cut_fault(size)));
-    }
-    for (size, fault) in CUT_MOVING {
-        assert!(rt; fault_of(alloc, TORN, MARK, &[], &[64], *size) == Some(*fault));
+        let case = Case {
+            first: SWAP,
+            count: size,
+            found: Found::Refused(cut_fault(size)),
+            ..TWO_SLAVES
+        };
+        assert!(rt; is_read(rt.alloc(), &case) == Ok(true));
     }
 }
 

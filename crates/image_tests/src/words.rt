@@ -1,7 +1,6 @@
 //! Words of devices and of image files, plants, and lists. The check bytes are those of EEPROMs in use.
 
-use crate::devices::{Bytes, line_of, spelt};
-use crate::tests::process_data::{BOTH, INPUTS};
+use crate::devices::{BOTH, Bytes, INPUTS, line_of, spelt};
 use lists::ItemList;
 use sii_words::{
     Identity, ImageFile, Words, WordsFault, bytes_of_words, is_device_size, is_image_size,
@@ -66,32 +65,43 @@ const SEEN: &[(Bytes, Seen)] = &[
     (INPUT_DATA, (0, 0x30, 0x19, true, NO_IDENTITY)),
 ];
 
-/// Whether this is seen of a device, and of its bytes in an earlier copy once its last word is changed.
-fn is_device_of(alloc: Global, bytes: &[u8], seen: &Seen) -> Result<bool, WordsFault> {
+fn is_seen_of_device(words: &Words, seen: &Seen) -> bool {
     let (alias, check, with_1, is_right, identity) = *seen;
-    let mut words = Words::from_bytes(alloc, bytes)?;
-    let is_seen = words.alias() == alias
+    words.alias() == alias
         && words.check_byte() == check
         && words.check_byte_with(1) == with_1
         && words.check_ok() == is_right
         && words.identity() == identity
-        && words.len() == 128;
+        && words.len() == 128
+}
+
+/// Whether this is seen of a device, and of its bytes in an earlier copy once its last word is changed.
+fn is_device_of(alloc: Global, bytes: &[u8], seen: &Seen) -> Result<bool, WordsFault> {
+    let mut words = Words::from_bytes(alloc, bytes)?;
     let copy = words.try_copy()?;
     words.set(63, 0xABCD);
-    Ok(is_seen && words.get(63) == 0xABCD && copy.to_bytes()?.as_slice() == bytes)
+    let written = copy.to_bytes()?;
+    Ok(is_seen_of_device(&copy, seen) && words.get(63) == 0xABCD && written.as_slice() == bytes)
+}
+
+fn is_seen_of_image(image: &ImageFile, seen: &Seen) -> bool {
+    let (alias, check, _, is_right, identity) = *seen;
+    image.alias() == alias
+        && image.check_byte() == check
+        && image.check_ok() == is_right
+        && image.identity() == identity
 }
 
 /// The same of an image file.
 fn is_image_of(alloc: Global, bytes: &[u8], seen: &Seen) -> Result<bool, WordsFault> {
-    let (alias, check, _, is_right, identity) = *seen;
     let mut image = ImageFile::from_bytes(alloc, bytes)?;
-    let is_seen = image.alias() == alias
-        && image.check_byte() == check
-        && image.check_ok() == is_right
-        && image.identity() == identity;
     let copy = image.try_copy()?;
     image.set(63, 0xABCD);
-    Ok(is_seen && image.as_slice()[63] == 0xABCD && are_bytes_of(&copy, bytes))
+    Ok(
+        is_seen_of_image(&copy, seen)
+            && image.as_slice()[63] == 0xABCD
+            && are_bytes_of(&copy, bytes),
+    )
 }
 
 /// Whether the bytes of an image of 128 words are these.

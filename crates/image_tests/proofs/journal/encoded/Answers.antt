@@ -1,5 +1,5 @@
-use Rattle.line_tests.proofs.ShortRuns.{sized_runs, counted_entry}
-use Rattle.line_tests.proofs.journal.encoded.Goals as goal
+use Rattle.image_tests.proofs.ShortRuns.{sized_runs, counted_entry}
+use Rattle.image_tests.proofs.journal.encoded.Goals as goal
 
 pub size_of-size-requires-clause-fits : goal.size_of-size-requires-clause-fits
 size_of-size-requires-clause-fits c = rw c.deref.ensures.value (sized_runs c.args.runs.items c.requires.few c.requires.one_word)

@@ -1,7 +1,6 @@
 //! Readers, writers and copies, on a line of two slaves with process data. The values were read off the bytes by hand.
 
-use crate::devices::{Bytes, FULL, is_line, line_of, spelt};
-use crate::tests::process_data::{BOTH, INPUTS};
+use crate::devices::{BOTH, Bytes, FULL, INPUTS, is_device, is_line, line_of, words_of};
 use esc_model::{ProcessHalf, RomHalf};
 use sii_cats::kind::{RXPDOS, SYNC_MANAGERS, TXPDOS};
 use sii_cats::{
@@ -143,7 +142,8 @@ const READ: &[(&[u8], (usize, usize), Content)] = &[
 /// Whether these are the managers, and written again they are the words.
 fn are_managers(alloc: Global, words: &[u16], managers: &[Manager]) -> Result<bool, CatFault> {
     let read = syncms(alloc, words)?;
-    Ok(read.as_slice() == managers && write_syncms(alloc, &read)?.as_slice() == words)
+    let written = write_syncms(alloc, &read)?;
+    Ok(read.as_slice() == managers && written.as_slice() == words)
 }
 
 fn is_pdo_alone(read: &[Pdo], index: u16, manager: u8, entries: &[PdoEntry]) -> bool {
@@ -230,9 +230,10 @@ fn have_chain(alloc: Global, words: &Words, wanted: &[Category]) -> Result<bool,
 }
 
 /// Whether a copy of a slave's EEPROM half holds these words.
-fn rom_is_copied(words: Words, bytes: &[u8]) -> Result<bool, WordsFault> {
-    let copy = RomHalf::power_up(words, 0x1001, 1).try_copy()?;
-    Ok(copy.words().to_bytes()?.as_slice() == bytes)
+fn rom_is_copied(alloc: Global, words: Words, slave: &Bytes) -> Result<bool, AllocError> {
+    let half = RomHalf::power_up(words, 0x1001, 1);
+    let copy = half.try_copy()?;
+    is_device(alloc, copy.words(), slave)
 }
 
 /// Whether a copy of a slave's process half holds a byte that was written before, and not what is written later.
@@ -245,16 +246,11 @@ fn process_is_copied(alloc: Global, words: &Words) -> Result<bool, AllocError> {
 }
 
 /// Whether the words form this chain, and copies of both halves of a slave with them hold what these do.
-fn are_copied(alloc: Global, words: Words, bytes: &[u8], wanted: &[Category]) -> bool {
-    let are_copied = have_chain(alloc, &words, wanted) == Ok(true)
-        && process_is_copied(alloc, &words) == Ok(true);
-    rom_is_copied(words, bytes) == Ok(true) && are_copied
-}
-
 fn is_slave(alloc: Global, slave: &Bytes, wanted: &[Category]) -> Result<bool, WordsFault> {
-    let bytes = spelt(alloc, slave)?;
-    let words = Words::from_bytes(alloc, &bytes)?;
-    Ok(are_copied(alloc, words, &bytes, wanted))
+    let words = words_of(alloc, slave)?;
+    let is_read = have_chain(alloc, &words, wanted) == Ok(true)
+        && process_is_copied(alloc, &words) == Ok(true);
+    Ok(rom_is_copied(alloc, words, slave)? && is_read)
 }
 
 #[test]

@@ -47,7 +47,7 @@ enum Ask {
     /// Slave, type and content.
     Category(u16, u16, &'static [u16]),
     /// Slave, and the bytes of an image.
-    Image(u16, Bytes),
+    Image(u16, &'static Bytes),
 }
 
 /// A command as a table holds it.
@@ -69,8 +69,10 @@ const LONGEST: &[Ask] = &[Ask::Alias(2, 1); 64];
 
 const ONE_MORE: &[Ask] = &[Ask::Alias(2, 1); 65];
 
-/// Lines and commands, and why these are refused, if they are: the cause, and which edit of a group has it.
-const JUDGED: &[(&[Bytes], Order, Option<(Cause, Option<u8>)>)] = &[
+/// A line, a command, and why this is refused, if it is: the cause, and which edit of a group has it.
+type Judged = (&'static [Bytes], Order, Option<(Cause, Option<u8>)>);
+
+const JUDGED: &[Judged] = &[
     (
         ONE_UNCHECKED,
         Order::Swap(2, 2),
@@ -110,7 +112,7 @@ const JUDGED: &[(&[Bytes], Order, Option<(Cause, Option<u8>)>)] = &[
         Order::Group(&[Ask::Category(2, 0xFFFF, &[1])]),
         Some((Cause::BadCategory { kind: 0xFFFF }, Some(0))),
     ),
-    (ZEROS, Order::Group(&[Ask::Image(1, WITH_STRINGS)]), None),
+    (ZEROS, Order::Group(&[Ask::Image(1, &WITH_STRINGS)]), None),
     (ZEROS, Order::Group(&[Ask::Category(0, 60, FILLING)]), None),
     (
         ZEROS,
@@ -137,12 +139,12 @@ const JUDGED: &[(&[Bytes], Order, Option<(Cause, Option<u8>)>)] = &[
     ),
     (
         ONE_UNCHECKED,
-        Order::Guarded(&[(0, Ask::Image(0, VENDOR_2)), (2, Ask::Alias(0, 3))]),
+        Order::Guarded(&[(0, Ask::Image(0, &VENDOR_2)), (2, Ask::Alias(0, 3))]),
         None,
     ),
     (
         ONE_UNCHECKED,
-        Order::Guarded(&[(0, Ask::Image(0, VENDOR_2)), (0, Ask::Alias(0, 3))]),
+        Order::Guarded(&[(0, Ask::Image(0, &VENDOR_2)), (0, Ask::Alias(0, 3))]),
         Some((Cause::WrongIdentity, Some(1))),
     ),
     // On a blank slave the check byte is judged before the identity.
@@ -158,7 +160,7 @@ const JUDGED: &[(&[Bytes], Order, Option<(Cause, Option<u8>)>)] = &[
     ),
     (
         &[SMALL],
-        Order::One(Ask::Image(0, LONGER)),
+        Order::One(Ask::Image(0, &LONGER)),
         Some((Cause::ImageTooLong, None)),
     ),
     (
@@ -196,35 +198,42 @@ const MOST: &[u16] = &[
     0, 0x7000, 1, 0x0805, 0, 0x7000, 1, 0x0805, 0, 0, 0,
 ];
 
-/// Why a command is refused, if it is.
-fn refusal(
+/// Whether a command is refused so, if it is to be.
+fn is_refused(
     alloc: Global,
     plant: &Plant,
     command: &Command,
-) -> Result<Option<(Cause, Option<u8>)>, AllocError> {
+    wanted: Option<(Cause, Option<u8>)>,
+) -> Result<bool, AllocError> {
     let layout = Layout::of(alloc, plant)?;
     match changes(alloc, plant, &layout, command) {
-        Ok(_) => Ok(None),
-        Err(refusal) => Ok(Some((refusal.cause, refusal.position))),
+        Ok(runs) => {
+            drop(runs);
+            Ok(wanted.is_none())
+        }
+        Err(refusal) => Ok(wanted == Some((refusal.cause, refusal.position))),
     }
 }
 
-fn is_judged(
-    alloc: Global,
-    slaves: &[Bytes],
-    order: &Order,
-    wanted: Option<(Cause, Option<u8>)>,
-) -> Result<bool, WordsFault> {
+fn is_judged(alloc: Global, row: &Judged) -> Result<bool, WordsFault> {
+    let (slaves, order, wanted) = row;
     let plant = line_of(alloc, slaves)?;
     let command = command(alloc, order)?;
-    Ok(refusal(alloc, &plant, &command) == Ok(wanted))
+    Ok(is_refused(alloc, &plant, &command, *wanted)?)
+}
+
+fn are_judged(alloc: Global, rows: &[Judged]) -> bool {
+    for row in rows {
+        if is_judged(alloc, row) != Ok(true) {
+            return false;
+        }
+    }
+    true
 }
 
 #[test]
 fn commands_are_judged_in_order(rt: HostRuntime) {
-    for (slaves, order, wanted) in JUDGED {
-        assert!(rt; is_judged(rt.alloc(), slaves, order, *wanted) == Ok(true));
-    }
+    assert!(rt; are_judged(rt.alloc(), JUDGED));
 }
 
 /// `ZERO` with a category of type 60 and alias 1; and with a longer one, of which an image leaves the end.
@@ -337,20 +346,20 @@ const APPLIED: &[Applied] = &[
     ),
     (
         ZEROS,
-        Order::Group(&[Ask::Category(0, 60, &[9, 8]), Ask::Image(0, VENDOR_2)]),
+        Order::Group(&[Ask::Category(0, 60, &[9, 8]), Ask::Image(0, &VENDOR_2)]),
         &[(0, 8, &[2]), (0, 66, &[9, 8, 0xFFFF])],
         &[UNDER_AN_IMAGE, ZERO, ZERO],
     ),
     (
         ZEROS,
-        Order::Guarded(&[(0, Ask::Image(0, VENDOR_2)), (2, Ask::Alias(0, 3))]),
+        Order::Guarded(&[(0, Ask::Image(0, &VENDOR_2)), (2, Ask::Alias(0, 3))]),
         &[(0, 4, &[3]), (0, 7, &[0x004B, 2])],
         &[OF_VENDOR_2, ZERO, ZERO],
     ),
     // The words behind the image stay.
     (
         &[BLANK],
-        Order::One(Ask::Image(0, IMAGE)),
+        Order::One(Ask::Image(0, &IMAGE)),
         &[(0, 0, &IMAGED)],
         &[HALF_BLANK],
     ),
@@ -379,15 +388,17 @@ const APPLIED: &[Applied] = &[
     ),
 ];
 
-fn is_run(run: &Run, wanted: (u16, u16, &[u16])) -> bool {
-    let (slave, first, words) = wanted;
-    run.slave == slave && run.first == first && run.words.as_slice() == words
+/// Whether a copy of the run has this slave, first word and values.
+fn is_run(run: &Run, wanted: &(u16, u16, &[u16])) -> Result<bool, AllocError> {
+    let (slave, first, words) = *wanted;
+    let copy = run.try_copy()?;
+    Ok(copy.slave == slave && copy.first == first && copy.words.as_slice() == words)
 }
 
-/// Whether copies of the runs have these slaves, first words and values.
+/// Whether the runs have these slaves, first words and values.
 fn are_runs(runs: &[Run], wanted: &[(u16, u16, &[u16])]) -> Result<bool, AllocError> {
     for (run, row) in runs.iter().zip(wanted) {
-        if !is_run(&run.try_copy()?, *row) {
+        if !is_run(run, row)? {
             return Ok(false);
         }
     }
@@ -412,17 +423,25 @@ fn is_applied(
 
 /// Whether a copy of a command does so on these slaves.
 fn leads_to(alloc: Global, row: &Applied) -> Result<bool, WordsFault> {
-    let (slaves, order, runs, after) = *row;
+    let (slaves, order, runs, after) = row;
     let plant = line_of(alloc, slaves)?;
-    let copy = command(alloc, &order)?.try_copy()?;
+    let command = command(alloc, order)?;
+    let copy = command.try_copy()?;
     Ok(is_applied(alloc, &plant, &copy, runs, after))
+}
+
+fn all_lead_to(alloc: Global, rows: &[Applied]) -> bool {
+    for row in rows {
+        if leads_to(alloc, row) != Ok(true) {
+            return false;
+        }
+    }
+    true
 }
 
 #[test]
 fn commands_lead_to_runs_and_contents(rt: HostRuntime) {
-    for row in APPLIED {
-        assert!(rt; leads_to(rt.alloc(), row) == Ok(true));
-    }
+    assert!(rt; all_lead_to(rt.alloc(), APPLIED));
 }
 
 fn edit(alloc: Global, ask: &Ask) -> Result<Edit, WordsFault> {
@@ -435,7 +454,7 @@ fn edit(alloc: Global, ask: &Ask) -> Result<Edit, WordsFault> {
         }),
         Ask::Image(slave, bytes) => Ok(Edit::Image {
             slave,
-            image: ImageFile::from_bytes(alloc, &spelt(alloc, &bytes)?)?,
+            image: ImageFile::from_bytes(alloc, &spelt(alloc, bytes)?)?,
         }),
     }
 }
