@@ -7,6 +7,7 @@ mod apart;
 mod asked;
 mod closing;
 mod commands;
+mod redoing;
 mod rounds;
 mod submitter;
 mod submitting;
@@ -15,5 +16,6 @@ mod together;
 
 pub use closing::Ending;
 pub use commands::serve_commands;
+pub use redoing::{Redone, redo_by_threads};
 pub use station_threads::CloseFault;
 pub use threads::{Left, serve_by_threads};
