@@ -77,7 +77,7 @@ stops-now opened calls shares receipts ends left why (Err fault) told answered k
       tells = tells-why (replayed opened calls) told tells;
     }
 
-none-of : {A : Type 0} (items : List A) → length items ≡ 0 → items ≡ []
+pub none-of : {A : Type 0} (items : List A) → length items ≡ 0 → items ≡ []
 none-of [] none = refl
 none-of (item ∷ items) none = absurd (omega (arith, none))
 

@@ -4,6 +4,8 @@ mod PartLaws
 pub mod SlaveLaws
 mod LeftLaws
 pub mod DeskLaws
+pub mod IssueLaws
+pub mod RedoLaws
 pub mod RoundLaws
 pub mod RoundServing
 pub mod RoundSubmitting

@@ -192,7 +192,7 @@ fn tell_open<T: Tickets, R: Refusals, O: Write, D: Device + Copy>(
 }
 
 /// Why a desk isn't closed: the fault of the book; if it has none, `Memory` where its jobs stopped for want of it, or `Unserved`.
-fn why_open<T: Tickets, R: Refusals>(book: &Served<T, R>) -> Fault
+pub(crate) fn why_open<T: Tickets, R: Refusals>(book: &Served<T, R>) -> Fault
     ensures { TellsWhy (replayed T.opened book.now.calls) result }
 {
     match book.fault() {

@@ -8,6 +8,7 @@ mod asked;
 mod closing;
 mod commands;
 mod events;
+mod redoing;
 mod rounds;
 mod submitter;
 mod submitting;
@@ -17,6 +18,7 @@ mod work;
 
 pub use closing::Ending;
 pub use commands::serve_commands;
+pub use redoing::{Redone, redo_by_threads};
 pub use station_threads::CloseFault;
 pub use threads::{Left, serve_by_threads};
 pub use work::Work;

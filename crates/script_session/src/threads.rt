@@ -85,7 +85,7 @@ pub fn serve_by_threads<D: Device + Copy + Send, O: Write, W: Wait + Threads + S
 }
 
 /// The sites of a line, and an empty list with room for the halves of its slaves.
-fn prepare<D: Device + Copy>(
+pub(crate) fn prepare<D: Device + Copy>(
     alloc: Global,
     site: ShadowSite<D>,
     capacity: u32,
@@ -257,14 +257,14 @@ fn serve_submitter<
 
 /// A new desk, a share for the submitter, and an empty list with room for that share.
 #[derive(Drop)]
-struct Opened<T: Tickets, R: Refusals> {
-    desk: Desk<T, R>,
-    share: Share<T, R>,
-    room: Vec<Share<T, R>>,
+pub(crate) struct Opened<T: Tickets, R: Refusals> {
+    pub(crate) desk: Desk<T, R>,
+    pub(crate) share: Share<T, R>,
+    pub(crate) room: Vec<Share<T, R>>,
 }
 
 /// A new desk of this book, with its first share for the submitter and room for that share.
-fn open_desk<T: Tickets, R: Refusals>(
+pub(crate) fn open_desk<T: Tickets, R: Refusals>(
     alloc: Global,
     core: Core,
     tickets: BlankLedger,
@@ -285,7 +285,7 @@ fn open_desk<T: Tickets, R: Refusals>(
 }
 
 /// Serves the sites at the desk while the client drives it. If memory is refused, nothing is started and the sites are handed back.
-fn serve_sites<
+pub(crate) fn serve_sites<
     T: Tickets + Send + Sync,
     R: Refusals + Send + Sync,
     D: Device + Copy + Send,

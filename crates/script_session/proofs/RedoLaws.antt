@@ -1,0 +1,221 @@
+-- What a desk to which no command is submitted leaves, and the session that begins behind it.
+use Rattle.std.proofs.Common.{◌≡◌, ℕ, ◌≤◌, true, List, [], ◌∷◌, ◌++◌, length, take, refl, sym, ◌∙◌, ap, subst, arith, Ok, Err}
+use Rattle.std.specs.Prelude.{cond, count_by}
+use Rattle.std.specs.List.{AllByRecursion}
+use Rattle.std.proofs.Math.Seq.{take-nil}
+use Rattle.std.proofs.lemmas.List.{append-nil, length-append}
+use Rattle.std.proofs.lemmas.List.Elements.{All-nil}
+use Rattle.std.proofs.lemmas.List.Sums.{sum_by-cons}
+use Rattle.sii_edit.specs.declared.command.Command.{Command}
+use Rattle.sii_edit.specs.Fitting.{CommandFits, PlantFits}
+use Rattle.sii_edit.specs.Fold.{contents}
+use Rattle.site_core.specs.Line.{Line}
+use Rattle.site_core.specs.State.{Seen}
+use Rattle.site_core.specs.Passes.{LeavesOnly}
+use Rattle.site_shadow.specs.Site.{SiteValue}
+use Rattle.book_model.specs.Book.{Book, base_of}
+use Rattle.book_model.specs.Submit.{with_command}
+use Rattle.book_model.specs.Machine.{Machine, MayKeep, reopened}
+use Rattle.book_model.specs.Machine as machines
+use Rattle.book_model.specs.Kept.{Kept}
+use Rattle.book_laws.specs.Keeping.{IsOfBook}
+use Rattle.book_laws.specs.Opening.{capacity_in, words_in}
+use Rattle.site_journal.specs.Left.{words_issued}
+use Rattle.site_journal.proofs.OpenLaws.{none-issued}
+use Rattle.world_law.specs.Law.{blank}
+use Rattle.station_alone.specs.Station.{Station, Stands}
+use Rattle.station_alone.specs.Keeping.{KeptFor}
+use Rattle.station_alone.specs.Opening.{Begins, OpensCounted}
+use Rattle.station_alone.specs.declared.opening.Found.{Found}
+use Rattle.desk_book.specs.declared.call.Call.{Call}
+use Rattle.desk_book.specs.declared.call.Call.TheVariants.{Submitted, DiskAsked, DiskTold, SlaveAsked, SlaveTold, PlanAsked, Finished}
+use Rattle.desk_book.specs.Calls.{after, replayed, is_refusal}
+use Rattle.desk_book.proofs.CountLaws.{each-slave}
+use Rattle.desk_book.proofs.KeptLaws.{keeps-disk_next, keeps-disk_done, keeps-rom_next, keeps-rom_done}
+use Rattle.desk_laws.specs.Joined.{CallFits, served_by}
+use Rattle.desk_laws.specs.Together.{AllEndSo, IsLeft}
+use Rattle.desk_laws.specs.Slaves.{AllReadAsContents, IsJustOpened}
+use Rattle.desk_book.specs.Calls.{AreAnswered}
+use Rattle.desk_book.specs.Closing.{is_served}
+use Rattle.desk_book.specs.Numbered.{Numbered}
+use Rattle.desk_book.specs.Serving.{ShareCounts}
+use Rattle.station_threads.specs.Closing.{IsHandedIn}
+use Rattle.station_threads.specs.declared.closing.Ends.{Ends}
+use Rattle.station_files.specs.declared.faults.ExitStatus.TheVariants.{Done}
+use Rattle.script_session.specs.Asking.{no_counts}
+use Rattle.script_session.specs.AtDesk.{seen_of, AllLeftSo, BeginsAs, Closes, ClosesWith}
+use Rattle.script_session.specs.Parts.{Sites, IsApart, AreEndsOfParts, IsTogether}
+use Rattle.script_session.specs.Redoing.{IsCount, IsOpenedHere, IsRedone, KeepsLine, issues_of}
+use Rattle.script_session.proofs.DeskLaws.{none-of}
+use Rattle.script_session.proofs.IssueLaws.{issued-by, opened-many}
+use Rattle.script_session.proofs.LeftLaws.{left-together}
+use Rattle.script_session.proofs.SlaveLaws.{contents-together}
+
+-- ---- the station is opened
+
+-- a station that was opened stands on what its site holds
+pub opened-here : (line : Line) (old : Seen) (new : Station) (found : Found) → OpensCounted line old new found → IsOpenedHere new
+opened-here line old new found opens = record { journal = opens.0; found = opens.1.found; book = opens.1.book }
+
+-- ---- no command is submitted
+
+no-fewer-after : (book : Book) (call : Call) → length book.accepted ≤ length (after book call).accepted
+no-fewer-after book (Submitted command (Ok number)) = omega (arith, length-append book.accepted (command ∷ []))
+no-fewer-after book (Submitted command (Err refusal)) = omega arith
+no-fewer-after book (DiskAsked answer) = let same = ap (λ (l : List Command). length l) (keeps-disk_next book).accepted in omega (arith, same)
+no-fewer-after book (DiskTold outcome) = let same = ap (λ (l : List Command). length l) (keeps-disk_done book outcome).accepted in omega (arith, same)
+no-fewer-after book (SlaveAsked slave answer) = let same = ap (λ (l : List Command). length l) (keeps-rom_next book slave).accepted in omega (arith, same)
+no-fewer-after book (SlaveTold slave outcome) = let same = ap (λ (l : List Command). length l) (keeps-rom_done book slave outcome).accepted in omega (arith, same)
+no-fewer-after book (PlanAsked answer) = omega arith
+no-fewer-after book Finished = omega arith
+
+no-fewer : (book : Book) (calls : List Call) → length book.accepted ≤ length (replayed book calls).accepted
+no-fewer book [] = omega arith
+no-fewer book (call ∷ calls) = omega (arith, no-fewer-after book call, no-fewer (after book call) calls)
+
+-- where none was accepted and none refused, none was submitted
+none-submitted : (book : Book) (calls : List Call) → length (replayed book calls).accepted ≡ 0 → count_by is_refusal calls ≡ 0 → AllByRecursion CallFits calls
+none-submitted book [] none sound = tt
+none-submitted book (Submitted command (Ok number) ∷ calls) none sound =
+    let more = no-fewer (with_command book command) calls in
+    absurd (omega (arith, none, more, length-append book.accepted (command ∷ [])))
+none-submitted book (Submitted command (Err refusal) ∷ calls) none sound =
+    let one = sum_by-cons (λ (call : Call). cond (is_refusal call) 1 0) (Submitted command (Err refusal)) calls in
+    absurd (omega (arith, sound, one))
+none-submitted book (DiskAsked answer ∷ calls) none sound = (tt, none-submitted (after book (DiskAsked answer)) calls none sound)
+none-submitted book (DiskTold outcome ∷ calls) none sound = (tt, none-submitted (after book (DiskTold outcome)) calls none sound)
+none-submitted book (SlaveAsked slave answer ∷ calls) none sound = (tt, none-submitted (after book (SlaveAsked slave answer)) calls none sound)
+none-submitted book (SlaveTold slave outcome ∷ calls) none sound = (tt, none-submitted (after book (SlaveTold slave outcome)) calls none sound)
+none-submitted book (PlanAsked answer ∷ calls) none sound = (tt, none-submitted book calls none sound)
+none-submitted book (Finished ∷ calls) none sound = (tt, none-submitted (after book Finished) calls none sound)
+
+-- ---- what is kept
+
+-- what is kept for a machine without commands is kept for each other one with the same contents
+kept-too : (bytes : List ℕ) (words : List (List ℕ)) (one other : Machine) → one.accepted ≡ [] → other.accepted ≡ [] → other.acknowledged ≡ 0
+    → machines.base_of one ≡ machines.base_of other → Kept bytes words one → Kept bytes words other
+kept-too bytes words one other none nothing zero_is base kept =
+    let few : other.acknowledged ≤ 0 = omega (arith, zero_is) in
+    let begun =
+    kept.same ∙ ap (λ (l : List Command). contents (machines.base_of one) (take kept.k l)) none
+    ∙ ap (λ (l : List Command). contents (machines.base_of one) l) (take-nil {A = Command} kept.k) in
+    let ends : contents (machines.base_of other) (take 0 other.accepted) ≡ machines.base_of other =
+    ap (λ (l : List Command). contents (machines.base_of other) (take 0 l)) nothing in
+    record { journal = kept.journal; live = kept.live; k = 0; may_keep = (few, omega arith); same = begun ∙ base ∙ sym ends }
+
+-- the commands of a session that began without one
+none-behind : (kept : List Command) (k : ℕ) → kept ++ take k [] ≡ kept
+none-behind kept k = ap (λ (l : List Command). kept ++ l) (take-nil {A = Command} k) ∙ append-nil kept
+
+module _ (opened : Station) (here : IsOpenedHere opened) (stands : Stands opened) where
+  none-opened : opened.book.accepted ≡ []
+  none-opened = ap (λ (book : Book). book.accepted) here.book
+
+  -- the contents at the open have 16-bit words
+  base-fits : PlantFits (base_of opened.book)
+  base-fits = subst (λ (l : List Command). PlantFits (contents (base_of opened.book) l)) none-opened stands.words
+
+  module _ (calls : List Call) (none : (replayed opened.book calls).accepted ≡ []) (sound : count_by is_refusal calls ≡ 0) where
+    -- the station begins as the machine of these contents
+    as-blank : (machine : Machine) → IsOfBook opened.book machine → LeavesOnly (KeptFor machine) opened.seen.state → BeginsAs (blank (base_of opened.book)) calls opened
+    as-blank machine is kept = record {
+      journal = here.journal;
+      found = here.found;
+      book = here.book;
+      kept = λ pair leaves. kept-too pair.disk pair.words machine (blank (base_of opened.book)) (is.accepted ∙ none-opened) refl refl is.base (kept pair leaves);
+      fits = record { origin = base-fits; kept = All-nil CommandFits; accepted = All-nil CommandFits };
+      commands_fit = none-submitted opened.book calls (ap (λ (l : List Command). length l) none) sound;
+    }
+
+    -- a desk to which no command is submitted leaves what is kept
+    pub keeps-line : (site : SiteValue) → AllLeftSo IsLeft opened calls site → KeepsLine opened site.seen.state
+    keeps-line site left machine is kept =
+        let base = base_of opened.book in
+        let behind = left (blank base) (as-blank machine is kept) in
+        let session = reopened (blank base) behind.kept.k in
+        let same : machines.base_of session ≡ base = ap (λ (l : List Command). contents base l) (none-behind [] behind.kept.k) in
+        let zero_is : machine.acknowledged ≡ 0 = is.acknowledged ∙ ap (λ (book : Book). book.durable) here.book in
+        λ pair leaves.
+        kept-too pair.disk pair.words (served_by session (replayed opened.book calls)) machine none (is.accepted ∙ none-opened) zero_is
+        (same ∙ sym is.base) (behind.kept.kept pair leaves)
+
+-- ---- the desk is closed
+
+-- the shares and ends of a desk that was closed without receipts
+pub closes-plain : (opened : Book) (calls : List Call) (shares : List ShareCounts) (receipts : List Numbered) (ends left : Ends SiteValue)
+    → AreAnswered opened calls → is_served (replayed opened calls) ≡ true → receipts ≡ [] → IsHandedIn opened calls shares receipts ends
+    → (IsJustOpened opened → AllReadAsContents opened (replayed opened calls) seen_of left.workers.items)
+    → AllEndSo IsLeft opened calls seen_of left.flusher left.workers.items → left ≡ ends → Closes opened shares [] ends
+closes-plain opened calls shares receipts ends left answered served none handed_in contents leaves same = record {
+  calls = calls;
+  closed = record {
+    answered = answered;
+    served = served;
+    handed_in = subst (λ (l : List Numbered). IsHandedIn opened calls shares l ends) none handed_in;
+    contents = λ just. subst (λ (e : Ends SiteValue). AllReadAsContents opened (replayed opened calls) seen_of e.workers.items) same (contents just);
+    left = subst (λ (e : Ends SiteValue). AllEndSo IsLeft opened calls seen_of e.flusher e.workers.items) same leaves;
+  };
+}
+
+module _ (opened : Station) (sites : Sites) (ends : Ends SiteValue) (site : SiteValue) (words : ℕ) (here : IsOpenedHere opened) (stands : Stands opened) where
+  redone-here : IsApart opened.seen.state sites → AreEndsOfParts sites ends → Closes opened.book (no_counts ∷ []) [] ends → IsTogether ends site
+      → IsCount (issues_of ends.workers.items) words → IsRedone opened words site
+  redone-here apart of_sites closes together counts =
+      let counted = closes.closed.handed_in.counted in
+      let tickets = counted.tickets in
+      let refusals = counted.refusals in
+      let none : (replayed opened.book closes.calls).accepted ≡ [] = none-of (replayed opened.book closes.calls).accepted (omega (arith, tickets)) in
+      let sound : count_by is_refusal closes.calls ≡ 0 = omega (arith, refusals) in
+      let with_none : ClosesWith opened.book [] true Done (Ok tt) ends = record {
+        calls = closes.calls;
+        counts = no_counts;
+        receipts = [];
+        closed = closes.closed;
+        acknowledged = sym none;
+        accepts = (none, λ done. none);
+        tells = tt;
+      } in
+      let calls = closes.calls in
+      let workers = closes.closed.handed_in.ended.workers in
+      let many : length ends.workers.items ≡ length opened.book.slaves =
+      workers.count ∙ each-slave opened.book (replayed opened.book calls).accepted ∙ ap (λ (book : Book). length book.words) here.book
+      ∙ sym (ap (λ (book : Book). length book.slaves) here.book ∙ opened-many (words_in opened.seen.state.halves) (capacity_in opened.seen.state.disk.bytes) here.journal) in
+      let issued = issued-by opened.book calls ends.workers.items closes.closed.answered workers many in
+      let zero_is : words_issued opened.book.slaves ≡ 0 =
+      ap (λ (book : Book). words_issued book.slaves) here.book ∙ none-issued (words_in opened.seen.state.halves) (capacity_in opened.seen.state.disk.bytes) here.journal in
+      let all : issues_of ends.workers.items ≡ words_issued (replayed opened.book calls).slaves = omega (arith, issued, zero_is) in
+      record {
+        served = record {
+          sites = sites;
+          apart = apart;
+          ends = ends;
+          of_sites = of_sites;
+          closes = with_none;
+          together = together;
+          contents = λ just. contents-together opened.book (replayed opened.book calls) opened.seen.state sites ends site apart of_sites together (closes.closed.contents just);
+          left = left-together opened calls sites ends site apart of_sites together closes.closed.left;
+        };
+        counts = subst (λ (n : ℕ). IsCount n words) all counts;
+        keeps = keeps-line opened here stands calls none sound site (left-together opened calls sites ends site apart of_sites together closes.closed.left);
+      }
+
+  pub redone : (book : Book) (seen : Seen) → book ≡ opened.book → seen ≡ opened.seen → IsApart seen.state sites → AreEndsOfParts sites ends
+      → Closes book (no_counts ∷ []) [] ends → IsTogether ends site → IsCount (issues_of ends.workers.items) words → IsRedone opened words site
+  redone book seen of_book of_seen apart of_sites closes together counts =
+      redone-here (subst (λ (s : Seen). IsApart s.state sites) of_seen apart) of_sites
+      (subst (λ (b : Book). Closes b (no_counts ∷ []) [] ends) of_book closes) together counts
+
+-- ---- the session behind it
+
+-- a session that began without a command begins again where the line was recovered
+pub begins-still : (m : Machine) (k : ℕ) (s : Station) → Begins (reopened m k) s → MayKeep m k → Begins m s
+begins-still m k s again may =
+    let session = reopened m k in
+    let same : reopened session again.k ≡ session =
+    ap (λ (l : List Command). record { origin = m.origin; kept = l; accepted = []; acknowledged = 0 }) (none-behind session.kept again.k) in
+    record {
+      k = k;
+      may_keep = may;
+      of = subst (λ (one : Machine). IsOfBook s.book one) same again.of;
+      kept = subst (λ (one : Machine). LeavesOnly (KeptFor one) s.seen.state) same again.kept;
+    }

@@ -1,0 +1,240 @@
+//! Redoes by threads what is live in a journal: has a desk serve the line, to which no command is submitted.
+
+ghost use Rattle.std.specs.Prelude.{◌≡◌, ◌≤◌, ◌<◌, ◌+◌, ◌∷◌, [], length, vec_capacity, IfErr, IfOk};
+ghost use Rattle.site_shadow.specs.Site.{SiteValue};
+ghost use Rattle.station_threads.specs.Sites.{OwnParts};
+ghost use Rattle.desk_book.specs.Calls.{replayed, AreAnswered};
+ghost use Rattle.script_session.specs.Asking.{no_counts};
+ghost use Rattle.script_session.specs.AtDesk.{Closes, TellsWhy};
+ghost use Rattle.script_session.specs.Parts.{AreEndsOfParts, IsLineOf};
+ghost use Rattle.script_session.specs.Redoing.{
+  IsCount,
+  IsOpenedHere,
+  IsRedone,
+  StopsRedoing,
+  is_issue,
+  issues_in,
+  issues_of,
+};
+
+use crate::closing::why_open;
+use crate::threads::{Opened, open_desk, prepare, serve_sites};
+use crate::together::put_together;
+use book_core::Core;
+use book_model::RomNext;
+use site_core::Site;
+use site_shadow::{Device, ShadowSite};
+use station_alone::Alone;
+use station_files::Fault;
+use station_jobs::{End, NoHook, RomEntry, SlaveLog};
+use station_threads::{
+    BlankLedger, Client, Closed, Desk, Ends, NotClosed, Refusals, Share, Sites, Tickets, close,
+};
+use std::alloc::{AllocError, Global};
+use std::marker::Brand;
+use std::sync::Wait;
+use std::thread::Threads;
+
+/// A line on which threads have redone what was live in its journal.
+#[derive(Drop)]
+pub struct Redone<S> {
+    /// The line, put together again.
+    pub site: S,
+    /// Number of issues: words sent to slaves, each counted as often as it was sent. `u64::MAX` where there were more.
+    pub words: u64,
+}
+
+/// A client of a desk that submits no command.
+#[derive(Drop)]
+struct NoCommand;
+
+impl<T: Tickets, R: Refusals> Client<T, R> for NoCommand {
+    fn drive<W: Wait + Threads + Sync>(&mut self, _rt: &W, _desk: &Desk<T, R>) {}
+}
+
+/// Redoes by threads what is live in the journal of this station, which has `slaves` slaves, and puts the line together again. Nothing is
+/// printed. If a thread can't be started, its part is done on this one. The station must just have been opened on its site.
+///
+/// A power cut behind it leaves only what is kept for each machine that the book was to its callers, if so it was before.
+///
+/// # Errors
+///
+/// `Unserved` where the station's site can't be taken apart, or what is put together in the end isn't a line with its disk and `slaves`
+/// slaves; `Memory`; or the fault that has closed the book. The site is dropped.
+pub fn redo_by_threads<D: Device + Copy + Send, W: Wait + Threads + Sync>(
+    rt: &W,
+    alloc: Global,
+    alone: Alone<ShadowSite<D>>,
+    slaves: usize,
+) -> Result<Redone<ShadowSite<D>>, Fault>
+    requires { IsOpenedHere alone }
+    ensures line { IfOk result (λ redone. IsLineOf slaves redone.site.line) }
+    ensures redone { IfOk result (λ redone. IsRedone alone redone.words redone.site) }
+{
+    let capacity = alone.core().capacity();
+    let (core, site) = alone.into_parts();
+    let (sites, room) = match prepare(alloc, site, capacity, slaves) {
+        Ok(prepared) => prepared,
+        Err(fault) => {
+            drop(core);
+            return Err(fault);
+        }
+    };
+    let ends = redo_at_desk::<Brand, Brand, D, W>(
+        rt,
+        alloc,
+        core,
+        BlankLedger::new(2),
+        BlankLedger::new(2),
+        sites,
+    )?;
+    let words = issues_of(ends.workers.as_slice());
+    let site = put_together(alloc, room, slaves, ends)?;
+    Ok(Redone { site, words })
+}
+
+/// Makes a desk of the book, serves the sites there, and closes the desk.
+fn redo_at_desk<
+    T: Tickets + Send + Sync,
+    R: Refusals + Send + Sync,
+    D: Device + Copy + Send,
+    W: Wait + Threads + Sync,
+>(
+    rt: &W,
+    alloc: Global,
+    core: Core,
+    tickets: BlankLedger,
+    refusals: BlankLedger,
+    sites: Sites<ShadowSite<D>>,
+) -> Result<Ends<ShadowSite<D>>, Fault>
+    requires core { core ≡ T.opened }
+    requires none { core.accepted ≡ [] }
+    requires tickets { (tickets.name ≡ T.name) × (tickets.count ≡ T.parts) }
+    requires refusals { (refusals.name ≡ R.name) × (refusals.count ≡ R.parts) }
+    requires parts { (1 < tickets.count) × (1 < refusals.count) }
+    requires owned { OwnParts (λ (s : SiteValue). s.line) sites.disk sites.slaves.items sites.cycle }
+    requires long { 8 + core.capacity ≤ length sites.disk.seen.state.disk.bytes }
+    ensures of_sites { IfOk result (λ ends. AreEndsOfParts sites ends) }
+    ensures closes { IfOk result (λ ends. Closes T.opened (no_counts ∷ []) [] ends) }
+    ensures stopped { IfErr result (StopsRedoing T.opened) }
+{
+    match open_desk::<T, R>(alloc, core, tickets, refusals) {
+        Ok(opened) => redo_opened(rt, alloc, opened, sites),
+        Err(AllocError) => {
+            drop(sites);
+            Err(Fault::Memory)
+        }
+    }
+}
+
+/// Serves the sites at a new desk, and closes the desk.
+fn redo_opened<
+    T: Tickets + Send + Sync,
+    R: Refusals + Send + Sync,
+    D: Device + Copy + Send,
+    W: Wait + Threads + Sync,
+>(
+    rt: &W,
+    alloc: Global,
+    opened: Opened<T, R>,
+    sites: Sites<ShadowSite<D>>,
+) -> Result<Ends<ShadowSite<D>>, Fault>
+    requires room { (opened.room.items ≡ []) × (1 ≤ vec_capacity opened.room) }
+    requires share { opened.share ≡ no_counts }
+    requires owned { OwnParts (λ (s : SiteValue). s.line) sites.disk sites.slaves.items sites.cycle }
+    requires long { opened.desk.limit ≤ length sites.disk.seen.state.disk.bytes }
+    ensures of_sites { IfOk result (λ ends. AreEndsOfParts sites ends) }
+    ensures closes { IfOk result (λ ends. Closes T.opened (no_counts ∷ []) [] ends) }
+    ensures stopped { IfErr result (StopsRedoing T.opened) }
+{
+    let Opened { desk, share, room } = opened;
+    match serve_sites(rt, alloc, &desk, sites, &NoHook, &mut NoCommand) {
+        Ok(ends) => {
+            let mut shares = room;
+            shares.push_reserved(share);
+            close_redone(alloc, desk, shares, ends)
+        }
+        Err(sites) => {
+            drop(sites);
+            drop(desk);
+            drop(share);
+            drop(room);
+            Err(Fault::Memory)
+        }
+    }
+}
+
+/// Closes a desk without receipts, and gives the ends back.
+fn close_redone<T: Tickets, R: Refusals, D: Device + Copy>(
+    alloc: Global,
+    desk: Desk<T, R>,
+    shares: Vec<Share<T, R>>,
+    ends: Ends<ShadowSite<D>>,
+) -> Result<Ends<ShadowSite<D>>, Fault>
+    ensures ends { IfOk result (λ same. same ≡ ends) }
+    ensures closes { IfOk result (λ same. Closes T.opened shares.items [] ends) }
+    ensures stopped { IfErr result (StopsRedoing T.opened) }
+{
+    match close(desk, shares, Vec::new(alloc), ends) {
+        Ok(closed) => Ok(ends_of(closed)),
+        Err(left) => Err(fault_of(left)),
+    }
+}
+
+/// The ends that a closed desk hands back.
+fn ends_of<T: Tickets, R: Refusals, S: Site>(closed: Closed<T, R, S>) -> Ends<S>
+    ensures ends { result ≡ closed.ends }
+    ensures answered { AreAnswered T.opened closed.book.calls }
+{
+    let Closed { book, ends } = closed;
+    let _count = book.accepted().len();
+    drop(book);
+    ends
+}
+
+/// Why this desk isn't closed.
+fn fault_of<T: Tickets, R: Refusals, S: Site + Drop>(left: NotClosed<T, R, S>) -> Fault
+    ensures tells { TellsWhy (replayed T.opened left.book.calls) result }
+    ensures answered { AreAnswered T.opened left.book.calls }
+{
+    let NotClosed {
+        fault: _,
+        book,
+        shares,
+        receipts,
+        ends,
+    } = left;
+    let _count = book.accepted().len();
+    let why = why_open(&book);
+    drop(book);
+    drop(shares);
+    drop(receipts);
+    drop(ends);
+    why
+}
+
+/// Whether the job is the issue of a word.
+fn is_issue(job: RomNext) -> bool
+    ensures { result ≡ is_issue job }
+{
+    matches!(job, RomNext::Issue { .. })
+}
+
+/// The number of issues among these jobs.
+fn issues_in(jobs: &[RomEntry]) -> usize
+    ensures { result ≡ issues_in jobs.now }
+{
+    jobs.iter().filter(|entry| is_issue(entry.job)).count()
+}
+
+/// The number of issues in the logs of these workers; `u64::MAX` where there are more.
+fn issues_of<D: Device + Copy>(workers: &[End<ShadowSite<D>, SlaveLog>]) -> u64
+    ensures { IsCount (issues_of workers.now) result }
+{
+    let mut words: u64 = 0;
+    for place in 0..workers.len() {
+        let issues = issues_in(workers[place].log().jobs.as_slice());
+        words = words.saturating_add(issues as u64);
+    }
+    words
+}
