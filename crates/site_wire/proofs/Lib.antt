@@ -4,3 +4,4 @@ mod Only
 mod Sending
 mod Came
 mod Handing
+mod Boards

@@ -1,6 +1,9 @@
 -- What devices that share a line have put down for the next frame, by slave.
-use Rattle.std.specs.Prelude.{◌≡◌, ℕ, ◌<◌, Bool, true, false, List, slice_index_or, Option, None, Some}
+use Rattle.std.specs.Prelude.{◌≡◌, ℕ, ◌∷◌, ◌++◌, [], Bool, true, false, List, slice_index_or, Option, None}
+use Rattle.ecat_frame.specs.Frame.{Pdu}
+use Rattle.site_wire.specs.Orders.{IsOrderOf, datagram_of, readdressed}
 use Rattle.site_wire.specs.declared.answers.Answer.{Answer}
+use Rattle.site_wire.specs.declared.order.Order.{Order}
 use Rattle.site_wire.specs.declared.joining.Stage.{Stage}
 use Rattle.site_wire.specs.declared.joining.Stage.TheVariants as stage
 
@@ -27,3 +30,26 @@ IsAtRest other = Unit {0}
 abbrev pub ComesToRest : Stage → Stage → Type 0
 ComesToRest (stage.Sent order address place) new = is_at_end new ≡ true
 ComesToRest other new = new ≡ other
+
+-- this datagram waits for a frame
+abbrev pub Keeps : Pdu → Stage → Type 0
+Keeps d (stage.Waits order) = IsOrderOf order d
+Keeps d other = ⊥
+
+-- The datagram is one that a slave's device had put down and that waited, sent to some address.
+pub record Waited (stages : List Stage) (d : Pdu) : Type 0 where
+  pub slave : ℕ
+  pub order : Order
+  pub waits : stage_of stages slave ≡ stage.Waits order
+  pub address : ℕ
+  pub is : d ≡ readdressed (datagram_of order) address
+
+-- Behind the datagrams of a frame such a one is put.
+pub record Takes (stages : List Stage) (old new : List Pdu) : Type 0 where
+  pub d : Pdu
+  pub waited : Waited stages d
+  pub is : new ≡ old ++ d ∷ []
+
+-- What waits now waited before.
+abbrev pub WaitsNoMore : (old new : Stage) → Type 0
+WaitsNoMore old new = (order : Order) → new ≡ stage.Waits order → old ≡ stage.Waits order

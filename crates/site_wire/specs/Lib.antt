@@ -4,5 +4,6 @@ pub mod Came
 pub mod Handing
 pub mod Joining
 pub mod Numbers
+pub mod Orders
 pub mod Reading
 pub mod Sending

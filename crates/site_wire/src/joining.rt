@@ -1,8 +1,9 @@
 //! What the devices of a shared line have to send. One frame takes all that waits.
-ghost use Rattle.std.specs.Prelude.{◌≡◌, ◌≢◌, ◌↔◌, ℕ, ◌<◌, true, false, IsTrue};
+ghost use Rattle.std.specs.Prelude.{◌≡◌, ◌≢◌, ◌↔◌, ◌⊎◌, ℕ, ◌<◌, true, false, IsTrue};
+ghost use Rattle.std.specs.List.{All};
 ghost use Rattle.ecat_frame.specs.Frame.{pdu};
 ghost use Rattle.site_wire.specs.declared.joining.Stage.TheVariants.{Free};
-ghost use Rattle.site_wire.specs.Joining.{stage_of, is_at_end, answer_in, ComesToRest};
+ghost use Rattle.site_wire.specs.Joining.{ComesToRest, Keeps, Takes, Waited, WaitsNoMore, answer_in, is_at_end, stage_of};
 ghost use Rattle.site_wire.specs.Sending.{IsForEeprom, OnlyEeprom};
 
 use crate::answers::Answer;
@@ -55,6 +56,7 @@ impl Board {
         requires slave { slave < 64 }
         requires eeprom { IsForEeprom (pdu asked) }
         ensures free { IsTrue result ↔ (stage_of self.old.stages slave ≡ Free) }
+        ensures put { IsTrue result → Keeps (pdu asked.entry) (stage_of self.new.stages slave) }
         ensures others { (other : ℕ) → other ≢ slave → stage_of self.new.stages other ≡ stage_of self.old.stages other }
     {
         match self.stages[slave] {
@@ -100,6 +102,7 @@ impl Board {
     /// A frame of what waits, as far as there is room, of the slaves from this one on, as if slave 0 came behind the last one. It is under way.
     pub(crate) fn collect(&mut self, first: usize) -> Frame
         ensures only { OnlyEeprom result }
+        ensures waiting { All (Waited self.old.stages) result }
         ensures sending { self.new.is_sending ≡ true }
     {
         let mut frame = Frame::new();
@@ -110,13 +113,23 @@ impl Board {
         frame
     }
 
+    /// How far the datagram of this slave is.
+    fn stage(&self, slave: usize) -> Stage
+        requires { slave < 64 }
+        ensures { result ≡ stage_of self.now.stages slave }
+    {
+        self.stages[slave]
+    }
+
     /// Puts the datagram of this slave into the frame, if it waits and there is room.
     fn collect_one(&mut self, slave: usize, frame: &mut Frame)
         requires slave { slave < 64 }
         requires only { OnlyEeprom frame.old }
-        ensures { OnlyEeprom frame.new }
+        ensures only { OnlyEeprom frame.new }
+        ensures took { (frame.new ≡ frame.old) ⊎ Takes self.old.stages frame.old frame.new }
+        ensures fewer { (other : ℕ) → WaitsNoMore (stage_of self.old.stages other) (stage_of self.new.stages other) }
     {
-        if let Stage::Waits(order) = self.stages[slave] {
+        if let Stage::Waits(order) = self.stage(slave) {
             let address = self.stations.translated(order.datagram());
             let place = frame.count();
             if order.put_in(frame, address) {

@@ -16,6 +16,7 @@ mod in_step;
 mod joining;
 mod numbered;
 mod order;
+mod ordering;
 mod pace;
 mod reach;
 mod reader;

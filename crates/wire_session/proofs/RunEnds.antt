@@ -196,6 +196,12 @@ ends_either saves ended result old new line (inl is) ends =
     subst (λ (x : Result ExitStatus WireFault). Ends saves x old new line) (sym is) ends
 ends_either saves ended result old new line (inr (was, failed)) ends = ends_unprinted saves saves ended result old new line failed ends
 
+-- what is told behind the work, and then reported
+pub reported_twice : (ended told result : Result ExitStatus WireFault) → IsReported ended told → IsReported told result → IsReported ended result
+reported_twice ended told result (inl same) later = subst (λ (it : Result ExitStatus WireFault). IsReported it result) same later
+reported_twice ended told result (inr both) (inl same) = inr (both.0, subst (λ (it : Result ExitStatus WireFault). IsErrAnd it IsOfStream) (sym same) both.1)
+reported_twice ended told result (inr both) (inr later) = inr (both.0, later.1)
+
 pub ends_reported : (ended result : Result ExitStatus WireFault) (old mid new : Known) (line : LineFile) (plant : List (List ℕ))
     (bytes : List ℕ) (commands : List Command) → new ≡ mid → IsReported ended result
     → EndsFound ended old mid line plant bytes commands → EndsFound result old new line plant bytes commands

@@ -8,4 +8,4 @@ serve_at_desk-requires-clause-none g c κs lives = ap (λ b. b.accepted) c.into_
 pub returns-clause-left : goal.returns-clause-left
 returns-clause-left g c =
     let parts = c.into_parts-core in
-    served-at-desk c.args.alone c.args.commands.items parts.result.0 parts.result.1.seen c.in-Ok.prepared.0 c.in_ok-at.at c.put_back.result parts.ensures.book parts.ensures.seen c.in-Ok.ensures.sites.apart c.in_ok-at.ensures.of_sites c.put_back.ensures.left c.in_ok-at.ensures.ending
+    served-at-desk c.args.alone c.args.work.commands.items parts.result.0 parts.result.1.seen c.in-Ok.prepared.0 c.in_ok-at.at c.put_back.result parts.ensures.book parts.ensures.seen c.in-Ok.ensures.sites.apart c.in_ok-at.ensures.of_sites c.put_back.ensures.left c.in_ok-at.ensures.ending

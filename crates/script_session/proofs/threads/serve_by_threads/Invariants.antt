@@ -11,4 +11,4 @@ abbrev pub ghosts-serve_at_desk-R-Ledger : goal.ghosts-serve_at_desk-R-Ledger
 ghosts-serve_at_desk-R-Ledger g a = record { name = a.refusals.name; parts = a.refusals.count }
 
 abbrev pub ghosts-serve_at_desk-C-Asked : goal.ghosts-serve_at_desk-C-Asked
-ghosts-serve_at_desk-C-Asked g a = record { commands = a.commands.items }
+ghosts-serve_at_desk-C-Asked g a = record { commands = a.work.commands.items }

@@ -10,11 +10,11 @@ run_on_wire-requires-clause-old g c κs lives =
 pub returns-in_err-site : goal.returns-in_err-site
 returns-in_err-site g c =
     ends_unmade c.from_residual-in_err-site.result (g.S.Store.files c.args.store.now) (g.S.Store.files c.open_journal.new.store)
-    c.args.line.now c.args.slaves.now c.args.journal.items c.args.commands.items c.open_journal.ensures.others
+    c.args.line.now c.args.slaves.now c.args.journal.items c.args.work.commands.items c.open_journal.ensures.others
     c.from_residual-in_err-site.ensures.1
 
 pub returns : goal.returns
 returns g c =
     ends_found c.run_on_wire.result (g.S.Store.files c.args.store.now) (g.S.Store.files c.open_journal.new.store)
     (g.S.Store.files c.run_on_wire.new.store) c.args.line.now c.args.slaves.now c.args.journal.items c.in_ok-site.site
-    c.args.commands.items c.open_journal.ensures.others c.in_ok-site.ensures c.run_on_wire.ensures
+    c.args.work.commands.items c.open_journal.ensures.others c.in_ok-site.ensures c.run_on_wire.ensures

@@ -8,4 +8,4 @@ run_threads-requires-clause-none g c κs lives = starts-none c.args.was_old c.ar
 pub returns-in-Ok : goal.returns-in-Ok
 returns-in-Ok g c =
     ends_opened c.run_threads.result (g.S.Store.files c.args.store.now) (g.S.Store.files c.run_threads.new.store) c.args.line.now c.args.site
-    c.args.was_old c.in-Ok.alone c.args.commands.items c.requires.old c.in-Ok.ensures.starts c.run_threads.ensures
+    c.args.was_old c.in-Ok.alone c.args.work.commands.items c.requires.old c.in-Ok.ensures.starts c.run_threads.ensures

@@ -1,5 +1,12 @@
+use Rattle.std.specs.Prelude.{ℕ}
+use Rattle.std.specs.List.{All}
+use Rattle.site_wire.specs.Joining.{Waited, WaitsNoMore, stage_of}
 use Rattle.site_wire.specs.Sending.{OnlyEeprom}
 use Rattle.site_wire.proofs.joining.Board.collect.Given as goal
 
 abbrev pub invariant-loop-turn : goal.invariant-loop-turn
-invariant-loop-turn l = OnlyEeprom l.frame
+invariant-loop-turn l = record {
+  only : OnlyEeprom l.frame;
+  waiting : All (Waited l.fn.self.stages) l.frame;
+  fewer : (other : ℕ) → WaitsNoMore (stage_of l.fn.self.stages other) (stage_of l.self.stages other);
+}
