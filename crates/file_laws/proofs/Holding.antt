@@ -75,15 +75,17 @@ pub write_holds : (F : Type 0) → WriteHolds F
 write_holds F shadow at bytes old new begun held held_is (device.over failed stops same) are = absurd cc
 write_holds F shadow at bytes old new begun held held_is (device.fails going asks fails failed) are = absurd cc
 write_holds F shadow at bytes old new begun held held_is (device.passes going asks passes going_on) are =
-    go_on (asked Journal (writes at bytes) true ∷ []) asks (one_leads held Journal _ (asked Journal (writes at bytes) true ∷ []) (refl, tt)
-    (λ later becomes. write_follows shadow at bytes later (subst (λ (f : File). BecomesBy (asked Journal (writes at bytes) true ∷ []) f later) held_is becomes))) are
+    let calls : List Asked = asked Journal (writes at bytes) true ∷ [] in
+    go_on calls asks (one_leads held Journal _ calls (refl, tt)
+    (λ later becomes. write_follows shadow at bytes later (subst (λ (f : File). BecomesBy calls f later) held_is becomes))) are
 
 pub sync_holds : (F : Type 0) → SyncHolds F
 sync_holds F shadow old new begun held held_is (device.over failed stops same) are = absurd cc
 sync_holds F shadow old new begun held held_is (device.fails going asks fails failed) are = absurd cc
 sync_holds F shadow old new begun held held_is (device.passes going asks passes going_on) are =
-    go_on (asked Journal syncs true ∷ []) asks (one_leads held Journal _ (asked Journal syncs true ∷ []) (refl, tt)
-    (λ later becomes. sync_follows shadow later (subst (λ (f : File). BecomesBy (asked Journal syncs true ∷ []) f later) held_is becomes))) are
+    let calls : List Asked = asked Journal syncs true ∷ [] in
+    go_on calls asks (one_leads held Journal _ calls (refl, tt)
+    (λ later becomes. sync_follows shadow later (subst (λ (f : File). BecomesBy calls f later) held_is becomes))) are
 
 length_asked : (begun held : LineFile → File) (old new : ℕ) (done : Bool) → Asks old new (asked Journal tells_length done ∷ [])
     → AreHeld begun old held → AreHeld begun new held

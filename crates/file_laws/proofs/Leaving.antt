@@ -33,7 +33,8 @@ none_asked name held old new same left = record {
 }
 
 -- one file is asked
-one_asked : {Left : List ℕ → Type 0} (name : LineFile) (held : LineFile → File) (old new : ℕ) (calls : List Asked) → Asks old new calls → AllOf name calls
+one_asked : {Left : List ℕ → Type 0} (name : LineFile) (held : LineFile → File) (old new : ℕ) (calls : List Asked) → Asks old new calls
+    → AllOf name calls
     → ((image : List ℕ) → IsBytes image → MayBeLeft calls (held name) image → Left image) → LeavesOnly Left name held old new
 one_asked name held old new calls asks all left = record {
   calls = calls;

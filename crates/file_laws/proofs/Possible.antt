@@ -16,7 +16,9 @@ kept old = record { bytes = λ at is. refl; no_shorter = omega arith; unsynced =
 
 syncs_to : (disk : Disk) (is_sound : Bool) → (new : File) × Syncs (record { disk = disk; is_sound = is_sound }) new
 syncs_to disk true = (sound (synced disk), record { all = λ is. refl; none = λ e. absurd cc })
-syncs_to disk false = (record { disk = disk; is_sound = false }, record { all = λ e. absurd cc; none = λ is. kept (record { disk = disk; is_sound = false }) })
+syncs_to disk false =
+    let unsound : File = record { disk = disk; is_sound = false } in
+    (unsound, record { all = λ e. absurd cc; none = λ is. kept unsound })
 
 becomes_something : (call : Call) (succeeded : Bool) (old : File) → (new : File) × Becomes call succeeded old new
 becomes_something tells_length succeeded old = (old, refl)
@@ -44,7 +46,8 @@ torn : (words : List ℕ) (word held : ℕ) → word < length words
 torn words word held inside =
     let pair : List ℕ = held % 256 ∷ held / 256 ∷ [] in
     let starts : word * 2 ≤ length (bytes_of words) = word_inside words word inside in
-    let longer : length (bytes_of words) ≤ length (overlaid (bytes_of words) (word * 2) pair) = length-overlaid (bytes_of words) pair (word * 2) starts in
+    let longer : length (bytes_of words) ≤ length (overlaid (bytes_of words) (word * 2) pair) =
+    length-overlaid (bytes_of words) pair (word * 2) starts in
     let laid : StopImage (write_begun (image_of words).disk (word * 2) 2) (overlaid (bytes_of words) (word * 2) pair) = record {
       bytes = λ place is. overlaid-outside (bytes_of words) pair (word * 2) place starts is.0;
       no_shorter = omega arith;

@@ -40,7 +40,8 @@ laid_synced words word value inside short =
     ap (λ (bytes : List ℕ). sound (record { bytes = bytes; unsynced = []; synced_length = length bytes })) (laid_bytes words word value inside short)
 
 durable_if : (file : LineFile) (words : List ℕ) (word value : ℕ) (calls : List Asked) (done : Bool) (later : File) → word < length words
-    → value < 2 ^ 16 → done ≡ true → WordCalls file word value calls done → BecomesBy calls (image_of words) later → later ≡ image_of (slice_set words word value)
+    → value < 2 ^ 16 → done ≡ true → WordCalls file word value calls done → BecomesBy calls (image_of words) later
+    → later ≡ image_of (slice_set words word value)
 durable_if file words word value calls done later inside short is_done unwritten becomes = absurd cc
 durable_if file words word value calls done later inside short is_done (reaches_sync d) becomes =
     let synced_it : Becomes syncs true becomes.0 becomes.2.0 = subst (λ (b : Bool). Becomes syncs b becomes.0 becomes.2.0) is_done becomes.2.1 in
