@@ -71,32 +71,63 @@ const MEETING: Scenario = Scenario {
     ..HUNDRED
 };
 
-/// Why a desk couldn't be closed, how many commands were accepted, how many receipts there are, and whether each slave reads as the book.
-type Account = (Option<CloseFault>, usize, usize, bool);
+/// What came of a session.
+#[derive(Clone, Copy)]
+struct Account {
+    /// Why the desk couldn't be closed.
+    fault: Option<CloseFault>,
+    /// How many commands were accepted, and how many receipts there are.
+    accepted: usize,
+    receipts: usize,
+    /// Whether each slave reads as the book.
+    reads: bool,
+    /// The last process data cycle, and slave 0's byte at 0x1100 then.
+    last: Option<CycleNote>,
+    byte: Option<u8>,
+}
 
-/// Runs the scenario, and reports its outcome.
-fn account<G: Hook + Sync, W: Wait + Threads + Sync + Abort>(
+/// Slave 0's byte at 0x1100.
+fn byte_of(line: &Parts) -> Option<u8> {
+    match &line.process {
+        Some(halves) => Some(halves.first()?.peek(0x1100)),
+        None => None,
+    }
+}
+
+/// Runs the scenario, and reports what came of it.
+fn came<G: Hook + Sync, W: Wait + Threads + Sync + Abort>(
     rt: &W,
     alloc: Global,
     scenario: &Scenario,
     hook: &G,
 ) -> Account {
     let report = session(rt, alloc, scenario, hook);
-    let came = (report.fault, report.accepted, report.receipts, report.reads);
+    let came = Account {
+        fault: report.fault,
+        accepted: report.accepted,
+        receipts: report.receipts,
+        reads: report.reads,
+        last: report.last,
+        byte: byte_of(&report.line),
+    };
     drop(report);
     came
 }
 
+fn are_all_served(came: &Account) -> bool {
+    came.fault.is_none() && came.accepted == 100 && came.receipts == 100 && came.reads
+}
+
 #[test]
 fn two_submit(rt: HostRuntime) {
-    let came = account(&rt, rt.alloc(), &HUNDRED, &NoHook);
-    assert!(rt; came == (None, 100, 100, true));
+    let came = came(&rt, rt.alloc(), &HUNDRED, &NoHook);
+    assert!(rt; are_all_served(&came));
 }
 
 #[test]
 fn two_meet(rt: HostRuntime) {
-    let came = account(&rt, rt.alloc(), &MEETING, &Meeting::new(&rt));
-    assert!(rt; came == (None, 100, 100, true));
+    let came = came(&rt, rt.alloc(), &MEETING, &Meeting::new(&rt));
+    assert!(rt; are_all_served(&came));
 }
 
 /// A slave with a byte of outputs and four bytes of inputs: its SyncM, RXPDO and TXPDO categories.
@@ -129,28 +160,15 @@ const TURNING: Scenario = Scenario {
     ..HUNDRED
 };
 
-/// Slave 0's byte at 0x1100.
-fn byte_of(line: &Parts) -> Option<u8> {
-    match &line.process {
-        Some(halves) => Some(halves.first()?.peek(0x1100)),
-        None => None,
-    }
-}
-
-/// Why the desk couldn't be closed, the last process data cycle, and slave 0's byte at 0x1100 then.
-fn last_turn<W: Wait + Threads + Sync + Abort>(
-    rt: &W,
-    alloc: Global,
-    scenario: &Scenario,
-) -> (Option<CloseFault>, Option<CycleNote>, Option<u8>) {
-    let report = session(rt, alloc, scenario, &NoHook);
-    (report.fault, report.last, byte_of(&report.line))
+/// The prefix of the cycle's last turn is `prefix`, of seven bytes.
+fn is_turn(last: Option<CycleNote>, prefix: u64) -> bool {
+    last == Some(CycleNote { prefix, size: 7 })
 }
 
 #[test]
 fn the_cycle_goes_on(rt: HostRuntime) {
-    let last = last_turn(&rt, rt.alloc(), &TURNING);
-    assert!(rt; last == (None, Some(CycleNote { prefix: 1, size: 7 }), Some(0)));
+    let came = came(&rt, rt.alloc(), &TURNING, &NoHook);
+    assert!(rt; came.fault.is_none() && is_turn(came.last, 1) && came.byte == Some(0));
 }
 
 /// The scenario `TURNING`, in which slave 0 is given up.
@@ -162,13 +180,13 @@ const DYING: Scenario = Scenario {
 /// The only command is never settled, so that each cycle is of none; the slave's fault ends the cycle.
 #[test]
 fn the_cycle_ends_with_a_fault(rt: HostRuntime) {
-    let (fault, last, _byte) = last_turn(&rt, rt.alloc(), &DYING);
-    assert!(rt; fault == Some(CloseFault::Unserved));
-    assert!(rt; last.is_none() || last == Some(CycleNote { prefix: 0, size: 7 }));
+    let came = came(&rt, rt.alloc(), &DYING, &NoHook);
+    assert!(rt; came.fault == Some(CloseFault::Unserved));
+    assert!(rt; came.last.is_none() || is_turn(came.last, 0));
 }
 
 /// What goes wrong on the line, what isn't handed in, and why the desk can't be closed.
-const FAULTS: [(Trouble, LeftOut, CloseFault); 3] = [
+const FAULTS: &[(Trouble, LeftOut, CloseFault)] = &[
     (Trouble::Nothing, LeftOut::End, CloseFault::Mismatch),
     (Trouble::Nothing, LeftOut::Share, CloseFault::Mismatch),
     (
@@ -198,16 +216,12 @@ fn fault_of<W: Wait + Threads + Sync + Abort>(
         left_out,
         ..TWO
     };
-    let report = session(rt, alloc, &scenario, &NoHook);
-    let fault = report.fault;
-    drop(report);
-    fault
+    came(rt, alloc, &scenario, &NoHook).fault
 }
 
 #[test]
 fn desks_that_are_not_closed(rt: HostRuntime) {
     for (trouble, left_out, fault) in FAULTS {
-        let came = fault_of(&rt, rt.alloc(), trouble, left_out);
-        assert!(rt; came == Some(fault));
+        assert!(rt; fault_of(&rt, rt.alloc(), *trouble, *left_out) == Some(*fault));
     }
 }

@@ -205,7 +205,7 @@ fn first_unstopped<W: Wait + Threads + Sync + Abort>(
 
 /// How the commands are submitted, which part stops, and how many writes it makes at least: the disk four for each batch, and a slave
 /// that gets an alias two words, the alias and the check byte.
-const STOPS: [(Pace, Part, u64); 8] = [
+const STOPS: &[(Pace, Part, u64)] = &[
     (Pace::OneByOne, Part::Disk, 12),
     (Pace::OneByOne, Part::Slave(0), 2),
     (Pace::OneByOne, Part::Slave(1), 2),
@@ -219,8 +219,7 @@ const STOPS: [(Pace, Part, u64); 8] = [
 #[test]
 fn any_part_may_stop(rt: HostRuntime) {
     for (pace, part, least) in STOPS {
-        let first = first_unstopped(&rt, rt.alloc(), pace, part);
-        assert!(rt; first >= Some(least));
+        assert!(rt; first_unstopped(&rt, rt.alloc(), *pace, *part) >= Some(*least));
     }
 }
 

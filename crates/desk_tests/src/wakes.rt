@@ -500,9 +500,20 @@ fn wakes<W: Wait + Threads + Sync + Clock + Abort>(rt: &W, alloc: Global, trial:
     )
 }
 
+fn all_wake<W: Wait + Threads + Sync + Clock + Abort>(
+    rt: &W,
+    alloc: Global,
+    trials: &[Trial],
+) -> bool {
+    for trial in trials {
+        if !wakes(rt, alloc, trial) {
+            return false;
+        }
+    }
+    true
+}
+
 #[test]
 fn each_change_wakes_those_who_wait_for_it(rt: HostRuntime) {
-    for trial in TRIALS {
-        assert!(rt; wakes(&rt, rt.alloc(), trial));
-    }
+    assert!(rt; all_wake(&rt, rt.alloc(), TRIALS));
 }
