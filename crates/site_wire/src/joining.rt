@@ -1,5 +1,5 @@
 //! What the devices of a shared line have to send. One frame takes all that waits.
-ghost use Rattle.std.specs.Prelude.{◌≡◌, ◌≢◌, ◌↔◌, ℕ, ◌<◌, IsTrue};
+ghost use Rattle.std.specs.Prelude.{◌≡◌, ◌≢◌, ◌↔◌, ℕ, ◌<◌, true, false, IsTrue};
 ghost use Rattle.ecat_frame.specs.Frame.{pdu};
 ghost use Rattle.site_wire.specs.declared.joining.Stage.TheVariants.{Free};
 ghost use Rattle.site_wire.specs.Joining.{stage_of, is_at_end, answer_in, ComesToRest};
@@ -31,13 +31,22 @@ enum Stage {
 #[derive(Drop)]
 pub(crate) struct Board {
     stages: [Stage; SLAVES],
+    /// The station addresses of the slaves.
+    stations: Stations,
+    /// Of how many slaves a frame takes datagrams.
+    joined: usize,
+    /// Whether a frame is under way.
+    is_sending: bool,
 }
 
 impl Board {
-    /// A board on which nothing stands.
-    pub(crate) fn new() -> Board {
+    /// A board on which nothing stands, for a line with these station addresses. A frame takes the datagrams of so many slaves.
+    pub(crate) fn new(stations: Stations, joined: usize) -> Board {
         Board {
             stages: [Stage::Free; SLAVES],
+            stations,
+            joined,
+            is_sending: false,
         }
     }
 
@@ -72,6 +81,14 @@ impl Board {
         }
     }
 
+    /// Whether the datagram of this slave has to wait: another frame is under way, and its own isn't back.
+    pub(crate) fn is_waiting(&self, slave: usize) -> bool
+        requires { slave < 64 }
+        ensures { IsTrue result ↔ (IsTrue self.now.is_sending × ¬ IsTrue (is_at_end (stage_of self.now.stages slave))) }
+    {
+        self.is_sending && !self.is_answered(slave)
+    }
+
     /// Whether the frame with the datagram of this slave is at an end.
     pub(crate) fn is_answered(&self, slave: usize) -> bool
         requires { slave < 64 }
@@ -80,25 +97,27 @@ impl Board {
         matches!(self.stages[slave], Stage::Answered(_))
     }
 
-    /// A frame of what waits, as far as there is room: of `slaves` slaves from this one on, as if slave 0 came behind the last one.
-    pub(crate) fn collect(&mut self, first: usize, slaves: usize, stations: &Stations) -> Frame
-        ensures { OnlyEeprom result }
+    /// A frame of what waits, as far as there is room, of the slaves from this one on, as if slave 0 came behind the last one. It is under way.
+    pub(crate) fn collect(&mut self, first: usize) -> Frame
+        ensures only { OnlyEeprom result }
+        ensures sending { self.new.is_sending ≡ true }
     {
         let mut frame = Frame::new();
-        for turn in 0..slaves.min(SLAVES) {
-            self.collect_one(first.wrapping_add(turn) % SLAVES, &mut frame, stations);
+        for turn in 0..self.joined.min(SLAVES) {
+            self.collect_one(first.wrapping_add(turn) % SLAVES, &mut frame);
         }
+        self.is_sending = true;
         frame
     }
 
     /// Puts the datagram of this slave into the frame, if it waits and there is room.
-    fn collect_one(&mut self, slave: usize, frame: &mut Frame, stations: &Stations)
+    fn collect_one(&mut self, slave: usize, frame: &mut Frame)
         requires slave { slave < 64 }
         requires only { OnlyEeprom frame.old }
         ensures { OnlyEeprom frame.new }
     {
         if let Stage::Waits(order) = self.stages[slave] {
-            let address = stations.translated(order.datagram());
+            let address = self.stations.translated(order.datagram());
             let place = frame.count();
             if order.put_in(frame, address) {
                 self.stages[slave] = Stage::Sent(order, address, place);
@@ -108,8 +127,10 @@ impl Board {
 
     /// Each datagram of the frame under way has its answer in the one that came back, if it did.
     pub(crate) fn answer(&mut self, carried: &Option<Carried>)
-        ensures { (slave : ℕ) → slave < 64 → ComesToRest (stage_of self.old.stages slave) (stage_of self.new.stages slave) }
+        ensures sending { self.new.is_sending ≡ false }
+        ensures rest { (slave : ℕ) → slave < 64 → ComesToRest (stage_of self.old.stages slave) (stage_of self.new.stages slave) }
     {
+        self.is_sending = false;
         for slave in 0..SLAVES {
             if let Stage::Sent(order, address, place) = self.stages[slave] {
                 let answer = match carried {

@@ -15,7 +15,7 @@ use crate::wire::Wire;
 use ecat_frame::{Datagram, Frame};
 use esc_model::{FIRST_STATION, RomHalf};
 use std::alloc::AllocError;
-use std::sync::{Mutex, Wait};
+use std::sync::{Condvar, Mutex, Wait};
 
 /// A wire on which a line was brought up, as the devices reach it that work on its slaves.
 pub trait Reach {
@@ -72,10 +72,13 @@ impl<W: Wire> LiveLine<W> {
     }
 
     /// Sends a frame for the EEPROMs of several slaves until it comes back, three times at most. None where it doesn't, and the line stops
-    /// then, with what is said about the slave that sent it.
+    /// then, with what is said about the slave that sent it; or where it has stopped, and nothing is sent.
     fn pass_all(&mut self, frame: Frame, about: (u16, Last)) -> Option<Carried>
         requires { OnlyEeprom frame }
     {
+        if self.reason.is_some() {
+            return None;
+        }
         let carried = self.wire.pass_all(frame);
         if carried.is_none() {
             self.stop(StopReason::Silent, Some(about));
@@ -134,14 +137,18 @@ fn unanswered(sent: Datagram<'_>) -> (u16, Last) {
 pub struct LockedLine<W> {
     lock: Mutex<LiveLine<W>>,
     board: Mutex<Board>,
+    /// Where those wait whose frame is under way.
+    back: Condvar,
 }
 
 impl<W: Wire> LockedLine<W> {
     /// This line under a lock.
     pub fn new(line: LiveLine<W>) -> LockedLine<W> {
+        let board = Board::new(*line.wire.stations(), line.joined());
         LockedLine {
             lock: Mutex::new(line),
-            board: Mutex::new(Board::new()),
+            board: Mutex::new(board),
+            back: Condvar::new(),
         }
     }
 
@@ -151,6 +158,7 @@ impl<W: Wire> LockedLine<W> {
             rt,
             lock: &self.lock,
             board: &self.board,
+            back: &self.back,
         }
     }
 
@@ -177,6 +185,7 @@ pub struct SharedLine<'a, R: Wait, W> {
     rt: &'a R,
     lock: &'a Mutex<LiveLine<W>>,
     board: &'a Mutex<Board>,
+    back: &'a Condvar,
 }
 
 impl<'a, R: Wait, W> Copy for SharedLine<'a, R, W> {}
@@ -192,31 +201,31 @@ impl<'a, R: Wait, W> Clone for SharedLine<'a, R, W> {
 }
 
 impl<'a, R: Wait, W: Wire> SharedLine<'a, R, W> {
-    /// The answer to the datagram of this slave, which was put down: it came with another one's frame, or a frame of all that waits is sent.
+    /// The answer to the datagram of this slave, which was put down: it comes with another one's frame, or a frame of all that waits is sent.
     fn join(&self, slave: usize, about: (u16, Last)) -> Option<Answer>
         requires { slave < 64 }
     {
-        let mut line = self.lock.lock(self.rt);
-        if !self.board.lock(self.rt).is_answered(slave) {
-            self.carry(&mut line, slave, about);
+        let mut board = self
+            .back
+            .wait_while(self.rt, self.board.lock(self.rt), |board| {
+                board.is_waiting(slave)
+            });
+        if board.is_answered(slave) {
+            return board.take(slave);
         }
+        let frame = board.collect(slave);
+        drop(board);
+        self.carry(frame, about);
         self.board.lock(self.rt).take(slave)
     }
 
-    /// Sends a frame of all that waits, from this slave on, and puts the answers down.
-    fn carry(&self, line: &mut LiveLine<W>, slave: usize, about: (u16, Last))
-        requires { slave < 64 }
+    /// Sends a frame, puts the answers down, and wakes those who wait.
+    fn carry(&self, frame: Frame, about: (u16, Last))
+        requires { OnlyEeprom frame }
     {
-        if line.reason.is_some() {
-            return;
-        }
-        let slaves = line.joined();
-        let frame = self
-            .board
-            .lock(self.rt)
-            .collect(slave, slaves, line.wire.stations());
-        let carried = line.pass_all(frame, about);
+        let carried = self.lock.lock(self.rt).pass_all(frame, about);
         self.board.lock(self.rt).answer(&carried);
+        self.back.notify_all();
     }
 }
 
