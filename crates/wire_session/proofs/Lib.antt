@@ -1,3 +1,4 @@
+mod BehindDesk
 mod Kept
 mod Recovering
 mod RunEnds

@@ -13,6 +13,7 @@ mod opening;
 mod plan;
 mod planning;
 mod recovery;
+mod redoing;
 mod reporting;
 mod running;
 mod scan;

@@ -9,24 +9,27 @@ ghost use Rattle.wire_session.specs.Opening.{EndsRecovery, Recovers};
 use crate::asked::Asked;
 use crate::faults::{WireFault, why_ended};
 use crate::opening::{Found, find_line, open_journal};
+use crate::redoing::recover_by_threads;
 use crate::reporting::report_end;
 use line_report::Before;
 use sii_words::{Plant, Words};
 use site_file::FileDevice;
 use site_shadow::{Device, ShadowSite};
 use site_wire::{LiveLine, LockedLine, NumberedWire, Wire, WireDevice, hand_back};
-use station_alone::{Recovered, recover};
+use station_alone::Recovered;
 use station_files::Store;
-use station_session::{of_open, save_site, site_of, write_recovered};
+use station_session::{save_site, site_of, write_recovered};
 use station_text::LineFile;
 use std::alloc::Global;
 use std::io::Write;
 use std::rt::Clock;
 use std::sync::Wait;
+use std::thread::Threads;
 
 /// Recovers the line on this wire, whose line file is `name`, with its journal: what is live in the journal is done, and the slaves then
-/// hold the contents after a prefix of the commands accepted before, with every acknowledged one in it. Writes the words of each slave to
-/// its image file, which is replaced as a whole, and prints what was recovered. The EEPROMs are handed back as they were found.
+/// hold the contents after a prefix of the commands accepted before, with every acknowledged one in it. Threads do it, one for each slave,
+/// which share the wire under a lock, frame by frame; where no thread can be made, one does it all. Writes the words of each slave to its
+/// image file, which is replaced as a whole, and prints what was recovered. The EEPROMs are handed back as they were found.
 ///
 /// # Errors
 ///
@@ -34,7 +37,7 @@ use std::sync::Wait;
 /// `BadJournal` where the journal is refused, with no word written; `SlaveDead` for a slave that is given up; or why the site on the wire has
 /// stopped. No image file is written up to there, and another recovery completes what was begun. Then `File` or `Memory`, as the store or
 /// the output answers.
-pub fn recover_line<R: Wait + Clock, W: Wire + Drop, S: Store, O: Write>(
+pub fn recover_line<R: Wait + Threads + Clock + Sync, W: Wire + Send + Drop, S: Store, O: Write>(
     rt: &R,
     alloc: Global,
     wire: NumberedWire<W>,
@@ -60,7 +63,7 @@ pub fn recover_line<R: Wait + Clock, W: Wire + Drop, S: Store, O: Write>(
 }
 
 /// Recovers a line that was found, hands the EEPROMs back, and prints what has changed if that is asked for.
-fn recover_found<R: Wait + Clock, W: Wire + Drop, S: Store, O: Write>(
+fn recover_found<R: Wait + Threads + Clock + Sync, W: Wire + Send + Drop, S: Store, O: Write>(
     rt: &R,
     alloc: Global,
     found: Found<S::Lock>,
@@ -93,7 +96,7 @@ fn recover_found<R: Wait + Clock, W: Wire + Drop, S: Store, O: Write>(
 }
 
 /// Opens the journal of a line, and recovers the line.
-fn recover_on<R: Wait + Clock, W: Wire + Drop, S: Store, O: Write>(
+fn recover_on<R: Wait + Threads + Clock + Sync, W: Wire + Send + Drop, S: Store, O: Write>(
     rt: &R,
     alloc: Global,
     line: &LineFile,
@@ -115,7 +118,7 @@ fn recover_on<R: Wait + Clock, W: Wire + Drop, S: Store, O: Write>(
 }
 
 /// Recovers a line, and tells of a fault why the line on the wire has stopped, if it has.
-fn recover_told<D: Device + Drop, R: Wait, W: Wire, S: Store, O: Write>(
+fn recover_told<D: Device + Copy + Send, R: Wait + Threads + Sync, W: Wire, S: Store, O: Write>(
     rt: &R,
     alloc: Global,
     line: &LineFile,
@@ -126,17 +129,17 @@ fn recover_told<D: Device + Drop, R: Wait, W: Wire, S: Store, O: Write>(
 ) -> Result<(), WireFault>
     requires disk { IsTrue site.line.has_disk }
     requires owned { OwnsAll site.line }
-    requires slaves { length site.line.sizes ≡ length line.now.images.items }
     ensures { EndsRecovery result (S.files store.old) (S.files store.new) line.now site.seen }
 {
-    match recover_site(alloc, line, site, store, output) {
+    match recover_site(rt, alloc, line, site, store, output) {
         Ok(()) => Ok(()),
         Err(fault) => Err(why_ended(locked.reason(rt), locked.seen(rt), fault)),
     }
 }
 
 /// Recovers a line, and saves what its slaves hold to their image files.
-fn recover_site<D: Device + Drop, S: Store, O: Write>(
+fn recover_site<D: Device + Copy + Send, R: Wait + Threads + Sync, S: Store, O: Write>(
+    rt: &R,
     alloc: Global,
     line: &LineFile,
     site: ShadowSite<D>,
@@ -145,19 +148,15 @@ fn recover_site<D: Device + Drop, S: Store, O: Write>(
 ) -> Result<(), WireFault>
     requires disk { IsTrue site.line.has_disk }
     requires owned { OwnsAll site.line }
-    requires slaves { length site.line.sizes ≡ length line.now.images.items }
     ensures { EndsRecovery result (S.files store.old) (S.files store.new) line.now site.seen }
 {
-    match recover(alloc, site) {
+    match recover_by_threads(rt, alloc, site, line.images.len()) {
         Ok((alone, recovered)) => {
             let (core, left) = alone.into_parts();
             drop(core);
             save_recovered(alloc, line, left, recovered, store, output)
         }
-        Err((left, fault)) => {
-            drop(left);
-            Err(WireFault::Station(of_open(fault)))
-        }
+        Err(fault) => Err(WireFault::Station(fault)),
     }
 }
 

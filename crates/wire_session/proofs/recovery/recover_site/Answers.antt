@@ -1,7 +1,18 @@
-use Rattle.std.proofs.Common.{ap}
+use Rattle.std.proofs.Common.{◌≡◌, ◌∙◌, ap, length, arith}
 use Rattle.site_core.specs.State.{Seen}
+use Rattle.station_session.proofs.Ending.{as-many, has-disk}
 use Rattle.wire_session.proofs.Recovering.{ends_recovered}
 use Rattle.wire_session.proofs.recovery.recover_site.Goals as goal
+
+pub save_recovered-requires-clause-disk : goal.save_recovered-requires-clause-disk
+save_recovered-requires-clause-disk g c κs lives =
+    has-disk c.in-Ok.alone.line c.into_parts-core.result.1.line c.into_parts-core.ensures.line c.in-Ok.ensures.line.disk
+
+pub save_recovered-requires-clause-slaves : goal.save_recovered-requires-clause-slaves
+save_recovered-requires-clause-slaves g c κs lives =
+    let count : c.len.result ≡ length c.args.line.now.images.items = omega (arith, c.len.ensures, c.args.line.now.images.ok.0) in
+    as-many c.in-Ok.alone.line c.into_parts-core.result.1.line (length c.args.line.now.images.items) c.into_parts-core.ensures.line
+    (c.in-Ok.ensures.line.count ∙ count)
 
 pub returns-in-Ok : goal.returns-in-Ok
 returns-in-Ok g c =
