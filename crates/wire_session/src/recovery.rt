@@ -28,8 +28,8 @@ use std::thread::Threads;
 
 /// Recovers the line on this wire, whose line file is `name`, with its journal: what is live in the journal is done, and the slaves then
 /// hold the contents after a prefix of the commands accepted before, with every acknowledged one in it. Threads do it, one for each slave,
-/// which share the wire under a lock, frame by frame; where no thread can be made, one does it all. Writes the words of each slave to its
-/// image file, which is replaced as a whole, and prints what was recovered. The EEPROMs are handed back as they were found.
+/// which share the wire; where no thread can be made, one does it all. Writes the words of each slave to its image file, which is replaced
+/// as a whole, and prints what was recovered. The EEPROMs are handed back as they were found.
 ///
 /// # Errors
 ///

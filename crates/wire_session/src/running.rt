@@ -40,10 +40,10 @@ pub(crate) struct Given<L> {
 }
 
 /// Runs the script file `script` on the line on this wire, whose line file is `name`: submits its commands in order, serves them by
-/// threads, one for each slave, prints the answer to each and the totals, and writes the words of each slave to its image file, which is
-/// replaced as a whole. The threads share the wire under a lock, frame by frame. A journal that isn't of version 2 is recovered and migrated
-/// first. Where no thread can be made, one serves all. The EEPROMs are handed back as they were found. Returns the exit status: `Done`, or
-/// that of the worst refusal.
+/// threads, one for each slave, which share the wire, prints the answer to each, what is told of them as it happens, and the totals, and
+/// writes the words of each slave to its image file, which is replaced as a whole. A journal that isn't of version 2 is recovered and
+/// migrated first. Where no thread can be made, one serves all. The EEPROMs are handed back as they were found. Returns the exit status:
+/// `Done`, or that of the worst refusal.
 ///
 /// # Errors
 ///
