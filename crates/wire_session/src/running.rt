@@ -171,11 +171,11 @@ fn run_found<W: Wire + Send + Drop, S: Store, O: Write, R: Wait + Threads + Cloc
     );
     let mut wire = locked.into_line().into_wire();
     hand_back(&mut wire, &states);
-    let ended = tell_handed(tells, wire.handed(), ended, output);
+    let told = tell_handed(tells, wire.handed(), ended, output);
     drop(wire);
     let words = Plant::of(slaves);
     let before = Before { line, words };
-    report_end(alloc, tells, &before, ended, store, output)
+    report_end(alloc, tells, &before, told, store, output)
 }
 
 /// Opens the journal of a line, and runs the commands.
