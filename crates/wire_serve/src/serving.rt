@@ -63,10 +63,7 @@ pub fn serve<
         ..
     } = arguments;
     let Screen { is_told, terminal } = screen;
-    let begun = match terminal {
-        Some(terminal) if !is_quiet => Progress::begin(rt, terminal),
-        _ => None,
-    };
+    let begun = begin_progress(rt, is_quiet, terminal);
     let on = Around {
         capture,
         tenure,
@@ -89,6 +86,18 @@ pub fn serve<
             )
         }
         None => serve_task(rt, alloc, task, on, wire, number, store, output, faults),
+    }
+}
+
+/// Begins to count the progress, if there is a terminal for its line and it is to be drawn.
+fn begin_progress<H: Clock, T: Write + Drop>(
+    rt: &H,
+    is_quiet: bool,
+    terminal: Option<T>,
+) -> Option<Progress<T>> {
+    match terminal {
+        Some(terminal) if !is_quiet => Progress::begin(rt, terminal),
+        _ => None,
     }
 }
 
@@ -116,6 +125,7 @@ struct Around<'a, T> {
 
 /// Carries out a task on the wire that is read and written by these two.
 fn serve_task<
+    'x,
     H: Wait + Threads + Clock + Sync,
     R: Read + Send + Drop,
     W: Write + Send + Drop,
@@ -124,14 +134,14 @@ fn serve_task<
     E: Write,
     T: Write + Send,
 >(
-    rt: &H,
+    rt: &'x H,
     alloc: Global,
     task: Task<'_>,
-    on: Around<'_, T>,
+    on: Around<'x, T>,
     wire: EthernetWire<R, W>,
     number: u32,
     store: &mut S,
-    output: &mut O,
+    output: &'x mut O,
     faults: &mut E,
 ) -> ExitStatus {
     match begin_apart(alloc, on.capture, task, store) {
