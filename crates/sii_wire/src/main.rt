@@ -13,7 +13,7 @@ use std::thread::Threads;
 use std::time::SystemTime;
 use std::{env, io};
 use wire_serve::{
-    Arguments, FileStore, read_arguments, refuse_text, refuse_words, serve, show_usage,
+    Arguments, FileStore, Screen, read_arguments, refuse_text, refuse_words, serve, show_usage,
 };
 
 fn main(rt: HostRuntime) -> ExitCode {
@@ -44,7 +44,7 @@ fn serve_words<
     H: Files<File = File> + Wait + Threads + Clock + Sync,
     R: Read + Send + Drop,
     W: Write + Send + Drop,
-    E: Write + IsTerminal,
+    E: Write + IsTerminal + Copy + Send + Drop,
 >(
     rt: &H,
     alloc: Global,
@@ -79,7 +79,7 @@ fn serve_task<
     R: Read + Send + Drop,
     W: Write + Send + Drop,
     O: Write,
-    E: Write + IsTerminal,
+    E: Write + IsTerminal + Copy + Send + Drop,
 >(
     rt: &H,
     alloc: Global,
@@ -90,9 +90,13 @@ fn serve_task<
     faults: &mut E,
 ) -> u8 {
     let mut files = FileStore::new(alloc, rt);
-    let is_told = arguments.is_verbose || faults.is_terminal();
+    let is_terminal = faults.is_terminal();
+    let screen = Screen {
+        is_told: arguments.is_verbose || is_terminal,
+        terminal: if is_terminal { Some(*faults) } else { None },
+    };
     let status = serve(
-        rt, alloc, arguments, is_told, wire, number, &mut files, text, faults,
+        rt, alloc, arguments, screen, wire, number, &mut files, text, faults,
     );
     status as u8
 }

@@ -3,8 +3,8 @@
 use crate::capture_argument::{CAPTURE, capture_of};
 use crate::plan_arguments::{PLAN, plan_task};
 use crate::session_arguments::{
-    BESIDE, EVENTS, FORCE, JSON, REPORT, RESIZE, TAKE, TRUST, Tenure, WORDS, asked_by_recover,
-    asked_by_run, form_of, tenure_of, trust_of,
+    BESIDE, EVENTS, FORCE, JSON, QUIET, REPORT, RESIZE, TAKE, TRUST, Tenure, WORDS,
+    asked_by_recover, asked_by_run, form_of, is_quiet, tenure_of, trust_of,
 };
 use crate::sizes::sizes_of;
 use clap::error::ErrorKind;
@@ -30,6 +30,8 @@ pub struct Arguments<'a> {
     pub tenure: Tenure,
     /// Whether faults have a second line where standard error is no terminal, too.
     pub is_verbose: bool,
+    /// Whether no line is drawn with the progress.
+    pub is_quiet: bool,
     /// What is asked for.
     pub task: Task<'a>,
     /// The text of the script `TYPED`, where commands are typed in place of a script file.
@@ -326,7 +328,7 @@ const SCAN: Subcommand = Subcommand {
     long_about: "Brings up the line and reads the EEPROM of each slave. No word and no file is written, but for that of --capture.",
     after_help: "Example:\n  sii_wire -i eth0 scan",
     after_long_help: SCAN_ANSWERS,
-    arguments: &[WORDS, JSON, BESIDE, TAKE, CAPTURE],
+    arguments: &[WORDS, JSON, BESIDE, TAKE, CAPTURE, QUIET],
 };
 
 const BACKUP: Subcommand = Subcommand {
@@ -336,7 +338,7 @@ const BACKUP: Subcommand = Subcommand {
         none. No word of a slave is written.",
     after_help: "Examples:\n  sii_wire -i eth0 backup line.toml\n  sii_wire -i eth0 backup --to backups",
     after_long_help: BACKUP_FILES,
-    arguments: &[BACKED_LINE, FOLDER, WORDS, BESIDE, TAKE, CAPTURE],
+    arguments: &[BACKED_LINE, FOLDER, WORDS, BESIDE, TAKE, CAPTURE, QUIET],
 };
 
 const INIT: Subcommand = Subcommand {
@@ -345,7 +347,7 @@ const INIT: Subcommand = Subcommand {
     long_about: "Brings up the line, and makes an empty journal for as many slaves. No word of a slave is written.",
     after_help: "Example:\n  sii_wire -i eth0 init line.toml",
     after_long_help: INIT_ANSWERS,
-    arguments: &[LINE, BESIDE, TAKE, TRUST, CAPTURE],
+    arguments: &[LINE, BESIDE, TAKE, TRUST, CAPTURE, QUIET],
 };
 
 const RUN: Subcommand = Subcommand {
@@ -365,6 +367,7 @@ const RUN: Subcommand = Subcommand {
         REPORT,
         EVENTS,
         CAPTURE,
+        QUIET,
     ],
 };
 
@@ -374,7 +377,7 @@ const RECOVER: Subcommand = Subcommand {
     long_about: "Brings up the line, does what is live in its journal, and writes the words of each slave to its image file.",
     after_help: "Example:\n  sii_wire -i eth0 recover line.toml",
     after_long_help: RECOVER_ANSWERS,
-    arguments: &[LINE, BESIDE, TAKE, TRUST, REPORT, CAPTURE],
+    arguments: &[LINE, BESIDE, TAKE, TRUST, REPORT, CAPTURE, QUIET],
 };
 
 const SLAVES: Subcommand = Subcommand {
@@ -485,6 +488,7 @@ fn read_words<'a>(
         capture: capture_of(&matches),
         tenure: tenure_of(&matches),
         is_verbose: matches.get_flag("verbose"),
+        is_quiet: is_quiet(&matches),
         task: task_of(command, &matches)?,
         typed: typed_text(alloc, command, scripted)?,
     })

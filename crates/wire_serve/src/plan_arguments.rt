@@ -3,7 +3,7 @@
 use crate::Task;
 use crate::arguments::{LINE, SCRIPT};
 use crate::capture_argument::CAPTURE;
-use crate::session_arguments::{BESIDE, FORCE, JSON, RESIZE, TRUST, asked_by_run, form_of};
+use crate::session_arguments::{BESIDE, FORCE, JSON, QUIET, RESIZE, TRUST, asked_by_run, form_of};
 use clap::ArgMatches;
 use command_table::{Subcommand, word_of};
 use station_input::{TYPED_COMMANDS, script_of};
@@ -47,6 +47,7 @@ pub(crate) const PLAN: Subcommand = Subcommand {
         TRUST,
         RESIZE,
         CAPTURE,
+        QUIET,
     ],
 };
 

@@ -7,6 +7,7 @@ use crate::session_arguments::Tenure;
 use clap::Error;
 use clap::error::ErrorKind;
 use site_capture::Capture;
+use site_progress::{Cleared, Progress};
 use site_wire::{EthernetWire, NumberedWire, Sizes, Wire};
 use station_files::{ExitStatus, Fault, Store, report_fault};
 use station_input::InputScript;
@@ -19,7 +20,7 @@ use std::io::{Read, Write};
 use std::rt::Clock;
 use std::sync::Wait;
 use std::thread::Threads;
-use wire_capture::CapturedWire;
+use wire_capture::{CapturedWire, WatchedWire};
 use wire_session::{
     CaptureNames, Named, WireFault, backup_line, begin_journal, init_on_wire, keep_capture_apart,
     plan_on_wire, recover_line, run_script, scan_line,
@@ -28,7 +29,8 @@ use wire_slaves::serve_slaves;
 
 /// Carries out a command line on the wire that is read and written by these two, and returns the exit status: `Done`; `Refused` where a
 /// command was refused; `File` for a file or its form; `Device` for the line; or `Memory`. The frames are numbered from the one behind
-/// `number` on. Faults are printed to `faults`, those of the line with a second line behind if `is_told`.
+/// `number` on. Faults are printed to `faults`, those of the line with a second line behind if the screen says so. A line on its terminal, if it
+/// has one, tells how far the work is.
 ///
 /// Each frame is written down in the file of the capture, if one is named, once it is sent or received. Where the capture can't begin, no
 /// frame is sent and nothing is read or written. If it can't be written further, the work goes on as without it, and the fault is printed
@@ -40,11 +42,12 @@ pub fn serve<
     S: Store,
     O: Write,
     E: Write,
+    T: Write + Send + Drop,
 >(
     rt: &H,
     alloc: Global,
     arguments: Arguments<'_>,
-    is_told: bool,
+    screen: Screen<T>,
     wire: EthernetWire<R, W>,
     number: u32,
     store: &mut S,
@@ -56,12 +59,16 @@ pub fn serve<
         capture,
         tenure,
         typed,
+        is_quiet,
         ..
     } = arguments;
+    let Screen { is_told, terminal } = screen;
+    let begun = begin_progress(rt, is_quiet, terminal);
     let on = Around {
         capture,
         tenure,
         is_told,
+        progress: begun.as_ref(),
     };
     match typed {
         Some(text) => {
@@ -82,41 +89,71 @@ pub fn serve<
     }
 }
 
+/// Begins to count the progress, if there is a terminal for its line and it is to be drawn.
+fn begin_progress<H: Clock, T: Write + Drop>(
+    rt: &H,
+    is_quiet: bool,
+    terminal: Option<T>,
+) -> Option<Progress<T>> {
+    match terminal {
+        Some(terminal) if !is_quiet => Progress::begin(rt, terminal),
+        _ => None,
+    }
+}
+
+/// What a user sees beside the text.
+#[derive(Drop)]
+pub struct Screen<T> {
+    /// Whether a fault of the line has a second line.
+    pub is_told: bool,
+    /// The terminal for the line with the progress, if there is one.
+    pub terminal: Option<T>,
+}
+
 /// What a task is carried out with.
-#[derive(Clone, Copy)]
-struct Around<'a> {
+#[derive(Drop)]
+struct Around<'a, T> {
     /// The name of the capture, if there is one.
     capture: Option<&'a str>,
     /// Whose the wire is.
     tenure: Tenure,
     /// Whether a fault of the line has a second line.
     is_told: bool,
+    /// What counts the progress, if it is drawn.
+    progress: Option<&'a Progress<T>>,
 }
 
 /// Carries out a task on the wire that is read and written by these two.
 fn serve_task<
+    'x,
     H: Wait + Threads + Clock + Sync,
     R: Read + Send + Drop,
     W: Write + Send + Drop,
     S: Store,
     O: Write,
     E: Write,
+    T: Write + Send,
 >(
-    rt: &H,
+    rt: &'x H,
     alloc: Global,
     task: Task<'_>,
-    on: Around<'_>,
+    on: Around<'x, T>,
     wire: EthernetWire<R, W>,
     number: u32,
     store: &mut S,
-    output: &mut O,
+    output: &'x mut O,
     faults: &mut E,
 ) -> ExitStatus {
     match begin_apart(alloc, on.capture, task, store) {
         Ok(begun) => {
             let captured = CapturedWire::new(wire, begun.as_ref(), rt);
-            let numbered = numbered_wire(captured, number, on.tenure);
-            let ended = do_task(rt, alloc, task, numbered, store, output);
+            let watched = WatchedWire::new(captured, on.progress, rt);
+            let numbered = numbered_wire(watched, number, on.tenure);
+            let mut output = Cleared::new(output, on.progress, rt);
+            let ended = do_task(rt, alloc, task, numbered, store, &mut output);
+            if let Some(progress) = on.progress {
+                progress.erase(rt);
+            }
             let status = status_of(alloc, ended, on.is_told, task, store, faults);
             end_capture(begun, status, faults)
         }

@@ -114,6 +114,28 @@ pub(crate) fn form_of(matches: &ArgMatches<'_>) -> Form {
     }
 }
 
+/// No line with the progress.
+pub(crate) const QUIET: Argument = Argument {
+    id: "quiet",
+    kind: Kind::ShortFlag('q'),
+    help: "Draws no line with the progress",
+    long_help: "Draws no line with the progress. Without this option, where standard error is a
+terminal and the work takes longer than a second, a line there says how many words
+were asked for and how many were written, each as often as it was sent, and how
+many slaves are busy with one. It is drawn over itself ten times a second at most,
+and erased before anything else is printed and at the end.",
+};
+
+/// Whether the subcommand that was given has the flag for no line with the progress, or works on no line.
+pub(crate) fn is_quiet(matches: &ArgMatches<'_>) -> bool {
+    for name in ["scan", "backup", "init", "run", "plan", "recover"] {
+        if let Some(subcommand) = matches.subcommand_matches(name) {
+            return subcommand.get_flag("quiet");
+        }
+    }
+    true
+}
+
 /// What happens, as it happens.
 pub(crate) const EVENTS: Argument = Argument {
     id: "events",
