@@ -64,11 +64,12 @@ pub fn serve<
     } = arguments;
     let Screen { is_told, terminal } = screen;
     let begun = begin_progress(rt, is_quiet, terminal);
+    let progress = begun.as_ref();
     let on = Around {
         capture,
         tenure,
         is_told,
-        progress: begun.as_ref(),
+        number,
     };
     match typed {
         Some(text) => {
@@ -78,14 +79,14 @@ pub fn serve<
                 alloc,
                 task,
                 on,
+                progress,
                 wire,
-                number,
                 &mut joined,
                 output,
                 faults,
             )
         }
-        None => serve_task(rt, alloc, task, on, wire, number, store, output, faults),
+        None => serve_task(rt, alloc, task, on, progress, wire, store, output, faults),
     }
 }
 
@@ -111,21 +112,20 @@ pub struct Screen<T> {
 }
 
 /// What a task is carried out with.
-#[derive(Drop)]
-struct Around<'a, T> {
+#[derive(Clone, Copy)]
+struct Around<'a> {
     /// The name of the capture, if there is one.
     capture: Option<&'a str>,
     /// Whose the wire is.
     tenure: Tenure,
     /// Whether a fault of the line has a second line.
     is_told: bool,
-    /// What counts the progress, if it is drawn.
-    progress: Option<&'a Progress<T>>,
+    /// The number behind which the frames are numbered.
+    number: u32,
 }
 
 /// Carries out a task on the wire that is read and written by these two.
 fn serve_task<
-    'x,
     H: Wait + Threads + Clock + Sync,
     R: Read + Send + Drop,
     W: Write + Send + Drop,
@@ -134,26 +134,20 @@ fn serve_task<
     E: Write,
     T: Write + Send,
 >(
-    rt: &'x H,
+    rt: &H,
     alloc: Global,
     task: Task<'_>,
-    on: Around<'x, T>,
+    on: Around<'_>,
+    progress: Option<&Progress<T>>,
     wire: EthernetWire<R, W>,
-    number: u32,
     store: &mut S,
-    output: &'x mut O,
+    output: &mut O,
     faults: &mut E,
 ) -> ExitStatus {
     match begin_apart(alloc, on.capture, task, store) {
         Ok(begun) => {
             let captured = CapturedWire::new(wire, begun.as_ref(), rt);
-            let watched = WatchedWire::new(captured, on.progress, rt);
-            let numbered = numbered_wire(watched, number, on.tenure);
-            let mut output = Cleared::new(output, on.progress, rt);
-            let ended = do_task(rt, alloc, task, numbered, store, &mut output);
-            if let Some(progress) = on.progress {
-                progress.erase(rt);
-            }
+            let ended = do_watched(rt, alloc, task, on, progress, captured, store, output);
             let status = status_of(alloc, ended, on.is_told, task, store, faults);
             end_capture(begun, status, faults)
         }
@@ -166,6 +160,39 @@ fn serve_task<
             status
         }
     }
+}
+
+/// Carries out a task on this wire, whose frames count for the progress. The line of the progress gives way to the text.
+fn do_watched<
+    H: Wait + Threads + Clock + Sync,
+    W: Wire + Send + Drop,
+    S: Store,
+    O: Write,
+    T: Write + Send,
+>(
+    rt: &H,
+    alloc: Global,
+    task: Task<'_>,
+    on: Around<'_>,
+    progress: Option<&Progress<T>>,
+    wire: W,
+    store: &mut S,
+    output: &mut O,
+) -> Result<ExitStatus, WireFault> {
+    let watched = WatchedWire::new(wire, progress, rt);
+    let numbered = numbered_wire(watched, on.number, on.tenure);
+    let ended = do_task(
+        rt,
+        alloc,
+        task,
+        numbered,
+        store,
+        &mut Cleared::new(output, progress, rt),
+    );
+    if let Some(progress) = progress {
+        progress.erase(rt);
+    }
+    ended
 }
 
 /// Begins the capture, if one is named and it is none of the files that the task works on.
