@@ -9,7 +9,7 @@ abbrev pub commands_part : Stage → List ℕ
 commands_part stage =
     if stage.commands == 0 then [] else codes "commands " ++ decimal stage.durable ++ codes " of " ++ decimal stage.commands ++ codes " durable, "
 
--- how many words were asked for; nothing where none was
+-- how many words were read; nothing where none was
 abbrev pub read_part : Stage → List ℕ
 read_part stage = if stage.read == 0 then [] else codes "words " ++ decimal stage.read ++ codes " read, "
 

@@ -100,7 +100,7 @@ impl<T: Write> Progress<T> {
         self.durable.fetch_add(commands, SeqCst);
     }
 
-    /// Counts words that a slave was asked for.
+    /// Counts words that were read from a slave.
     pub fn add_read(&self, words: u64) {
         self.read.fetch_add(words, SeqCst);
     }

@@ -16,7 +16,7 @@ pub struct Stage {
     pub commands: u64,
     /// How many of them are in the journal for good.
     pub durable: u64,
-    /// How many words of slaves were asked for.
+    /// How many words were read from slaves.
     pub read: u64,
     /// How many words the slaves have written.
     pub words: u64,
@@ -52,7 +52,7 @@ fn put_commands(text: &mut ArrayVec<u8, LONGEST>, stage: Stage) -> io::Result<()
     write!(text, "commands {durable} of {commands} durable, ")
 }
 
-/// Appends how many words were asked for, if any was.
+/// Appends how many words were read, if any was.
 fn put_read(text: &mut ArrayVec<u8, LONGEST>, stage: Stage) -> io::Result<()>
     ensures { OnOk result (text.new.items ≡ text.old.items ++ read_part stage) }
 {

@@ -121,9 +121,9 @@ pub(crate) const QUIET: Argument = Argument {
     help: "Draws no line with the progress",
     long_help: "Draws no line with the progress. Without this option, where standard error is a
 terminal and the work takes longer than a second, a line there says how many words
-were asked for and how many were written, each as often as it was sent, and how
-many slaves are busy with one. It is drawn over itself ten times a second at most,
-and erased before anything else is printed and at the end.",
+were read and how many were written, each as often as that was done, and how many
+slaves are busy with one. It is drawn over itself ten times a second at most, and
+erased before anything else is printed and at the end.",
 };
 
 /// Whether the subcommand that was given has the flag for no line with the progress, or works on no line.
