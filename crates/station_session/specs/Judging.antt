@@ -17,7 +17,8 @@ HasJournal sizes bytes = (journal : Journal) × IsJournal bytes sizes journal
 
 -- the disk of this site has a journal of its line, or this is why it has none, or that memory was refused
 abbrev pub IsJudged : SiteValue → Option JournalFault → Type 0
-IsJudged site refusal = MatchOption refusal (HasJournal site.line.sizes site.seen.state.disk.bytes) (IsFaultOf site.seen.state.disk.bytes site.line.sizes)
+IsJudged site refusal =
+    MatchOption refusal (HasJournal site.line.sizes site.seen.state.disk.bytes) (IsFaultOf site.seen.state.disk.bytes site.line.sizes)
 
 -- The files of these names, of which the first `count` are written, stand apart from each other and from the script and its images.
 pub record AreRunApart (files : Known) (leads : Leads) (count : ℕ) (names : List (List ℕ)) (script : List ℕ) : Type 0 where
@@ -27,4 +28,5 @@ pub record AreRunApart (files : Known) (leads : Leads) (count : ℕ) (names : Li
 
 -- The capture, if there is one, the journal and the image files stand apart from each other, and from the line file, the script and its images.
 abbrev pub IsRunApart : Known → Leads → (capture : Option (List ℕ)) → LineFile → (line_file script : List ℕ) → Type 0
-IsRunApart files leads capture line line_file script = AreRunApart files leads (length (written_of capture line)) (files_with capture line line_file) script
+IsRunApart files leads capture line line_file script =
+    AreRunApart files leads (length (written_of capture line)) (files_with capture line line_file) script

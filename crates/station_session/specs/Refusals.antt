@@ -43,7 +43,8 @@ RefusesRecovery files leads name fault = RefusesSession files leads name fault �
 -- ---- the script's files
 
 -- The script and its images were read, and the files are refused with this fault.
-pub record RefusesApart (files : Known) (leads : Leads) (has_capture : Bool) (count : ℕ) (names : List (List ℕ)) (script : List ℕ) (fault : Fault) : Type 0 where
+pub record RefusesApart (files : Known) (leads : Leads) (has_capture : Bool) (count : ℕ) (names : List (List ℕ)) (script : List ℕ)
+    (fault : Fault) : Type 0 where
   pub images : List (List ℕ)
   pub named : NamesImages files script images
   pub refused : RefusesNames leads has_capture count (names ++ script ∷ images) fault

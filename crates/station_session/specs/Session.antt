@@ -169,7 +169,8 @@ pub record EndsCaptured (is_cut : Bool) (capture : Option (List ℕ)) (old new :
   pub ends : EndsRun is_cut begun new line site commands status
 
 -- The line and the script were read, their files stand apart, the journal is one, and the commands were run as far as the status says.
-pub record RunsFiles (leads : Leads) (is_cut : Bool) (capture : Option (List ℕ)) (old new : Known) (name script : List ℕ) (status : ExitStatus) : Type 0 where
+pub record RunsFiles (leads : Leads) (is_cut : Bool) (capture : Option (List ℕ)) (old new : Known) (name script : List ℕ)
+    (status : ExitStatus) : Type 0 where
   pub line : LineFile
   pub site : SiteValue
   pub loaded : Loads old name line site

@@ -29,8 +29,8 @@ struct Unformatted {
 /// # Errors
 ///
 /// As for `load_line` and `load_slaves`; then as for `keep_line_apart`; `File` where the store can't tell whether the journal's file exists;
-/// `Exists` where it does. Nothing is written up to there. Then `Disk` or `Stopped`, as the disk in memory answers; the files are saved nevertheless. Then `File` or
-/// `Memory`, where a file can't be written or the output fails.
+/// `Exists` where it does. Nothing is written up to there. Then `Disk` or `Stopped`, as the disk in memory answers; the files are saved
+/// nevertheless. Then `File` or `Memory`, where a file can't be written or the output fails.
 pub fn init_line<S: Store, W: Write>(
     alloc: Global,
     name: &str,

@@ -79,8 +79,8 @@ pub fn run_script<S: Store, W: Write, E: Write, T: Write + Send, R: Wait + Threa
     output: &mut W,
     faults: &mut E,
 ) -> Result<ExitStatus, Fault>
-    ensures ran { IfOk result (RunsFiles S.leads (is_some fuse) (option_map (λ given. given.now) capture.entry) (S.files store.old) (S.files store.new)
-        name.now script.now) }
+    ensures ran { IfOk result (RunsFiles S.leads (is_some fuse) (option_map (λ given. given.now) capture.entry)
+        (S.files store.old) (S.files store.new) name.now script.now) }
     ensures refused { IfErr result (RefusesRun (S.files store.old) S.leads (option_map (λ given. given.now) capture.entry) name.now script.now) }
     ensures same { OnErr result (S.files store.new ≡ S.files store.old) }
 {
