@@ -11,7 +11,7 @@
 //   --ends           a command for a word behind the end of the chip isn't acknowledged, as where a processor emulates the EEPROM
 //   --block          a pending error blocks commands, until command 0 clears it
 //   --busy-counts    a write to the EEPROM registers of a busy slave is counted, though it does nothing
-//   --eight          reads fetch eight bytes, not four
+//   --wide           reads load eight bytes, not four, as control and status says
 //   --chip WORDS     the chip has so many words, a power of two: an address is taken modulo that (the image's length)
 //   --alias-on       the slave answers to its alias as station address from the start
 //   --address N      its station address at power-up, as of a former master (0)
@@ -62,7 +62,7 @@ struct slave {
     struct { int kind, start, bits; } wanted[MANAGER_COUNT];
     int64_t outputs_at;
     // How it behaves.
-    int read_us, write_us, program_us, nack, first, stuck, ends, block, busy_counts, eight, alias_on, address, pdi, state;
+    int read_us, write_us, program_us, nack, first, stuck, ends, block, busy_counts, wide, alias_on, address, pdi, state;
 };
 
 static struct slave *slaves[MAX_SLAVES];
@@ -109,7 +109,7 @@ static void set_status(struct slave *it, unsigned set, unsigned clear) {
 
 static void load(struct slave *it) {
     unsigned status = is_checked(it) ? 0 : CHECK_ERROR | NOT_LOADED;
-    set_status(it, status | (it->eight ? READS_EIGHT : 0) | (it->words > 1024 ? TWO_BYTES : 0), CHECK_ERROR | NOT_LOADED);
+    set_status(it, status | (it->wide ? READS_EIGHT : 0) | (it->words > 1024 ? TWO_BYTES : 0), CHECK_ERROR | NOT_LOADED);
 }
 
 // The power of the whole line fails. Whatever is being programmed is torn.
@@ -123,7 +123,7 @@ static void cut_power(void) {
 // Brings what is under way at a slave's EEPROM up to the present.
 static void settle(struct slave *it) {
     if (it->command && now >= it->idle_at) {
-        for (int k = 0; it->command == READ && it->acknowledged && k < (it->eight ? 4 : 2); k++)
+        for (int k = 0; it->command == READ && it->acknowledged && k < (it->wide ? 4 : 2); k++)
             put16(it->memory + SII_DATA + 2 * k, *cell(it, it->at + (uint32_t)k));
         if (it->command == RELOAD && it->acknowledged) load(it);
         set_status(it, it->acknowledged ? 0 : COMMAND_ERROR, BUSY | 0x0700);
@@ -424,7 +424,7 @@ int main(int argc, char **argv) {
         const struct { const char *name; int *to, is_flag; } options[] = {
             { "--read", &form.read_us, 0 }, { "--write", &form.write_us, 0 }, { "--program", &form.program_us, 0 }, { "--nack", &form.nack, 0 },
             { "--first", &form.first, 0 }, { "--stuck", &form.stuck, 0 }, { "--ends", &form.ends, 1 }, { "--state", &form.state, 0 },
-            { "--block", &form.block, 1 }, { "--busy-counts", &form.busy_counts, 1 }, { "--eight", &form.eight, 1 }, { "--chip", &form.chip, 0 },
+            { "--block", &form.block, 1 }, { "--busy-counts", &form.busy_counts, 1 }, { "--wide", &form.wide, 1 }, { "--chip", &form.chip, 0 },
             { "--alias-on", &form.alias_on, 1 }, { "--address", &form.address, 0 }, { "--pdi", &form.pdi, 1 }, { "--lose", &lose, 0 },
             { "--watchdog", &watchdog_ms, 0 },
         };

@@ -1,11 +1,13 @@
 -- What came over a wire, and what of it slaves answered (ETG.1000.4). `Gives` is what is known of the bytes that the wire gives.
-use Rattle.std.specs.Prelude.{◌≡◌, ◌≢◌, ◌⊎◌, ℕ, ◌+◌, ◌*◌, ◌<◌, ◌≤◌, ◌==◌, if◌then◌else◌, Bool, true, false, List, [], ◌∷◌, ◌++◌, length, take, slice_get, slice_index, slice_index_or, Option, Some, None, IfOk}
+use Rattle.std.specs.Prelude.{◌≡◌, ◌≢◌, ◌⊎◌, ℕ, ◌+◌, ◌*◌, ◌/◌, ◌%◌, ◌<◌, ◌≤◌, ◌==◌, if◌then◌else◌, Bool, true, false, List, [], ◌∷◌, ◌++◌}
+use Rattle.std.specs.Prelude.{length, take, slice_get, slice_index, slice_index_or, Option, Some, None, IfSome, IfOk}
 use Rattle.std.specs.Int.{w16, w32, to_le_bytes}
 use Rattle.sii_words.specs.Words.{bytes_of}
 use Rattle.ecat_frame.specs.Frame.{Pdu, IsFrame, sent}
 use Rattle.ecat_frame.specs.declared.command.Command.TheVariants.{Fprd}
 use Rattle.esc_model.specs.Bytes.{station_of, register_of}
 use Rattle.esc_model.specs.Orders.{station, address_of}
+use Rattle.site_wire.specs.declared.asking.Read.{Read}
 use Rattle.site_wire.specs.declared.asking.Reply.{Reply}
 use Rattle.site_wire.specs.declared.asking.Tried.{Tried}
 use Rattle.site_wire.specs.declared.asking.Tried.TheVariants as tried
@@ -48,13 +50,13 @@ pub record IsReplyTo (asked : Pdu) (address : ℕ) (answer : Pdu) : Type 0 where
   pub address_is : (asked.command ≡ 4) ⊎ (asked.command ≡ 5) → answer.address ≡ address
   pub content_is : asked.command ≡ 5 → answer.content ≡ asked.content
 
--- A reply that one slave has counted stands at this place of the frame, with the first four bytes of its content.
+-- A reply that one slave has counted stands at this place of the frame, with the first eight bytes of its content.
 pub record IsFrom (asked : Pdu) (address : ℕ) (frame : List Pdu) (place : ℕ) (reply : Reply) : Type 0 where
   pub answer : Pdu
   pub there : slice_get frame place ≡ Some answer
   pub replies : IsReplyTo asked address answer
   pub counter : answer.counter ≡ 1
-  pub front : length answer.content ≤ 4 → take (length answer.content) reply.content ≡ answer.content
+  pub front : length answer.content ≤ 8 → take (length answer.content) reply.content ≡ answer.content
 
 -- No answer that one slave has counted stands at this place of the frame.
 abbrev pub IsUncounted : (asked : Pdu) → (address : ℕ) → (frame : List Pdu) → (place : ℕ) → Type 0
@@ -72,12 +74,12 @@ pub record Unanswered (Gives : List ℕ → Type 0) (stations : List ℕ) (asked
 abbrev pub back_of : (command : ℕ) → (content front : List ℕ) → List ℕ
 back_of command content front = if command == 4 then take (length content) front else content
 
--- The datagram reads or writes registers of the slave at this place of the line; it reads four bytes at most.
+-- The datagram reads or writes registers of the slave at this place of the line; it reads eight bytes at most.
 pub record IsFor (slave : ℕ) (asked : Pdu) : Type 0 where
   pub near : slave < 64
   pub by_station : (asked.command ≡ 4) ⊎ (asked.command ≡ 5)
   pub station_is : station_of asked.address ≡ station slave
-  pub short : asked.command ≡ 4 → length asked.content ≤ 4
+  pub short : asked.command ≡ 4 → length asked.content ≤ 8
 
 -- If one slave has counted the datagram, its answer came over the wire.
 abbrev pub Heard : (Gives : List ℕ → Type 0) → (stations : List ℕ) → (asked : Pdu) → Reply → Type 0
@@ -90,7 +92,7 @@ Unheard Gives stations asked reply = reply.counter ≢ 1 → Unanswered Gives st
 
 -- the same of a read or a write of this register of the slave with this station address
 abbrev pub Told : (Gives : List ℕ → Type 0) → (from command register : ℕ) → List ℕ → Reply → Type 0
-Told Gives from command register content reply = reply.counter ≡ 1 → (command ≡ 4 → length content ≤ 4)
+Told Gives from command register content reply = reply.counter ≡ 1 → (command ≡ 4 → length content ≤ 8)
     → Answered Gives from command register (back_of command content reply.content)
 
 -- ---- What slaves are in
@@ -119,18 +121,41 @@ AllLooked Gives stations lent slaves states =
 
 -- ---- Words
 
--- the content of the command to read this word and the next one: control and status, and the word's number
+-- the content of the command to read words from this one on: control and status, and the word's number
 abbrev pub read_command : ℕ → List ℕ
 read_command word = to_le_bytes w16 0x0100 ++ to_le_bytes w32 word
 
--- The slave took the command to read this word and the next one, and it answered a read of the data register (0x0508) with these four bytes.
-pub record PairCame (Gives : List ℕ → Type 0) (from word : ℕ) (pair : List ℕ) : Type 0 where
-  pub taken : Answered Gives from 5 0x0502 (read_command word)
-  pub read : Answered Gives from 4 0x0508 pair
+-- The slave showed that a read command loads eight bytes: bit 6 of control and status (0x0502).
+pub record ShowsEight (Gives : List ℕ → Type 0) (from : ℕ) : Type 0 where
+  pub status : ℕ
+  pub shown : Answered Gives from 4 0x0502 (to_le_bytes w16 status)
+  pub bit : (status / 0x40) % 2 ≡ 1
 
--- the same of two words that a try has read
+-- The slave took the command to read words from this one on, and it answered a read of the data register (0x0508) with these bytes: four, or
+-- eight if it showed that it loads so many.
+pub record ReadCame (Gives : List ℕ → Type 0) (from word : ℕ) (bytes : List ℕ) : Type 0 where
+  pub taken : Answered Gives from 5 0x0502 (read_command word)
+  pub read : Answered Gives from 4 0x0508 bytes
+  pub size : (length bytes ≡ 4) ⊎ ((length bytes ≡ 8) × ShowsEight Gives from)
+
+-- The four bytes of this word and the next one stand in what the slave answered to a read from the word `start` on, at their place: two bytes
+-- a word.
+pub record PairCame (Gives : List ℕ → Type 0) (from word : ℕ) (pair : List ℕ) : Type 0 where
+  pub start : ℕ
+  pub before : List ℕ
+  pub behind : List ℕ
+  pub came : ReadCame Gives from start (before ++ pair ++ behind)
+  pub place : 2 * start + length before ≡ 2 * word
+  pub four : length pair ≡ 4
+
+-- the same of the words of a read: two, or four
+pub record WordsRead (Gives : List ℕ → Type 0) (from word : ℕ) (read : Read) : Type 0 where
+  pub first : PairCame Gives from word read.pair
+  pub others : IfSome read.next (PairCame Gives from (word + 2))
+
+-- the same of what a try has read
 abbrev pub TriedCame : (Gives : List ℕ → Type 0) → (from word : ℕ) → Tried → Type 0
-TriedCame Gives from word (tried.Read pair) = PairCame Gives from word pair
+TriedCame Gives from word (tried.Done read) = WordsRead Gives from word read
 TriedCame Gives from word (tried.Refused last) = Unit {0}
 
 -- the same of a slave's first 64 words, in pairs

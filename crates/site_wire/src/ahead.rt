@@ -1,9 +1,9 @@
 //! Words that were read ahead, before a slave's turn comes.
 ghost use Rattle.std.specs.Prelude.{◌≡◌, ◌<◌, slice_index, IfSome, IfOk};
-ghost use Rattle.site_wire.specs.Came.{PairCame};
+ghost use Rattle.site_wire.specs.Came.{PairCame, WordsRead};
 ghost use Rattle.site_wire.specs.Reading.{KeptCame, AllKept};
 
-use crate::asking::{Hitch, read_pair};
+use crate::asking::{Hitch, Read, read_at};
 use crate::numbered::NumberedWire;
 use crate::wire::Wire;
 use std::alloc::{AllocFailed, Global};
@@ -57,6 +57,29 @@ pub(crate) fn keep<W: Wire>(ahead: &mut Ahead, slave: u16, kept: Kept)
     }
 }
 
+/// Keeps the words of a read of the slave with this station address.
+pub(crate) fn keep_read<W: Wire>(ahead: &mut Ahead, slave: u16, station: u16, word: u16, read: Read)
+    requires came { WordsRead W.gives station word read }
+    requires kept { AllKept W.gives ahead.old }
+    ensures { AllKept W.gives ahead.new }
+{
+    let Read { pair, next } = read;
+    let first = Kept {
+        station,
+        word,
+        pair,
+    };
+    keep::<W>(ahead, slave, first);
+    if let (Some(pair), Some(word)) = (next, word.checked_add(2)) {
+        let others = Kept {
+            station,
+            word,
+            pair,
+        };
+        keep::<W>(ahead, slave, others);
+    }
+}
+
 /// A word of the slave with this station address, and the next one, if they were kept.
 pub(crate) fn kept_of<W: Wire>(
     ahead: &Ahead,
@@ -76,22 +99,24 @@ pub(crate) fn kept_of<W: Wire>(
     }
 }
 
-/// Reads a word and the next one, unless they were read ahead.
-pub(crate) fn pair_of<W: Wire, C: Clock>(
+/// The words of a slave from this one on: the next ones of the read before, if it gave them, or those that were read ahead, or else it is
+/// read now.
+pub(crate) fn words_at<W: Wire, C: Clock>(
     wire: &mut NumberedWire<W>,
     clock: &C,
     slave: u16,
     word: u16,
+    next: Option<[u8; 4]>,
     ahead: &Ahead,
-) -> Result<[u8; 4], Hitch>
+) -> Result<Read, Hitch>
     requires { slave < 64 }
     ensures same { wire.new.stations ≡ wire.old.stations }
-    ensures read { AllKept W.gives ahead.now
-        → IfOk result (PairCame W.gives (slice_index wire.old.stations.by_slave slave) word) }
+    ensures read { AllKept W.gives ahead.now → IfSome next (PairCame W.gives (slice_index wire.old.stations.by_slave slave) word)
+        → IfOk result (WordsRead W.gives (slice_index wire.old.stations.by_slave slave) word) }
 {
     let station = wire.stations().of_slave(slave);
-    if let Some(pair) = kept_of::<W>(ahead, slave, station, word) {
-        return Ok(pair);
+    match next.or(kept_of::<W>(ahead, slave, station, word)) {
+        Some(pair) => Ok(Read { pair, next: None }),
+        None => read_at(wire, clock, slave, word),
     }
-    read_pair(wire, clock, slave, word)
 }

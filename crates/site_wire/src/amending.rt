@@ -58,7 +58,8 @@ fn read_content(word: u16, held: u16) -> [u8; 10]
 /// The command to read a word and the next one.
 fn read_frame(slave: u16, word: u16, held: u16) -> Frame
     requires { slave < 64 }
-    ensures { result ≡ sent Fpwr 0 (address_of slave 0x0502) (to_le_bytes w16 0x0100 ++ to_le_bytes w32 word ++ to_le_bytes w16 held ++ to_le_bytes w16 held) ∷ [] }
+    ensures { result ≡ sent Fpwr 0 (address_of slave 0x0502)
+        (to_le_bytes w16 0x0100 ++ to_le_bytes w32 word ++ to_le_bytes w16 held ++ to_le_bytes w16 held) ∷ [] }
 {
     frame_for(slave, Command::Fpwr, CONTROL, &read_content(word, held))
 }
@@ -66,7 +67,8 @@ fn read_frame(slave: u16, word: u16, held: u16) -> Frame
 /// The command to write a word.
 fn write_frame(slave: u16, write: WordWrite) -> Frame
     requires { slave < 64 }
-    ensures { result ≡ sent Fpwr 0 (address_of slave 0x0502) (to_le_bytes w16 0x0201 ++ to_le_bytes w32 write.word ++ to_le_bytes w16 write.value) ∷ [] }
+    ensures { result ≡ sent Fpwr 0 (address_of slave 0x0502)
+        (to_le_bytes w16 0x0201 ++ to_le_bytes w32 write.word ++ to_le_bytes w16 write.value) ∷ [] }
 {
     frame_for(
         slave,

@@ -1,13 +1,16 @@
 //! Datagrams to slaves that have no shadow yet, and their replies.
-ghost use Rattle.std.specs.Prelude.{◌≡◌, ◌≢◌, ◌⊎◌, ◌↔◌, ◌<◌, ◌≤◌, true, length, take, slice_index, None, IfSome, IfOk, OnOk, IsTrue};
+ghost use Rattle.std.specs.Prelude.{◌≡◌, ◌≢◌, ◌⊎◌, ◌↔◌, ◌/◌, ◌%◌, ◌<◌, ◌≤◌, true, length, take, slice_index, None, IfSome, IfOk, OnOk, IsTrue};
 ghost use Rattle.std.specs.Int.{w16, to_le_bytes};
 ghost use Rattle.ecat_frame.specs.Command.{code_of};
 ghost use Rattle.ecat_frame.specs.Frame.{pdu, sent};
 ghost use Rattle.ecat_frame.specs.declared.command.Command.TheVariants.{Fprd, Fpwr};
 ghost use Rattle.esc_model.specs.Orders.{address_of};
-ghost use Rattle.site_wire.specs.Came.{IsReplyTo, IsFrom, IsUncounted, Heard, Unheard, Told, Answered, Looked, read_command, TriedCame, PairCame};
+ghost use Rattle.site_wire.specs.Came.{IsReplyTo, IsFrom, IsUncounted, Heard, Unheard, Told, Answered, Looked};
+ghost use Rattle.site_wire.specs.Came.{read_command, TriedCame, WordsRead, ShowsEight};
+ghost use Rattle.site_wire.specs.Reading.{bytes_loaded, read_of};
 ghost use Rattle.site_wire.specs.Sending.{InEeprom, LeavesRunning};
 ghost use Rattle.site_wire.specs.declared.asking.Hitch.TheVariants as hitch;
+ghost use Rattle.site_wire.specs.declared.asking.ReadSize.TheVariants.{Eight};
 
 use crate::faults::Sighting;
 use crate::fitting::{FPRD, FPWR};
@@ -24,12 +27,60 @@ use std::rt::Clock;
 /// After how many polls in a row that no slave counts, or several do, a slave is given up.
 pub(crate) const UNCOUNTED: u32 = 100;
 
+/// The content of a datagram that reads.
+pub(crate) const EMPTY: [u8; 8] = [0; 8];
+
 /// What came back of a datagram.
 #[derive(Clone, Copy)]
 pub(crate) struct Reply {
     /// The first bytes of its content.
-    pub(crate) content: [u8; 4],
+    pub(crate) content: [u8; 8],
     pub(crate) counter: u16,
+}
+
+/// How many bytes a read command loads into the data register: bit 6 of control and status (ESC data sheet).
+#[derive(Clone, Copy, PartialEq, Eq)]
+pub(crate) enum ReadSize {
+    Four,
+    Eight,
+}
+
+impl ReadSize {
+    /// As control and status shows.
+    pub(crate) fn shown_by(status: u16) -> ReadSize
+        ensures { (result ≡ Eight) ↔ ((status / 0x40) % 2 ≡ 1) }
+    {
+        if status / 0x40 % 2 == 1 {
+            ReadSize::Eight
+        } else {
+            ReadSize::Four
+        }
+    }
+
+    /// How many of them are fetched of a read from this word on. Eight are where it is a multiple of four: such a read ends before a chip does.
+    pub(crate) fn fetched_at(self, word: u16) -> ReadSize
+        ensures { (result ≡ Eight) ↔ ((self ≡ Eight) × (word % 4 ≡ 0)) }
+    {
+        if word % 4 == 0 { self } else { ReadSize::Four }
+    }
+
+    /// The number of bytes.
+    pub(crate) fn bytes(self) -> usize
+        ensures number { result ≡ bytes_loaded self }
+        ensures most { result ≤ 8 }
+    {
+        match self {
+            ReadSize::Four => 4,
+            ReadSize::Eight => 8,
+        }
+    }
+}
+
+/// The words of a read: the one at which it begins and the next one, and the two behind them, where eight bytes are fetched.
+#[derive(Clone, Copy)]
+pub(crate) struct Read {
+    pub(crate) pair: [u8; 4],
+    pub(crate) next: Option<[u8; 4]>,
 }
 
 /// The last datagram to a slave that doesn't do what it is asked to, and what came back.
@@ -87,21 +138,35 @@ impl Reply {
         ensures none { result ≡ None → self.now.counter ≢ 1 }
         ensures some { IfSome result (λ word. (self.now.counter ≡ 1) × (take 2 self.now.content ≡ to_le_bytes w16 word)) }
     {
-        let [low, high, _, _] = self.content;
+        let [low, high, ..] = self.content;
         if self.counter == 1 {
             Some(u16::from_le_bytes([low, high]))
         } else {
             None
         }
     }
+
+    /// The words that it holds as the reply to a read of the data register.
+    pub(crate) fn words(&self, size: ReadSize) -> Read
+        ensures { result ≡ read_of size self.now.content }
+    {
+        let [a, b, c, d, e, f, g, h] = self.content;
+        Read {
+            pair: [a, b, c, d],
+            next: match size {
+                ReadSize::Four => None,
+                ReadSize::Eight => Some([e, f, g, h]),
+            },
+        }
+    }
 }
 
-/// The first four bytes of these, and zeros where there are fewer.
-fn front_of(bytes: &[u8]) -> [u8; 4]
-    ensures { length bytes.now ≤ 4 → take (length bytes.now) result ≡ bytes.now }
+/// The first eight bytes of these, and zeros where there are fewer.
+fn front_of(bytes: &[u8]) -> [u8; 8]
+    ensures { length bytes.now ≤ 8 → take (length bytes.now) result ≡ bytes.now }
 {
-    let mut front = [0u8; 4];
-    let count = bytes.len().min(4);
+    let mut front = [0u8; 8];
+    let count = bytes.len().min(8);
     front[..count].copy_from_slice(&bytes[..count]);
     front
 }
@@ -133,7 +198,7 @@ pub(crate) fn reply_at(asked: Datagram<'_>, address: u32, frame: &Frame, place: 
         }
     }
     Reply {
-        content: [0; 4],
+        content: [0; 8],
         counter: 0,
     }
 }
@@ -196,22 +261,30 @@ pub(crate) fn read_access<W: Wire>(
     Ok(reply.word())
 }
 
+/// What a poll shows.
+#[derive(Clone, Copy)]
+struct Polled {
+    last: Last,
+    /// How many bytes reads load, as the slave says. Four, where it isn't the only one that counted the poll.
+    loads: ReadSize,
+}
+
 /// Polls a slave once. Gives what came back.
-fn poll<W: Wire>(wire: &mut NumberedWire<W>, slave: u16) -> Result<Last, Hitch>
+fn poll<W: Wire>(wire: &mut NumberedWire<W>, slave: u16) -> Result<Polled, Hitch>
     requires { slave < 64 }
-    ensures { wire.new.stations ≡ wire.old.stations }
+    ensures same { wire.new.stations ≡ wire.old.stations }
+    ensures eight { IfOk result (λ polled. polled.loads ≡ Eight → ShowsEight W.gives (slice_index wire.old.stations.by_slave slave)) }
 {
     let reply = tell(wire, slave, Command::Fprd, CONTROL, &[0, 0])?;
-    let [_, status, _, _] = reply.content;
-    Ok(Last {
-        command: Command::Fprd,
-        register: CONTROL,
-        counter: Some(reply.counter),
-        status: if reply.counter == 1 {
-            Some(status)
-        } else {
-            None
+    let shown = reply.word();
+    Ok(Polled {
+        last: Last {
+            command: Command::Fprd,
+            register: CONTROL,
+            counter: Some(reply.counter),
+            status: shown.map(|word| (word / 256) as u8),
         },
+        loads: ReadSize::shown_by(shown.unwrap_or(0)),
     })
 }
 
@@ -220,26 +293,27 @@ fn wait_idle<W: Wire, C: Clock>(
     wire: &mut NumberedWire<W>,
     clock: &C,
     slave: u16,
-) -> Result<Last, Hitch>
+) -> Result<Polled, Hitch>
     requires { slave < 64 }
-    ensures { wire.new.stations ≡ wire.old.stations }
+    ensures same { wire.new.stations ≡ wire.old.stations }
+    ensures eight { IfOk result (λ polled. polled.loads ≡ Eight → ShowsEight W.gives (slice_index wire.old.stations.by_slave slave)) }
 {
     let mut pace = Pace::of_polls();
-    let mut last = poll(wire, slave)?;
+    let mut polled = poll(wire, slave)?;
     let mut uncounted = 0u32;
     for _poll in 0..POLLS {
-        match last.status {
-            Some(status) if status < 0x80 => return Ok(last),
+        match polled.last.status {
+            Some(status) if status < 0x80 => return Ok(polled),
             Some(_) => uncounted = 0,
             None => uncounted = uncounted.saturating_add(1),
         }
         if uncounted >= UNCOUNTED {
-            return Err(Hitch::Stuck(last));
+            return Err(Hitch::Stuck(polled.last));
         }
         pace.pause(clock);
-        last = poll(wire, slave)?;
+        polled = poll(wire, slave)?;
     }
-    Err(Hitch::Stuck(last))
+    Err(Hitch::Stuck(polled.last))
 }
 
 /// Writes to registers of a slave's EEPROM until the slave takes it, three times at most.
@@ -285,14 +359,14 @@ pub(crate) fn clear<W: Wire, C: Clock>(
     put(wire, clock, slave, CONTROL, &[0, 0])
 }
 
-/// The outcome of one try to read two words.
+/// The outcome of one try to read words.
 #[derive(Clone, Copy)]
 enum Tried {
-    Read([u8; 4]),
+    Done(Read),
     Refused(Last),
 }
 
-/// The content of the command to read a word and the next one.
+/// The content of the command to read words from this one on.
 pub(crate) fn read_content(word: u16) -> [u8; 6]
     ensures { result ≡ read_command word }
 {
@@ -300,8 +374,8 @@ pub(crate) fn read_content(word: u16) -> [u8; 6]
     [0x00, 0x01, a, b, c, d]
 }
 
-/// Tries once to read a word and the next one.
-fn try_pair<W: Wire, C: Clock>(
+/// Tries once to read words from this one on: two, or four where the slave loads eight bytes.
+fn try_at<W: Wire, C: Clock>(
     wire: &mut NumberedWire<W>,
     clock: &C,
     slave: u16,
@@ -312,13 +386,14 @@ fn try_pair<W: Wire, C: Clock>(
     ensures read { IfOk result (TriedCame W.gives (slice_index wire.old.stations.by_slave slave) word) }
 {
     put(wire, clock, slave, CONTROL, &read_content(word))?;
-    let last = wait_idle(wire, clock, slave)?;
+    let Polled { last, loads } = wait_idle(wire, clock, slave)?;
     if last.is_refusal() {
         return Ok(Tried::Refused(last));
     }
-    let reply = tell(wire, slave, Command::Fprd, CONTENT, &[0, 0, 0, 0])?;
+    let size = loads.fetched_at(word);
+    let reply = tell(wire, slave, Command::Fprd, CONTENT, &EMPTY[..size.bytes()])?;
     if reply.counter == 1 {
-        return Ok(Tried::Read(reply.content));
+        return Ok(Tried::Done(reply.words(size)));
     }
     Ok(Tried::Refused(Last {
         command: Command::Fprd,
@@ -328,17 +403,17 @@ fn try_pair<W: Wire, C: Clock>(
     }))
 }
 
-/// Reads a word and the next one. A try that isn't acknowledged is followed by command 000, which clears the error, and a pause; they are
+/// Reads words from this one on. A try that isn't acknowledged is followed by command 000, which clears the error, and a pause; they are
 /// tried for half a second.
-pub(crate) fn read_pair<W: Wire, C: Clock>(
+pub(crate) fn read_at<W: Wire, C: Clock>(
     wire: &mut NumberedWire<W>,
     clock: &C,
     slave: u16,
     word: u16,
-) -> Result<[u8; 4], Hitch>
+) -> Result<Read, Hitch>
     requires { slave < 64 }
     ensures same { wire.new.stations ≡ wire.old.stations }
-    ensures read { IfOk result (PairCame W.gives (slice_index wire.old.stations.by_slave slave) word) }
+    ensures read { IfOk result (WordsRead W.gives (slice_index wire.old.stations.by_slave slave) word) }
 {
     read_in_tries(wire, clock, slave, word, ATTEMPTS)
 }
@@ -350,16 +425,16 @@ pub(crate) fn read_in_tries<W: Wire, C: Clock>(
     slave: u16,
     word: u16,
     tries: u32,
-) -> Result<[u8; 4], Hitch>
+) -> Result<Read, Hitch>
     requires { slave < 64 }
     ensures same { wire.new.stations ≡ wire.old.stations }
-    ensures read { IfOk result (PairCame W.gives (slice_index wire.old.stations.by_slave slave) word) }
+    ensures read { IfOk result (WordsRead W.gives (slice_index wire.old.stations.by_slave slave) word) }
 {
     let mut pace = Pace::of_tries();
     let mut refused = None;
     for _try in 0..tries {
-        match try_pair(wire, clock, slave, word)? {
-            Tried::Read(pair) => return Ok(pair),
+        match try_at(wire, clock, slave, word)? {
+            Tried::Done(read) => return Ok(read),
             Tried::Refused(last) => refused = Some(last),
         }
         clear(wire, clock, slave)?;

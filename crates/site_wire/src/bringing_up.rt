@@ -4,7 +4,7 @@ ghost use Rattle.std.specs.List.{All};
 ghost use Rattle.site_wire.specs.Came.{StatusLooked, StateLooked, AllLooked, WordsCame, FoundCame, AllCame};
 ghost use Rattle.site_wire.specs.Reading.{NothingTold, AllKept};
 
-use crate::ahead::{Ahead, kept_of, nothing_ahead, pair_of};
+use crate::ahead::{Ahead, kept_of, nothing_ahead, words_at};
 use crate::asking::{
     Hitch, Last, ask, clear, count_answers, put, read_access, read_station, sight,
 };
@@ -370,9 +370,11 @@ fn read_words<W: Wire, C: Clock>(
     ensures read { IfOk result (WordsCame W.gives (slice_index wire.old.stations.by_slave slave)) }
 {
     let mut bytes = Vec::new(alloc);
+    let mut next = None;
     for place in 0..words / 2 {
-        let pair = pair_of(wire, clock, slave, 2 * place, ahead)?;
-        bytes.extend_from_slice(&pair)?;
+        let read = words_at(wire, clock, slave, 2 * place, next, ahead)?;
+        bytes.extend_from_slice(&read.pair)?;
+        next = read.next;
     }
     match Words::from_bytes(alloc, &bytes) {
         Ok(words) => Ok(words),
@@ -498,8 +500,9 @@ pub fn look_along<W: Wire>(wire: &mut NumberedWire<W>) -> Result<LineStates, Lin
 
 /// Brings up a line (ETG.1000.4): counts its slaves, ends addressing by alias, gives each its station address, looks what it is in, takes
 /// its EEPROM from the PDI, finds how large that is, and reads its words. The words of all slaves are read side by side, by frames with a
-/// datagram for each slave. What a slave doesn't give so is read by frames of one datagram. Gives the slaves in the order of the line. Each whose words were
-/// read is idle then, with bits 13 and 14 of control and status clear.
+/// datagram for each slave. What a slave doesn't give so is read by frames of one datagram. A read gives two words, and four where the slave
+/// shows that it loads eight bytes (bit 6 of control and status). Gives the slaves in the order of the line. Each whose words were read is
+/// idle then, with bits 13 and 14 of control and status clear.
 ///
 /// On a wire that is lent the slaves keep their addresses, also those by alias, their AL states aren't read, and each frame has one
 /// datagram for slaves. An EEPROM that its PDI has is

@@ -5,7 +5,7 @@ ghost use Rattle.site_wire.specs.Came.{CameOver};
 ghost use Rattle.site_wire.specs.Reading.{NothingTold, IsUnderWay, AllKept};
 ghost use Rattle.site_wire.specs.Sending.{OnlyEeprom};
 
-use crate::ahead::{Ahead, Kept, keep, kept_of};
+use crate::ahead::{Ahead, keep_read};
 use crate::faults::LineFault;
 use crate::numbered::NumberedWire;
 use crate::pace::Pace;
@@ -65,14 +65,8 @@ fn take_answer<W: Wire>(
     ensures kept { AllKept W.gives ahead.new }
 {
     let stepped = step::<W>(reader, returned, place);
-    if let Some(pair) = stepped.pair {
-        let Reader { station, word, .. } = reader;
-        let kept = Kept {
-            station,
-            word,
-            pair,
-        };
-        keep::<W>(ahead, slave, kept);
+    if let Some(read) = stepped.read {
+        keep_read::<W>(ahead, slave, reader.station, reader.word, read);
     }
     stepped.reader
 }

@@ -20,8 +20,9 @@ use std::sync::{Condvar, Mutex, Wait};
 /// A wire on which a line was brought up, as the devices reach it that work on its slaves.
 pub trait Reach {
     /// Sends a frame to the slave of this half until it comes back, three times at most. It reads or writes registers of the EEPROM. A command
-    /// names words that the half has. While the half is busy, of what writes to control and status only that is sent which clears errors, reads words, or issues the word in flight
-    /// again. None where it doesn't come back, and the line stops then; or where it has stopped, and nothing is sent.
+    /// names words that the half has. While the half is busy, of what writes to control and status only that is sent which clears errors, reads
+    /// words, or issues the word in flight again. None where it doesn't come back, and the line stops then; or where it has stopped, and nothing
+    /// is sent.
     fn pass(&mut self, half: &RomHalf, frame: &Frame) -> Option<Answer>
         requires due { IsDue half.now frame.now }
         requires eeprom { All IsForEeprom frame.now };

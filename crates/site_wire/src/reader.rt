@@ -1,11 +1,13 @@
 //! Reading the words of a slave in steps: one datagram of it, and then the answer.
-ghost use Rattle.std.specs.Prelude.{◌≡◌, ◌⊎◌, true, false, length, IfSome, IsTrue};
+ghost use Rattle.std.specs.Prelude.{◌≡◌, ◌⊎◌, true, false, length, IfSome};
+ghost use Rattle.ecat_frame.specs.Command.{code_of};
 ghost use Rattle.ecat_frame.specs.declared.command.Command.TheVariants.{Fprd, Fpwr};
-ghost use Rattle.site_wire.specs.Came.{Answered, CameOver, PairCame, read_command};
+ghost use Rattle.site_wire.specs.Came.{CameOver, Told, WordsRead};
 ghost use Rattle.site_wire.specs.Reading.{has_told, GoesOn, IsUnderWay};
 ghost use Rattle.site_wire.specs.Sending.{InEeprom, OnlyEeprom};
+ghost use Rattle.site_wire.specs.declared.reader.Phase.TheVariants as phase;
 
-use crate::asking::{Reply, UNCOUNTED, read_content, reply_at};
+use crate::asking::{EMPTY, Read, ReadSize, Reply, UNCOUNTED, read_content, reply_at};
 use crate::sizing::block_behind;
 use crate::wire::Wire;
 use ecat_frame::{Command, Datagram, Frame, fp};
@@ -17,12 +19,12 @@ const READINGS: u32 = 3;
 /// What a reader does next.
 #[derive(Clone, Copy, PartialEq, Eq)]
 pub(crate) enum Phase {
-    /// It tells the slave to read a word and the next one.
+    /// It tells the slave to read words.
     Tells,
     /// It polls until the slave has read them.
     Polls,
-    /// It fetches them.
-    Fetches,
+    /// It fetches so many bytes of them.
+    Fetches(ReadSize),
     /// Something went amiss. It polls until the slave is idle.
     Settles,
     /// It clears the slave's errors: command 000.
@@ -31,12 +33,12 @@ pub(crate) enum Phase {
     Ends,
 }
 
-/// One that reads words of a slave, two at a time. Of what it can't read in a few tries, and of all behind that, nothing is read.
+/// One that reads words of a slave, two or four at a time. Of what it can't read in a few tries, and of all behind that, nothing is read.
 #[derive(Clone, Copy)]
 pub(crate) struct Reader {
     /// The slave's station address.
     pub(crate) station: u16,
-    /// The word that it reads, and the next one with it.
+    /// The word from which on it reads.
     pub(crate) word: u16,
     /// It reads each word before this one, and behind it the blocks at which chips may begin to repeat.
     all_before: u16,
@@ -92,7 +94,7 @@ impl Reader {
             end: 4160,
             ..Reader::ended()
         }
-        .with_next()
+        .behind(2)
     }
 
     /// Whether it has something to ask.
@@ -118,7 +120,15 @@ impl Reader {
                 put_in(frame, Command::Fprd, station, CONTROL, &[0, 0])
             }
             Phase::Clears => put_in(frame, Command::Fpwr, station, CONTROL, &[0, 0]),
-            Phase::Fetches => put_in(frame, Command::Fprd, station, CONTENT, &[0, 0, 0, 0]),
+            Phase::Fetches(size) => {
+                put_in(
+                    frame,
+                    Command::Fprd,
+                    station,
+                    CONTENT,
+                    &EMPTY[..size.bytes()],
+                )
+            }
             Phase::Ends => {}
         }
     }
@@ -137,11 +147,11 @@ impl Reader {
         }
     }
 
-    /// It goes on with the words behind these, if it reads any.
-    fn with_next(self) -> Reader
+    /// It goes on behind so many words, if it reads any there.
+    fn behind(self, words: u16) -> Reader
         ensures { has_told result.phase ≡ false }
     {
-        let next = self.word.saturating_add(2);
+        let next = self.word.saturating_add(words);
         let word = if next < self.all_before || next % 64 != 0 {
             next
         } else {
@@ -182,20 +192,20 @@ impl Reader {
         self.to(Phase::Tells)
     }
 
-    /// The slave has shown this high byte of control and status. None where it wasn't the only one that counted the poll.
-    fn polled(self, status: Option<u8>) -> Reader
-        ensures { GoesOn self result }
+    /// The slave has shown this control and status.
+    fn polled(self, status: u16) -> Reader
+        ensures { GoesOn status self result }
     {
-        match status {
-            None => self.waiting(self.uncounted.saturating_add(1)),
-            Some(status) if status >= 0x80 => self.waiting(0),
-            Some(status) => self.idle(status),
+        if status >= 0x8000 {
+            self.waiting(0)
+        } else {
+            self.idle(status)
         }
     }
 
     /// The slave isn't idle, or so many polls in a row weren't counted.
     fn waiting(self, uncounted: u32) -> Reader
-        ensures { GoesOn self result }
+        ensures { GoesOn 0 self result }
     {
         let polls = self.polls.saturating_add(1);
         if polls > POLLS || uncounted >= UNCOUNTED {
@@ -209,16 +219,17 @@ impl Reader {
     }
 
     /// The slave is idle, and shows this.
-    fn idle(self, status: u8) -> Reader
-        ensures { GoesOn self result }
+    fn idle(self, status: u16) -> Reader
+        ensures { GoesOn status self result }
     {
         if self.phase != Phase::Polls {
             return self.to(Phase::Clears);
         }
-        if status >= 0x20 {
+        if status >= 0x2000 {
             return self.stumbled();
         }
-        self.to(Phase::Fetches)
+        let loads = ReadSize::shown_by(status);
+        self.to(Phase::Fetches(loads.fetched_at(self.word)))
     }
 }
 
@@ -235,54 +246,25 @@ fn put_in(frame: &mut Frame, command: Command, station: u16, register: u16, cont
     }
 }
 
-/// Whether the slave has taken the command to read the words, by the answer at this place of a frame that came back.
-fn has_taken<W: Wire>(reader: Reader, returned: &Frame, place: usize) -> bool
-    requires { CameOver W.gives returned.now }
-    ensures { IsTrue result → Answered W.gives reader.station 5 0x0502 (read_command reader.word) }
+/// The answer of the reader's slave at this place of a frame to a datagram for this register, if there is one.
+fn answer_to<W: Wire>(
+    reader: Reader,
+    command: Command,
+    register: u16,
+    content: &[u8],
+    returned: &Frame,
+    place: usize,
+) -> Reply
+    requires came { CameOver W.gives returned.now }
+    requires command { (command ≡ Fprd) ⊎ (command ≡ Fpwr) }
+    ensures { Told W.gives reader.station (code_of command) register content.now result }
 {
-    let content = read_content(reader.word);
-    let address = fp(reader.station, CONTROL);
-    let asked = Datagram {
-        command: Command::Fpwr,
-        index: 0,
-        address,
-        content: &content,
-        counter: 0,
-    };
-    reply_at(asked, address, returned, place).counter == 1
-}
-
-/// The two words in the answer at this place, if there is one.
-fn fetched<W: Wire>(reader: Reader, returned: &Frame, place: usize) -> Option<[u8; 4]>
-    requires { CameOver W.gives returned.now }
-    ensures { IfSome result (Answered W.gives reader.station 4 0x0508) }
-{
-    let address = fp(reader.station, CONTENT);
-    let asked = Datagram {
-        command: Command::Fprd,
-        index: 0,
-        address,
-        content: &[0, 0, 0, 0],
-        counter: 0,
-    };
-    let reply = reply_at(asked, address, returned, place);
-    if reply.counter == 1 {
-        Some(reply.content)
-    } else {
-        None
-    }
-}
-
-/// The answer at this place to a datagram of two bytes for control and status.
-fn answer_of_two(reader: Reader, command: Command, returned: &Frame, place: usize) -> Reply
-    requires { (command ≡ Fprd) ⊎ (command ≡ Fpwr) }
-{
-    let address = fp(reader.station, CONTROL);
+    let address = fp(reader.station, register);
     let asked = Datagram {
         command,
         index: 0,
         address,
-        content: &[0, 0],
+        content,
         counter: 0,
     };
     reply_at(asked, address, returned, place)
@@ -293,7 +275,9 @@ fn behind_command<W: Wire>(reader: Reader, returned: &Frame, place: usize) -> Re
     requires { CameOver W.gives returned.now }
     ensures { IsUnderWay W.gives result }
 {
-    if has_taken::<W>(reader, returned, place) {
+    let command = read_content(reader.word);
+    let taken = answer_to::<W>(reader, Command::Fpwr, CONTROL, &command, returned, place);
+    if taken.counter == 1 {
         reader.to(Phase::Polls)
     } else {
         reader.stumbled()
@@ -301,21 +285,25 @@ fn behind_command<W: Wire>(reader: Reader, returned: &Frame, place: usize) -> Re
 }
 
 /// The reader behind the answer to a poll.
-fn behind_poll(reader: Reader, returned: &Frame, place: usize) -> Reader
-    ensures { GoesOn reader result }
+fn behind_poll<W: Wire>(reader: Reader, returned: &Frame, place: usize) -> Reader
+    requires came { CameOver W.gives returned.now }
+    requires told { IsUnderWay W.gives reader }
+    ensures { IsUnderWay W.gives result }
 {
-    let reply = answer_of_two(reader, Command::Fprd, returned, place);
-    match reply.word() {
-        Some(word) => reader.polled(Some((word / 256) as u8)),
-        None => reader.polled(None),
+    let shown = answer_to::<W>(reader, Command::Fprd, CONTROL, &[0, 0], returned, place);
+    match shown.word() {
+        Some(status) => reader.polled(status),
+        None => reader.waiting(reader.uncounted.saturating_add(1)),
     }
 }
 
 /// The reader behind the answer to the clearing of errors.
-fn behind_clearing(reader: Reader, returned: &Frame, place: usize) -> Reader
+fn behind_clearing<W: Wire>(reader: Reader, returned: &Frame, place: usize) -> Reader
+    requires { CameOver W.gives returned.now }
     ensures { has_told result.phase ≡ false }
 {
-    if answer_of_two(reader, Command::Fpwr, returned, place).counter == 1 {
+    let cleared = answer_to::<W>(reader, Command::Fpwr, CONTROL, &[0, 0], returned, place);
+    if cleared.counter == 1 {
         reader.cleared()
     } else {
         reader.stumbled()
@@ -326,26 +314,30 @@ fn behind_clearing(reader: Reader, returned: &Frame, place: usize) -> Reader
 #[derive(Clone, Copy)]
 pub(crate) struct Stepped {
     pub(crate) reader: Reader,
-    /// The two words that it has read, if it has.
-    pub(crate) pair: Option<[u8; 4]>,
+    /// The words that it has read, if it has.
+    pub(crate) read: Option<Read>,
 }
 
-/// The reader behind the fetch of the words that it read.
-fn behind_fetch<W: Wire>(reader: Reader, returned: &Frame, place: usize) -> Stepped
+/// The reader behind the fetch of so many bytes of what it read.
+fn behind_fetch<W: Wire>(reader: Reader, size: ReadSize, returned: &Frame, place: usize) -> Stepped
     requires came { CameOver W.gives returned.now }
-    requires told { Answered W.gives reader.station 5 0x0502 (read_command reader.word) }
+    requires fetches { reader.phase ≡ phase.Fetches size }
+    requires told { IsUnderWay W.gives reader }
     ensures told { IsUnderWay W.gives result.reader }
-    ensures read { IfSome result.pair (PairCame W.gives reader.station reader.word) }
+    ensures read { IfSome result.read (WordsRead W.gives reader.station reader.word) }
 {
-    match fetched::<W>(reader, returned, place) {
-        Some(pair) => Stepped {
-            reader: reader.with_next(),
-            pair: Some(pair),
-        },
-        None => Stepped {
+    let empty = &EMPTY[..size.bytes()];
+    let fetched = answer_to::<W>(reader, Command::Fprd, CONTENT, empty, returned, place);
+    if fetched.counter == 1 {
+        Stepped {
+            reader: reader.behind((size.bytes() / 2) as u16),
+            read: Some(fetched.words(size)),
+        }
+    } else {
+        Stepped {
             reader: reader.stumbled(),
-            pair: None,
-        },
+            read: None,
+        }
     }
 }
 
@@ -354,17 +346,17 @@ pub(crate) fn step<W: Wire>(reader: Reader, returned: &Frame, place: usize) -> S
     requires came { CameOver W.gives returned.now }
     requires told { IsUnderWay W.gives reader }
     ensures told { IsUnderWay W.gives result.reader }
-    ensures read { IfSome result.pair (PairCame W.gives reader.station reader.word) }
+    ensures read { IfSome result.read (WordsRead W.gives reader.station reader.word) }
 {
     let next = match reader.phase {
-        Phase::Fetches => return behind_fetch::<W>(reader, returned, place),
+        Phase::Fetches(size) => return behind_fetch::<W>(reader, size, returned, place),
         Phase::Tells => behind_command::<W>(reader, returned, place),
-        Phase::Polls | Phase::Settles => behind_poll(reader, returned, place),
-        Phase::Clears => behind_clearing(reader, returned, place),
+        Phase::Polls | Phase::Settles => behind_poll::<W>(reader, returned, place),
+        Phase::Clears => behind_clearing::<W>(reader, returned, place),
         Phase::Ends => reader,
     };
     Stepped {
         reader: next,
-        pair: None,
+        read: None,
     }
 }

@@ -3,7 +3,7 @@ ghost use Rattle.std.specs.Prelude.{◌≡◌, ◌<◌, ◌≤◌, slice_index, 
 ghost use Rattle.site_wire.specs.Came.{BlockCame};
 ghost use Rattle.site_wire.specs.Reading.{AllKept};
 
-use crate::ahead::{Ahead, kept_of, pair_of};
+use crate::ahead::{Ahead, kept_of, words_at};
 use crate::asking::{Hitch, read_in_tries};
 use crate::faults::SlaveFault;
 use crate::numbered::NumberedWire;
@@ -87,8 +87,12 @@ fn read_block<W: Wire, C: Clock>(
         → IfOk result (λ block. BlockCame W.gives (slice_index wire.old.stations.by_slave slave) block) }
 {
     let mut block = [[0u8; 4]; 32];
+    let mut next = None;
     for pair in 0..32u16 {
-        block[usize::from(pair)] = pair_of(wire, clock, slave, 2 * pair, ahead)?;
+        let read = words_at(wire, clock, slave, 2 * pair, next, ahead)?;
+        let words = read.pair;
+        block[usize::from(pair)] = words;
+        next = read.next;
     }
     Ok(block)
 }
@@ -117,7 +121,7 @@ fn read_beyond<W: Wire, C: Clock>(
         return Ok(Some(pair));
     }
     match read_in_tries(wire, clock, slave, word, PROBES) {
-        Ok(pair) => Ok(Some(pair)),
+        Ok(read) => Ok(Some(read.pair)),
         Err(Hitch::Stuck(last)) if last.is_refusal() => Ok(None),
         Err(hitch) => Err(hitch),
     }
@@ -159,9 +163,9 @@ fn is_rolled<W: Wire, C: Clock>(
     ensures { wire.new.stations ≡ wire.old.stations }
 {
     for pair in 0..words / 2 {
-        let here = pair_of(wire, clock, slave, 2 * pair, ahead)?;
+        let here = words_at(wire, clock, slave, 2 * pair, None, ahead)?;
         let there = read_beyond(wire, clock, slave, words + 2 * pair, ahead)?;
-        if there != Some(here) {
+        if there != Some(here.pair) {
             return Ok(false);
         }
     }

@@ -18,6 +18,9 @@ const BUSY: u8 = 0x80;
 /// Bits 11 and 12: the contents were wrong when the power came.
 const WRONG: u8 = 0x18;
 
+/// Bit 6 of control and status, in its low byte: a read loads eight bytes, and not four.
+const READS_EIGHT: u8 = 0x40;
+
 const READ: u8 = 1;
 
 const WRITE: u8 = 2;
@@ -175,6 +178,8 @@ impl Eeprom {
         let mut shown = self.registers;
         let wrong = if self.is_loaded_wrong { WRONG } else { 0 };
         let busy = if self.is_busy() { BUSY } else { 0 };
+        let size = if self.quirks.is_wide { READS_EIGHT } else { 0 };
+        shown[2] = shown[2] & !READS_EIGHT | size;
         shown[3] |= wrong | self.errors | busy;
         shown
     }
@@ -235,7 +240,7 @@ impl Eeprom {
             return false;
         }
         match command {
-            READ => address.saturating_add(1) >= count,
+            READ => address.saturating_add(self.words_read() - 1) >= count,
             WRITE => address >= count,
             _ => false,
         }
@@ -300,14 +305,24 @@ impl Eeprom {
         }
     }
 
-    /// The two words that a read names come into the registers.
+    /// How many words a read loads.
+    fn words_read(&self) -> usize
+        ensures some { 1 ≤ result }
+        ensures most { result ≤ 4 }
+    {
+        if self.quirks.is_wide { 4 } else { 2 }
+    }
+
+    /// The words that a read names come into the registers.
     fn fetch(&mut self) {
         let address = self.address();
-        let [a, b] = self.chip.get(address).to_le_bytes();
-        let [c, d] = self.chip.get(address.wrapping_add(1)).to_le_bytes();
-        self.registers[8] = a;
-        self.registers[9] = b;
-        self.registers[10] = c;
-        self.registers[11] = d;
+        for offset in 0..self.words_read() {
+            let [low, high] = self
+                .chip
+                .get(address.wrapping_add(offset as u32))
+                .to_le_bytes();
+            self.registers[8 + 2 * offset] = low;
+            self.registers[9 + 2 * offset] = high;
+        }
     }
 }

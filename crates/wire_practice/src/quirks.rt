@@ -34,6 +34,8 @@ pub struct Quirks {
     pub each_missed: u32,
     /// Whether reads and writes are ignored while bit 13 or 14 is set, until command 000 clears it.
     pub is_blocked_by_errors: bool,
+    /// Whether a read loads eight bytes, as bit 6 of control and status says then, and not four.
+    pub is_wide: bool,
     /// Whether alias addressing is on as the power comes: bit 0 of 0x0103. The slave then takes FP commands to its alias too.
     pub has_alias_addressing: bool,
     /// The AL state at 0x0130: 1 Init, 2 Pre-Operational, 4 Safe-Operational, 8 Operational.
@@ -58,6 +60,7 @@ pub const NO_QUIRKS: Quirks = Quirks {
     first_missed: 0,
     each_missed: 0,
     is_blocked_by_errors: false,
+    is_wide: false,
     has_alias_addressing: false,
     state: 1,
     is_held: false,

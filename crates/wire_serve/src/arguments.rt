@@ -243,6 +243,7 @@ commas, each for all slaves, or for slave S alone where S: stands before it.
   missed=K     the first K commands end with a missing acknowledge
   each=K       each command whose number is a multiple of K does
   blocks       an error that is set blocks commands until command 000 clears it
+  wide         a read loads eight bytes, as bit 6 of control and status says
   aliasing     alias addressing is on as the power comes
   state=N      the AL state: 1 Init, 2 Pre-Op, 4 Safe-Op, 8 Op
   held         the PDI holds the EEPROM as the power comes

@@ -57,6 +57,10 @@ fn with_plain(quirks: Quirks, name: &str) -> Option<Quirks> {
             is_blocked_by_errors: true,
             ..quirks
         }),
+        "wide" => Some(Quirks {
+            is_wide: true,
+            ..quirks
+        }),
         "aliasing" => Some(Quirks {
             has_alias_addressing: true,
             ..quirks

@@ -20,9 +20,10 @@ const KEPT: Quirks = Quirks {
     ..NO_QUIRKS
 };
 
-// The same with another address: one that a station without a master gives the first slave.
+// The same with another address: one that a station without a master gives the first slave. Its reads load eight bytes.
 const OTHER: Quirks = Quirks {
     station: Some(0x1001),
+    is_wide: true,
     ..KEPT
 };
 

@@ -124,6 +124,17 @@ const CASES: &[Case] = &[
         false,
         false,
     ),
+    // Reads load eight bytes.
+    (
+        Quirks {
+            is_wide: true,
+            each_missed: 3,
+            delay: 2,
+            ..NO_QUIRKS
+        },
+        false,
+        false,
+    ),
     // Pre-Operational, Safe-Operational, Operational.
     (
         Quirks {

@@ -118,8 +118,9 @@ fn found_on(alloc: Global, line: &Line, count: usize) -> Option<(Three, u64, u64
 }
 
 // Whether the words of all three slaves are read where one frame has this fate.
-fn are_read(alloc: Global, passing: u32, fate: Fate) -> bool {
+fn are_read(alloc: Global, quirks: [Quirks; 3], passing: u32, fate: Fate) -> bool {
     let line = Line {
+        quirks,
         mishap: Mishap {
             passing,
             failing: 1,
@@ -136,7 +137,39 @@ fn are_read(alloc: Global, passing: u32, fate: Fate) -> bool {
 #[test]
 fn falsified_datagrams_are_asked_again(rt: HostRuntime) {
     for (frame, place, bits) in TURNED {
-        assert!(rt; are_read(rt.alloc(), BEFORE + frame, Fate::Turned(*place, *bits)));
+        assert!(rt;
+            are_read(
+                rt.alloc(),
+                [NO_QUIRKS; 3],
+                BEFORE + frame,
+                Fate::Turned(*place, *bits)
+            )
+        );
+    }
+}
+
+// Of three slaves, the second one's reads load eight bytes, so the third fetch is at byte 38: bit 6 of the second poll; length and counter of
+// the second fetch; command and counter of the third one.
+const TURNED_AT_MIXED: &[(u32, usize, u8)] = &[
+    (1, 26, 0x40),
+    (2, 24, 1),
+    (2, 36, 1),
+    (2, 36, 3),
+    (2, 38, 1),
+    (2, 52, 1),
+];
+
+#[test]
+fn falsified_datagrams_of_eight_bytes_are_asked_again(rt: HostRuntime) {
+    for (frame, place, bits) in TURNED_AT_MIXED {
+        assert!(rt;
+            are_read(
+                rt.alloc(),
+                MIXED,
+                BEFORE + frame,
+                Fate::Turned(*place, *bits)
+            )
+        );
     }
 }
 
@@ -144,14 +177,18 @@ fn falsified_datagrams_are_asked_again(rt: HostRuntime) {
 fn lost_and_doubled_frames_are_asked_again(rt: HostRuntime) {
     for fate in FATES {
         for frame in 0..12u32 {
-            assert!(rt; are_read(rt.alloc(), BEFORE + frame, *fate));
+            assert!(rt; are_read(rt.alloc(), MIXED, BEFORE + frame, *fate));
         }
     }
 }
 
 // How many frames are sent to so many slaves of 64 words, whose chips repeat. None: not all are read.
-fn frames_for(alloc: Global, count: usize) -> Option<u64> {
-    let ((one, two, three), frames, _) = found_on(alloc, &GOOD_LINE, count)?;
+fn frames_for(alloc: Global, quirks: [Quirks; 3], count: usize) -> Option<u64> {
+    let line = Line {
+        quirks,
+        ..GOOD_LINE
+    };
+    let ((one, two, three), frames, _) = found_on(alloc, &line, count)?;
     let outcomes = [one, two, three];
     for outcome in outcomes.iter().take(count) {
         if *outcome != Outcome::Read {
@@ -167,7 +204,16 @@ fn frames_for(alloc: Global, count: usize) -> Option<u64> {
 fn each_pair_of_words_is_read_once(rt: HostRuntime) {
     for count in 1..4usize {
         let wanted = 2 + 7 * count as u64 + 3 * (32 + 7 * 32);
-        assert!(rt; frames_for(rt.alloc(), count) == Some(wanted));
+        assert!(rt; frames_for(rt.alloc(), [NO_QUIRKS; 3], count) == Some(wanted));
+    }
+}
+
+// The same of each four words.
+#[test]
+fn each_four_words_are_read_once(rt: HostRuntime) {
+    for count in 1..4usize {
+        let wanted = 2 + 7 * count as u64 + 3 * (16 + 7 * 16);
+        assert!(rt; frames_for(rt.alloc(), [WIDE; 3], count) == Some(wanted));
     }
 }
 
@@ -175,6 +221,19 @@ const BUSY: Quirks = Quirks {
     delay: 5,
     ..NO_QUIRKS
 };
+
+const WIDE: Quirks = Quirks {
+    is_wide: true,
+    ..NO_QUIRKS
+};
+
+const WIDE_AND_MISSES: Quirks = Quirks {
+    each_missed: 3,
+    is_blocked_by_errors: true,
+    ..WIDE
+};
+
+const MIXED: [Quirks; 3] = [NO_QUIRKS, WIDE, NO_QUIRKS];
 
 const SLOW: Quirks = Quirks {
     read_time: 2_000,
@@ -216,6 +275,7 @@ type Case = ((Quirks, Quirks, Quirks), Option<Cable>, Three);
 const LINES: &[Case] = &[
     ((NO_QUIRKS, BUSY, SLOW), None, (READ, READ, READ)),
     ((SLOW, MISSES, BUSY), None, (READ, READ, READ)),
+    ((WIDE, BUSY, WIDE_AND_MISSES), None, (READ, READ, READ)),
     (
         (NO_QUIRKS, LOSES_POWER, SLOW),
         None,

@@ -181,14 +181,19 @@ fn is_so(found: &FoundSlave, wanted: Found) -> bool {
     }
 }
 
-// Whether bringing up finds this of a line of one such slave. None: it can't be brought up, or memory was refused.
-fn is_found(alloc: Global, case: &Case) -> Option<bool> {
+// Whether bringing up finds this of a line of one such slave, whose reads load eight bytes or four. None: it can't be brought up, or memory
+// was refused.
+fn is_found(alloc: Global, case: &Case, is_wide: bool) -> Option<bool> {
     let ((words, chip, content), given, is_trusted, wanted) = *case;
     let slave = Slave {
         words,
         content,
         alias: 0,
-        quirks: Quirks { chip, ..NO_QUIRKS },
+        quirks: Quirks {
+            chip,
+            is_wide,
+            ..NO_QUIRKS
+        },
     };
     let mut sizes = Sizes::unknown();
     sizes.given[0] = given;
@@ -203,6 +208,7 @@ fn is_found(alloc: Global, case: &Case) -> Option<bool> {
 #[test]
 fn sizes_are_found(rt: HostRuntime) {
     for case in CASES {
-        assert!(rt; is_found(rt.alloc(), case) == Some(true));
+        assert!(rt; is_found(rt.alloc(), case, false) == Some(true));
+        assert!(rt; is_found(rt.alloc(), case, true) == Some(true));
     }
 }

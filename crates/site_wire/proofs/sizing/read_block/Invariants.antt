@@ -1,4 +1,4 @@
-use Rattle.std.proofs.Common.{◌≡◌, ℕ, ◌*◌, ◌<◌, [], length, slice_index, slice_index_or}
+use Rattle.std.proofs.Common.{◌≡◌, ℕ, ◌*◌, ◌<◌, [], length, slice_index, slice_index_or, IfSome}
 use Rattle.site_wire.specs.Came.{PairCame}
 use Rattle.site_wire.specs.Reading.{AllKept}
 use Rattle.site_wire.proofs.sizing.read_block.Given as goal
@@ -9,4 +9,6 @@ invariant-loop-pair g l = record {
   same : l.wire.stations ≡ l.fn.wire.stations;
   read : AllKept g.W.Wire.gives l.ahead → (k : ℕ) → k < l.pair
       → PairCame g.W.Wire.gives (slice_index l.fn.wire.stations.by_slave l.slave) (2 * k) (slice_index_or l.block k []);
+  next : AllKept g.W.Wire.gives l.ahead
+      → IfSome l.next (PairCame g.W.Wire.gives (slice_index l.fn.wire.stations.by_slave l.slave) (2 * l.pair));
 }
