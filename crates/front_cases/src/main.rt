@@ -8,7 +8,7 @@
 //! - `status`, `output`, `faults`: the exit status, and what is printed on standard output and standard error (0 and nothing, where absent).
 //! - `writes`: how many files are written as a whole (0, where absent).
 //! - `left`: files that are there afterwards, with their contents, or `false` for a file that isn't there.
-//! - `unchanged`: whether all `files` are there afterwards as they were before.
+//! - `unchanged`: whether all `files` of the case are there afterwards as they were before.
 //! - `busy`: whether another station holds the journal's lock.
 //! - `unsaved`: writing a file as a whole fails, as on a `"full"` disk or for want of `"memory"`.
 //! - `each`: several runs, each over `files` anew. `steps`: several runs in a row over the same files. Such a run is a table of the
