@@ -2,6 +2,5 @@
 
 mod captures;
 mod cuts;
-mod migrations;
 mod statuses;
 mod stops;

@@ -1,6 +1,6 @@
 //! Lines, journals, scripts and images that several tests run on.
 
-use crate::case::{ALONE, Bytes, Case, Files};
+use crate::case::{Bytes, Files};
 
 /// The arguments of a run by threads.
 pub const RUN: &str = "station run line.toml script.toml";
@@ -20,28 +20,13 @@ pub const ZERO: Bytes = Bytes::Image(128, &[]);
 pub const ONE: Bytes = Bytes::Image(128, &[(8, &[1]), (14, &[0x19])]);
 
 /// An image with a wrong check byte.
-pub const UNCHECKED: Bytes = Bytes::Image(128, &[(14, &[0x31])]);
-
-/// A slave of 4,096 words without categories.
-pub const LARGEST: Bytes = Bytes::Image(8192, &[(128, &[255, 255])]);
+const UNCHECKED: Bytes = Bytes::Image(128, &[(14, &[0x31])]);
 
 /// An empty journal of one slave.
 pub const JOURNAL_OF_ONE: Bytes = Bytes::Zeros(4104, &[(0, &[0xA5, 2, 1, 0, 0, 0x10, 0, 0])]);
 
 /// An empty journal of three slaves.
 pub const JOURNAL_OF_THREE: Bytes = Bytes::Zeros(4104, &[(0, &[0xA5, 2, 3, 0, 0, 0x10, 0, 0])]);
-
-/// A batch of half 0 that isn't done: command 5 sets the alias of slave 0 to 7.
-pub const LIVE: Bytes = Bytes::Zeros(
-    4104,
-    &[(
-        0,
-        &[
-            0xA5, 2, 1, 0, 0, 0x10, 0, 0, 0xA5, 0, 28, 0, 0, 0, 1, 0, 5, 0, 0, 0, 0, 0, 0, 0, 2, 0,
-            0, 0, 4, 0, 1, 0, 7, 0, 0, 0, 7, 0, 1, 0, 0xEF, 0,
-        ],
-    )],
-);
 
 /// Commands on a line with aliases 0 and 1 and a slave with a wrong check byte.
 pub const ANSWERED_FILES: Files = &[
@@ -111,46 +96,6 @@ pub const QUEUED_OUTPUT: &str = "command 0 accepted 0
 command 1 accepted 1
 command 2 accepted 2
 accepted 3 durable 3 settled 3\n";
-
-/// These commands, all in one batch.
-pub const QUEUED: Case = Case {
-    words: RUN,
-    files: QUEUED_FILES,
-    output: QUEUED_OUTPUT,
-    left: ALL_SETTLED,
-    writes: 4,
-    ..ALONE
-};
-
-/// A slave with images that differ from it in 1,012 words and in 1,011, the most that half of a journal of 4,096 bytes has room for.
-pub const LONG_FILES: Files = &[
-    ("line.toml", LINE),
-    ("j.bin", JOURNAL_OF_ONE),
-    ("s0.bin", LARGEST),
-    (
-        "more.bin",
-        Bytes::Image(8192, &[(128, &[255, 255]), (130, &[0x11; 2024])]),
-    ),
-    (
-        "ones.bin",
-        Bytes::Image(8192, &[(128, &[255, 255]), (130, &[0x11; 2022])]),
-    ),
-    (
-        "twos.bin",
-        Bytes::Image(8192, &[(128, &[255, 255]), (130, &[0x22; 2022])]),
-    ),
-    (
-        "script.toml",
-        Bytes::Text(
-            "command = [
-                { image = { slave = 0, file = 'more.bin' } },
-                { image = { slave = 0, file = 'ones.bin' } },
-                { image = { slave = 0, file = 'twos.bin' } },
-                { alias = { slave = 0, value = 2 } },
-                ]",
-        ),
-    ),
-];
 
 /// An image of zeros with its check byte, as hexadecimal text.
 pub const ZERO_TEXT: &str = "00000000000000000000000000003000

@@ -1,4 +1,4 @@
-//! Tests of scripts and of the sessions that carry them out, over files in memory.
+//! Tests of plans, of the progress line, and of inputs and outputs that fail, over files in memory.
 #![tactic(auto)]
 
 #[cfg(test)]

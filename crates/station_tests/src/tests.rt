@@ -1,10 +1,8 @@
-// Tests of what the program prints and of the files that it leaves.
+// Tests of plans, of the progress of a run, and of inputs and outputs.
 
 mod foresight;
-mod journals;
-mod plans;
+mod outputs;
+mod pages;
 mod progress;
-mod reports;
-mod same_files;
-mod scripts;
-mod sizes;
+mod streams;
+mod words;

@@ -1,8 +1,8 @@
 // Runs whose frames are written down.
 
 use station_cases::{
-    ALONE, Bytes, Case, Files, JOURNAL_OF_ONE, LINE, ONE, Pattern, Printed, Trouble, first_wrong,
-    run_words, shelf_with, spell,
+    Bytes, Files, JOURNAL_OF_ONE, LINE, ONE, Pattern, Printed, Trouble, run_words, shelf_with,
+    spell,
 };
 use std::alloc::{AllocError, Global};
 use std::io;
@@ -65,34 +65,6 @@ const FIRST: Bytes = Bytes::Zeros(
         (282, &[0x0d, 0x10, 5, 0, 1, 0x10, 0, 5, 1, 0, 0, 0, 0, 1, 0]),
     ],
 );
-
-/// Runs whose capture would take the place of something else.
-const REFUSED: &[Case] = &[
-    Case {
-        words: "station run line.toml script.toml --capture s0.bin",
-        files: FILES,
-        status: 3,
-        faults: "fault 94 Exists\n",
-        left: FILES,
-        ..ALONE
-    },
-    Case {
-        words: "station run line.toml script.toml --fuse 9 --capture line.toml",
-        files: FILES,
-        status: 3,
-        faults: "fault 94 Exists\n",
-        left: FILES,
-        ..ALONE
-    },
-    Case {
-        words: "station run line.toml script.toml --capture j.bin",
-        files: FILES,
-        status: 3,
-        faults: "fault 94 Exists\n",
-        left: FILES,
-        ..ALONE
-    },
-];
 
 /// A run, and the capture that it leaves.
 #[derive(Drop)]
@@ -200,12 +172,5 @@ fn a_record_that_cannot_be_written(rt: HostRuntime) -> Result<(), Fail> {
     assert!(rt; run.output.as_slice() == DONE.as_bytes() && given.has_words);
     let first = spell(rt.alloc(), FIRST)?;
     assert!(rt; given.bytes.len() == 176 && first.starts_with(given.bytes.as_slice()));
-    Ok(())
-}
-
-#[test]
-fn a_file_that_is_no_capture(rt: HostRuntime) -> Result<(), Fail> {
-    let wrong = first_wrong(&rt, rt.alloc(), REFUSED)?;
-    assert!(rt; wrong.is_none(), "{wrong:?}");
     Ok(())
 }

@@ -367,33 +367,3 @@ fn a_disk_that_fails_for_good(rt: HostRuntime) -> Result<(), Fail> {
     }
     Ok(())
 }
-
-/// Runs that meet another station on the journal.
-const BUSY: &[&str] = &[
-    RUN,
-    RECOVER,
-    "station plan line.toml script.toml",
-    "station journal line.toml",
-];
-
-/// Whether a run is refused while another station works on the journal, with all files unchanged.
-fn is_busy(
-    rt: &(impl Wait + Threads + Sync),
-    alloc: Global,
-    words: &str,
-) -> Result<bool, AllocError> {
-    let mut shelf = shelf_with(alloc, FILES)?;
-    shelf.is_busy = true;
-    let run = run_on(rt, alloc, words, &mut shelf)?;
-    let is_told = run.status == 3 && run.faults.as_slice() == "fault 95 Busy\n".as_bytes();
-    let is_same = leaves(alloc, &shelf, FILES)?.is_empty() && shelf.writes == 0;
-    Ok(is_told && is_same && run.output.is_empty())
-}
-
-#[test]
-fn a_second_station(rt: HostRuntime) -> Result<(), Fail> {
-    for words in BUSY {
-        assert!(rt; is_busy(&rt, rt.alloc(), words)?, "{words}");
-    }
-    Ok(())
-}

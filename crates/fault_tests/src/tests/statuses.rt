@@ -1,8 +1,7 @@
-// Faults as they are printed, and the exit status where several apply.
+// Faults as they are printed, and the fault where a call fails.
 
 use station_cases::{
-    Bytes, Files, JOURNAL_OF_ONE, LINE, Pattern, Printed, RUN, Trouble, ZERO, judge, run_words,
-    shelf_with,
+    Bytes, Files, JOURNAL_OF_ONE, LINE, Pattern, RUN, Trouble, ZERO, run_words, shelf_with,
 };
 use station_files::{Fault, report_fault};
 use station_serve::refuse_words;
@@ -80,97 +79,6 @@ const ALIAS: Files = &[
         Bytes::Text("[[command]]\nalias = { slave = 0, value = 1 }"),
     ),
 ];
-
-/// Runs whose files can't be saved: the arguments, why each write fails, the exit status, and what is printed. The highest status wins.
-const UNSAVED: &[(&str, io::ErrorKind, u8, &str, &str)] = &[
-    (
-        RUN,
-        io::ErrorKind::StorageFull,
-        3,
-        SERVED,
-        "fault 90 File\n",
-    ),
-    (
-        RUN,
-        io::ErrorKind::OutOfMemory,
-        5,
-        SERVED,
-        "fault 20 Memory\n",
-    ),
-    (
-        RUN_CUT,
-        io::ErrorKind::StorageFull,
-        4,
-        STOPPED,
-        "fault 42 Stopped\nfault 90 File\n",
-    ),
-    (
-        RUN_CUT,
-        io::ErrorKind::OutOfMemory,
-        5,
-        STOPPED,
-        "fault 42 Stopped\nfault 20 Memory\n",
-    ),
-    (
-        RECOVER,
-        io::ErrorKind::StorageFull,
-        3,
-        RECOVERED,
-        "fault 90 File\n",
-    ),
-    (
-        RECOVER,
-        io::ErrorKind::OutOfMemory,
-        5,
-        RECOVERED,
-        "fault 20 Memory\n",
-    ),
-];
-
-const RUN_CUT: &str = "station run line.toml script.toml --fuse 2";
-
-const RECOVER: &str = "station recover line.toml";
-
-const SERVED: &str = "command 0 accepted 0\naccepted 1 durable 1 settled 1\n";
-
-const STOPPED: &str = "command 0 accepted 0\naccepted 1 durable 0 settled 0\n";
-
-const RECOVERED: &str = "recovered batches 0 commands 0 words 0\n";
-
-/// What a run over these files prints, in which each write of a whole file fails with this error.
-fn unsaved(
-    rt: &(impl Wait + Threads + Sync),
-    alloc: Global,
-    words: &str,
-    kind: io::ErrorKind,
-) -> Result<Printed, AllocError> {
-    let mut shelf = shelf_with(alloc, ALIAS)?;
-    shelf.broken = Some(kind);
-    run_words(rt, alloc, words, &mut io::empty(), &mut shelf)
-}
-
-/// Which expectation of such a run fails; empty where none does.
-fn is_unsaved(
-    rt: &(impl Wait + Threads + Sync),
-    alloc: Global,
-    words: &str,
-    kind: io::ErrorKind,
-    status: u8,
-    output: &str,
-    faults: &str,
-) -> Result<&'static str, AllocError> {
-    let run = unsaved(rt, alloc, words, kind)?;
-    Ok(judge(&run, status, output, faults))
-}
-
-#[test]
-fn the_highest_status_wins(rt: HostRuntime) -> Result<(), Fail> {
-    for (words, kind, status, output, faults) in UNSAVED {
-        let wrong = is_unsaved(&rt, rt.alloc(), words, *kind, *status, output, faults)?;
-        assert!(rt; wrong.is_empty(), "{wrong}: {words}");
-    }
-    Ok(())
-}
 
 const OF_A_FILE: (u8, &str) = (3, "fault 90 File\n");
 

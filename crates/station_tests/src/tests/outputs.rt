@@ -1,6 +1,5 @@
 // Outputs that are closed or full after some bytes, and inputs that fail after some.
 
-use super::words::CHECK;
 use station_cases::{
     ANSWERED_FILES, ANSWERED_OUTPUT, Bytes, Files, JOURNAL_OF_ONE, LINE, ONE, QUEUED_FILES,
     QUEUED_OUTPUT, RUN, Shelf, TWO_TEXT, ZERO_TEXT, run_words, served, shelf_with, spell,
@@ -54,6 +53,12 @@ struct Printing {
     input: Bytes,
     whole: Bytes,
 }
+
+/// What `explain` prints of the code of a wrong check byte.
+const CHECK: &str =
+    "15 BadCheck: The check byte is wrong. The low byte of word 7 doesn't go with words 0 to 6. Blank EEPROMs and damaged images are like \
+    that, and an alias or a swap would make them look right. Look at the image with show. Write a whole image, whose check byte is right, \
+    before the alias.\n";
 
 const NOTHING: &str = "recovered batches 0 commands 0 words 0\n";
 

@@ -92,36 +92,3 @@ fn pages_are_whole(rt: HostRuntime) -> Result<(), Fail> {
     }
     Ok(())
 }
-
-/// What stands in a page, written by hand.
-const SHOWN: &[(&str, &str)] = &[
-    (
-        "station completions zsh",
-        "        'show:Prints what an EEPROM image says'\n",
-    ),
-    (
-        "station completions fish",
-        "complete -c sii_station -n '__fish_seen_subcommand_from show' -l hex -d 'Reads hexadecimal text in place of bytes'\n",
-    ),
-    (
-        "station completions fish",
-        "complete -c sii_station -n __fish_use_subcommand -f -a show -d 'Prints what an EEPROM image says'\n",
-    ),
-    (
-        "station man",
-        "\n\\&Prints the manual page in roff: the help of each subcommand.\n",
-    ),
-    (
-        "station man",
-        "\n\\&  sii_station alias 1001 < slave.bin > renamed.bin\n",
-    ),
-];
-
-#[test]
-fn pages_by_hand(rt: HostRuntime) -> Result<(), Fail> {
-    for (words, shown) in SHOWN {
-        let page = printed(&rt, rt.alloc(), words)?;
-        assert!(rt; page.contains(shown), "{words}: {shown}");
-    }
-    Ok(())
-}
