@@ -35,9 +35,9 @@ extends_with : (old new : Seen) (moment : Moment) → new.past ≡ old.past ++ m
 extends_with old new moment past before stopped = record {
   first = ap (λ (p : List Moment). begin_of p new.state) past ∙ begins_alike old.past moment new.state ∙ ap (λ (s : State). begin_of old.past s) before;
   left = λ pair left. inr (subst (λ (ms : List Moment). Any (LeftAt pair) ms) (sym past) (elim left [
-        | inl leaves ↦ any_behind (LeftAt pair) old.past (moment ∷ []) (Any-first (LeftAt pair) moment [] (inl (subst (λ (s : State). Leaves s pair) (sym before) leaves)))
-        | inr was ↦ any_before (LeftAt pair) old.past (moment ∷ []) was
-      ]));
+    | inl leaves ↦ any_behind (LeftAt pair) old.past (moment ∷ []) (Any-first (LeftAt pair) moment [] (inl (subst (λ (s : State). Leaves s pair) (sym before) leaves)))
+    | inr was ↦ any_before (LeftAt pair) old.past (moment ∷ []) was
+  ]));
   stopped = stopped;
 }
 
@@ -107,10 +107,10 @@ Extends-middle old middle state later last =
     record {
       first = begins_alike old.past moment later ∙ sym (begins_alike old.past (record { before = old.state; faults = old.faults; middle = middle }) state);
       left = λ pair left. inr (elim left [
-            | inl leaves ↦ any_behind (LeftAt pair) old.past (moment ∷ []) (Any-first (LeftAt pair) moment []
-                (longer middle (later ∷ []) old.state pair (at_last old.state middle pair (subst (λ (s : State). Leaves s pair) (sym last) leaves))))
-            | inr was ↦ last_longer old.past old middle (later ∷ []) pair was
-          ]);
+        | inl leaves ↦ any_behind (LeftAt pair) old.past (moment ∷ []) (Any-first (LeftAt pair) moment []
+            (longer middle (later ∷ []) old.state pair (at_last old.state middle pair (subst (λ (s : State). Leaves s pair) (sym last) leaves))))
+        | inr was ↦ last_longer old.past old middle (later ∷ []) pair was
+      ]);
       stopped = λ stopped. stopped;
     }
 
@@ -123,14 +123,14 @@ GoesOn-torn old middle state new last has =
     let is_over : new.is_stopped ≡ true = ap (λ (s : Seen). s.is_stopped) has.rest in
     record {
       extends = record {
-            first = ap (λ (p : List Moment). begin_of p new.state) past ∙ begins_alike old.past moment new.state ∙ sym (begins_alike old.past moment state);
-            left = λ pair left. inr (subst (λ (ms : List Moment). Any (LeftAt pair) ms) (sym past) (elim left [
-                  | inl leaves ↦ any_behind (LeftAt pair) old.past (moment ∷ []) (Any-first (LeftAt pair) moment []
-                      (at_last old.state middle pair (subst (λ (s : State). Leaves s pair) (sym last) leaves)))
-                  | inr was ↦ was
-                ]));
-            stopped = λ stopped. is_over;
-          };
+        first = ap (λ (p : List Moment). begin_of p new.state) past ∙ begins_alike old.past moment new.state ∙ sym (begins_alike old.past moment state);
+        left = λ pair left. inr (subst (λ (ms : List Moment). Any (LeftAt pair) ms) (sym past) (elim left [
+          | inl leaves ↦ any_behind (LeftAt pair) old.past (moment ∷ []) (Any-first (LeftAt pair) moment []
+              (at_last old.state middle pair (subst (λ (s : State). Leaves s pair) (sym last) leaves)))
+          | inr was ↦ was
+        ]));
+        stopped = λ stopped. is_over;
+      };
       kept = λ going. absurd (going is_over);
     }
 
@@ -175,13 +175,13 @@ GoesOn-unbegun old at over given new going fails =
 pub GoesOn-turn : (old new : Seen) → new.state ≡ old.state → new.past ≡ old.past → new.is_stopped ≡ old.is_stopped → GoesOn old new
 GoesOn-turn old new state past stopped = record {
   extends = record {
-        first = ap (λ (p : List Moment). begin_of p new.state) past ∙ ap (λ (s : State). begin_of old.past s) state;
-        left = λ pair left. elim left [
-              | inl leaves ↦ inl (subst (λ (s : State). Leaves s pair) (sym state) leaves)
-              | inr was ↦ inr (subst (λ (ms : List Moment). Any (LeftAt pair) ms) (sym past) was)
-            ];
-        stopped = λ is. stopped ∙ is;
-      };
+    first = ap (λ (p : List Moment). begin_of p new.state) past ∙ ap (λ (s : State). begin_of old.past s) state;
+    left = λ pair left. elim left [
+      | inl leaves ↦ inl (subst (λ (s : State). Leaves s pair) (sym state) leaves)
+      | inr was ↦ inr (subst (λ (ms : List Moment). Any (LeftAt pair) ms) (sym past) was)
+    ];
+    stopped = λ is. stopped ∙ is;
+  };
   kept = λ going. KeepsContents-same old.state new.state state;
 }
 

@@ -22,19 +22,18 @@ rom-send = search (sendable, crosses) depth 40
 process-send : IsSend ProcessHalf.the_row
 process-send = search (sendable, crosses) depth 40
 
-module _ (D : RattleType) (device-send : IsSend D) where
-  fields-send : IsSend (Struct (shape (Inside.the_type D)))
-  fields-send = struct_send (shape (Inside.the_type D)) (search (disk-send, sendable) depth 40, (search (rom-send, crosses, sendable) depth 40, (search (device-send, sendable) depth 40, (search (send-History, sendable) depth 40, (search (send-History, sendable) depth 40, (search sendable depth 40, (search sendable depth 40, tt)))))))
+fields-send : IsSend (Struct (shape Inside.the_type))
+fields-send = struct_send (shape Inside.the_type) (search (disk-send, sendable) depth 40, (search (rom-send, crosses, sendable) depth 40, (search sendable depth 40, (search (send-History, sendable) depth 40, (search (send-History, sendable) depth 40, (search sendable depth 40, (search sendable depth 40, tt)))))))
 
-  inside-send : IsSend (Inside.the_row D)
-  inside-send = search (fields-send, sendable) depth 40
+inside-send : IsSend Inside.the_row
+inside-send = search (fields-send, sendable) depth 40
 
-  shadow-send : IsSend (Shadow.the_row D)
-  shadow-send = search (inside-send, sendable) depth 40
+shadow-send : IsSend Shadow.the_row
+shadow-send = search (inside-send, sendable) depth 40
 
 module _ (D : RattleType) (device-send : IsSend D) where
   site-fields : IsSend (Struct (shape (SiteInside.the_type D)))
-  site-fields = struct_send (shape (SiteInside.the_type D)) (search (crosses, sendable) depth 40, (search sendable depth 40, (search (process-send, crosses, sendable) depth 40, (search sendable depth 40, (search (shadow-send, device-send, sendable) depth 40, tt)))))
+  site-fields = struct_send (shape (SiteInside.the_type D)) (search (crosses, sendable) depth 40, (search sendable depth 40, (search (process-send, crosses, sendable) depth 40, (search sendable depth 40, (search (shadow-send, sendable) depth 40, (search (device-send, sendable) depth 40, tt))))))
 
   site-inside : IsSend (SiteInside.the_row D)
   site-inside = search (site-fields, sendable) depth 40
