@@ -262,7 +262,6 @@ impl<'f, F: RandomAccessFile> Device for FileDevice<'f, F> {
         self.is_behind = is_new;
     }
 
-    #[tactic(auto, using(crate::proofs::Following::length_keeps))]
     fn len(&mut self, length: usize) -> Passing
         ensures asks { AsksLength self.old result self.new }
         ensures follows { Keeps Follows self.old self.new }
@@ -270,7 +269,6 @@ impl<'f, F: RandomAccessFile> Device for FileDevice<'f, F> {
         self.ask_length(length)
     }
 
-    #[tactic(auto, using(crate::proofs::Following::read_keeps))]
     fn read(&mut self, at: usize, held: &[u8]) -> Passing
         ensures asks { ReadsJournal self.old result self.new }
         ensures follows { Keeps Follows self.old self.new }
@@ -278,7 +276,6 @@ impl<'f, F: RandomAccessFile> Device for FileDevice<'f, F> {
         self.compare(at, held)
     }
 
-    #[tactic(auto, using(crate::proofs::Following::write_keeps))]
     fn write(&mut self, at: usize, bytes: &[u8]) -> Passing
         ensures asks { CallsJournal (writes at bytes.now) self.old result self.new }
         ensures follows { WriteKeeps Follows at bytes.now self.old result self.new }
@@ -286,7 +283,6 @@ impl<'f, F: RandomAccessFile> Device for FileDevice<'f, F> {
         self.write_journal(at, bytes)
     }
 
-    #[tactic(auto, using(crate::proofs::Following::sync_keeps))]
     fn sync(&mut self) -> Passing
         ensures asks { CallsJournal syncs self.old result self.new }
         ensures follows { SyncKeeps Follows self.old result self.new }
@@ -308,7 +304,6 @@ impl<'f, F: RandomAccessFile> Device for FileDevice<'f, F> {
 
     /// Writes a word in flight to its image and syncs it; then the half becomes idle. Until then a power cut may leave anything in the
     /// word. If that fails, the half stays busy, and the site stops at once.
-    #[tactic(auto, using(crate::proofs::Following::rest_keeps))]
     fn rest(&mut self, slave: usize, half: &RomHalf, _k: usize) -> Resting
         ensures asks { Rests slave (in_flight half.now.activity) self.old result self.new }
         ensures follows { RestKeeps Follows slave half.now self.old result self.new }
