@@ -1,12 +1,12 @@
 -- What a power cut leaves of all files at one moment, and of each of them.
 use Rattle.std.proofs.Common.{◌≡◌, ◌⊎◌, ℕ, Bool, true, false, List, [], ◌∷◌, ◌++◌, length, if◌then◌else◌, refl, sym, subst, inl, inr}
-use Rattle.site_core.specs.Disk.{Disk, StopImage}
+use Rattle.site_core.specs.Disk.{StopImage}
 use Rattle.site_core.proofs.StopImages.{StopImage-write_begun}
 use Rattle.site_file.specs.declared.asking.LineFile.{LineFile}
 use Rattle.site_file.specs.Calls.{Call, Asked, tells_length, reads, writes, syncs}
 use Rattle.file_laws.specs.Files.{File, Becomes, BecomesBy, MayBeLeft, under_way}
 use Rattle.file_laws.specs.Held.{is_same, of_file, with_file}
-use Rattle.file_laws.specs.Following.{at_call, AreLeft}
+use Rattle.file_laws.specs.Following.{AreLeft}
 use Rattle.file_laws.proofs.OneFile.{is_same-true}
 
 -- what is left of a file before a call may be left of it in the call

@@ -1,39 +1,32 @@
 -- The files behind a site follow it, step by step.
-use Rattle.std.proofs.Common.{◌≡◌, ◌⊎◌, ℕ, zero, suc, ◌+◌, ◌≤◌, ◌<◌, Bool, true, false, List, [], ◌∷◌, ◌++◌, length, drop, Any, Some, None, slice_get, slice_set, Result, Ok, Err, IsErrOf, IsTrue, if◌then◌else◌, refl, sym, ap, subst, ◌∙◌, inl, inr, arith, append_assoc}
-use Rattle.std.proofs.lemmas.List.{append-nil}
-use Rattle.std.proofs.lemmas.Bool.{eqb-true}
-use Rattle.sii_words.specs.Words.{bytes_of}
-use Rattle.esc_model.specs.declared.rest.WordWrite.{WordWrite}
-use Rattle.esc_model.specs.declared.rest.Rest.TheVariants as rests
-use Rattle.esc_model.specs.SlaveHalf.{SlaveHalf, Activity, Idle, Reading, Writing, in_flight, settled, MayEnd}
+use Rattle.std.proofs.Common.{◌≡◌, ◌⊎◌, ℕ, ◌≤◌, Bool, true, false, List, [], ◌∷◌, ◌++◌, length, Any, Some, slice_get, Result, Ok, Err, IsErrOf, IsTrue, refl, sym, ap, subst, ◌∙◌, inl, inr, append_assoc}
+use Rattle.esc_model.specs.SlaveHalf.{SlaveHalf}
 use Rattle.esc_model.proofs.Resting.{MayLeave-same}
 use Rattle.site_core.specs.declared.fault.DeviceFault.{DeviceFault}
 use Rattle.site_core.specs.declared.fault.DeviceFault.TheVariants as faults
 use Rattle.site_core.specs.Disk.{Disk, IsSynced, StopImage, overlaid, write_begun, written, synced}
-use Rattle.site_core.specs.State.{State, Seen, Pair, Moment, Leaves, LeftAt, LeftSince, with_half}
-use Rattle.site_core.specs.Calls.{Calls, WritesDisk, SyncsDisk, begin_write}
+use Rattle.site_core.specs.State.{State, Seen, Pair, Moment, Leaves, LeftAt, LeftSince}
+use Rattle.site_core.specs.Calls.{WritesDisk, SyncsDisk, begin_write}
 use Rattle.site_core.proofs.Moments.{Any-nil, Any-first, Any-later, Any-split}
 use Rattle.site_core.proofs.StopImages.{StopImage-synced}
 use Rattle.site_shadow.specs.declared.device.Passing.{Passing}
 use Rattle.site_shadow.specs.declared.device.Passing.TheVariants.{Passes}
-use Rattle.site_shadow.specs.declared.device.Resting.{Resting}
-use Rattle.site_shadow.specs.declared.device.Resting.TheVariants.{Well}
-use Rattle.site_shadow.specs.Resting.{Ends, RestsAs}
+use Rattle.site_shadow.specs.Following.{Extends, KeepsContents, GoesOn}
+use Rattle.site_shadow.proofs.Keeping.{Extends-by}
 use Rattle.site_file.specs.declared.asking.LineFile.{LineFile}
 use Rattle.site_file.specs.declared.asking.LineFile.TheVariants.{Journal, Image}
 use Rattle.site_file.specs.declared.files.FileDevice.{FileDevice}
 use Rattle.site_file.specs.Calls.{Asked, asked, writes, syncs}
-use Rattle.site_file.specs.Asking.{HasLog, Asks, WordCalls}
+use Rattle.site_file.specs.Asking.{HasLog, Asks}
 use Rattle.site_file.specs.Device as device
-use Rattle.file_laws.specs.Files.{File, IsBytes, sound, image_of, Becomes, BecomesBy, MayBeLeft}
-use Rattle.file_laws.specs.Held.{is_same, of_file}
-use Rattle.file_laws.specs.Laws.{IsFlying, IsLeftOf}
-use Rattle.file_laws.specs.Following.{AreLeft, Shows, HoldsDisk, HoldsWords, Holds, Follows, Extends, KeepsContents, GoesOn}
-use Rattle.file_laws.proofs.AllFiles.{LeadTo, earlier_or_later, left_of_each}
+use Rattle.file_laws.specs.Files.{File, IsBytes, sound, image_of, BecomesBy, MayBeLeft}
+use Rattle.file_laws.specs.Held.{of_file}
+use Rattle.file_laws.specs.Following.{AreLeft, Shows, HoldsDisk, HoldsWords, Holds, FilesFollow}
+use Rattle.file_laws.proofs.AllFiles.{earlier_or_later, left_of_each}
 use Rattle.file_laws.proofs.PairsLeft.{IsLeftOfSlave, IsLeftOfPart, ShownPair, shown_pair}
 use Rattle.file_laws.proofs.Journals.{write_may_hold_anything, sync_leaves_no_more}
-use Rattle.file_laws.proofs.OneFile.{AllOf, of_file-append, of_file-same, of_file-other}
-use Rattle.file_laws.proofs.Words.{one_file, word_is_durable, word_may_hold_anything, split}
+use Rattle.file_laws.proofs.OneFile.{of_file-append}
+use Rattle.file_laws.proofs.Words.{split}
 
 -- ONE MOMENT AND THE NEXT
 
@@ -46,31 +39,14 @@ any_behind : {A : Type 0} (P : A → Type 0) (xs ys : List A) → Any P ys → A
 any_behind P [] ys any = any
 any_behind P (x ∷ xs) ys any = Any-later P x (xs ++ ys) (any_behind P xs ys any)
 
-drop_before : {A : Type 0} (n : ℕ) (xs ys : List A) → n ≤ length xs → drop n (xs ++ ys) ≡ drop n xs ++ ys
-drop_before zero xs ys within = refl
-drop_before (suc n) [] ys within = absurd (omega arith)
-drop_before (suc n) (x ∷ xs) ys within = drop_before n xs ys (omega arith)
-
 -- a moment that was added to the past
-added : (since : ℕ) (old new : Seen) (moment : Moment) (pair : Pair) → since ≤ length old.past → new.past ≡ old.past ++ moment ∷ []
-    → Any (LeftAt pair) (drop since old.past) ⊎ LeftAt pair moment → LeftSince new since pair
-added since old new moment pair within past left =
-    let later : drop since new.past ≡ drop since old.past ++ moment ∷ [] =
-    ap (λ (p : List Moment). drop since p) past ∙ drop_before since old.past (moment ∷ []) within in
-    inr (subst (λ (ms : List Moment). Any (LeftAt pair) ms) (sym later) (elim left [
-      | inl was ↦ any_before (LeftAt pair) (drop since old.past) (moment ∷ []) was
-      | inr now ↦ any_behind (LeftAt pair) (drop since old.past) (moment ∷ []) (Any-first (LeftAt pair) moment [] now)
+added : (old new : Seen) (moment : Moment) (pair : Pair) → new.past ≡ old.past ++ moment ∷ []
+    → Any (LeftAt pair) old.past ⊎ LeftAt pair moment → LeftSince new 0 pair
+added old new moment pair past left =
+    inr (subst (λ (ms : List Moment). Any (LeftAt pair) ms) (sym past) (elim left [
+      | inl was ↦ any_before (LeftAt pair) old.past (moment ∷ []) was
+      | inr now ↦ any_behind (LeftAt pair) old.past (moment ∷ []) (Any-first (LeftAt pair) moment [] now)
     ]))
-
-pub extends_by : {T : Type 0} (since : ℕ) (old new : Seen) (middle : List State) (result : Result T DeviceFault) → since ≤ length old.past
-    → Calls old middle result new → Extends since old new
-extends_by since old new middle result within call = record {
-  left = λ pair left. added since old new (record { before = old.state; faults = old.faults; middle = middle }) pair within call.past (elim left [
-    | inl leaves ↦ inr (inl leaves)
-    | inr was ↦ inl was
-  ]);
-  stopped = λ stopped. call.stopped.1 (call.stays_stopped stopped).0;
-}
 
 -- WHAT A FILE HOLDS
 
@@ -111,9 +87,9 @@ whole_words halves slave file image holds stop = record {
 
 -- STEPS
 
-module _ {F : Type 0} (owned : LineFile → Bool) (begun : LineFile → File) (start since : ℕ) where
+module _ {F : Type 0} (owned : LineFile → Bool) (begun : LineFile → File) (start : ℕ) where
   -- the device has asked nothing
-  pub goes_on : (old new : Seen) (d : FileDevice F) → GoesOn since old new → Follows owned begun start since d old → Follows owned begun start since d new
+  pub goes_on : (old new : Seen) (d : FileDevice F) → GoesOn old new → FilesFollow owned begun start d old → FilesFollow owned begun start d new
   goes_on old new d goes follows = record {
     calls = follows.calls;
     asks = follows.asks;
@@ -124,8 +100,8 @@ module _ {F : Type 0} (owned : LineFile → Bool) (begun : LineFile → File) (s
   }
 
   -- it asks nothing more, since a call on a file has failed
-  pub over : (old new : Seen) (d later : FileDevice F) → later.asking.calls ≡ d.asking.calls → IsTrue later.has_failed → Extends since old new
-      → Follows owned begun start since d old → Follows owned begun start since later new
+  pub over : (old new : Seen) (d later : FileDevice F) → later.asking.calls ≡ d.asking.calls → IsTrue later.has_failed → Extends old new
+      → FilesFollow owned begun start d old → FilesFollow owned begun start later new
   over old new d later same failed extends follows = record {
     calls = follows.calls;
     asks = subst (λ (n : ℕ). Asks start n follows.calls) (sym same) follows.asks;
@@ -135,13 +111,13 @@ module _ {F : Type 0} (owned : LineFile → Bool) (begun : LineFile → File) (s
 
   -- it asks this
   pub asks_more : (old new : Seen) (d later : FileDevice F) (calls : List Asked) → d.has_failed ≡ false → old.is_stopped ≡ false
-      → Asks d.asking.calls later.asking.calls calls → Extends since old new
+      → Asks d.asking.calls later.asking.calls calls → Extends old new
       → ((files : LineFile → File) (images : LineFile → List ℕ) → ((name : LineFile) → IsBytes (images name))
       → ((name : LineFile) → IsTrue (owned name) → Holds old.state name (files name)) → AreLeft calls files images
-      → (pair : Pair) × LeftSince new since pair × ((name : LineFile) → IsTrue (owned name) → Shows pair name (images name)))
+      → (pair : Pair) × LeftSince new 0 pair × ((name : LineFile) → IsTrue (owned name) → Shows pair name (images name)))
       → (later.has_failed ≡ false → ¬ IsTrue new.is_stopped → (name : LineFile) (mid file : File) → IsTrue (owned name) → Holds old.state name mid
       → BecomesBy (of_file name calls) mid file → Holds new.state name file)
-      → Follows owned begun start since d old → Follows owned begun start since later new
+      → FilesFollow owned begun start d old → FilesFollow owned begun start later new
   asks_more old new d later calls going running asks extends leaves holds follows = record {
     calls = follows.calls ++ calls;
     asks = record {
@@ -201,28 +177,28 @@ write_done old new at bytes (Err faults.Lost) wrote not going = absurd (wrote.no
 write_done old new at bytes (Err faults.Stopped) wrote not going = absurd (going (wrote.call.stopped.1 refl))
 
 -- a pair that a power cut may leave in the middle of the write
-write_left : (since : ℕ) (old new : Seen) (at : ℕ) (bytes : List ℕ) (given : Result (Unit {0}) DeviceFault) (pair : Pair) → since ≤ length old.past
-    → old.is_stopped ≡ false → WritesDisk old at bytes given new → Leaves (begin_write old.state at (length bytes)) pair → LeftSince new since pair
-write_left since old new at bytes given pair early running wrote leaves =
+write_left : (old new : Seen) (at : ℕ) (bytes : List ℕ) (given : Result (Unit {0}) DeviceFault) (pair : Pair)
+    → old.is_stopped ≡ false → WritesDisk old at bytes given new → Leaves (begin_write old.state at (length bytes)) pair → LeftSince new 0 pair
+write_left old new at bytes given pair running wrote leaves =
     let middle : wrote.middle ≡ begin_write old.state at (length bytes) ∷ [] = wrote.begun (λ stopped. absurd (let e : true ≡ false = sym stopped ∙ running in cc)) in
-    added since old new (record { before = old.state; faults = old.faults; middle = wrote.middle }) pair early wrote.call.past
+    added old new (record { before = old.state; faults = old.faults; middle = wrote.middle }) pair wrote.call.past
     (inr (inr (subst (λ (states : List State). Any (λ state. Leaves state pair) states) (sym middle)
     (Any-first (λ state. Leaves state pair) (begin_write old.state at (length bytes)) [] leaves))))
 
-module _ {F : Type 0} (owned : LineFile → Bool) (begun : LineFile → File) (start since : ℕ) where
-  write_asked : (old new : Seen) (d later : FileDevice F) (at : ℕ) (bytes : List ℕ) (given : Result (Unit {0}) DeviceFault) (done : Bool) → since ≤ length old.past
+module _ {F : Type 0} (owned : LineFile → Bool) (begun : LineFile → File) (start : ℕ) where
+  write_asked : (old new : Seen) (d later : FileDevice F) (at : ℕ) (bytes : List ℕ) (given : Result (Unit {0}) DeviceFault) (done : Bool)
       → at ≤ length old.state.disk.bytes → old.is_stopped ≡ false → WritesDisk old at bytes given new → d.has_failed ≡ false
       → (done ≡ true → IsErrOf given faults.Disk → ⊥) → (done ≡ false → later.has_failed ≡ true)
       → Asks d.asking.calls later.asking.calls (asked Journal (writes at bytes) done ∷ [])
-      → Follows owned begun start since d old → Follows owned begun start since later new
-  write_asked old new d later at bytes given done early inside running wrote going passes fails asks follows =
+      → FilesFollow owned begun start d old → FilesFollow owned begun start later new
+  write_asked old new d later at bytes given done inside running wrote going passes fails asks follows =
       let calls : List Asked = asked Journal (writes at bytes) done ∷ [] in
-      asks_more owned begun start since old new d later calls going running asks (extends_by since old new wrote.middle given early wrote.call)
+      asks_more owned begun start old new d later calls going running asks (Extends-by old new wrote.middle given wrote.call)
       (λ files images are holds left.
       let each = left_of_each calls files images left in
       let shown : ShownPair (begin_write old.state at (length bytes)) owned images = shown_pair (begin_write old.state at (length bytes)) owned images
       (λ name is_owned. write_part old.state at bytes done name (files name) (images name) inside (holds name is_owned) (each name)) in
-      (shown.pair, write_left since old new at bytes given shown.pair early running wrote shown.leaves, shown.shows))
+      (shown.pair, write_left old new at bytes given shown.pair running wrote shown.leaves, shown.shows))
       (after done passes fails) follows
     where
       after : (b : Bool) → (b ≡ true → IsErrOf given faults.Disk → ⊥) → (b ≡ false → later.has_failed ≡ true)
@@ -235,16 +211,16 @@ module _ {F : Type 0} (owned : LineFile → Bool) (begun : LineFile → File) (s
           absurd (let e : true ≡ false = sym (failed refl) ∙ sound_yet in cc)
 
   pub write_step : (old new : Seen) (d later : FileDevice F) (at : ℕ) (bytes : List ℕ) (passing : Passing) (given : Result (Unit {0}) DeviceFault)
-      → since ≤ length old.past → at ≤ length old.state.disk.bytes → old.is_stopped ≡ false → WritesDisk old at bytes given new
+      → at ≤ length old.state.disk.bytes → old.is_stopped ≡ false → WritesDisk old at bytes given new
       → (passing ≡ Passes → IsErrOf given faults.Disk → ⊥) → device.CallsJournal (writes at bytes) d passing later
-      → Follows owned begun start since d old → Follows owned begun start since later new
-  write_step old new d later at bytes passing given early inside running wrote passes (device.over failed stops same) follows =
-      over owned begun start since old new d later (ap (λ (x : FileDevice F). x.asking.calls) same)
-      (subst (λ (x : FileDevice F). IsTrue x.has_failed) (sym same) failed) (extends_by since old new wrote.middle given early wrote.call) follows
-  write_step old new d later at bytes passing given early inside running wrote passes (device.passes going asks passed going_on) follows =
-      write_asked old new d later at bytes given true early inside running wrote going (λ done. passes passed) (λ e. absurd cc) asks follows
-  write_step old new d later at bytes passing given early inside running wrote passes (device.fails going asks fails failed) follows =
-      write_asked old new d later at bytes given false early inside running wrote going (λ e. absurd cc) (λ e. failed) asks follows
+      → FilesFollow owned begun start d old → FilesFollow owned begun start later new
+  write_step old new d later at bytes passing given inside running wrote passes (device.over failed stops same) follows =
+      over owned begun start old new d later (ap (λ (x : FileDevice F). x.asking.calls) same)
+      (subst (λ (x : FileDevice F). IsTrue x.has_failed) (sym same) failed) (Extends-by old new wrote.middle given wrote.call) follows
+  write_step old new d later at bytes passing given inside running wrote passes (device.passes going asks passed going_on) follows =
+      write_asked old new d later at bytes given true inside running wrote going (λ done. passes passed) (λ e. absurd cc) asks follows
+  write_step old new d later at bytes passing given inside running wrote passes (device.fails going asks fails failed) follows =
+      write_asked old new d later at bytes given false inside running wrote going (λ e. absurd cc) (λ e. failed) asks follows
 
 -- SYNCS
 
@@ -275,16 +251,16 @@ sync_done old new (Err faults.Disk) syncs_it not going = absurd (not refl)
 sync_done old new (Err faults.Lost) syncs_it not going = absurd (syncs_it.not_lost refl)
 sync_done old new (Err faults.Stopped) syncs_it not going = absurd (going (syncs_it.call.stopped.1 refl))
 
-module _ {F : Type 0} (owned : LineFile → Bool) (begun : LineFile → File) (start since : ℕ) where
-  sync_asked : (old new : Seen) (d later : FileDevice F) (given : Result (Unit {0}) DeviceFault) (done : Bool) → since ≤ length old.past
+module _ {F : Type 0} (owned : LineFile → Bool) (begun : LineFile → File) (start : ℕ) where
+  sync_asked : (old new : Seen) (d later : FileDevice F) (given : Result (Unit {0}) DeviceFault) (done : Bool)
       → old.is_stopped ≡ false → SyncsDisk old given new → d.has_failed ≡ false
       → (done ≡ true → IsErrOf given faults.Disk → ⊥) → (done ≡ false → later.has_failed ≡ true)
       → Asks d.asking.calls later.asking.calls (asked Journal syncs done ∷ [])
-      → Follows owned begun start since d old → Follows owned begun start since later new
-  sync_asked old new d later given done early running syncs_it going passes fails asks follows =
+      → FilesFollow owned begun start d old → FilesFollow owned begun start later new
+  sync_asked old new d later given done running syncs_it going passes fails asks follows =
       let calls : List Asked = asked Journal syncs done ∷ [] in
-      let extends : Extends since old new = extends_by since old new [] given early syncs_it.call in
-      asks_more owned begun start since old new d later calls going running asks extends
+      let extends : Extends old new = Extends-by old new [] given syncs_it.call in
+      asks_more owned begun start old new d later calls going running asks extends
       (λ files images are holds left.
       let each = left_of_each calls files images left in
       let shown : ShownPair old.state owned images = shown_pair old.state owned images
@@ -302,13 +278,13 @@ module _ {F : Type 0} (owned : LineFile → Bool) (begun : LineFile → File) (s
           absurd (let e : true ≡ false = sym (failed refl) ∙ sound_yet in cc)
 
   pub sync_step : (old new : Seen) (d later : FileDevice F) (passing : Passing) (given : Result (Unit {0}) DeviceFault)
-      → since ≤ length old.past → old.is_stopped ≡ false → SyncsDisk old given new
+      → old.is_stopped ≡ false → SyncsDisk old given new
       → (passing ≡ Passes → IsErrOf given faults.Disk → ⊥) → device.CallsJournal syncs d passing later
-      → Follows owned begun start since d old → Follows owned begun start since later new
-  sync_step old new d later passing given early running syncs_it passes (device.over failed stops same) follows =
-      over owned begun start since old new d later (ap (λ (x : FileDevice F). x.asking.calls) same)
-      (subst (λ (x : FileDevice F). IsTrue x.has_failed) (sym same) failed) (extends_by since old new [] given early syncs_it.call) follows
-  sync_step old new d later passing given early running syncs_it passes (device.passes going asks passed going_on) follows =
-      sync_asked old new d later given true early running syncs_it going (λ done. passes passed) (λ e. absurd cc) asks follows
-  sync_step old new d later passing given early running syncs_it passes (device.fails going asks fails failed) follows =
-      sync_asked old new d later given false early running syncs_it going (λ e. absurd cc) (λ e. failed) asks follows
+      → FilesFollow owned begun start d old → FilesFollow owned begun start later new
+  sync_step old new d later passing given running syncs_it passes (device.over failed stops same) follows =
+      over owned begun start old new d later (ap (λ (x : FileDevice F). x.asking.calls) same)
+      (subst (λ (x : FileDevice F). IsTrue x.has_failed) (sym same) failed) (Extends-by old new [] given syncs_it.call) follows
+  sync_step old new d later passing given running syncs_it passes (device.passes going asks passed going_on) follows =
+      sync_asked old new d later given true running syncs_it going (λ done. passes passed) (λ e. absurd cc) asks follows
+  sync_step old new d later passing given running syncs_it passes (device.fails going asks fails failed) follows =
+      sync_asked old new d later given false running syncs_it going (λ e. absurd cc) (λ e. failed) asks follows

@@ -1,39 +1,40 @@
 -- The files behind a site follow it as a half becomes idle, and over any number of steps.
-use Rattle.std.proofs.Common.{◌≡◌, ◌⊎◌, ℕ, zero, suc, Bool, true, false, List, [], ◌∷◌, ◌++◌, ◌==◌, ◌≢◌, ◌≤◌, length, Some, None, Result, Err, IsErrOf, slice_get, slice_set, IsTrue, if◌then◌else◌, refl, sym, ap, subst, ◌∙◌, inl, inr, arith, append_assoc}
+use Rattle.std.proofs.Common.{◌≡◌, ℕ, zero, suc, Bool, true, false, List, [], ◌∷◌, ◌++◌, ◌==◌, ◌<◌, ◌^◌, length, Some, None, slice_get, slice_set, IsTrue, if◌then◌else◌, refl, sym, ap, subst, ◌∙◌, inl, inr, append_assoc}
 use Rattle.std.proofs.lemmas.List.{append-nil}
 use Rattle.std.specs.List.{AllByRecursion}
 use Rattle.std.proofs.lemmas.Bool.{eqb-true, eq-eqb}
 use Rattle.esc_model.specs.declared.rest.WordWrite.{WordWrite}
-use Rattle.esc_model.specs.declared.rest.Rest.{Rest}
 use Rattle.esc_model.specs.declared.rest.Rest.TheVariants as rests
-use Rattle.esc_model.specs.SlaveHalf.{SlaveHalf, Activity, Idle, Reading, Writing, in_flight, settled, MayEnd}
-use Rattle.site_core.specs.declared.fault.DeviceFault.{DeviceFault}
-use Rattle.site_core.specs.declared.fault.DeviceFault.TheVariants as faults
+use Rattle.esc_model.specs.SlaveHalf.{SlaveHalf, Activity, Idle, Reading, Writing, in_flight}
 use Rattle.site_core.specs.Disk.{StopImage}
-use Rattle.site_core.specs.Calls.{Calls}
-use Rattle.site_core.specs.State.{State, Seen, Pair, LeftSince, with_half}
-use Rattle.site_shadow.specs.declared.device.Passing.{Passing}
+use Rattle.site_core.specs.State.{State, Seen, Moment, with_half}
 use Rattle.site_shadow.specs.declared.device.Resting.{Resting}
-use Rattle.site_shadow.specs.declared.device.Resting.TheVariants.{Well}
 use Rattle.site_shadow.specs.Resting.{Ends, RestsAs}
 use Rattle.site_file.specs.declared.asking.LineFile.{LineFile}
 use Rattle.site_file.specs.declared.asking.LineFile.TheVariants.{Journal, Image}
 use Rattle.site_file.specs.declared.files.FileDevice.{FileDevice}
 use Rattle.site_file.specs.Calls.{Call, Asked, asked, tells_length, reads, writes, syncs}
-use Rattle.site_file.specs.Asking.{HasLog, Asks, AsksToRead, nothing, piece, WordCalls, WritesWord}
+use Rattle.site_file.specs.Asking.{HasLog, Asks, AsksToRead, nothing, piece, WordCalls}
 use Rattle.site_file.specs.Device as device
 use Rattle.file_laws.specs.Files.{File, IsBytes, image_of, Becomes, BecomesBy, MayBeLeft, under_way}
 use Rattle.file_laws.specs.Held.{is_same, of_file, with_file}
-use Rattle.file_laws.specs.Laws.{IsFlying, IsLeftOf}
-use Rattle.file_laws.specs.Following as following
-use Rattle.file_laws.specs.Following.{AreLeft, Shows, HoldsDisk, HoldsWords, Holds, Follows, Extends, KeepsContents, GoesOn, ChangesNoFile, Step, Run, BeginsToFollow, FollowsOn, ReadGoesOn, CycleGoesOn}
+use Rattle.file_laws.specs.Laws.{IsFlying}
+use Rattle.site_file.specs.Following as following
+use Rattle.site_file.specs.Following.{ChangesNoFile, FitsWords, Step, Run, Follows}
+use Rattle.site_shadow.specs.Following.{Extends, KeepsContents, begin_of, first_of}
+use Rattle.site_shadow.proofs.Keeping.{Extends-by}
+use Rattle.file_laws.specs.Following.{AreLeft, HoldsDisk, HoldsWords, Holds, FilesFollow, BeginsToFollow, FollowsOn, SiteIsFollowed}
 use Rattle.file_laws.proofs.AllFiles.{left_of_each}
 use Rattle.file_laws.proofs.PairsLeft.{IsLeftOfSlave, IsLeftOfPart, ShownPair, shown_pair}
 use Rattle.file_laws.proofs.OneFile.{AllOf, is_same-true, of_file-append, of_file-same, of_file-other}
 use Rattle.file_laws.proofs.Words.{one_file, word_is_durable, word_may_hold_anything, split}
-use Rattle.file_laws.proofs.Following.{extends_by, within, whole_words, goes_on, over, asks_more, write_step, sync_step}
+use Rattle.file_laws.proofs.Following.{within, whole_words, goes_on, over, asks_more, write_step, sync_step}
 
 -- A HALF AT REST
+
+is_flying : (half : SlaveHalf) (write : WordWrite) → in_flight half.activity ≡ Some write → (write.word < length half.words) × (write.value < 2 ^ 16)
+    → IsFlying half write
+is_flying half write flying fits = record { flying = flying; inside = fits.0; short = fits.1 }
 
 ends_words : (activity : Activity) (half rested : SlaveHalf) → in_flight activity ≡ None → Ends activity rests.Well half rested → rested.words ≡ half.words
 ends_words Idle half rested none same = ap (λ (h : SlaveHalf). h.words) same
@@ -157,15 +158,15 @@ module _ (state : State) (slave : ℕ) (half later : SlaveHalf) (write : WordWri
             file_is = same ∙ holds.file_is;
           }
 
-module _ {F : Type 0} (owned : LineFile → Bool) (begun : LineFile → File) (start since : ℕ) where
+module _ {F : Type 0} (owned : LineFile → Bool) (begun : LineFile → File) (start : ℕ) where
   word_asked : (old new : Seen) (d after : FileDevice F) (slave : ℕ) (half later : SlaveHalf) (write : WordWrite) (done : Bool) (calls : List Asked)
       → old.is_stopped ≡ false → slice_get old.state.halves slave ≡ Some half → IsFlying half write
       → (done ≡ true → later.words ≡ slice_set half.words write.word write.value) → (done ≡ false → after.has_failed ≡ true)
-      → new.state ≡ with_half old.state slave later → Extends since old new → d.has_failed ≡ false
+      → new.state ≡ with_half old.state slave later → Extends old new → d.has_failed ≡ false
       → Asks d.asking.calls after.asking.calls calls → WordCalls (Image slave) write.word write.value calls done
-      → Follows owned begun start since d old → Follows owned begun start since after new
+      → FilesFollow owned begun start d old → FilesFollow owned begun start after new
   word_asked old new d after slave half later write done calls running here flying words failed is extends going asks are follows =
-      asks_more owned begun start since old new d after calls going running asks extends
+      asks_more owned begun start old new d after calls going running asks extends
       (λ files images bytes holds left.
       let each = left_of_each calls files images left in
       let shown : ShownPair old.state owned images = shown_pair old.state owned images
@@ -185,28 +186,28 @@ module _ {F : Type 0} (owned : LineFile → Bool) (begun : LineFile → File) (s
 
   rest_step : (old new : Seen) (d after : FileDevice F) (slave : ℕ) (half rested later : SlaveHalf) (resting : Resting) → old.is_stopped ≡ false
       → slice_get old.state.halves slave ≡ Some half → RestsAs resting half rested → later.words ≡ rested.words
-      → new.state ≡ with_half old.state slave later → Extends since old new
-      → ((write : WordWrite) → in_flight half.activity ≡ Some write → IsFlying half write)
+      → new.state ≡ with_half old.state slave later → Extends old new
+      → FitsWords half
       → device.Rests slave (in_flight half.activity) d resting after
-      → Follows owned begun start since d old → Follows owned begun start since after new
+      → FilesFollow owned begun start d old → FilesFollow owned begun start after new
   rest_step old new d after slave half rested later resting running here said words is extends fits (device.idle none well same) follows =
       let said_well : Ends half.activity rests.Well half rested = subst (λ (r : Resting). RestsAs r half rested) well said in
       let kept : later.words ≡ half.words = words ∙ ends_words half.activity half rested none said_well in
-      subst (λ (x : FileDevice F). Follows owned begun start since x new) (sym same)
-      (goes_on owned begun start since old new d (record { extends = extends; kept = λ going. kept_by old.state new.state slave half later here kept is }) follows)
+      subst (λ (x : FileDevice F). FilesFollow owned begun start x new) (sym same)
+      (goes_on owned begun start old new d (record { extends = extends; kept = λ going. kept_by old.state new.state slave half later here kept is }) follows)
   rest_step old new d after slave half rested later resting running here said words is extends fits (device.over failed stays same) follows =
-      over owned begun start since old new d after (ap (λ (x : FileDevice F). x.asking.calls) same)
+      over owned begun start old new d after (ap (λ (x : FileDevice F). x.asking.calls) same)
       (subst (λ (x : FileDevice F). IsTrue x.has_failed) (sym same) failed) extends follows
   rest_step old new d after slave half rested later resting running here said words is extends fits (device.absent none stays same) follows =
-      over owned begun start since old new d after (ap (λ (x : FileDevice F). x.asking.calls) same)
+      over owned begun start old new d after (ap (λ (x : FileDevice F). x.asking.calls) same)
       (subst (λ (x : FileDevice F). IsTrue x.has_failed) (sym same) refl) extends follows
   rest_step old new d after slave half rested later resting running here said words is extends fits (device.writes write flying going wrote well going_on) follows =
       let said_well : Ends half.activity rests.Well half rested = subst (λ (r : Resting). RestsAs r half rested) well said in
       let words_are : later.words ≡ slice_set half.words write.word write.value = words ∙ written_words half.activity half rested write flying said_well in
-      word_asked old new d after slave half later write true wrote.calls running here (fits write flying) (λ done. words_are) (λ e. absurd cc) is extends
+      word_asked old new d after slave half later write true wrote.calls running here (is_flying half write flying (fits write flying)) (λ done. words_are) (λ e. absurd cc) is extends
       going wrote.asks wrote.are follows
   rest_step old new d after slave half rested later resting running here said words is extends fits (device.fails write flying going wrote stays failed) follows =
-      word_asked old new d after slave half later write false wrote.calls running here (fits write flying) (λ e. absurd cc) (λ e. failed) is extends
+      word_asked old new d after slave half later write false wrote.calls running here (is_flying half write flying (fits write flying)) (λ e. absurd cc) (λ e. failed) is extends
       going wrote.asks wrote.are follows
 
 -- CALLS THAT CHANGE NO FILE
@@ -296,9 +297,9 @@ reads_quietly file old new (piece mid later at count done so_far once) =
       quiet = both_quiet before.calls one before.quiet (tt, tt);
     }
 
-module _ {F : Type 0} (owned : LineFile → Bool) (begun : LineFile → File) (start since : ℕ) where
+module _ {F : Type 0} (owned : LineFile → Bool) (begun : LineFile → File) (start : ℕ) where
   asks_quietly : (seen : Seen) (d after : FileDevice F) (calls : List Asked) → Asks d.asking.calls after.asking.calls calls → AreQuiet calls
-      → d.has_failed ≡ false → Follows owned begun start since d seen → Follows owned begun start since after seen
+      → d.has_failed ≡ false → FilesFollow owned begun start d seen → FilesFollow owned begun start after seen
   asks_quietly seen d after calls asks quiet going follows = record {
     calls = follows.calls ++ calls;
     asks = record {
@@ -315,11 +316,11 @@ module _ {F : Type 0} (owned : LineFile → Bool) (begun : LineFile → File) (s
         (follows.holds going goes name parts.0 is_owned parts.1);
   }
 
-  same_device : (seen : Seen) (d after : FileDevice F) → after ≡ d → Follows owned begun start since d seen → Follows owned begun start since after seen
-  same_device seen d after same follows = subst (λ (x : FileDevice F). Follows owned begun start since x seen) (sym same) follows
+  same_device : (seen : Seen) (d after : FileDevice F) → after ≡ d → FilesFollow owned begun start d seen → FilesFollow owned begun start after seen
+  same_device seen d after same follows = subst (λ (x : FileDevice F). FilesFollow owned begun start x seen) (sym same) follows
 
-  changes_no_file : (seen : Seen) (d after : FileDevice F) → ChangesNoFile d after → Follows owned begun start since d seen
-      → Follows owned begun start since after seen
+  changes_no_file : (seen : Seen) (d after : FileDevice F) → ChangesNoFile d after → FilesFollow owned begun start d seen
+      → FilesFollow owned begun start after seen
   changes_no_file seen d after (following.unasked same) follows = same_device seen d after same follows
   changes_no_file seen d after (following.asks_length result (device.calls (device.over failed stops same))) follows = same_device seen d after same follows
   changes_no_file seen d after (following.asks_length result (device.calls (device.passes going asks passed going_on))) follows =
@@ -338,19 +339,19 @@ module _ {F : Type 0} (owned : LineFile → Bool) (begun : LineFile → File) (s
 
   -- ANY STEPS
 
-  step : (old new : Seen) (d after : FileDevice F) → Step since old d new after → Follows owned begun start since d old
-      → Follows owned begun start since after new
+  step : (old new : Seen) (d after : FileDevice F) → Step old d new after → FilesFollow owned begun start d old
+      → FilesFollow owned begun start after new
   step old new d after (following.goes_on goes quiet) follows =
-      goes_on owned begun start since old new after goes (changes_no_file old d after quiet follows)
-  step old new d after (following.write at bytes passing given early inside running wrote passes calls) follows =
-      write_step owned begun start since old new d after at bytes passing given early inside running wrote passes calls follows
-  step old new d after (following.sync passing given early running syncs_it passes calls) follows =
-      sync_step owned begun start since old new d after passing given early running syncs_it passes calls follows
+      goes_on owned begun start old new after goes (changes_no_file old d after quiet follows)
+  step old new d after (following.write at bytes passing given running inside wrote passes calls) follows =
+      write_step owned begun start old new d after at bytes passing given inside running wrote passes calls follows
+  step old new d after (following.sync passing given running syncs_it passes calls) follows =
+      sync_step owned begun start old new d after passing given running syncs_it passes calls follows
   step old new d after (following.rest slave half rested later resting running here said words is extends fits rests_so) follows =
-      rest_step owned begun start since old new d after slave half rested later resting running here said words is extends fits rests_so follows
+      rest_step owned begun start old new d after slave half rested later resting running here said words is extends fits rests_so follows
 
-  run : (old : Seen) (d : FileDevice F) (new : Seen) (after : FileDevice F) → Run since old d new after → Follows owned begun start since d old
-      → Follows owned begun start since after new
+  run : (old : Seen) (d : FileDevice F) (new : Seen) (after : FileDevice F) → Run old d new after → FilesFollow owned begun start d old
+      → FilesFollow owned begun start after new
   run old d new after following.none follows = follows
   run old d new after (following.more mid last half_way end so_far one) follows =
       step mid last half_way end one (run old d mid half_way so_far follows)
@@ -361,7 +362,7 @@ begun_part state Journal file image holds stop = within file.disk state.disk ima
 begun_part state (Image slave) file image holds stop = whole_words state.halves slave file image holds stop
 
 pub begins_to_follow : (F : Type 0) → BeginsToFollow F
-begins_to_follow F owned begun since d seen holds = record {
+begins_to_follow F owned begun d seen holds = record {
   calls = [];
   asks = record { goes_on = λ log had. subst (λ (l : List Asked). HasLog d.asking.calls l) (sym (append-nil log)) had };
   leaves = λ images bytes left.
@@ -372,28 +373,31 @@ begins_to_follow F owned begun since d seen holds = record {
 }
 
 pub follows_on : (F : Type 0) → FollowsOn F
-follows_on F owned begun start since old new d after follows steps = run owned begun start since old d new after steps follows
+follows_on F owned begun start old new d after follows steps = run owned begun start old d new after steps follows
 
--- CALLS OF THE SITE THAT CHANGE NOTHING
+-- A SITE ON FILES
 
-kept_same : (old new : State) → new ≡ old → KeepsContents old new
-kept_same old new same = subst (λ (s : State). KeepsContents old s) (sym same) (record {
-  bytes = refl;
-  synced_length = refl;
-  synced = λ at synced. synced;
-  words = λ slave half here. (half, here, refl);
-})
+step_first : {F : Type 0} (old new : Seen) (d after : FileDevice F) → Step old d new after → first_of new ≡ first_of old
+step_first old new d after (following.goes_on goes quiet) = goes.extends.first
+step_first old new d after (following.write at bytes passing given running inside wrote passes calls) =
+    (Extends-by old new wrote.middle given wrote.call).first
+step_first old new d after (following.sync passing given running syncs_it passes calls) = (Extends-by old new [] given syncs_it.call).first
+step_first old new d after (following.rest slave half rested later resting running here said words is extends fits rests_so) = extends.first
 
-unless_stopped : {T : Type 0} (since : ℕ) (old new : Seen) (result : Result T DeviceFault) → since ≤ length old.past → Calls old [] result new
-    → (result ≢ Err faults.Stopped → new.state ≡ old.state) → GoesOn since old new
-unless_stopped {T} since old new result early call same = record {
-  extends = extends_by since old new [] result early call;
-  kept = λ going. kept_same old.state new.state
-      (same (λ e. going (call.stopped.1 (subst (λ (r : Result T DeviceFault). IsErrOf r faults.Stopped) (sym e) refl))));
-}
+run_first : {F : Type 0} (old : Seen) (d : FileDevice F) (new : Seen) (after : FileDevice F) → Run old d new after → first_of new ≡ first_of old
+run_first old d new after following.none = refl
+run_first old d new after (following.more mid last half_way end so_far one) =
+    step_first mid last half_way end one ∙ run_first old d mid half_way so_far
 
-pub read_goes_on : (T : Type 0) → ReadGoesOn T
-read_goes_on T since old new result early it = unless_stopped since old new result early it.call it.same
+begun_first : (seen : Seen) → seen.past ≡ [] → first_of seen ≡ seen.state
+begun_first seen none = ap (λ (p : List Moment). begin_of p seen.state) none
 
-pub cycle_goes_on : CycleGoesOn
-cycle_goes_on since old new sent answer result early it = unless_stopped since old new result early it.call it.same
+pub site_is_followed : (F : Type 0) → SiteIsFollowed F
+site_is_followed F d seen follows is =
+    let so_far = follows is in
+    let same : first_of seen ≡ so_far.first.state = run_first so_far.first so_far.began seen d so_far.run ∙ begun_first so_far.first so_far.unasked in (
+      so_far.began.asking.calls,
+      λ owned begun holds.
+          run owned begun so_far.began.asking.calls so_far.first so_far.began seen d so_far.run
+          (begins_to_follow F owned begun so_far.began so_far.first (λ name is_owned. subst (λ (s : State). Holds s name (begun name)) same (holds name is_owned))),
+    )

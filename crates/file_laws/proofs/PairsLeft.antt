@@ -1,5 +1,5 @@
 -- A pair that a power cut leaves of a state, made of what it leaves of each part.
-use Rattle.std.proofs.Common.{◌≡◌, ℕ, zero, suc, Bool, true, false, List, [], ◌∷◌, Option, Some, slice_get, IsTrue, refl, sym}
+use Rattle.std.proofs.Common.{◌≡◌, ℕ, zero, suc, Bool, true, false, List, [], ◌∷◌, Some, slice_get, IsTrue, refl, sym}
 use Rattle.sii_words.specs.Words.{bytes_of}
 use Rattle.esc_model.specs.SlaveHalf.{SlaveHalf, MayLeave}
 use Rattle.esc_model.proofs.Resting.{MayLeave-same}
