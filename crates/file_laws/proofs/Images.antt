@@ -1,6 +1,6 @@
 -- What a power cut may leave of a file behind a sync.
-use Rattle.std.proofs.Common.{◌≡◌, ℕ, ◌+◌, ◌≤◌, min, Bool, true, false, List, length, IsTrue, refl, sym, subst, ◌∙◌, arith}
-use Rattle.site_core.specs.Disk.{Disk, IsSynced, StopImage, synced}
+use Rattle.std.proofs.Common.{◌≡◌, ℕ, ◌≤◌, min, Bool, true, false, List, length, IsTrue, sym, subst, ◌∙◌, arith}
+use Rattle.site_core.specs.Disk.{StopImage, synced}
 use Rattle.site_core.proofs.StopImages.{StopImage-same, StopImage-synced}
 use Rattle.site_file.specs.Calls.{syncs}
 use Rattle.file_laws.specs.Files.{File, KeepsSynced, Becomes}

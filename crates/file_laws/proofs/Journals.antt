@@ -1,9 +1,8 @@
 -- The journal's file beside the shadow's disk.
-use Rattle.std.proofs.Common.{◌≡◌, ℕ, ◌≤◌, min, Bool, true, false, List, [], ◌∷◌, length, refl, sym, subst, ◌∙◌, inl, inr, arith}
-use Rattle.site_core.specs.Disk.{Disk, IsSynced, StopImage, WriteFailed, write_begun, written, synced}
+use Rattle.std.proofs.Common.{◌≡◌, ℕ, ◌≤◌, min, true, false, List, length, refl, sym, subst, ◌∙◌, inl, inr, arith}
+use Rattle.site_core.specs.Disk.{Disk, IsSynced, StopImage, WriteFailed, write_begun}
 use Rattle.site_core.proofs.Overlays.{StopImage-written, StopImage-failed}
-use Rattle.site_file.specs.Calls.{syncs}
-use Rattle.file_laws.specs.Files.{File, sound, Becomes}
+use Rattle.file_laws.specs.Files.{File, sound}
 use Rattle.file_laws.specs.Laws.{WriteFollows, WriteMayHoldAnything, FailedWriteLeavesNoMore, SyncFollows, SyncLeavesNoMore}
 use Rattle.file_laws.proofs.Images.{sync_image}
 

@@ -6,3 +6,7 @@ mod Possible
 mod OneFile
 mod Holding
 mod Leaving
+mod AllFiles
+mod PairsLeft
+mod Following
+mod FollowingWords

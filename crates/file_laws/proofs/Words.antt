@@ -1,5 +1,5 @@
 -- Words that are written to an image.
-use Rattle.std.proofs.Common.{◌≡◌, ℕ, ◌*◌, ◌/◌, ◌%◌, ◌<◌, ◌≤◌, ◌^◌, min, Bool, true, false, List, [], ◌∷◌, ◌++◌, length, slice_set, Some, None, refl, sym, ap, subst, ◌∙◌, inl, inr, arith}
+use Rattle.std.proofs.Common.{◌≡◌, ℕ, ◌*◌, ◌/◌, ◌%◌, ◌<◌, ◌≤◌, ◌^◌, min, Bool, true, List, [], ◌∷◌, ◌++◌, length, slice_set, Some, refl, sym, ap, subst, ◌∙◌, inl, inr, arith}
 use Rattle.std.specs.Int.{w16, to_le_bytes}
 use Rattle.esc_model.specs.declared.rest.WordWrite.{WordWrite}
 use Rattle.esc_model.specs.SlaveHalf.{SlaveHalf, Activity, Idle, Reading, Writing, in_flight, MayHold}
@@ -9,8 +9,8 @@ use Rattle.site_core.proofs.Overlays.{StopImage-written, StopImage-failed}
 use Rattle.site_file.specs.declared.asking.LineFile.{LineFile}
 use Rattle.site_file.specs.Calls.{Asked, syncs}
 use Rattle.site_file.specs.Asking.{WordCalls, reaches_sync, unwritten}
-use Rattle.file_laws.specs.Files.{File, IsBytes, sound, image_of, Becomes, BecomesBy, MayBeLeft}
-use Rattle.file_laws.specs.Laws.{OneFileIsAsked, IsFlying, IsLeftOf, WordIsDurable, WordMayHoldAnything, WordsCalls, none, more, WordsAreDurable}
+use Rattle.file_laws.specs.Files.{File, IsBytes, sound, image_of, Becomes, BecomesBy}
+use Rattle.file_laws.specs.Laws.{OneFileIsAsked, IsFlying, IsLeftOf, WordIsDurable, WordMayHoldAnything, none, more, WordsAreDurable}
 use Rattle.file_laws.proofs.ImageBytes.{word_laid, word_inside, word_left}
 use Rattle.file_laws.proofs.Images.{sync_image}
 

@@ -2,3 +2,4 @@ pub mod Files
 pub mod Held
 pub mod Laws
 pub mod DeviceLaws
+pub mod Following

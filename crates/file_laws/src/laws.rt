@@ -1,6 +1,7 @@
 //! Laws of the files behind a shadow. The functions here do nothing: the contract of each is the law.
 
 ghost use Rattle.file_laws.specs.DeviceLaws.{NewHolds, RestHolds, WriteHolds, SyncHolds, LengthHolds, ReadHolds, RestLeavesNoMore, WriteLeavesNoMore, SyncOfLeavesNoMore};
+ghost use Rattle.file_laws.specs.Following.{BeginsToFollow, FollowsOn, SiteIsFollowed};
 ghost use Rattle.file_laws.specs.Laws.{OneFileIsAsked, WordIsDurable, WordMayHoldAnything, WordsAreDurable, WriteFollows, WriteMayHoldAnything, FailedWriteLeavesNoMore, SyncFollows, SyncLeavesNoMore, SomethingBecomes, AnyWordMayBeLeft};
 
 /// Once a half has come to rest on a device of files, the image of its slave holds its words, the new one among them, all of it synced; so it is
@@ -47,4 +48,13 @@ pub fn device_leaves_no_more<F>()
     ensures rest { RestLeavesNoMore F }
     ensures write { WriteLeavesNoMore F }
     ensures sync { SyncOfLeavesNoMore F }
+{}
+
+/// Files that hold the parts of a site, as its device is put behind it before its first call, follow the site from then on: at each moment a power cut
+/// leaves of them, all at once, a pair that it may have left of the site. As long as no call on a file fails and the site goes on, they hold its bytes
+/// and words, and what is synced of the site is synced in them. Of a part of a line this holds for the files that it owns.
+pub fn files_follow<F>()
+    ensures begins { BeginsToFollow F }
+    ensures goes_on { FollowsOn F }
+    ensures site { SiteIsFollowed F }
 {}

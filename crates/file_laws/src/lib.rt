@@ -6,5 +6,6 @@
 mod laws;
 
 pub use laws::{
-    device_holds, device_leaves_no_more, each_log_has_a_file, journal_follows, word_is_kept,
+    device_holds, device_leaves_no_more, each_log_has_a_file, files_follow, journal_follows,
+    word_is_kept,
 };

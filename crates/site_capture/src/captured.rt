@@ -59,6 +59,12 @@ impl<'c, D, F: RandomAccessFile + Drop, R: Wait + Clock> Captured<'c, D, F, R> {
 }
 
 impl<'c, D: Device, F: RandomAccessFile + Drop, R: Wait + Clock> Device for Captured<'c, D, F, R> {
+    ghost follows = { λ captured. D.follows captured.device };
+
+    fn begin(&mut self, is_new: bool) {
+        self.device.begin(is_new)
+    }
+
     fn len(&mut self, length: usize) -> Passing {
         self.device.len(length)
     }
@@ -105,4 +111,6 @@ impl<'c, D: Device, F: RandomAccessFile + Drop, R: Wait + Clock> Device for Capt
         self.note_sent(passing, frame);
         passing
     }
+
+    ghost goes_on = { λ captured. D.goes_on captured.device };
 }

@@ -1,3 +1,4 @@
 pub mod Calls
 pub mod Asking
 pub mod Device
+pub mod Following

@@ -44,6 +44,8 @@ pub struct FileDevice<'f, F> {
     asking: Asking<'f, F>,
     /// Whether a call of this copy on a file has failed. From then on this copy writes no file.
     has_failed: bool,
+    /// Whether it stands behind a site that had seen no call as it was put there.
+    is_behind: bool,
 }
 
 /// A line and a disk in files.
@@ -70,6 +72,7 @@ impl<'f, F: RandomAccessFile> FileDevice<'f, F> {
         FileDevice {
             asking: Asking::of(files),
             has_failed: false,
+            is_behind: false,
         }
     }
 
@@ -164,11 +167,14 @@ fn has_bytes<F: RandomAccessFile>(
     Ok(true)
 }
 
-impl<'f, F: RandomAccessFile> Device for FileDevice<'f, F> {
+impl<'f, F: RandomAccessFile> FileDevice<'f, F> {
     ghost use Rattle.site_file.specs.Device.{CallsJournal, AsksLength, ReadsJournal, Rests};
+    ghost use Rattle.site_file.specs.Following.{FitsWords};
 
-    fn len(&mut self, length: usize) -> Passing
-        ensures { AsksLength self.old result self.new }
+    /// Asks the journal for its length.
+    fn ask_length(&mut self, length: usize) -> Passing
+        ensures asks { AsksLength self.old result self.new }
+        ensures behind { self.new.is_behind ≡ self.old.is_behind }
     {
         let Some(journal) = self.sound_journal() else {
             return Passing::Stops(Pattern::Old);
@@ -179,8 +185,10 @@ impl<'f, F: RandomAccessFile> Device for FileDevice<'f, F> {
         }
     }
 
-    fn read(&mut self, at: usize, held: &[u8]) -> Passing
-        ensures { ReadsJournal self.old result self.new }
+    /// Compares the journal with what the shadow holds.
+    fn compare(&mut self, at: usize, held: &[u8]) -> Passing
+        ensures asks { ReadsJournal self.old result self.new }
+        ensures behind { self.new.is_behind ≡ self.old.is_behind }
     {
         let Some(journal) = self.sound_journal() else {
             return Passing::Stops(Pattern::Old);
@@ -191,8 +199,10 @@ impl<'f, F: RandomAccessFile> Device for FileDevice<'f, F> {
         }
     }
 
-    fn write(&mut self, at: usize, bytes: &[u8]) -> Passing
-        ensures { CallsJournal (writes at bytes.now) self.old result self.new }
+    /// Writes to the journal.
+    fn write_journal(&mut self, at: usize, bytes: &[u8]) -> Passing
+        ensures asks { CallsJournal (writes at bytes.now) self.old result self.new }
+        ensures behind { self.new.is_behind ≡ self.old.is_behind }
     {
         let Some(journal) = self.sound_journal() else {
             return Passing::Stops(Pattern::Old);
@@ -201,8 +211,10 @@ impl<'f, F: RandomAccessFile> Device for FileDevice<'f, F> {
         self.end_call(written)
     }
 
-    fn sync(&mut self) -> Passing
-        ensures { CallsJournal syncs self.old result self.new }
+    /// Syncs the journal.
+    fn sync_journal(&mut self) -> Passing
+        ensures asks { CallsJournal syncs self.old result self.new }
+        ensures behind { self.new.is_behind ≡ self.old.is_behind }
     {
         let Some(journal) = self.sound_journal() else {
             return Passing::Stops(Pattern::Old);
@@ -211,20 +223,11 @@ impl<'f, F: RandomAccessFile> Device for FileDevice<'f, F> {
         self.end_call(synced)
     }
 
-    fn exchange(&mut self, _slave: usize, _half: &RomHalf, _frame: &Frame) -> Passing
-        ensures passes { result ≡ (if self.old.has_failed then Stops patterns.Old else Passes) }
-        ensures same { self.new ≡ self.old }
-    {
-        if self.has_failed {
-            return Passing::Stops(Pattern::Old);
-        }
-        Passing::Passes
-    }
-
-    /// Writes a word in flight to its image and syncs it; then the half becomes idle. Until then a power cut may leave anything in the
-    /// word. If that fails, the half stays busy, and the site stops at once.
-    fn rest(&mut self, slave: usize, half: &RomHalf, _k: usize) -> Resting
-        ensures { Rests slave (in_flight half.now.activity) self.old result self.new }
+    /// Writes a word in flight to its image and syncs it.
+    fn rest_word(&mut self, slave: usize, half: &RomHalf) -> Resting
+        ensures asks { Rests slave (in_flight half.now.activity) self.old result self.new }
+        ensures behind { self.new.is_behind ≡ self.old.is_behind }
+        ensures fits { FitsWords half.now }
     {
         let Some(write) = half.in_flight() else {
             return Resting::Well;
@@ -240,7 +243,75 @@ impl<'f, F: RandomAccessFile> Device for FileDevice<'f, F> {
         }
         self.stay()
     }
+}
 
+impl<'f, F: RandomAccessFile> Device for FileDevice<'f, F> {
+    ghost use Rattle.std.specs.Prelude.{[]};
+    ghost use Rattle.site_core.specs.State.{Seen};
+    ghost use Rattle.site_shadow.specs.Following.{Keeps, WriteKeeps, SyncKeeps, RestKeeps};
+    ghost use Rattle.site_file.specs.Device.{CallsJournal, AsksLength, ReadsJournal, Rests};
+    ghost use Rattle.site_file.specs.Following.{Follows};
+
+    ghost follows = { Follows };
+
+    #[tactic(auto, using(crate::proofs::Following::begins))]
+    fn begin(&mut self, is_new: bool)
+        ensures behind { self.new.is_behind ≡ is_new }
+        ensures follows { (seen : Seen) → (IsTrue is_new → seen.past ≡ []) → Follows self.new seen }
+    {
+        self.is_behind = is_new;
+    }
+
+    fn len(&mut self, length: usize) -> Passing
+        ensures asks { AsksLength self.old result self.new }
+        ensures follows { Keeps Follows self.old self.new }
+    {
+        self.ask_length(length)
+    }
+
+    fn read(&mut self, at: usize, held: &[u8]) -> Passing
+        ensures asks { ReadsJournal self.old result self.new }
+        ensures follows { Keeps Follows self.old self.new }
+    {
+        self.compare(at, held)
+    }
+
+    fn write(&mut self, at: usize, bytes: &[u8]) -> Passing
+        ensures asks { CallsJournal (writes at bytes.now) self.old result self.new }
+        ensures follows { WriteKeeps Follows at bytes.now self.old result self.new }
+    {
+        self.write_journal(at, bytes)
+    }
+
+    fn sync(&mut self) -> Passing
+        ensures asks { CallsJournal syncs self.old result self.new }
+        ensures follows { SyncKeeps Follows self.old result self.new }
+    {
+        self.sync_journal()
+    }
+
+    #[tactic(auto, using(crate::proofs::Following::same_keeps))]
+    fn exchange(&mut self, _slave: usize, _half: &RomHalf, _frame: &Frame) -> Passing
+        ensures passes { result ≡ (if self.old.has_failed then Stops patterns.Old else Passes) }
+        ensures same { self.new ≡ self.old }
+        ensures follows { Keeps Follows self.old self.new }
+    {
+        if self.has_failed {
+            return Passing::Stops(Pattern::Old);
+        }
+        Passing::Passes
+    }
+
+    /// Writes a word in flight to its image and syncs it; then the half becomes idle. Until then a power cut may leave anything in the
+    /// word. If that fails, the half stays busy, and the site stops at once.
+    fn rest(&mut self, slave: usize, half: &RomHalf, _k: usize) -> Resting
+        ensures asks { Rests slave (in_flight half.now.activity) self.old result self.new }
+        ensures follows { RestKeeps Follows slave half.now self.old result self.new }
+    {
+        self.rest_word(slave, half)
+    }
+
+    #[tactic(auto, using(crate::proofs::Following::same_keeps))]
     fn taken(
         &mut self,
         _slave: usize,
@@ -251,6 +322,7 @@ impl<'f, F: RandomAccessFile> Device for FileDevice<'f, F> {
     ) -> Option<Pattern>
         ensures stops { result ≡ (if self.old.has_failed then Some patterns.Old else None) }
         ensures same { self.new ≡ self.old }
+        ensures follows { Keeps Follows self.old self.new }
     {
         if self.has_failed {
             return Some(Pattern::Old);
@@ -258,13 +330,19 @@ impl<'f, F: RandomAccessFile> Device for FileDevice<'f, F> {
         None
     }
 
+    #[tactic(auto, using(crate::proofs::Following::same_keeps))]
     fn cycle(&mut self, _frame: &Frame) -> Passing
         ensures passes { result ≡ (if self.old.has_failed then Stops patterns.Old else Passes) }
         ensures same { self.new ≡ self.old }
+        ensures follows { Keeps Follows self.old self.new }
     {
         if self.has_failed {
             return Passing::Stops(Pattern::Old);
         }
         Passing::Passes
     }
+
+    ghost use Rattle.site_file.specs.Following.{follows_on};
+
+    ghost goes_on = { follows_on };
 }

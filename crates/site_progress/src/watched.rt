@@ -88,6 +88,12 @@ impl<'p, D, T: Write, R: Clock> Watched<'p, D, T, R> {
 }
 
 impl<'p, D: Device, T: Write, R: Clock> Device for Watched<'p, D, T, R> {
+    ghost follows = { λ watched. D.follows watched.device };
+
+    fn begin(&mut self, is_new: bool) {
+        self.device.begin(is_new)
+    }
+
     fn len(&mut self, length: usize) -> Passing {
         self.device.len(length)
     }
@@ -144,4 +150,6 @@ impl<'p, D: Device, T: Write, R: Clock> Device for Watched<'p, D, T, R> {
     fn cycle(&mut self, frame: &Frame) -> Passing {
         self.device.cycle(frame)
     }
+
+    ghost goes_on = { λ watched. D.goes_on watched.device };
 }

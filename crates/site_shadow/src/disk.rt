@@ -77,18 +77,21 @@ impl MemDisk {
     }
 
     /// Begins a write of `count` bytes: its range is unsynced from now on. `at` must not lie past the disk's end, and
-    /// `count` must be below 2^63.
+    /// `count` must be below 2^63. Takes the memory for the whole write.
     ///
     /// # Errors
     ///
-    /// `AllocError` if the memory to remember the old bytes is refused. The write has begun then too.
+    /// `AllocError` if the memory for the old bytes, or for those past the disk's end, is refused. The write has begun then too.
     pub fn begin(&mut self, at: usize, count: usize) -> Result<(), AllocError>
         requires inside { at ≤ length self.old.bytes }
         requires count { count < 2 ^ 63 }
         ensures { self.new ≡ write_begun self.old at count }
     {
         self.unsynced.note(&Stretch { start: at, count });
-        hold(&mut self.before, &self.bytes, at, count)
+        let held = hold(&mut self.before, &self.bytes, at, count);
+        let past_end = (at + count).saturating_sub(self.bytes.len());
+        let room = self.bytes.reserve(past_end);
+        held.and(room)
     }
 
     /// Overwrites the bytes from `at` on, which must not lie past the disk's end. Their write must have begun. The disk grows if they reach

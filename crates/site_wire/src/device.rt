@@ -395,6 +395,10 @@ fn fit_datagram<'a>(half: &RomHalf, frame: &'a Frame) -> Option<Datagram<'a>>
 }
 
 impl<'f, L: Reach, F: RandomAccessFile, C: Clock> Device for WireDevice<'f, L, F, C> {
+    fn begin(&mut self, is_new: bool) {
+        self.journal.begin(is_new);
+    }
+
     fn len(&mut self, length: usize) -> Passing {
         let passing = self.journal.len(length);
         self.end_call(passing)
@@ -480,4 +484,6 @@ impl<'f, L: Reach, F: RandomAccessFile, C: Clock> Device for WireDevice<'f, L, F
     fn cycle(&mut self, _frame: &Frame) -> Passing {
         Passing::Fails
     }
+
+    ghost goes_on = { λ _ _ _ _ _. tt };
 }

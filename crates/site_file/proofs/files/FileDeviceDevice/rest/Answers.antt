@@ -1,13 +1,5 @@
-use Rattle.std.proofs.Common.{refl, sym}
-use Rattle.site_file.specs.Device.{writes, fails}
+use Rattle.site_file.proofs.Following.{rest_keeps}
 use Rattle.site_file.proofs.files.FileDeviceDevice.rest.Goals as goal
 
-pub returns-then-write_word : goal.returns-then-write_word
-returns-then-write_word g c =
-    writes c.in-Some.write (sym c.in-Some.ensures.write) c.if-self.false
-    (rw c.in-Some-image.ensures.name at c.if-write_word.ensures) refl c.if-self.false
-
-pub returns : goal.returns
-returns g c =
-    rw (c.stay-2.ensures.stays, c.stay-2.ensures.failed) (fails c.in-Some.write (sym c.in-Some.ensures.write) c.if-self.false
-    (rw c.in-Some-image.ensures.name at c.if-write_word.ensures) refl refl)
+pub returns-clause-follows : goal.returns-clause-follows
+returns-clause-follows g c = rest_keeps _ _ _ _ _ c.rest_word.ensures.asks c.rest_word.ensures.fits c.rest_word.ensures.behind

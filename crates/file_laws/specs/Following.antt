@@ -1,0 +1,84 @@
+-- The files behind a site in memory, and what a power cut leaves of all of them at one moment.
+use Rattle.std.specs.Prelude.{◌≡◌, ◌⊎◌, ℕ, Bool, true, false, List, [], ◌∷◌, slice_get, Some, IsTrue, if◌then◌else◌}
+use Rattle.sii_words.specs.Words.{bytes_of}
+use Rattle.esc_model.specs.SlaveHalf.{SlaveHalf}
+use Rattle.site_core.specs.Disk.{Disk, IsSynced, StopImage}
+use Rattle.site_core.specs.State.{State, Seen, Pair, LeftSince}
+use Rattle.site_shadow.specs.Following.{first_of}
+use Rattle.site_file.specs.declared.asking.LineFile.{LineFile}
+use Rattle.site_file.specs.declared.asking.LineFile.TheVariants.{Journal, Image}
+use Rattle.site_file.specs.declared.files.FileDevice.{FileDevice}
+use Rattle.site_file.specs.Calls.{Asked}
+use Rattle.site_file.specs.Asking.{Asks}
+use Rattle.site_file.specs.Following.{Follows, Run}
+use Rattle.file_laws.specs.Files.{File, IsBytes, image_of, Becomes, BecomesBy, under_way}
+use Rattle.file_laws.specs.Held.{is_same, of_file, with_file}
+
+-- WHAT IS LEFT OF ALL FILES
+
+-- a file before a call on one of the files, or in its middle
+abbrev pub at_call : Asked → (LineFile → File) → LineFile → Disk
+at_call call files name = if is_same name call.file then under_way call.call (files name) else (files name).disk
+
+-- A power cut before one of these calls, in it, or behind the last one, may leave these images of the files, all at the same moment.
+abbrev pub AreLeft : List Asked → (LineFile → File) → (LineFile → List ℕ) → Type 0
+AreLeft [] files images = (name : LineFile) → StopImage (files name).disk (images name)
+AreLeft (call ∷ calls) files images =
+    ((name : LineFile) → StopImage (at_call call files name) (images name))
+    ⊎ ((mid : File) × Becomes call.call call.succeeded (files call.file) mid × AreLeft calls (with_file files call.file mid) images)
+
+-- The pair has this image of a file: the disk's bytes, or the bytes of the words of the slave.
+abbrev pub Shows : Pair → LineFile → List ℕ → Type 0
+Shows pair Journal image = image ≡ pair.disk
+Shows pair (Image slave) image = (words : List ℕ) × (slice_get pair.words slave ≡ Some words) × (image ≡ bytes_of words)
+
+-- WHAT A FILE HOLDS
+
+-- The file has the bytes of the disk, and what is synced of the disk is synced in the file. No call on it has failed.
+pub record HoldsDisk (disk : Disk) (file : File) : Type 0 where
+  pub sound : file.is_sound ≡ true
+  pub bytes : file.disk.bytes ≡ disk.bytes
+  pub synced_length : file.disk.synced_length ≡ disk.synced_length
+  pub synced : (at : ℕ) → IsSynced disk at → IsSynced file.disk at
+
+-- The file is the image of the words of this slave's half, all synced.
+pub record HoldsWords (halves : List SlaveHalf) (slave : ℕ) (file : File) : Type 0 where
+  pub half : SlaveHalf
+  pub here : slice_get halves slave ≡ Some half
+  pub file_is : file ≡ image_of half.words
+
+-- The file holds its part of the state.
+abbrev pub Holds : State → LineFile → File → Type 0
+Holds state Journal file = HoldsDisk state.disk file
+Holds state (Image slave) file = HoldsWords state.halves slave file
+
+-- A device stands behind a site that owns some of the files, and has done so since a moment of its own. Whatever the files were then that held the
+-- site's parts: by what was asked since, a power cut at any moment has left of them a pair that it may have left of the site; and as long as no call on a
+-- file has failed and the site goes on, they hold its parts.
+pub record FilesFollow
+    {F : Type 0} (owned : LineFile → Bool) (begun : LineFile → File) (start : ℕ) (device : FileDevice F) (seen : Seen) : Type 0 where
+  pub calls : List Asked
+  pub asks : Asks start device.asking.calls calls
+  pub leaves : (images : LineFile → List ℕ) → ((name : LineFile) → IsBytes (images name)) → AreLeft calls begun images
+      → (pair : Pair) × LeftSince seen 0 pair × ((name : LineFile) → IsTrue (owned name) → Shows pair name (images name))
+  pub holds : device.has_failed ≡ false → ¬ IsTrue seen.is_stopped → (name : LineFile) (later : File) → IsTrue (owned name)
+      → BecomesBy (of_file name calls) (begun name) later → Holds seen.state name later
+
+-- THE LAWS
+
+-- A device that has asked nothing since the files held the site's parts.
+abbrev pub BeginsToFollow : Type 0 → Type 0
+BeginsToFollow F = (owned : LineFile → Bool) (begun : LineFile → File) (device : FileDevice F) (seen : Seen)
+    → ((name : LineFile) → IsTrue (owned name) → Holds seen.state name (begun name)) → FilesFollow owned begun device.asking.calls device seen
+
+-- From then on, whatever is asked and answered.
+abbrev pub FollowsOn : Type 0 → Type 0
+FollowsOn F = (owned : LineFile → Bool) (begun : LineFile → File) (start : ℕ) (old new : Seen) (before after : FileDevice F)
+    → FilesFollow owned begun start before old → Run old before new after → FilesFollow owned begun start after new
+
+-- A site on files, whose device was put behind it before its first call. Of any files that held the parts with which the site began, a power cut has
+-- left at each moment since a pair that it may have left of the site.
+abbrev pub SiteIsFollowed : Type 0 → Type 0
+SiteIsFollowed F = (device : FileDevice F) (seen : Seen) → Follows device seen → IsTrue device.is_behind
+    → (start : ℕ) × ((owned : LineFile → Bool) (begun : LineFile → File)
+    → ((name : LineFile) → IsTrue (owned name) → Holds (first_of seen) name (begun name)) → FilesFollow owned begun start device seen)

@@ -1,0 +1,67 @@
+-- A device of files behind a site in memory, step by step of both.
+use Rattle.std.specs.Prelude.{◌≡◌, ℕ, ◌<◌, ◌≤◌, ◌^◌, false, List, [], length, Some, slice_get, Result, IsTrue, refl}
+use Rattle.esc_model.specs.declared.rest.WordWrite.{WordWrite}
+use Rattle.esc_model.specs.SlaveHalf.{SlaveHalf, in_flight}
+use Rattle.site_core.specs.declared.fault.DeviceFault.{DeviceFault}
+use Rattle.site_core.specs.State.{Seen, with_half}
+use Rattle.site_core.specs.Calls.{WritesDisk, SyncsDisk}
+use Rattle.site_shadow.specs.declared.device.Passing.{Passing}
+use Rattle.site_shadow.specs.declared.device.Resting.{Resting}
+use Rattle.site_shadow.specs.Resting.{RestsAs}
+use Rattle.site_shadow.specs.Following.{Extends, GoesOn, IsTold}
+use Rattle.site_file.specs.declared.files.FileDevice.{FileDevice}
+use Rattle.site_file.specs.Calls.{writes, syncs}
+use Rattle.site_file.specs.Device.{CallsJournal, AsksLength, ReadsJournal, Rests}
+
+-- a call of the device that changes no file
+pub data ChangesNoFile {F : Type 0} (old new : FileDevice F) : Type 0 where
+  unasked : new ≡ old → ChangesNoFile old new
+  asks_length : (result : Passing) → AsksLength old result new → ChangesNoFile old new
+  reads_bytes : (result : Passing) → ReadsJournal old result new → ChangesNoFile old new
+
+-- A word in flight is one of the half's.
+abbrev pub FitsWords : SlaveHalf → Type 0
+FitsWords half = (write : WordWrite) → in_flight half.activity ≡ Some write → (write.word < length half.words) × (write.value < 2 ^ 16)
+
+-- One step: what the site does, and what its device is asked in it.
+pub data Step {F : Type 0} (old : Seen) (before : FileDevice F) (new : Seen) (after : FileDevice F) : Type 0 where
+  -- a call that changes nothing, a write whose range is unsynced and that wasn't begun for want of memory, or a stop
+  goes_on : GoesOn old new → ChangesNoFile before after → Step old before new after
+  -- a write; where the device passes it, the site has done it, or stops
+  write : (at : ℕ) (bytes : List ℕ) (passing : Passing) (given : Result (Unit {0}) DeviceFault) → old.is_stopped ≡ false
+      → at ≤ length old.state.disk.bytes → WritesDisk old at bytes given new → IsTold passing given
+      → CallsJournal (writes at bytes) before passing after → Step old before new after
+  -- a sync; where the device passes it, the site has done it, or stops
+  sync : (passing : Passing) (given : Result (Unit {0}) DeviceFault) → old.is_stopped ≡ false → SyncsDisk old given new → IsTold passing given
+      → CallsJournal syncs before passing after → Step old before new after
+  -- a half becomes idle as the device says, before it takes a datagram
+  rest : (slave : ℕ) (half rested later : SlaveHalf) (resting : Resting) → old.is_stopped ≡ false → slice_get old.state.halves slave ≡ Some half
+      → RestsAs resting half rested → later.words ≡ rested.words → new.state ≡ with_half old.state slave later → Extends old new → FitsWords half
+      → Rests slave (in_flight half.activity) before resting after → Step old before new after
+
+-- any number of steps
+pub data Run {F : Type 0} (old : Seen) (before : FileDevice F) : (new : Seen) (after : FileDevice F) → Type 0 where
+  none : Run old before old before
+  more : (mid new : Seen) (half_way after : FileDevice F) → Run old before mid half_way → Step mid half_way new after → Run old before new after
+
+-- The device was put behind the site before its first call, and has been asked all that happened since.
+pub record HasFollowed {F : Type 0} (device : FileDevice F) (seen : Seen) : Type 0 where
+  pub first : Seen
+  pub unasked : first.past ≡ []
+  pub began : FileDevice F
+  pub run : Run first began seen device
+
+-- A device that was put behind a site that has seen no call yet has followed it.
+abbrev pub Follows : {F : Type 0} → FileDevice F → Seen → Type 0
+Follows device seen = IsTrue device.is_behind → HasFollowed device seen
+
+-- the law of the trait: a step in which the device isn't asked
+pub follows_on : {F : Type 0} (device : FileDevice F) (old new : Seen) → GoesOn old new → Follows device old → Follows device new
+follows_on device old new goes follows is =
+    let so_far : HasFollowed device old = follows is in
+    record {
+      first = so_far.first;
+      unasked = so_far.unasked;
+      began = so_far.began;
+      run = more old new device device so_far.run (goes_on goes (unasked refl));
+    }

@@ -1,0 +1,78 @@
+-- What a device keeps of the shadow before it, through the calls of both.
+use Rattle.std.specs.Prelude.{◌≡◌, ℕ, ◌≤◌, Bool, false, List, [], ◌∷◌, ◌++◌, length, Some, slice_get, Result, IsTrue, IsErrOf}
+use Rattle.esc_model.specs.SlaveHalf.{SlaveHalf}
+use Rattle.site_core.specs.declared.fault.DeviceFault.{DeviceFault}
+use Rattle.site_core.specs.declared.fault.DeviceFault.TheVariants as faults
+use Rattle.site_core.specs.Disk.{IsSynced}
+use Rattle.site_core.specs.State.{State, Seen, Pair, Moment, LeftSince, with_half, last_of}
+use Rattle.site_core.specs.Calls.{WritesDisk, SyncsDisk}
+use Rattle.site_shadow.specs.declared.device.Passing.{Passing}
+use Rattle.site_shadow.specs.declared.device.Passing.TheVariants.{Passes}
+use Rattle.site_shadow.specs.declared.device.Resting.{Resting}
+use Rattle.site_shadow.specs.Resting.{RestsAs}
+use Rattle.site_shadow.specs.Stopping.{noted}
+
+-- the state in which these calls began
+abbrev pub begin_of : List Moment → State → State
+begin_of [] state = state
+begin_of (moment ∷ moments) state = moment.before
+
+-- the state in which the site began
+abbrev pub first_of : Seen → State
+first_of seen = begin_of seen.past seen.state
+
+-- The site began in the same state. What could have been left until then, still could have. If it has stopped, it has so for good.
+pub record Extends (old new : Seen) : Type 0 where
+  pub first : first_of new ≡ first_of old
+  pub left : (pair : Pair) → LeftSince old 0 pair → LeftSince new 0 pair
+  pub stopped : IsTrue old.is_stopped → IsTrue new.is_stopped
+
+-- The disk has the same bytes, of which no more are synced, and each half has the same words.
+pub record KeepsContents (old new : State) : Type 0 where
+  pub bytes : new.disk.bytes ≡ old.disk.bytes
+  pub synced_length : new.disk.synced_length ≡ old.disk.synced_length
+  pub synced : (at : ℕ) → IsSynced new.disk at → IsSynced old.disk at
+  pub words : (slave : ℕ) (half : SlaveHalf) → slice_get old.halves slave ≡ Some half
+      → (later : SlaveHalf) × (slice_get new.halves slave ≡ Some later) × (later.words ≡ half.words)
+
+-- Nothing that a device holds changes, unless the site stops.
+pub record GoesOn (old new : Seen) : Type 0 where
+  pub extends : Extends old new
+  pub kept : ¬ IsTrue new.is_stopped → KeepsContents old.state new.state
+
+-- WHAT A CALL OF A DEVICE KEEPS, by what it keeps of a shadow
+
+-- The shadow changes nothing by this call.
+abbrev pub Keeps : {D : Type 0} → (D → Seen → Type 0) → D → D → Type 0
+Keeps follows before after = (seen : Seen) → follows before seen → follows after seen
+
+-- The answer to a write or a sync is told. A call that the device passes may stop the site, and counts no fault.
+abbrev pub IsTold : Passing → Result (Unit {0}) DeviceFault → Type 0
+IsTold passing given = passing ≡ Passes → IsErrOf given faults.Disk → ⊥
+
+-- The shadow writes, as the device answers.
+abbrev pub WriteKeeps : {D : Type 0} → (D → Seen → Type 0) → ℕ → List ℕ → D → Passing → D → Type 0
+WriteKeeps follows at bytes before passing after = (old new : Seen) (given : Result (Unit {0}) DeviceFault) → old.is_stopped ≡ false
+    → at ≤ length old.state.disk.bytes → WritesDisk old at bytes given new → IsTold passing given → follows before old → follows after new
+
+-- The shadow syncs, as the device answers.
+abbrev pub SyncKeeps : {D : Type 0} → (D → Seen → Type 0) → D → Passing → D → Type 0
+SyncKeeps follows before passing after = (old new : Seen) (given : Result (Unit {0}) DeviceFault) → old.is_stopped ≡ false
+    → SyncsDisk old given new → IsTold passing given → follows before old → follows after new
+
+-- The half becomes idle as the device says, and takes a datagram, which changes none of its words.
+abbrev pub RestKeeps : {D : Type 0} → (D → Seen → Type 0) → ℕ → SlaveHalf → D → Resting → D → Type 0
+RestKeeps follows slave half before resting after = (old new : Seen) (rested later : SlaveHalf) → old.is_stopped ≡ false
+    → slice_get old.state.halves slave ≡ Some half → RestsAs resting half rested → later.words ≡ rested.words
+    → new.state ≡ with_half old.state slave later → Extends old new → follows before old → follows after new
+
+-- IN THE MIDDLE OF AN EXCHANGE, with these states in its middle so far
+
+-- one datagram more is taken
+abbrev pub TakeKeeps : {D : Type 0} → (D → Seen → Type 0) → D → State → D → State → Type 0
+TakeKeeps follows before state after later = (old : Seen) (middle : List State) → old.is_stopped ≡ false → last_of old.state middle ≡ state
+    → follows before (noted old middle state) → follows after (noted old (middle ++ later ∷ []) later)
+
+-- a frame is taken
+abbrev pub PassKeeps : {D : Type 0} → (D → Seen → Type 0) → Seen → D → List State → D → State → Type 0
+PassKeeps follows old before middle after state = old.is_stopped ≡ false → follows before (noted old [] old.state) → follows after (noted old middle state)
