@@ -9,7 +9,8 @@ use Rattle.site_core.specs.Disk.{StopImage, overlaid, write_begun, written}
 use Rattle.site_core.specs.State.{State, Pair, Seen, Leaves}
 use Rattle.site_core.specs.Calls.{begin_write}
 use Rattle.site_core.proofs.StopImages.{StopImage-synced, equal_by_elements}
-use Rattle.site_journal.specs.Runs.{MakesCalls, with_synced}
+use Rattle.world_law.specs.Happenings.{with_synced}
+use Rattle.site_journal.specs.Runs.{MakesCalls}
 use Rattle.site_journal.specs.Formatting.{formatted, behind_gate, pieces, PutsDown, IsPairOnTheWay, Formats}
 use Rattle.site_journal.proofs.Laying.{made}
 use Rattle.site_journal.proofs.CallRuns.{runs_weaker, runs_then}
