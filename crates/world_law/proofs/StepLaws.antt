@@ -1,15 +1,13 @@
 -- Each event keeps the invariant of the world.
-use Rattle.std.proofs.Common.{◌≡◌, ◌≢◌, inl, inr, ℕ, ◌<◌, ◌≤◌, Bool, true, false, List, [], ◌∷◌, ◌++◌, length, take, refl, sym, ◌∙◌, ap, subst, arith, length-set, All, Option, Some, None, Result, Ok, Err}
+use Rattle.std.proofs.Common.{◌≡◌, ◌≢◌, inl, inr, ℕ, ◌<◌, ◌≤◌, Bool, true, false, List, length, refl, sym, ◌∙◌, ap, subst, arith, length-set, Option, Some, None, Result, Ok, Err}
 use Rattle.std.specs.Prelude.{slice_get, is_some, IsOk}
 use Rattle.std.proofs.lemmas.List.{length-map}
-use Rattle.std.proofs.lemmas.List.Elements.{All-nil, All-append, All-push, All-take}
 use Rattle.std.proofs.lemmas.Option.{slice_get_within}
 use Rattle.sii_image.specs.ProcessImage.{process_image}
 use Rattle.sii_edit.specs.declared.command.Command.{Command}
 use Rattle.sii_edit.specs.Command.{outcome}
 use Rattle.sii_edit.specs.Fold.{contents, contents_after}
-use Rattle.sii_edit.specs.Fitting.{PlantFits, CommandFits}
-use Rattle.sii_edit.proofs.PlantLaws.{fit-contents}
+use Rattle.sii_edit.specs.Fitting.{CommandFits}
 use Rattle.esc_model.specs.SlaveHalf.{SlaveHalf, MayRest}
 use Rattle.esc_model.proofs.Resting.{MayRest-leaves}
 use Rattle.site_core.specs.declared.fault.DeviceFault.{DeviceFault}
@@ -52,6 +50,7 @@ use Rattle.book_laws.specs.Worn.{Worn}
 use Rattle.book_laws.proofs.WornBooks.{worn-fault, worn-opened, worn-command, worn-migrate, worn-disk_next, worn-disk_done, worn-rom_next, worn-rom_done}
 use Rattle.world_law.proofs.FlagLaws.{SameFlags, BackFlags, DoneFlags, flags-disk_next, flags-disk_done, flags-migrate, flags-rom_next, flags-rom_done}
 use Rattle.world_law.proofs.AnswerLaws.{Takes, AnswersAs, submit-answers}
+use Rattle.world_law.proofs.FitLaws.{fits-accepts, fits-reopened, contents-fit}
 use Rattle.world_law.proofs.StandsLaws.{IsOf, Stands, stands-up, stands-down, stands-kept, stands-long, kept-read, applied-few}
 
 -- the session that follows, and the invariant then
@@ -91,12 +90,6 @@ module _ (frame : JournalFrame) (book : Book) (state : State) (took : List Bool)
 
   -- ---- a submit
 
-  contents-fit : (command : Command) → CommandFits command → PlantFits (contents_of (with_command book command))
-  contents-fit command small =
-      let base : PlantFits (base_of book) = subst PlantFits up.of.base (fit-contents s.machine.origin s.machine.kept fits.kept fits.origin) in
-      let commands : All CommandFits book.accepted = subst (All CommandFits) up.of.accepted fits.accepted in
-      fit-contents (base_of book) (book.accepted ++ command ∷ []) (All-push CommandFits book.accepted command commands small) base
-
   same-contents : contents_of book ≡ contents_now s
   same-contents = ap (λ (p : List (List ℕ)). contents p book.accepted) (sym up.of.base) ∙ ap (contents (machines.base_of s.machine)) (sym up.of.accepted)
 
@@ -119,8 +112,8 @@ module _ (frame : JournalFrame) (book : Book) (state : State) (took : List Bool)
   goes-submit command (Ok number) is a small = record {
     session = with_machine s (accepts s.machine command);
     follows = (judges a.0, judged-ok command a.1, a.2 ∙ sym (ap length up.of.accepted), refl);
-    stands = stands-up (with_command book command) frame refl (up-submits frame book state took s.machine command number up is (contents-fit command small)) (record { closed = of.closed; form = of.form; worn = worn-command book command up.fits.durable_few of.worn });
-    fits = record { origin = fits.origin; kept = fits.kept; accepted = All-push CommandFits s.machine.accepted command fits.accepted small };
+    stands = stands-up (with_command book command) frame refl (up-submits frame book state took s.machine command number up is (contents-fit book s.machine command up.of fits small)) (record { closed = of.closed; form = of.form; worn = worn-command book command up.fits.durable_few of.worn });
+    fits = fits-accepts s.machine command fits small;
   }
 
   goes-plan : Goes s (Planned (applied book) (process_image (planned book))) (now book state took)
@@ -288,7 +281,7 @@ goes-open s world later told stands fits o =
       session = record { machine = reopened m u.k; is_closed = false; is_version_2 = is_version_2 o.journal.form };
       follows = (u.k, u.may_keep, refl);
       stands = stands-up opened u.frame refl u.up (record { closed = refl; form = refl; worn = worn-opened (words_in state.halves) (capacity_in state.disk.bytes) o.journal });
-      fits = record { origin = fits.origin; kept = All-append CommandFits m.kept (take u.k m.accepted) fits.kept (All-take CommandFits u.k m.accepted fits.accepted); accepted = All-nil CommandFits };
+      fits = fits-reopened m u.k fits;
     })
 
 goes : (s : Session) (event : Event) (world later : World) (told : Told) → Stands world s → MachineFits s.machine → EventFits event → Happens event world told later → Goes s told later
