@@ -34,7 +34,7 @@ none-queued book none =
     let count = book.durable + length (being_appended (appended book.doing)) in
     ap (λ (l : List Command). is_any (drop count (entries_from 0 (base_of book) l))) none ∙ ap (λ (l : List Entry). is_any l) (drop-nil {A = Entry} count)
 
-not-both : (b : Bool) → b ≡ true → b ≡ false → ⊥
+pub not-both : (b : Bool) → b ≡ true → b ≡ false → ⊥
 not-both b is isnt = absurd cc
 
 some-live : (halves : Halves) → (halves.older ≡ [] → halves.newer ≡ []) → is_any (live halves) ≡ true → halves.older ≢ []
