@@ -40,11 +40,6 @@ IsAction next.Sync = Unit {0}
 IsAction next.Idle = ⊥
 IsAction next.Stop = ⊥
 
--- it is what the book does then
-record IsOut (book : Book) : Type 0 where
-  out : (disk_next book).1.is_handed_out ≡ true
-  doing : in_progress (disk_next book).1 ≡ Some (disk_next book).0
-
 same-action : (book : Book) (doing : Doing) → action_of (record book { doing = doing; is_handed_out = true }) doing ≡ action_of book doing
 same-action book Resting = refl
 same-action book (Payload place entries) = refl
