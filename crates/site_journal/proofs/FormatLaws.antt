@@ -21,10 +21,6 @@ behind_long slaves capacity = omega (arith, length-append (drop 1 (header_bytes 
     seven : length (drop 1 (header_bytes 2 slaves capacity)) ≡ 7
     seven = refl
 
--- the disk behind the first gate
-first_bytes : (bytes : List ℕ) (gate : ℕ) → overlaid bytes 0 (gate ∷ []) ≡ gate ∷ drop 1 bytes
-first_bytes bytes gate = refl
-
 -- and with the area laid
 second_bytes : (slaves capacity gate : ℕ) (bytes : List ℕ) → overlaid (gate ∷ drop 1 bytes) 1 (behind_gate slaves capacity) ≡ gate ∷ drop 1 (formatted slaves capacity bytes)
 second_bytes slaves capacity gate bytes =

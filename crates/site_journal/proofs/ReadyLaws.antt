@@ -106,6 +106,13 @@ module _ (book : Book) (i : ℕ) (within : i < length book.slaves) where
   fault-idle (Unsettled word value taken) is fault = let a : (rom_next book i).0 ≡ next.Stop = rw (there, is, fault) refl in subst events.IsNothing (sym a) tt
   fault-idle (Settling word value taken) is fault = let a : (rom_next book i).0 ≡ next.Idle = rw (there, is) refl in subst events.IsNothing (sym a) tt
 
+  sound-by : (failed : Bool) → is_some book.fault ≡ failed → (events.IsNothing (rom_next book i).0 → ⊥) → is_some book.fault ≡ false
+  sound-by true fault some = absurd (some (fault-idle (slave_at book i).errand refl fault))
+  sound-by false fault some = fault
+
+  pub asked-sound : (events.IsNothing (rom_next book i).0 → ⊥) → is_some book.fault ≡ false
+  asked-sound = sound-by (is_some book.fault) refl
+
   abbrev Rests : RomNext × Book → Type 0
   Rests a = a.1.is_handed_out ≡ book.is_handed_out
 
@@ -139,10 +146,6 @@ module _ (book : Book) (old new : Seen) (ready : IsReady book old) (i : ℕ) (wi
   back : (outcome : RomOutcome) → (rom_done later i outcome).is_handed_out ≡ false
   back outcome = back-rests later i (slave_at later i).errand outcome refl ∙ asked-rests book i within (handed book i within) ∙ ready.rests
 
-  open-still : (failed : Bool) → is_some book.fault ≡ failed → (events.IsNothing (rom_next book i).0 → ⊥) → is_some book.fault ≡ false
-  open-still true fault some = absurd (some (fault-idle book i within (slave_at book i).errand refl fault))
-  open-still false fault some = fault
-
   module _ (word value : ℕ) (is : (rom_next book i).0 ≡ next.Issue word value) where
     issued : (result : Result Issued DeviceFault) → IssuesWord old i word value result new → is_some book.fault ≡ false → IsReady (rom_done later i (issue_outcome result)) new
     issued (Ok how) issues none =
@@ -154,7 +157,7 @@ module _ (book : Book) (old new : Seen) (ready : IsReady book old) (i : ℕ) (wi
         closed-ready (rom_done later i outcomes.Stopped) new (back outcomes.Stopped) (rw (issues-as book i within word value (handed book i within) is) refl) (issues.stopped.1 (ap Err e))
 
     pub issue-ready : (result : Result Issued DeviceFault) → IssuesWord old i word value result new → IsReady (rom_done later i (issue_outcome result)) new
-    issue-ready result issues = issued result issues (open-still (is_some book.fault) refl (λ none. subst events.IsNothing is none))
+    issue-ready result issues = issued result issues (asked-sound book i within (λ none. subst events.IsNothing is none))
 
   module _ (taken : Bool) (is : (rom_next book i).0 ≡ next.Settle taken) where
     settled : (result : Result Settled DeviceFault) → SettlesSlave old i taken result new → is_some book.fault ≡ false → IsReady (rom_done later i (settle_outcome result)) new
@@ -168,7 +171,7 @@ module _ (book : Book) (old new : Seen) (ready : IsReady book old) (i : ℕ) (wi
         closed-ready (rom_done later i outcomes.Stopped) new (back outcomes.Stopped) (rw s.2 refl) (settles.stopped.1 (ap Err e))
 
     pub settle-ready : (result : Result Settled DeviceFault) → SettlesSlave old i taken result new → IsReady (rom_done later i (settle_outcome result)) new
-    settle-ready result settles = settled result settles (open-still (is_some book.fault) refl (λ none. subst events.IsNothing is none))
+    settle-ready result settles = settled result settles (asked-sound book i within (λ none. subst events.IsNothing is none))
 
 -- ---- an open
 
