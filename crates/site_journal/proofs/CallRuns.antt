@@ -5,9 +5,10 @@ use Rattle.site_core.specs.declared.fault.DeviceFault.TheVariants as faults
 use Rattle.site_core.specs.State.{State, Pair, Seen, clock}
 use Rattle.site_core.specs.Calls.{Calls, faults_of}
 use Rattle.site_core.specs.Passes.{LeavesOnly, StaysWithin}
-use Rattle.site_core.proofs.Runs.{Passes-none, Passes-then, Passes-weaker, Passes-stays}
+use Rattle.site_core.proofs.Runs.{Passes-none, Passes-stays}
 use Rattle.site_core.proofs.Times.{Follows-same, Follows-then, Calls-follows, Calls-clock}
 use Rattle.site_journal.specs.Runs.{MakesCalls}
+use Rattle.site_journal.proofs.GoLaws.{stays-weaker, stays-then}
 
 -- one call
 pub runs_one : {T : Type 0} (Q : Pair → Type 0) (old : Seen) (middle : List State) (result : Result T DeviceFault) (new : Seen)
@@ -26,7 +27,7 @@ runs_one Q old middle result new call stays not_lost turns = record {
 pub runs_weaker : {T : Type 0} (P Q : Pair → Type 0) (old : Seen) (few most : ℕ) (result : Result T DeviceFault) (new : Seen) → few ≤ most
     → ((pair : Pair) → P pair → Q pair) → MakesCalls P old few result new → MakesCalls Q old most result new
 runs_weaker P Q old few most result new more weaker runs = record {
-  stays = Passes-stays Q old new (Passes-weaker (LeavesOnly P) (LeavesOnly Q) old new (λ state only pair leaves. weaker pair (only pair leaves)) runs.stays.passes);
+  stays = stays-weaker P Q old new weaker runs.stays;
   follows = runs.follows;
   within = let w : clock new ≤ clock old + few = runs.within in omega arith;
   counted = runs.counted;
@@ -39,7 +40,7 @@ runs_weaker P Q old few most result new more weaker runs = record {
 pub runs_then : {A B : Type 0} (Q : Pair → Type 0) (a b c : Seen) (m n most : ℕ) (value : A) (result : Result B DeviceFault) → m + n ≤ most
     → MakesCalls {T = A} Q a m (Ok value) b → MakesCalls Q b n result c → MakesCalls Q a most result c
 runs_then Q a b c m n most value result more first second = record {
-  stays = Passes-stays Q a c (Passes-then (LeavesOnly Q) a b c first.stays.passes second.stays.passes);
+  stays = stays-then Q a b c first.stays second.stays;
   follows = Follows-then a b c first.follows second.follows;
   within = let w : clock b ≤ clock a + m = first.within in let v : clock c ≤ clock b + n = second.within in omega arith;
   counted = let e : b.faults ≡ a.faults + 0 = first.counted in omega (arith, e, second.counted);

@@ -2,6 +2,7 @@
 use Rattle.std.proofs.Common.{◌≡◌, ◌≢◌, ◌+◌, ◌≤◌, Bool, true, false, List, [], ◌∷◌, ◌++◌, length, drop, refl, sym, ◌∙◌, ap, subst, arith, Option, Some, None, Result, Ok, Err}
 use Rattle.std.specs.Prelude.{is_some, not}
 use Rattle.std.proofs.Math.Seq.{drop-nil}
+use Rattle.std.proofs.lemmas.Bool.{not-true, false_from_ne_true}
 use Rattle.jrn_format.specs.declared.journal.Batch.{Batch}
 use Rattle.jrn_format.specs.declared.journal.Entry.{Entry}
 use Rattle.jrn_format.specs.declared.journal.Form.{Form}
@@ -33,7 +34,7 @@ none-queued book none =
     let count = book.durable + length (being_appended (appended book.doing)) in
     ap (λ (l : List Command). is_any (drop count (entries_from 0 (base_of book) l))) none ∙ ap (λ (l : List Entry). is_any l) (drop-nil {A = Entry} count)
 
-not-both : (b : Bool) → b ≡ true → b ≡ false → ⊥
+pub not-both : (b : Bool) → b ≡ true → b ≡ false → ⊥
 not-both b is isnt = absurd cc
 
 some-live : (halves : Halves) → (halves.older ≡ [] → halves.newer ≡ []) → is_any (live halves) ≡ true → halves.older ≢ []
@@ -44,14 +45,6 @@ some-live halves ordered some none =
 pub none-live : (batches : List Batch) → is_any batches ≡ false → batches ≡ []
 none-live [] is = refl
 none-live (b ∷ batches) is = absurd cc
-
-not-true : (b : Bool) → not b ≡ true → b ≡ false
-not-true true is = absurd cc
-not-true false is = refl
-
-is-false : (b : Bool) → (b ≡ true → ⊥) → b ≡ false
-is-false true never = absurd (never refl)
-is-false false never = refl
 
 -- the step that is handed out next is one of a recovery, and takes the calls that were counted
 pub record GoesTo (book : Book) (doing : Doing) : Type 0 where
@@ -68,7 +61,7 @@ module _ (frame : JournalFrame) (book : Book) (state : State) (took : List Bool)
   begins doing resting (migrates can is) =
       let asked = and-first book.is_migrating (not (is_any (live book.halves))) can in
       let nothing = none-live (live book.halves) (not-true (is_any (live book.halves)) (and-second book.is_migrating (not (is_any (live book.halves))) can)) in
-      let old = is-false (is_version_2 book.form) (λ new. not-both book.is_migrating asked (up.no_migration new)) in
+      let old = false_from_ne_true (is_version_2 book.form) (λ new. not-both book.is_migrating asked (up.no_migration new)) in
       subst (GoesTo book) (sym is) (record { step = (old, nothing); calls = ap (λ (d : Doing). disk_calls d book.halves book.form) (sym resting) })
   begins doing resting (rests is) = subst (GoesTo book) (sym is) (record { step = tt; calls = ap (λ (d : Doing). disk_calls d book.halves book.form) (sym resting) })
 

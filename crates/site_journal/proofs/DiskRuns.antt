@@ -5,18 +5,16 @@ use Rattle.esc_model.specs.SlaveHalf.{SlaveHalf}
 use Rattle.site_core.specs.declared.fault.DeviceFault.{DeviceFault}
 use Rattle.site_core.specs.declared.fault.DeviceFault.TheVariants as device
 use Rattle.site_core.specs.Disk.{Disk, WriteFailed, write_begun, written}
-use Rattle.site_core.specs.State.{State, Pair, Leaves, Seen}
+use Rattle.site_core.specs.State.{State, Leaves, Seen}
 use Rattle.site_core.specs.Calls.{WritesDisk, SyncsDisk, begin_write}
-use Rattle.site_core.specs.Passes.{Passes, LeavesOnly}
-use Rattle.site_core.proofs.Runs.{Passes-weaker, Passes-stays}
-use Rattle.site_core.proofs.DeviceCalls.{WritesDisk-passes, SyncsDisk-adds_nothing}
+use Rattle.site_core.specs.Passes.{StaysWithin}
+use Rattle.site_core.proofs.DeviceCalls.{WritesDisk-left, SyncsDisk-adds_nothing}
 use Rattle.book_model.specs.declared.next.DiskNext.{DiskNext}
 use Rattle.book_model.specs.declared.next.DiskNext.TheVariants as next
 use Rattle.book_model.specs.declared.fault.Fault.TheVariants as faults
 use Rattle.book_model.specs.Book.{Book, Doing, Resting, Payload, PayloadSync, OpenGate, OpenSync, CloseGate, CloseSync, FarGate, Mark, MarkSync, Version, VersionSync, with_fault}
 use Rattle.book_model.specs.DiskSteps.{action_of, doing_next, disk_next, disk_done}
 use Rattle.book_model.specs.Machine.{Machine}
-use Rattle.book_model.specs.Kept.{Kept}
 use Rattle.book_laws.specs.Frame.{JournalFrame}
 use Rattle.book_laws.specs.Events.{gate_byte, begun_on, ended_on, FailsOn, in_progress, rested}
 use Rattle.book_laws.specs.Steps.{acknowledged_by}
@@ -24,13 +22,13 @@ use Rattle.book_laws.specs.Up.{Up}
 use Rattle.book_laws.proofs.LineLaws.{up-kept}
 use Rattle.book_laws.proofs.DiskEventLaws.{up-begins, up-fails}
 use Rattle.book_laws.proofs.DiskEndLaws.{up-ends}
+use Rattle.world_law.specs.Law.{KeptFor}
 use Rattle.site_journal.specs.Running.{KeepsAll, CallsDisk, UpAfterDisk}
+use Rattle.site_journal.proofs.GoLaws.{stays-weaker}
 
 -- what a stop leaves all the way is some that a station that is up leaves
-pub keeps-all : (frame : JournalFrame) (book : Book) (state : State) (took : List Bool) (m : Machine) (old new : Seen) → Up frame book state took m → Passes (LeavesOnly (Leaves state)) old new → KeepsAll m old new
-keeps-all frame book state took m old new up passes =
-    Passes-stays (λ pair. Kept pair.disk pair.words m) old new
-    (Passes-weaker (LeavesOnly (Leaves state)) (LeavesOnly (λ (pair : Pair). Kept pair.disk pair.words m)) old new (λ s only pair leaves. up-kept frame book state took m pair up (only pair leaves)) passes)
+pub keeps-all : (frame : JournalFrame) (book : Book) (state : State) (took : List Bool) (m : Machine) (old new : Seen) → Up frame book state took m → StaysWithin (Leaves state) old new → KeepsAll m old new
+keeps-all frame book state took m old new up stays = stays-weaker (Leaves state) (KeptFor m) old new (λ pair leaves. up-kept frame book state took m pair up leaves) stays
 
 -- ---- what is handed out
 
@@ -41,11 +39,6 @@ IsAction (next.Gate at closed) = Unit {0}
 IsAction next.Sync = Unit {0}
 IsAction next.Idle = ⊥
 IsAction next.Stop = ⊥
-
--- it is what the book does then
-record IsOut (book : Book) : Type 0 where
-  out : (disk_next book).1.is_handed_out ≡ true
-  doing : in_progress (disk_next book).1 ≡ Some (disk_next book).0
 
 same-action : (book : Book) (doing : Doing) → action_of (record book { doing = doing; is_handed_out = true }) doing ≡ action_of book doing
 same-action book Resting = refl
@@ -143,16 +136,15 @@ module _ (frame : JournalFrame) (book : Book) (took : List Bool) (m : Machine) (
 
   runs-as : (action : DiskNext) (result : Result (Unit {0}) DeviceFault) (new : Seen) → (disk_next book).0 ≡ action → CallsDisk action old result new → KeepsAll m old new × UpAfterDisk frame later took m new result
   runs-as (next.Write at bytes) result new is call = (
-    keeps-all frame later (begin_write old.state at (length bytes)) took m old new (begun-up (next.Write at bytes) is) (WritesDisk-passes old at bytes result new call.inside call.writes),
+    keeps-all frame later (begin_write old.state at (length bytes)) took m old new (begun-up (next.Write at bytes) is) (WritesDisk-left old at bytes result new call.inside call.writes),
     write-ends (next.Write at bytes) at bytes new result is tt call.writes refl (λ disk failed. failed),
   )
   runs-as (next.Gate at closed) result new is call = (
-    keeps-all frame later (begin_write old.state at 1) took m old new (begun-up (next.Gate at closed) is) (WritesDisk-passes old at (gate_byte closed ∷ []) result new call.inside call.writes),
+    keeps-all frame later (begin_write old.state at 1) took m old new (begun-up (next.Gate at closed) is) (WritesDisk-left old at (gate_byte closed ∷ []) result new call.inside call.writes),
     write-ends (next.Gate at closed) at (gate_byte closed ∷ []) new result is tt call.writes refl (λ disk failed. failed),
   )
   runs-as next.Sync result new is call =
-      let adds = SyncsDisk-adds_nothing old result new call in
-      (keeps-all frame book old.state took m old new up adds.passes, sync-ends new result is call)
+      (keeps-all frame book old.state took m old new up (SyncsDisk-adds_nothing old result new call), sync-ends new result is call)
   runs-as next.Idle result new is call = absurd call
   runs-as next.Stop result new is call = absurd call
 

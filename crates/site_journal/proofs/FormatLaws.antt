@@ -9,7 +9,8 @@ use Rattle.site_core.specs.Disk.{StopImage, overlaid, write_begun, written}
 use Rattle.site_core.specs.State.{State, Pair, Seen, Leaves}
 use Rattle.site_core.specs.Calls.{begin_write}
 use Rattle.site_core.proofs.StopImages.{StopImage-synced, equal_by_elements}
-use Rattle.site_journal.specs.Runs.{MakesCalls, with_synced}
+use Rattle.world_law.specs.Happenings.{with_synced}
+use Rattle.site_journal.specs.Runs.{MakesCalls}
 use Rattle.site_journal.specs.Formatting.{formatted, behind_gate, pieces, PutsDown, IsPairOnTheWay, Formats}
 use Rattle.site_journal.proofs.Laying.{made}
 use Rattle.site_journal.proofs.CallRuns.{runs_weaker, runs_then}
@@ -19,10 +20,6 @@ behind_long slaves capacity = omega (arith, length-append (drop 1 (header_bytes 
   where
     seven : length (drop 1 (header_bytes 2 slaves capacity)) ≡ 7
     seven = refl
-
--- the disk behind the first gate
-first_bytes : (bytes : List ℕ) (gate : ℕ) → overlaid bytes 0 (gate ∷ []) ≡ gate ∷ drop 1 bytes
-first_bytes bytes gate = refl
 
 -- and with the area laid
 second_bytes : (slaves capacity gate : ℕ) (bytes : List ℕ) → overlaid (gate ∷ drop 1 bytes) 1 (behind_gate slaves capacity) ≡ gate ∷ drop 1 (formatted slaves capacity bytes)

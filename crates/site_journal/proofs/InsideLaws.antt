@@ -7,9 +7,8 @@ use Rattle.jrn_format.specs.declared.journal.Form.TheVariants.{One, Two, Moving}
 use Rattle.jrn_format.specs.declared.journal.Spelling.TheVariants.{WithGeneration}
 use Rattle.jrn_format.specs.Area.{spelt_batches}
 use Rattle.jrn_format.specs.Header.{header_bytes}
-use Rattle.jrn_format.specs.Halves.{Halves, Place, InOlder, InNewer, half_of, batches_in}
+use Rattle.jrn_format.specs.Halves.{Halves, Place, half_of, batches_in}
 use Rattle.jrn_format.specs.File.{IsFile}
-use Rattle.jrn_format.proofs.FileLaws.{at_other}
 use Rattle.site_core.specs.Disk.{Disk, write_begun}
 use Rattle.site_core.specs.State.{Seen}
 use Rattle.book_model.specs.declared.next.DiskNext.{DiskNext}
@@ -22,6 +21,7 @@ use Rattle.book_laws.specs.Events.{begun_on, in_progress}
 use Rattle.book_laws.specs.Doing.{OpensGate, DoingFits}
 use Rattle.book_laws.specs.OldFile.{IsVersioned, BeforeVersion}
 use Rattle.book_laws.specs.OldDoing.{OldDoingFits, FormFits, JournalFits}
+use Rattle.book_laws.proofs.AppendLaws.{half_small}
 use Rattle.book_laws.proofs.DoneLaws.{place-at, half-at}
 use Rattle.book_laws.specs.Up.{Up}
 use Rattle.site_journal.proofs.DiskRuns.{IsAction, begun-up, out-of}
@@ -46,10 +46,6 @@ half-inside frame (suc zero) one two bytes into le small framed =
     omega (arith, long, small, equal, half)
 half-inside frame (suc (suc n)) one two bytes into le small framed = absurd (omega (arith, le))
 
-half-small : (halves : Halves) (place : Place) → halves.at ≤ 1 → half_of halves place ≤ 1
-half-small halves InOlder le = le
-half-small halves InNewer le = at_other halves.at
-
 -- ---- where an action writes
 
 abbrev place_of : Option DiskNext → ℕ
@@ -63,7 +59,7 @@ gate-inside : (frame : JournalFrame) (book : Book) (place : Place) (gate : ℕ) 
     → IsFramed frame (half_of book.halves place) (spelt_batches WithGeneration (batches_in book.halves place) ++ (gate ∷ rest)) beside bytes → place_at book place + 1 ≤ length bytes
 gate-inside frame book place gate rest beside bytes same le framed =
     let batches = spelt_batches WithGeneration (batches_in book.halves place) in
-    let there = half-inside frame (half_of book.halves place) (batches ++ (gate ∷ rest)) beside bytes (length batches + 1) (half-small book.halves place le) (omega (arith, length-append batches (gate ∷ rest))) framed in
+    let there = half-inside frame (half_of book.halves place) (batches ++ (gate ∷ rest)) beside bytes (length batches + 1) (half_small book.halves place le) (omega (arith, length-append batches (gate ∷ rest))) framed in
     omega (arith, there, place-at frame book place same)
 
 module _ (frame : JournalFrame) (book : Book) (disk : Disk) (same : book.capacity ≡ frame.capacity) where

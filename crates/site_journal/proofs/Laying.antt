@@ -9,7 +9,8 @@ use Rattle.site_core.specs.State.{State, Pair, Seen, Leaves, EachMayLeave}
 use Rattle.site_core.specs.Calls.{WritesDisk, SyncsDisk, begin_write}
 use Rattle.site_core.proofs.DeviceCalls.{WritesDisk-left, Leaves-begun}
 use Rattle.site_core.proofs.Overlays.{overlaid-outside, length-overlaid}
-use Rattle.site_journal.specs.Runs.{MakesCalls, with_synced}
+use Rattle.world_law.specs.Happenings.{with_synced}
+use Rattle.site_journal.specs.Runs.{MakesCalls}
 use Rattle.site_journal.specs.Formatting.{LiesOver, LaysDown, PutsDown}
 use Rattle.site_journal.proofs.CallRuns.{runs_none, runs_one, runs_weaker, runs_then}
 use Rattle.site_journal.proofs.ReadLaws.{sync_runs}

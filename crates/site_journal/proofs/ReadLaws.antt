@@ -9,7 +9,8 @@ use Rattle.site_core.specs.Calls.{Reads, GivesLength, ReadsDisk, SyncsDisk}
 use Rattle.site_core.proofs.DeviceCalls.{SyncsDisk-adds_nothing, Reads-adds_nothing}
 use Rattle.site_journal.specs.declared.fault.ReadFault.{ReadFault}
 use Rattle.site_journal.specs.declared.fault.ReadFault.TheVariants as read
-use Rattle.site_journal.specs.Runs.{MakesCalls, with_synced}
+use Rattle.world_law.specs.Happenings.{with_synced}
+use Rattle.site_journal.specs.Runs.{MakesCalls}
 use Rattle.site_journal.specs.Reading.{SyncsFirst, ReadsAll}
 use Rattle.site_journal.proofs.CallRuns.{runs_one, runs_weaker, runs_then, runs_ok, runs_err}
 

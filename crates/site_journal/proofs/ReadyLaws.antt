@@ -1,6 +1,6 @@
 -- A station stays ready.
-use Rattle.std.proofs.Common.{◌≡◌, ℕ, ◌<◌, Bool, true, false, List, [], length, refl, sym, ◌∙◌, ap, subst, arith, Result, Ok, Err}
-use Rattle.std.specs.Prelude.{is_some, nat_lt, IsTrue}
+use Rattle.std.proofs.Common.{◌≡◌, ◌≢◌, ℕ, ◌<◌, Bool, true, false, List, [], length, refl, sym, ◌∙◌, ap, subst, arith, Result, Ok, Err}
+use Rattle.std.specs.Prelude.{◌↔◌, is_some, nat_lt, IsErrOf, IsTrue}
 use Rattle.std.proofs.lemmas.Bool.Decides.{nat_tests}
 use Rattle.sii_words.specs.Redo.{redone}
 use Rattle.jrn_format.specs.declared.journal.Journal.{Journal}
@@ -64,15 +64,14 @@ called-action disk.Stop old result new call = absurd call
 closed-ready : (book : Book) (seen : Seen) → book.is_handed_out ≡ false → is_some book.fault ≡ true → IsTrue seen.is_stopped → IsReady book seen
 closed-ready book seen rests fault stopped = record { rests = rests; up = λ none. let e : true ≡ false = sym fault ∙ none in absurd cc; going = λ still. absurd (still stopped) }
 
-disk-stopped : (action : DiskNext) (old : Seen) (result : Result (Unit {0}) DeviceFault) (new : Seen) → CallsDisk action old result new → result ≡ Err device.Stopped → IsTrue new.is_stopped
-disk-stopped (disk.Write at bytes) old (Ok done) new call is = absurd cc
-disk-stopped (disk.Write at bytes) old (Err fault) new call is = call.writes.call.stopped.1 cc
-disk-stopped (disk.Gate at closed) old (Ok done) new call is = absurd cc
-disk-stopped (disk.Gate at closed) old (Err fault) new call is = call.writes.call.stopped.1 cc
-disk-stopped disk.Sync old (Ok done) new call is = absurd cc
-disk-stopped disk.Sync old (Err fault) new call is = call.call.stopped.1 cc
-disk-stopped disk.Idle old result new call is = absurd call
-disk-stopped disk.Stop old result new call is = absurd call
+-- how a device call ends
+pub call-ends : (action : DiskNext) (old new : Seen) (result : Result (Unit {0}) DeviceFault) → CallsDisk action old result new
+    → (IsTrue new.is_stopped ↔ IsErrOf result device.Stopped) × (result ≢ Err device.Lost)
+call-ends (disk.Write at bytes) old new result call = (call.writes.call.stopped, call.writes.not_lost)
+call-ends (disk.Gate at closed) old new result call = (call.writes.call.stopped, call.writes.not_lost)
+call-ends disk.Sync old new result call = (call.call.stopped, call.not_lost)
+call-ends disk.Idle old new result call = absurd call
+call-ends disk.Stop old new result call = absurd call
 
 module _ (book : Book) (old new : Seen) (ready : IsReady book old) where
   disk-ready-as : (failed : Bool) (result : Result (Unit {0}) DeviceFault) → is_some book.fault ≡ failed → CallsDisk (disk_next book).0 old result new → IsReady (disk_done (disk_next book).1 result) new
@@ -81,7 +80,7 @@ module _ (book : Book) (old new : Seen) (ready : IsReady book old) where
       let u = ready.up fault in
       let out : (disk_next book).1.is_handed_out ≡ true = let o = out-of u.0 book u.1 u.2 old u.3 (disk_next book).0 refl (called-action (disk_next book).0 old result new call) in o.0 in
       let ran = disk-runs u.0 book u.1 u.2 old u.3 result new call in
-      by-result result out (disk-stopped (disk_next book).0 old result new call) ran.1
+      by-result result out ((call-ends (disk_next book).0 old new result call).0.1) ran.1
     where
       by-result : (result : Result (Unit {0}) DeviceFault) → (disk_next book).1.is_handed_out ≡ true → (result ≡ Err device.Stopped → IsTrue new.is_stopped)
           → UpAfterDisk (ready.up fault).0 (disk_next book).1 (ready.up fault).1 (ready.up fault).2 new result → IsReady (disk_done (disk_next book).1 result) new
@@ -106,6 +105,13 @@ module _ (book : Book) (i : ℕ) (within : i < length book.slaves) where
   fault-idle (Issuing word value) is fault = let a : (rom_next book i).0 ≡ next.Idle = rw (there, is) refl in subst events.IsNothing (sym a) tt
   fault-idle (Unsettled word value taken) is fault = let a : (rom_next book i).0 ≡ next.Stop = rw (there, is, fault) refl in subst events.IsNothing (sym a) tt
   fault-idle (Settling word value taken) is fault = let a : (rom_next book i).0 ≡ next.Idle = rw (there, is) refl in subst events.IsNothing (sym a) tt
+
+  sound-by : (failed : Bool) → is_some book.fault ≡ failed → (events.IsNothing (rom_next book i).0 → ⊥) → is_some book.fault ≡ false
+  sound-by true fault some = absurd (some (fault-idle (slave_at book i).errand refl fault))
+  sound-by false fault some = fault
+
+  pub asked-sound : (events.IsNothing (rom_next book i).0 → ⊥) → is_some book.fault ≡ false
+  asked-sound = sound-by (is_some book.fault) refl
 
   abbrev Rests : RomNext × Book → Type 0
   Rests a = a.1.is_handed_out ≡ book.is_handed_out
@@ -140,10 +146,6 @@ module _ (book : Book) (old new : Seen) (ready : IsReady book old) (i : ℕ) (wi
   back : (outcome : RomOutcome) → (rom_done later i outcome).is_handed_out ≡ false
   back outcome = back-rests later i (slave_at later i).errand outcome refl ∙ asked-rests book i within (handed book i within) ∙ ready.rests
 
-  open-still : (failed : Bool) → is_some book.fault ≡ failed → (events.IsNothing (rom_next book i).0 → ⊥) → is_some book.fault ≡ false
-  open-still true fault some = absurd (some (fault-idle book i within (slave_at book i).errand refl fault))
-  open-still false fault some = fault
-
   module _ (word value : ℕ) (is : (rom_next book i).0 ≡ next.Issue word value) where
     issued : (result : Result Issued DeviceFault) → IssuesWord old i word value result new → is_some book.fault ≡ false → IsReady (rom_done later i (issue_outcome result)) new
     issued (Ok how) issues none =
@@ -155,7 +157,7 @@ module _ (book : Book) (old new : Seen) (ready : IsReady book old) (i : ℕ) (wi
         closed-ready (rom_done later i outcomes.Stopped) new (back outcomes.Stopped) (rw (issues-as book i within word value (handed book i within) is) refl) (issues.stopped.1 (ap Err e))
 
     pub issue-ready : (result : Result Issued DeviceFault) → IssuesWord old i word value result new → IsReady (rom_done later i (issue_outcome result)) new
-    issue-ready result issues = issued result issues (open-still (is_some book.fault) refl (λ none. subst events.IsNothing is none))
+    issue-ready result issues = issued result issues (asked-sound book i within (λ none. subst events.IsNothing is none))
 
   module _ (taken : Bool) (is : (rom_next book i).0 ≡ next.Settle taken) where
     settled : (result : Result Settled DeviceFault) → SettlesSlave old i taken result new → is_some book.fault ≡ false → IsReady (rom_done later i (settle_outcome result)) new
@@ -169,7 +171,7 @@ module _ (book : Book) (old new : Seen) (ready : IsReady book old) (i : ℕ) (wi
         closed-ready (rom_done later i outcomes.Stopped) new (back outcomes.Stopped) (rw s.2 refl) (settles.stopped.1 (ap Err e))
 
     pub settle-ready : (result : Result Settled DeviceFault) → SettlesSlave old i taken result new → IsReady (rom_done later i (settle_outcome result)) new
-    settle-ready result settles = settled result settles (open-still (is_some book.fault) refl (λ none. subst events.IsNothing is none))
+    settle-ready result settles = settled result settles (asked-sound book i within (λ none. subst events.IsNothing is none))
 
 -- ---- an open
 

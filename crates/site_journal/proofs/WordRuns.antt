@@ -14,8 +14,6 @@ use Rattle.site_core.specs.declared.answers.Issued.TheVariants.{Taken, NotTaken,
 use Rattle.site_core.specs.declared.answers.Settled.{Settled}
 use Rattle.site_core.specs.declared.answers.Settled.TheVariants.{Written, Again, Dead}
 use Rattle.site_core.specs.State.{State, Pair, Leaves, Seen, with_half}
-use Rattle.site_core.specs.Passes.{LeavesOnly}
-use Rattle.site_core.proofs.Runs.{Passes-weaker, Passes-stays}
 use Rattle.book_model.specs.Cells.{Cell, cell_of}
 use Rattle.book_model.specs.declared.next.RomNext.{RomNext}
 use Rattle.book_model.specs.declared.next.RomNext.TheVariants as next
@@ -24,6 +22,7 @@ use Rattle.book_model.specs.Book.{Book, Slave, Errand, Free, Issuing, Settling, 
 use Rattle.book_model.specs.RomSteps.{was_taken, rom_next, rom_done}
 use Rattle.book_model.specs.Machine.{Machine}
 use Rattle.book_model.specs.Kept.{Kept}
+use Rattle.world_law.specs.Law.{KeptFor}
 use Rattle.book_laws.specs.Owed.{IsUnsure}
 use Rattle.book_laws.specs.Plants.{MayHoldAll}
 use Rattle.book_laws.specs.Frame.{JournalFrame}
@@ -38,6 +37,7 @@ use Rattle.book_laws.proofs.OutcomeLaws.{up-issued, up-settled, up-dead, up-agai
 use Rattle.book_laws.proofs.SlaveEventLaws as events
 use Rattle.book_laws.proofs.SlaveEventLaws.{IsNothing, asks, same-state, up-asks}
 use Rattle.site_journal.specs.Running.{KeepsAll, UpAfterIssue, UpAfterSettle}
+use Rattle.site_journal.proofs.GoLaws.{stays-weaker}
 use Rattle.site_journal.proofs.DiskRuns.{keeps-all}
 use Rattle.site_journal.proofs.HoldLaws.{holds-torn}
 
@@ -109,7 +109,7 @@ module _ (frame : JournalFrame) (book : Book) (took : List Bool) (m : Machine) (
         subst (λ (d : List ℕ). Kept d pair.words m) (sym disk) (subst (λ (w : List (List ℕ)). Kept before.disk w m) (sym words)
         (journal-kept frame later m begun.gone old.state.disk before.disk left begun.line begun.of begun.fits begun.disk may leaves.disk))
 
-    kept-pair : (pair : Pair) → WordMayDiffer old i word pair → Kept pair.disk pair.words m
+    kept-pair : (pair : Pair) → WordMayDiffer old i word pair → KeptFor m pair
     kept-pair pair d =
         let may = holds-all later.words old.state.halves later.slaves (set took i false) d.0.words begun.same begun.slaves d.1.words in
         elim d.2.1 [
@@ -150,11 +150,7 @@ module _ (frame : JournalFrame) (book : Book) (took : List Bool) (m : Machine) (
     after-issue (Err device.Stopped) new issues = tt
 
     pub issue-runs : (result : Result Issued DeviceFault) (new : Seen) → IssuesWord old i word value result new → KeepsAll m old new × UpAfterIssue frame later took m i new result
-    issue-runs result new issues = (
-      Passes-stays (λ pair. Kept pair.disk pair.words m) old new
-          (Passes-weaker (LeavesOnly (WordMayDiffer old i word)) (LeavesOnly (λ (pair : Pair). Kept pair.disk pair.words m)) old new (λ s only pair leaves. kept-pair pair (only pair leaves)) issues.stays.passes),
-      after-issue result new issues,
-    )
+    issue-runs result new issues = (stays-weaker (WordMayDiffer old i word) (KeptFor m) old new kept-pair issues.stays, after-issue result new issues)
 
   -- ---- a settle
 
@@ -191,4 +187,4 @@ module _ (frame : JournalFrame) (book : Book) (took : List Bool) (m : Machine) (
     after-settle (Err device.Stopped) new settles = tt
 
     pub settle-runs : (result : Result Settled DeviceFault) (new : Seen) → SettlesSlave old i taken result new → KeepsAll m old new × UpAfterSettle frame later took m i new result
-    settle-runs result new settles = let adds = settles.quiet.adds in (keeps-all frame book old.state took m old new up adds.passes, after-settle result new settles)
+    settle-runs result new settles = (keeps-all frame book old.state took m old new up settles.quiet.adds, after-settle result new settles)

@@ -9,7 +9,8 @@ use Rattle.site_core.specs.Calls.{begin_write}
 use Rattle.jrn_format.specs.Area.{IsClosed}
 use Rattle.jrn_format.specs.Header.{header_bytes}
 use Rattle.jrn_format.specs.Journal.{AreHalves}
-use Rattle.site_journal.specs.Runs.{MakesCalls, with_synced}
+use Rattle.world_law.specs.Happenings.{with_synced}
+use Rattle.site_journal.specs.Runs.{MakesCalls}
 
 -- The bytes of a formatted disk: a header for `slaves` slaves, an area of `capacity` zeros, and what the disk held behind them.
 abbrev pub formatted : (slaves capacity : ℕ) → List ℕ → List ℕ

@@ -11,7 +11,8 @@ use Rattle.site_core.specs.declared.fault.DeviceFault.TheVariants as faults
 use Rattle.site_core.specs.State.{State, Seen, Leaves}
 use Rattle.site_journal.specs.declared.fault.ReadFault.{ReadFault}
 use Rattle.site_journal.specs.declared.fault.ReadFault.TheVariants as read
-use Rattle.site_journal.specs.Runs.{MakesCalls, with_synced}
+use Rattle.world_law.specs.Happenings.{with_synced}
+use Rattle.site_journal.specs.Runs.{MakesCalls}
 
 -- The answer of the last device call. With a fault of the journal, all calls succeeded.
 abbrev pub device_answer : {T : Type 0} → Result T ReadFault → Result (Unit {0}) DeviceFault

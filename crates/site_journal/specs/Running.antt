@@ -16,15 +16,15 @@ use Rattle.book_model.specs.Book.{Book}
 use Rattle.book_model.specs.DiskSteps.{disk_done}
 use Rattle.book_model.specs.RomSteps.{rom_done}
 use Rattle.book_model.specs.Machine.{Machine}
-use Rattle.book_model.specs.Kept.{Kept}
 use Rattle.book_laws.specs.Frame.{JournalFrame}
 use Rattle.book_laws.specs.Events.{gate_byte}
 use Rattle.book_laws.specs.Steps.{acknowledged_by}
 use Rattle.book_laws.specs.Up.{Up}
+use Rattle.world_law.specs.Law.{KeptFor}
 
 -- At each moment between the two times a stop could have left only pairs that are kept for this machine.
 abbrev pub KeepsAll : Machine → Seen → Seen → Type 0
-KeepsAll machine old new = StaysWithin (λ pair. Kept pair.disk pair.words machine) old new
+KeepsAll machine old new = StaysWithin (KeptFor machine) old new
 
 -- ---- the disk
 
@@ -69,7 +69,7 @@ UpAfterSettle frame book took machine slave new (Err fault) = ⊥
 -- The pair is kept with the first j of the commands accepted meanwhile counted in.
 abbrev pub KeptWith : Machine → List Command → Pair → Type 0
 KeptWith machine commands pair = (j : ℕ) × (j ≤ length commands)
-    × Kept pair.disk pair.words (record machine { accepted = machine.accepted ++ take j commands })
+    × KeptFor (record machine { accepted = machine.accepted ++ take j commands }) pair
 
 -- At each moment between the two times a stop could have left only such pairs.
 abbrev pub KeepsWith : Machine → List Command → Seen → Seen → Type 0

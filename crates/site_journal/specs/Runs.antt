@@ -2,8 +2,7 @@
 use Rattle.std.specs.Prelude.{◌≡◌, ◌≢◌, ◌↔◌, ℕ, ◌+◌, ◌≤◌, Result, Err, IsErrOf, IsTrue}
 use Rattle.site_core.specs.declared.fault.DeviceFault.{DeviceFault}
 use Rattle.site_core.specs.declared.fault.DeviceFault.TheVariants as faults
-use Rattle.site_core.specs.State.{State, Pair, Seen, clock}
-use Rattle.site_core.specs.Disk.{synced}
+use Rattle.site_core.specs.State.{Pair, Seen, clock}
 use Rattle.site_core.specs.Times.{Follows}
 use Rattle.site_core.specs.Calls.{faults_of}
 use Rattle.site_core.specs.Passes.{StaysWithin}
@@ -18,7 +17,3 @@ pub record MakesCalls {T : Type 0} (Q : Pair → Type 0) (old : Seen) (most : �
   pub stopped : IsTrue new.is_stopped ↔ IsErrOf result faults.Stopped
   pub not_lost : result ≢ Err faults.Lost
   pub turns : new.turns ≡ old.turns
-
--- The state with its disk synced: a stop leaves no other bytes than a read gives.
-abbrev pub with_synced : State → State
-with_synced state = record state { disk = synced state.disk }

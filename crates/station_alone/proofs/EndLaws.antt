@@ -1,5 +1,5 @@
 -- From the open of a recovery to its end.
-use Rattle.std.proofs.Common.{◌≡◌, inr, ℕ, ◌+◌, ◌*◌, ◌≤◌, List, [], ◌∷◌, ◌++◌, length, take, sym, ◌∙◌, ap, subst, arith, Result, Ok, Err, IfOk, IfErr, MatchResult}
+use Rattle.std.proofs.Common.{◌≡◌, inr, ℕ, ◌+◌, ◌*◌, ◌≤◌, List, [], ◌++◌, length, take, sym, ◌∙◌, ap, subst, arith, Result, Ok, Err, IfOk, IfErr, MatchResult}
 use Rattle.std.specs.Prelude.{is_some}
 use Rattle.std.specs.Int.{w32}
 use Rattle.std.specs.List.{sum_by}
@@ -11,13 +11,9 @@ use Rattle.jrn_format.specs.declared.journal.Journal.{Journal}
 use Rattle.jrn_format.specs.Header.{field_at}
 use Rattle.jrn_format.proofs.JournalGrammar.{one_journal}
 use Rattle.jrn_format.proofs.OpenLaws.{journal-can-be-live, stated_capacity}
-use Rattle.esc_model.specs.SlaveHalf.{SlaveHalf}
-use Rattle.esc_model.proofs.Resting.{MayLeave-same}
 use Rattle.site_core.specs.Line.{Line}
-use Rattle.site_core.specs.State.{EachMayLeave, Leaves, Pair, Seen, clock}
+use Rattle.site_core.specs.State.{Leaves, Pair, Seen, clock}
 use Rattle.site_core.specs.Passes.{LeavesOnly}
-use Rattle.site_core.proofs.Runs.{Passes-weaker, Passes-stays}
-use Rattle.site_core.proofs.StopImages.{StopImage-same}
 use Rattle.esc_rom.specs.Reading.{most_calls}
 use Rattle.book_model.specs.Entries.{entries_of, runs_of, sizes_of}
 use Rattle.book_model.specs.Book.{Book, base_of}
@@ -27,7 +23,8 @@ use Rattle.book_model.specs.Machine.{Machine, MayKeep, reopened}
 use Rattle.book_laws.proofs.CommandLaws.{length-entries}
 use Rattle.book_laws.specs.Opening.{capacity_in, words_in}
 use Rattle.site_journal.specs.Running.{KeepsAll, KeepsWith, KeptWith}
-use Rattle.site_journal.proofs.GoLaws.{stays-then}
+use Rattle.world_law.proofs.StandsLaws.{pair_read, leaves-read}
+use Rattle.site_journal.proofs.GoLaws.{stays-weaker, stays-then}
 use Rattle.site_journal.specs.Left.{calls_left, migration_calls, words_named, words_issued}
 use Rattle.site_journal.specs.Recovering.{IsRecovering}
 use Rattle.site_journal.proofs.OpenLaws.{recovering-opened, few-calls, none-issued, little-found}
@@ -35,12 +32,12 @@ use Rattle.site_journal.proofs.EndLaws.{end-plan, end-words}
 use Rattle.station_alone.specs.declared.fault.OpenFault.{OpenFault}
 use Rattle.station_alone.specs.declared.opening.Found.{Found}
 use Rattle.station_alone.specs.Station.{Station, Stands}
-use Rattle.station_alone.specs.Keeping.{KeptFor}
+use Rattle.station_alone.specs.Keeping.{KeptFor, KeepsThroughout}
 use Rattle.station_alone.specs.Opening as opening
-use Rattle.station_alone.specs.Opening.{Begins, BeginsSession, FailsToOpen, KeepsOpening, OpensOn, OpensCounted}
+use Rattle.station_alone.specs.Opening.{Begins, BeginsSession, FailsToOpen, OpensOn, OpensCounted}
 use Rattle.station_alone.proofs.KeepLaws.{of-later}
 use Rattle.station_alone.specs.declared.recovery.Recovered.{Recovered}
-use Rattle.station_alone.specs.Recovery.{BeginsRecovered, CountsRecovered, FailsToRecover, HasRecovered, KeepsRecovering, MakesFewCalls, RecoversBySteps, recovery_calls}
+use Rattle.station_alone.specs.Recovery.{BeginsRecovered, CountsRecovered, FailsToRecover, HasRecovered, MakesFewCalls, RecoversBySteps, recovery_calls}
 use Rattle.station_alone.specs.Rounds.{IsDone, IsFinished, IsLeft, IsSmall, IsWorking, StaysKept}
 use Rattle.station_alone.proofs.RowLaws.{up-of}
 
@@ -107,10 +104,6 @@ module _ (line : Line) (old : Seen) (journal : Journal) (s : Station) (opens : O
 
 -- ---- the end
 
-as-read : (halves : List SlaveHalf) → EachMayLeave halves (words_in halves)
-as-read [] = tt
-as-read (half ∷ halves) = (MayLeave-same half, as-read halves)
-
 pub end-recovered : (s : Station) → IsWorking s → IsFinished s.book → HasRecovered s
 end-recovered s working finished =
     let u = up-of s working in
@@ -121,7 +114,7 @@ end-recovered s working finished =
       none = working.recovering.none;
       sound = working.sound;
       going = working.recovering.going;
-      words = only (record { disk = s.seen.state.disk.bytes; words = words_in s.seen.state.halves }) (record { disk = StopImage-same s.seen.state.disk; words = as-read s.seen.state.halves });
+      words = only (pair_read s.seen.state) (leaves-read s.seen.state);
       only = only;
       plan = end-plan s.book working.recovering.none;
     }
@@ -140,12 +133,9 @@ kept-before m k j pair may kept = record {
 
 keeps-before : (m : Machine) (k : ℕ) (old new : Seen) → MayKeep m k → KeepsWith (reopened m k) [] old new → KeepsAll m old new
 keeps-before m k old new may keeps =
-    Passes-stays (KeptFor m) old new
-    (Passes-weaker (LeavesOnly (KeptWith (reopened m k) [])) (LeavesOnly (KeptFor m)) old new
-    (λ s only pair leaves. let kept = only pair leaves in kept-before m k kept.0 pair may kept.2)
-    keeps.passes)
+    stays-weaker (KeptWith (reopened m k) []) (KeptFor m) old new (λ pair kept. kept-before m k kept.0 pair may kept.2) keeps
 
-pub keeps-all : (old : Seen) (s new : Station) → KeepsOpening old s.seen → BeginsSession old s → StaysKept s new → KeepsRecovering old new.seen
+pub keeps-all : (old : Seen) (s new : Station) → KeepsThroughout old s.seen → BeginsSession old s → StaysKept s new → KeepsThroughout old new.seen
 keeps-all old s new keeps begins kept m leaves =
     let b = begins m leaves in
     let later = kept.keeps (reopened m b.k) b.of b.kept in
@@ -192,10 +182,10 @@ module _ {X : Type 0} (line_of : X → Line) (seen_of : X → Seen) (its : Line)
   came-line (Ok r) came = came.0.works.kept.session.line ∙ opens.1.line
   came-line (Err e) came = came.1.its ∙ came.1.cut.kept.session.line ∙ opens.1.line
 
-  pub came-keeps : (result : Result (Station × Recovered) (X × OpenFault)) → KeepsOpening old s.seen → BeginsSession old s → Came result
-      → MatchResult result (λ r. KeepsRecovering old r.0.seen) (λ e. KeepsRecovering old (seen_of e.0))
+  pub came-keeps : (result : Result (Station × Recovered) (X × OpenFault)) → KeepsThroughout old s.seen → BeginsSession old s → Came result
+      → MatchResult result (λ r. KeepsThroughout old r.0.seen) (λ e. KeepsThroughout old (seen_of e.0))
   came-keeps (Ok r) keeps begins came = keeps-all old s r.0 keeps begins came.0.works.kept
-  came-keeps (Err e) keeps begins came = subst (λ (seen : Seen). KeepsRecovering old seen) (sym came.1.is) (keeps-all old s came.1.last keeps begins came.1.cut.kept)
+  came-keeps (Err e) keeps begins came = subst (λ (seen : Seen). KeepsThroughout old seen) (sym came.1.is) (keeps-all old s came.1.last keeps begins came.1.cut.kept)
 
   pub came-calls : (result : Result (Station × Recovered) (X × OpenFault)) → Came result → MatchResult result (λ r. MakesFewCalls its.sizes old r.0.seen) (λ e. MakesFewCalls its.sizes old (seen_of e.0))
   came-calls (Ok r) came = calls-made its old opens.0 s opens.1 r.0.seen came.0.works.kept.session.within

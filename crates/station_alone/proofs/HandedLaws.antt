@@ -1,16 +1,19 @@
 -- What the book hands out, and the book then.
-use Rattle.std.proofs.Common.{◌≡◌, ℕ, ◌<◌, Bool, true, false, List, [], ◌∷◌, length, refl, sym, ap, subst, arith, Option, Some, None}
-use Rattle.std.specs.Prelude.{◌&&◌, is_some, nat_lt, nat_le, if◌then◌else◌}
+use Rattle.std.proofs.Common.{◌≡◌, ℕ, ◌<◌, Bool, true, false, length, refl, sym, ap, subst, arith, Option, Some, None}
+use Rattle.std.specs.Prelude.{is_some, nat_lt, if◌then◌else◌}
 use Rattle.std.proofs.lemmas.Bool.Decides.{nat_tests}
 use Rattle.book_model.specs.declared.next.DiskNext.{DiskNext}
 use Rattle.book_model.specs.declared.next.DiskNext.TheVariants as disk
 use Rattle.book_model.specs.declared.next.RomNext.{RomNext}
 use Rattle.book_model.specs.declared.next.RomNext.TheVariants as rom
-use Rattle.book_model.specs.Book.{Book, Doing, Resting, Payload, PayloadSync, OpenGate, OpenSync, CloseGate, CloseSync, FarGate, Mark, MarkSync, Version, VersionSync, Errand, Free, Issuing, Unsettled, Settling, slave_at}
+use Rattle.book_model.specs.Book.{Book, Doing, Resting, Payload, PayloadSync, OpenGate, OpenSync, CloseGate, CloseSync, FarGate, Mark, MarkSync, Version, VersionSync, Settling}
 use Rattle.book_model.specs.DiskSteps.{action_of, doing_next, disk_next}
-use Rattle.book_model.specs.RomSteps.{to_do, with_errand, with_issue, without_work, rom_next}
-use Rattle.book_laws.proofs.SlaveEventLaws.{IsNothing}
+use Rattle.book_model.specs.RomSteps.{with_errand, with_issue, rom_next}
+use Rattle.book_laws.proofs.SlaveEventLaws as asks
+use Rattle.book_laws.proofs.SlaveEventLaws.{IsNothing, Asks}
 use Rattle.site_journal.proofs.DiskRuns.{IsAction, idle-or-stop}
+use Rattle.site_journal.proofs.ReadyLaws.{asked-sound}
+use Rattle.site_journal.proofs.WordRuns.{handed}
 
 -- ---- for the disk
 
@@ -72,40 +75,21 @@ pub data HandsRom (book : Book) (i : ℕ) : Type 0 where
   issue : (w : ℕ × ℕ) → i < length book.slaves → is_some book.fault ≡ false → rom_next book i ≡ (rom.Issue w.0 w.1, with_issue book i w) → HandsRom book i
   settle : (word value : ℕ) (taken : Bool) → i < length book.slaves → is_some book.fault ≡ false → rom_next book i ≡ (rom.Settle taken, with_errand book i (Settling word value taken)) → HandsRom book i
 
-work-or-stop : (done : Bool) → IsNothing (if done then rom.Stop else rom.Idle)
-work-or-stop true = tt
-work-or-stop false = tt
-
 module _ (book : Book) (i : ℕ) where
-  free : (failed : Bool) (work : List (ℕ × ℕ)) → nat_lt i (length book.slaves) ≡ true → (slave_at book i).errand ≡ Free → is_some book.fault ≡ failed → to_do book i ≡ work → HandsRom book i
-  free true work there is ok todo = nothing_asked rom.Stop tt (rw (there, is, ok) refl)
-  free false [] there is ok todo = nothing_asked (without_work book) (work-or-stop (book.is_finished && nat_le (length book.accepted) book.durable)) (rw (there, is, ok, todo) refl)
-  free false (w ∷ others) there is ok todo = issue w (grind (arith, nat_tests)) ok (rw (there, is, ok, todo) refl)
+  something : (given : RomNext) (later : Book) → rom_next book i ≡ (given, later) → (IsNothing given → ⊥) → IsNothing (rom_next book i).0 → ⊥
+  something given later is some none = some (subst (λ (a : RomNext × Book). IsNothing a.0) is none)
 
-  unsettled : (word value : ℕ) (taken failed : Bool) → nat_lt i (length book.slaves) ≡ true → (slave_at book i).errand ≡ Unsettled word value taken → is_some book.fault ≡ failed → HandsRom book i
-  unsettled word value taken true there is ok = nothing_asked rom.Stop tt (rw (there, is, ok) refl)
-  unsettled word value taken false there is ok = settle word value taken (grind (arith, nat_tests)) ok (rw (there, is, ok) refl)
-
-  there-by : (errand : Errand) → nat_lt i (length book.slaves) ≡ true → (slave_at book i).errand ≡ errand → HandsRom book i
-  there-by Free there is = free (is_some book.fault) (to_do book i) there is refl refl
-  there-by (Issuing word value) there is = nothing_asked rom.Idle tt (rw (there, is) refl)
-  there-by (Unsettled word value taken) there is = unsettled word value taken (is_some book.fault) there is refl
-  there-by (Settling word value taken) there is = nothing_asked rom.Idle tt (rw (there, is) refl)
+  asked-there : i < length book.slaves → Asks book i → HandsRom book i
+  asked-there within (asks.nothing answer none is) = nothing_asked answer none is
+  asked-there within (asks.issue w others todo is) = issue w within (asked-sound book i within (something (rom.Issue w.0 w.1) _ is (λ none. none))) is
+  asked-there within (asks.settle word value taken errand is) = settle word value taken within (asked-sound book i within (something (rom.Settle taken) _ is (λ none. none))) is
 
   hands-rom-if : (there : Bool) → nat_lt i (length book.slaves) ≡ there → HandsRom book i
-  hands-rom-if true there = there-by (slave_at book i).errand there refl
+  hands-rom-if true there = let within : i < length book.slaves = grind (arith, nat_tests) in asked-there within (handed book i within)
   hands-rom-if false there = nothing_asked rom.Stop tt (rw there refl)
 
   pub hands-rom : HandsRom book i
   hands-rom = hands-rom-if (nat_lt i (length book.slaves)) refl
-
-  rom-stays-by : HandsRom book i → IsNothing (rom_next book i).0 → (rom_next book i).1 ≡ book
-  rom-stays-by (nothing_asked answer none is) rests = ap (λ (a : RomNext × Book). a.1) is
-  rom-stays-by (issue w within ok is) rests = absurd (subst (λ (a : RomNext × Book). IsNothing a.0) is rests)
-  rom-stays-by (settle word value taken within ok is) rests = absurd (subst (λ (a : RomNext × Book). IsNothing a.0) is rests)
-
-  pub rom-stays : IsNothing (rom_next book i).0 → (rom_next book i).1 ≡ book
-  rom-stays = rom-stays-by hands-rom
 
   -- a slave of which something is asked is there, and no fault has closed the book
   rom-open-by : HandsRom book i → (IsNothing (rom_next book i).0 → ⊥) → (i < length book.slaves) × (is_some book.fault ≡ false)

@@ -3,16 +3,35 @@ use Rattle.std.proofs.Common.{◌≡◌, ℕ, suc, ◌+◌, ◌≤◌, List, [],
 use Rattle.std.proofs.lemmas.List.{append-nil}
 use Rattle.sii_edit.specs.declared.command.Command.{Command}
 use Rattle.jrn_format.specs.declared.journal.Entry.{Entry}
-use Rattle.site_core.specs.State.{State, Pair, Seen}
-use Rattle.site_core.specs.Passes.{LeavesOnly, StaysWithin}
-use Rattle.site_core.proofs.Runs.{Passes-none, Passes-weaker, Passes-stays}
+use Rattle.site_core.specs.State.{State, Pair, Seen, clock}
+use Rattle.site_core.specs.Passes.{LeavesOnly}
+use Rattle.site_core.proofs.Runs.{Passes-none, Passes-stays}
 use Rattle.book_model.specs.Book.{base_of}
 use Rattle.book_model.specs.Machine.{Machine}
 use Rattle.book_laws.specs.Keeping.{IsOfBook}
 use Rattle.site_journal.specs.Running.{KeepsAll, KeepsWith, KeptWith, with_commands}
-use Rattle.site_journal.proofs.GoLaws.{stays-then, keeps-all_with, keeps-more}
+use Rattle.site_journal.proofs.GoLaws.{stays-weaker, stays-then, kept-less, keeps-all_with, keeps-more}
 use Rattle.station_alone.specs.Station.{Station}
 use Rattle.station_alone.specs.Keeping.{GoesOn, KeptFor, KeepsFor, Keeps}
+
+-- ---- the session goes on
+
+pub goes-none : (most : ℕ) (s : Station) → GoesOn [] most s s
+goes-none most s = record { line = refl; words = refl; found = refl; accepted = sym (append-nil s.book.accepted); durable = omega arith; within = omega arith }
+
+-- with another bound of the device calls
+pub goes-within : (commands : List Command) (few most : ℕ) (old new : Station) → GoesOn commands few old new → clock new.seen ≤ clock old.seen + most → GoesOn commands most old new
+goes-within commands few most old new goes within = record { line = goes.line; words = goes.words; found = goes.found; accepted = goes.accepted; durable = goes.durable; within = within }
+
+pub goes-then : (first second : List Command) (m n : ℕ) (a b c : Station) → GoesOn first m a b → GoesOn second n b c → GoesOn (first ++ second) (m + n) a c
+goes-then first second m n a b c one two = record {
+  line = two.line ∙ one.line;
+  words = two.words ∙ one.words;
+  found = two.found ∙ one.found;
+  accepted = two.accepted ∙ ap (λ (l : List Command). l ++ second) one.accepted ∙ append_assoc a.book.accepted first second;
+  durable = let x = one.durable in let y = two.durable in omega (arith, x, y);
+  within = let x = one.within in let y = two.within in omega (arith, x, y);
+}
 
 -- ---- no command is accepted
 
@@ -53,16 +72,6 @@ of-later m commands most old new of goes = record {
   acknowledged = refl;
 }
 
--- with fewer commands acknowledged
-kept-less : (m : Machine) (accepted : List Command) (count : ℕ) (pair : Pair) → m.acknowledged ≤ count → KeptFor (record m { accepted = accepted; acknowledged = count }) pair → KeptFor (record m { accepted = accepted }) pair
-kept-less m accepted count pair few kept = record {
-  journal = kept.journal;
-  live = kept.live;
-  k = kept.k;
-  may_keep = let least = kept.may_keep.0 in (omega (arith, few, least), kept.may_keep.1);
-  same = kept.same;
-}
-
 take-behind : (first second : List Command) (j : ℕ) → take (length first + j) (first ++ second) ≡ first ++ take j second
 take-behind [] second j = ap (λ (n : ℕ). take n second) (zero-add j)
 take-behind (c ∷ first) second j =
@@ -83,10 +92,7 @@ keeps-then first second most a b c goes one two m of kept =
     let mid = with_commands m first b.book.durable in
     let later = two mid (of-later m first most a b of goes) k.at_last in
     let few : m.acknowledged ≤ b.book.durable = omega (arith, of.acknowledged, goes.durable) in
-    let weaker : StaysWithin (KeptWith m (first ++ second)) b.seen c.seen =
-    Passes-stays (KeptWith m (first ++ second)) b.seen c.seen
-    (Passes-weaker (LeavesOnly (KeptWith mid second)) (LeavesOnly (KeptWith m (first ++ second))) b.seen c.seen
-    (λ s only pair leaves. kept-behind m first second b.book.durable pair few (only pair leaves)) later.on_the_way.passes) in
+    let weaker = stays-weaker (KeptWith mid second) (KeptWith m (first ++ second)) b.seen c.seen (λ pair. kept-behind m first second b.book.durable pair few) later.on_the_way in
     record {
       on_the_way = stays-then (KeptWith m (first ++ second)) a.seen b.seen c.seen (keeps-more m first second a.seen b.seen k.on_the_way) weaker;
       at_last = subst (λ (l : List Command). LeavesOnly (KeptFor (record m { accepted = l; acknowledged = c.book.durable })) c.seen.state) (append_assoc m.accepted first second) later.at_last;

@@ -1,5 +1,5 @@
 -- What opening a station gives.
-use Rattle.std.proofs.Common.{◌≡◌, inl, inr, ℕ, ◌+◌, ◌^◌, ◌<◌, ◌≤◌, Bool, false, List, [], ◌∷◌, length, get_or, map, take, drop, refl, sym, ◌∙◌, ap, subst, arith, length-append, Result, Ok, Err, Vec, Global}
+use Rattle.std.proofs.Common.{◌≡◌, inl, inr, ℕ, ◌+◌, ◌^◌, ◌<◌, ◌≤◌, Bool, false, List, length, get_or, map, take, drop, refl, sym, ◌∙◌, ap, subst, arith, length-append, Result, Ok, Err, Vec, Global}
 use Rattle.std.specs.Prelude.{IsTrue, IfErr, IsErrAnd}
 use Rattle.std.proofs.lemmas.List.{length-map, take-append-drop}
 use Rattle.std.proofs.lemmas.List.Concat.{flat_map-append}
@@ -13,17 +13,15 @@ use Rattle.jrn_format.specs.Journal.{IsJournal}
 use Rattle.jrn_format.specs.Live.{CanBeLive}
 use Rattle.jrn_format.proofs.OpenLaws.{journal-can-be-live}
 use Rattle.esc_model.specs.SlaveHalf.{SlaveHalf}
-use Rattle.esc_model.proofs.Resting.{MayLeave-same}
 use Rattle.esc_rom.specs.declared.fault.RomFault.{RomFault}
 use Rattle.esc_rom.specs.declared.fault.RomFault.TheVariants as rom
 use Rattle.esc_rom.specs.Runs.{Quiet}
 use Rattle.esc_rom.proofs.Runs.{Quiet-none, Quiet-then}
 use Rattle.site_core.specs.declared.fault.DeviceFault.{DeviceFault}
 use Rattle.site_core.specs.Line.{Line}
-use Rattle.site_core.specs.State.{State, Pair, Leaves, EachMayLeave, Seen, word_counts}
+use Rattle.site_core.specs.State.{State, Leaves, Seen, word_counts}
 use Rattle.site_core.specs.Disk.{Disk, synced}
-use Rattle.site_core.proofs.StopImages.{StopImage-same}
-use Rattle.site_journal.specs.Runs.{MakesCalls, with_synced}
+use Rattle.site_journal.specs.Runs.{MakesCalls}
 use Rattle.site_journal.specs.Reading.{ReadsJournal}
 use Rattle.esc_rom.specs.Owned.{OwnsAll, AreSizes}
 use Rattle.esc_rom.specs.Reading.{AreRead, ReadsLine, most_calls}
@@ -36,6 +34,8 @@ use Rattle.book_laws.specs.Keeping.{IsOfBook}
 use Rattle.book_laws.specs.Opening.{words_in, capacity_in, IsAllSynced, IsFound, book_on}
 use Rattle.book_laws.proofs.LineLaws.{up-kept}
 use Rattle.book_laws.proofs.OpeningLaws.{up-opens}
+use Rattle.world_law.specs.Happenings.{with_synced}
+use Rattle.world_law.proofs.StandsLaws.{pair_read, leaves-read}
 use Rattle.site_journal.specs.Ready.{IsReady}
 use Rattle.site_journal.proofs.GoLaws.{keeps-still}
 use Rattle.site_journal.proofs.ReadyLaws.{opened-ready}
@@ -43,7 +43,8 @@ use Rattle.site_journal.proofs.OpenLaws.{little-found}
 use Rattle.station_alone.specs.declared.fault.OpenFault.TheVariants as faults
 use Rattle.station_alone.specs.declared.opening.Reading.{Reading}
 use Rattle.station_alone.specs.Station.{Station, station, Stands}
-use Rattle.station_alone.specs.Opening.{ReadsFound, OpensOn, FailsToOpen, BeginsSession, KeepsOpening, most_calls_to_open}
+use Rattle.station_alone.specs.Keeping.{KeepsThroughout}
+use Rattle.station_alone.specs.Opening.{ReadsFound, OpensOn, FailsToOpen, BeginsSession, most_calls_to_open}
 
 -- the exit of a `?`
 pub err-exit : {T E : Type 0} (r : Result T E) (e : E) (P : E → Type 0) → IsErrAnd r (λ given. given ≡ e) → P e → IfErr r P
@@ -191,21 +192,15 @@ module _ (its : Line) (old : Seen) (r : Reading) (new : Seen) (reads : ReadsFoun
 
 -- ---- what is kept
 
-pub as-read : (halves : List SlaveHalf) → EachMayLeave halves (words_in halves)
-as-read [] = tt
-as-read (half ∷ halves) = (MayLeave-same half, as-read halves)
-
-pub keeps-opening : (old new : Seen) (most : ℕ) → Quiet old most new → KeepsOpening old new
+pub keeps-opening : (old new : Seen) (most : ℕ) → Quiet old most new → KeepsThroughout old new
 keeps-opening old new most quiet machine kept = keeps-still machine old new quiet.adds kept
 
 pub begins-session : (its : Line) (old : Seen) (journal : Journal) (new : Station) → OpensOn its old journal new → BeginsSession old new
 begins-session its old journal new opens machine kept =
     let state = new.seen.state in
-    let own : Pair = record { disk = state.disk.bytes; words = words_in state.halves } in
-    let leaves : Leaves state own = record { disk = StopImage-same state.disk; words = as-read state.halves } in
     let all = keeps-opening old new.seen (most_calls_to_open its.sizes) opens.quiet machine kept in
     let took = took-none state.halves in
-    let o = up-opens journal state took machine opens.found (took-long state.halves) (all.passes.now own leaves) in
+    let o = up-opens journal state took machine opens.found (took-long state.halves) (all.passes.now (pair_read state) (leaves-read state)) in
     record {
       k = o.k;
       may_keep = o.may_keep;

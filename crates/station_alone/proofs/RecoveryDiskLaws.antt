@@ -1,9 +1,8 @@
 -- An action for the disk as a step of a recovery.
-use Rattle.std.proofs.Common.{◌≡◌, ◌≢◌, inl, inr, ◌≤◌, false, [], refl, sym, ◌∙◌, ap, subst, arith, Option, Some, None, Result, Ok, Err}
-use Rattle.std.specs.Prelude.{is_some, IsErrOf, IsTrue, ◌↔◌}
+use Rattle.std.proofs.Common.{◌≡◌, inl, inr, ◌≤◌, false, [], refl, sym, ◌∙◌, ap, subst, arith, Option, Some, None, Result, Ok, Err}
+use Rattle.std.specs.Prelude.{is_some, IsTrue}
 use Rattle.site_core.specs.declared.fault.DeviceFault.{DeviceFault}
 use Rattle.site_core.specs.declared.fault.DeviceFault.TheVariants as device
-use Rattle.site_core.specs.State.{Seen}
 use Rattle.book_model.specs.declared.fault.Fault.{Fault}
 use Rattle.book_model.specs.declared.fault.Fault.TheVariants as faults
 use Rattle.book_model.specs.declared.next.DiskNext.{DiskNext}
@@ -15,6 +14,7 @@ use Rattle.site_journal.proofs.DiskRuns.{IsAction}
 use Rattle.site_journal.specs.Left.{calls_left}
 use Rattle.site_journal.specs.Recovering.{GetsNearer, HasAction}
 use Rattle.site_journal.proofs.DiskLaws.{action-done, action-fault, disk-goes}
+use Rattle.site_journal.proofs.ReadyLaws.{call-ends}
 use Rattle.station_alone.specs.declared.choice.Choice.TheVariants as choices
 use Rattle.station_alone.specs.declared.choice.Answer.{Answer}
 use Rattle.station_alone.specs.declared.choice.Answer.TheVariants.{Did, Idle, Failed, NoMemory}
@@ -23,6 +23,7 @@ use Rattle.station_alone.specs.Steps.{DoesDisk, CarriesOut, StepsDisk, carried_o
 use Rattle.station_alone.specs.Keeping.{GoesOn, Keeps}
 use Rattle.station_alone.specs.Recovery.{LeadsTo}
 use Rattle.station_alone.specs.Rounds.{IsWorking, StaysKept, DiskRests, ServesDisk, told}
+use Rattle.station_alone.proofs.KeepLaws.{goes-within}
 use Rattle.station_alone.proofs.RowLaws.{up-of, kept-none, leads-none, leads-one, works-none}
 
 -- ---- faults
@@ -34,16 +35,6 @@ none-of (Some fault) is = absurd cc
 pub first-is : (old : Option Fault) (fault : Fault) → is_some old ≡ false → Some (first_fault old fault) ≡ Some fault
 first-is None fault is = refl
 first-is (Some other) fault is = absurd cc
-
--- ---- how a device call ends
-
-call-ends : (action : DiskNext) (old new : Seen) (result : Result (Unit {0}) DeviceFault) → CallsDisk action old result new
-    → (IsTrue new.is_stopped ↔ IsErrOf result device.Stopped) × (result ≢ Err device.Lost)
-call-ends (disk.Write at bytes) old new result call = (call.writes.call.stopped, call.writes.not_lost)
-call-ends (disk.Gate at closed) old new result call = (call.writes.call.stopped, call.writes.not_lost)
-call-ends disk.Sync old new result call = (call.call.stopped, call.not_lost)
-call-ends disk.Idle old new result call = absurd call
-call-ends disk.Stop old new result call = absurd call
 
 has-action : (book : Book) (action : DiskNext) → (disk_next book).0 ≡ action → IsAction action → HasAction book
 has-action book (disk.Write at bytes) is some = (λ idle. absurd cc, λ stop. absurd cc)
@@ -62,7 +53,7 @@ module _ (old new : Station) (working : IsWorking old) (stands : Stands new) (go
   kept : 1 ≤ calls_left old.book → StaysKept old new
   kept some =
       let within = goes.within in
-      record { session = record { line = goes.line; words = goes.words; found = goes.found; accepted = goes.accepted; durable = goes.durable; within = omega (arith, within, some) }; keeps = keeps }
+      record { session = goes-within [] 1 (calls_left old.book) old new goes (omega (arith, within, some)); keeps = keeps }
 
   -- it was done well
   did : GetsNearer 1 0 old.book new.book → new.book.fault ≡ old.book.fault → LeadsTo old new → Served Did old new

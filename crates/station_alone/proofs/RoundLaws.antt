@@ -24,6 +24,7 @@ use Rattle.station_alone.specs.Steps.{AsksMigration}
 use Rattle.station_alone.specs.Keeping.{GoesOn, Keeps}
 use Rattle.station_alone.specs.Recovery.{LeadsTo}
 use Rattle.station_alone.specs.Rounds.{Asks, DiskRests, is_did, IsSmall, IsUnfinished, IsWorking, MovesOrRests, RestUpTo, Rounds, ServesSlave, SlaveRests, Works}
+use Rattle.station_alone.proofs.KeepLaws.{goes-within}
 use Rattle.station_alone.proofs.RowLaws.{leads-one, slaves-of, works-none, works-then}
 
 -- ---- in the middle of a round
@@ -98,11 +99,6 @@ asked-by : (book : Book) (two : Bool) → is_closed book ≡ false → is_versio
 asked-by book true going form = refused form (rw (going, form) refl)
 asked-by book false going form = asked (rw (going, form) refl)
 
-open-still : (book : Book) (finished failed : Bool) → book.is_finished ≡ finished → is_some book.fault ≡ failed → finished ≡ false → failed ≡ false → is_closed book ≡ false
-open-still book true failed going ok never sound = absurd cc
-open-still book false true going ok never sound = absurd cc
-open-still book false false going ok never sound = rw (going, ok) refl
-
 module _ (old new : Station) (working : IsWorking old) (stands : Stands new) (goes : GoesOn [] 0 old new) (keeps : Keeps [] old new) (none : live_bytes old.book ≡ 0) where
   -- the book is asked, and nothing is done
   works : new.book ≡ (migrate old.book).1 → new.seen ≡ old.seen → is_some new.book.fault ≡ false → LeadsTo old new → Works 0 old new
@@ -112,7 +108,7 @@ module _ (old new : Station) (working : IsWorking old) (stands : Stands new) (go
       let time : clock new.seen ≡ clock old.seen = ap clock seen in
       record {
         working = record { stands = stands; recovering = near.recovering; sound = sound };
-        kept = record { session = record { line = goes.line; words = goes.words; found = goes.found; accepted = goes.accepted; durable = goes.durable; within = omega (arith, time) }; keeps = keeps };
+        kept = record { session = goes-within [] 0 (calls_left old.book) old new goes (omega (arith, time)); keeps = keeps };
         leads = leads;
         left = omega (arith, time, left);
         issued = near.issued;
@@ -146,7 +142,7 @@ module _ (old new : Station) (working : IsWorking old) (stands : Stands new) (go
 
   pub asks-migration : (answer : Answer) → AsksMigration old answer new → ((answer ≡ Did) × Asks true old new) ⊎ ((answer ≡ Idle) × Asks false old new)
   asks-migration answer asks =
-      asks-by answer (asked-by old.book (is_version_2 old.book.form) (open-still old.book old.book.is_finished (is_some old.book.fault) refl refl working.recovering.going working.sound) refl) asks
+      asks-by answer (asked-by old.book (is_version_2 old.book.form) (rw (working.recovering.going, working.sound) refl) refl) asks
 
 pub asks-did : (old new : Station) (answer : Answer) → IsWorking old → Stands new → GoesOn [] 0 old new → Keeps [] old new → live_bytes old.book ≡ 0 → AsksMigration old answer new → Asks (is_did answer) old new
 asks-did old new answer working stands goes keeps none asks = elim (asks-migration old new working stands goes keeps none answer asks) [

@@ -1,6 +1,5 @@
 -- Steps of a recovery in a row.
-use Rattle.std.proofs.Common.{◌≡◌, ℕ, ◌+◌, ◌≤◌, Bool, List, [], ◌∷◌, ◌++◌, length, refl, sym, ◌∙◌, ap, subst, arith, Result, Ok, Err, IsErrAnd}
-use Rattle.std.proofs.lemmas.List.{append-nil}
+use Rattle.std.proofs.Common.{◌≡◌, ℕ, ◌+◌, ◌≤◌, [], ◌∷◌, ◌++◌, length, refl, ap, arith, Result, Ok, Err, IsErrAnd}
 use Rattle.esc_rom.specs.declared.fault.RomFault.TheVariants as rom
 use Rattle.site_core.specs.declared.fault.DeviceFault.TheVariants as device
 use Rattle.site_core.specs.State.{clock}
@@ -10,18 +9,17 @@ use Rattle.sii_words.proofs.RedoLaws.{SameShape-redone}
 use Rattle.sii_edit.proofs.FoldLaws.{SameShape-contents}
 use Rattle.book_model.specs.Entries.{runs_of}
 use Rattle.book_model.specs.Book.{base_of, contents_of}
-use Rattle.book_model.specs.Machine.{Machine}
 use Rattle.book_laws.proofs.BookLaws.{length-all_cells}
-use Rattle.book_laws.specs.Frame.{JournalFrame}
-use Rattle.book_laws.specs.Up.{Up}
 use Rattle.site_journal.specs.Left.{calls_left}
+use Rattle.site_journal.specs.Ready.{IsUp}
 use Rattle.station_alone.specs.declared.fault.OpenFault.{OpenFault}
 use Rattle.station_alone.specs.declared.fault.OpenFault.TheVariants as why
 use Rattle.station_alone.specs.declared.choice.Choice.{Choice}
 use Rattle.station_alone.specs.declared.choice.Answer.{Answer}
 use Rattle.station_alone.specs.Station.{Station}
-use Rattle.station_alone.specs.Steps.{Steps, StepsInOrder}
-use Rattle.station_alone.proofs.KeepLaws.{keeps-then, keeps-while-still}
+use Rattle.station_alone.specs.Steps.{Steps}
+use Rattle.station_alone.proofs.KeepLaws.{goes-none, goes-within, goes-then, keeps-then, keeps-while-still}
+use Rattle.station_alone.proofs.RunLaws.{steps-then}
 use Rattle.station_alone.specs.Recovery.{Breaks, IsOfRecovery, LeadsTo}
 use Rattle.station_alone.specs.Rounds.{IsWorking, StaysKept, Works, EndsEarly}
 
@@ -31,7 +29,7 @@ handed_on (Ok value) fault is = absurd is
 handed_on (Err other) fault is = ap Err is
 
 -- what a station that works is up as
-pub up-of : (s : Station) → IsWorking s → (frame : JournalFrame) × (took : List Bool) × (machine : Machine) × Up frame s.book s.seen.state took machine
+pub up-of : (s : Station) → IsWorking s → IsUp s.book s.seen
 up-of s w = w.stands.ready.up w.sound
 
 -- its book has as many slaves as it was opened with
@@ -45,12 +43,6 @@ count-of s w =
     omega (arith, slaves-of s w, (SameShape-contents base s.book.accepted).slaves, (SameShape-redone s.book.words (runs_of s.book.found)).slaves)
 
 -- ---- steps that lead on
-
-steps-then : (choices more : List Choice) (answers others : List Answer) (a b c : Station) → StepsInOrder choices a answers b → StepsInOrder more b others c → StepsInOrder (choices ++ more) a (answers ++ others) c
-steps-then [] more [] others a b c first second = subst (λ (s : Station). StepsInOrder more s others c) first second
-steps-then [] more (told ∷ answers) others a b c first second = absurd first
-steps-then (choice ∷ choices) more [] others a b c first second = absurd first
-steps-then (choice ∷ choices) more (told ∷ answers) others a b c first second = (first.0, first.1, steps-then choices more answers others first.0 b c first.2 second)
 
 pub leads-none : (s : Station) → LeadsTo s s
 leads-none s = record { choices = []; answers = []; of_recovery = tt; steps = refl }
@@ -69,10 +61,7 @@ leads-then a b c one two = record {
 -- ---- no step
 
 pub kept-none : (s : Station) → StaysKept s s
-kept-none s = record {
-  session = record { line = refl; words = refl; found = refl; accepted = sym (append-nil s.book.accepted); durable = omega arith; within = omega arith };
-  keeps = keeps-while-still s s refl refl;
-}
+kept-none s = record { session = goes-none (calls_left s.book) s; keeps = keeps-while-still s s refl refl }
 
 pub works-none : (s : Station) → IsWorking s → Works 0 s s
 works-none s w = record { working = w; kept = kept-none s; leads = leads-none s; left = omega arith; issued = omega arith }
@@ -81,20 +70,10 @@ works-none s w = record { working = w; kept = kept-none s; leads = leads-none s;
 
 kept-then : (a b c : Station) → clock b.seen + calls_left b.book ≤ clock a.seen + calls_left a.book → StaysKept a b → StaysKept b c → StaysKept a c
 kept-then a b c few one two =
-    let first = one.session in
-    let second = two.session in
-    let durable = first.durable in
-    let later = second.durable in
-    let within = second.within in
+    let within = two.session.within in
+    let both = goes-then [] [] (calls_left a.book) (calls_left b.book) a b c one.session two.session in
     record {
-      session = record {
-        line = second.line ∙ first.line;
-        words = second.words ∙ first.words;
-        found = second.found ∙ first.found;
-        accepted = second.accepted ∙ append-nil b.book.accepted ∙ first.accepted;
-        durable = omega (arith, durable, later);
-        within = omega (arith, within, few);
-      };
+      session = goes-within [] (calls_left a.book + calls_left b.book) (calls_left a.book) a c both (omega (arith, within, few));
       keeps = keeps-then [] [] (calls_left a.book) a b c one.session one.keeps two.keeps;
     }
 

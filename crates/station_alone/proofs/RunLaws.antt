@@ -11,15 +11,13 @@ use Rattle.site_journal.specs.Running.{with_commands}
 use Rattle.book_model.specs.Machine.{Machine}
 use Rattle.book_laws.specs.Keeping.{IsOfBook}
 use Rattle.station_alone.specs.Keeping.{GoesOn, Keeps, KeepsInOrder, KeptFor, KeptInOrder, accepted_by, accepted_in}
-use Rattle.station_alone.proofs.KeepLaws.{keeps-then, keeps-while-still, of-later}
+use Rattle.station_alone.proofs.KeepLaws.{goes-none, goes-then, keeps-then, keeps-while-still, of-later}
 
--- one step more
-pub steps-push : (choices : List Choice) (answers : List Answer) (choice : Choice) (answer : Answer) (a b c : Station) → StepsInOrder choices a answers b → Steps choice b answer c
-    → StepsInOrder (choices ++ choice ∷ []) a (answers ++ answer ∷ []) c
-steps-push [] [] choice answer a b c first last = (c, subst (λ (s : Station). Steps choice s answer c) first last, refl)
-steps-push [] (other ∷ answers) choice answer a b c first last = absurd first
-steps-push (other ∷ choices) [] choice answer a b c first last = absurd first
-steps-push (other ∷ choices) (told ∷ answers) choice answer a b c first last = (first.0, first.1, steps-push choices answers choice answer first.0 b c first.2 last)
+pub steps-then : (choices more : List Choice) (answers others : List Answer) (a b c : Station) → StepsInOrder choices a answers b → StepsInOrder more b others c → StepsInOrder (choices ++ more) a (answers ++ others) c
+steps-then [] more [] others a b c first second = subst (λ (s : Station). StepsInOrder more s others c) first second
+steps-then [] more (told ∷ answers) others a b c first second = absurd first
+steps-then (choice ∷ choices) more [] others a b c first second = absurd first
+steps-then (choice ∷ choices) more (told ∷ answers) others a b c first second = (first.0, first.1, steps-then choices more answers others first.0 b c first.2 second)
 
 accepted-push : (choices : List Choice) (answers : List Answer) (choice : Choice) (answer : Answer) (a b : Station) → StepsInOrder choices a answers b
     → accepted_in (choices ++ choice ∷ []) (answers ++ answer ∷ []) ≡ accepted_in choices answers ++ accepted_by choice answer
@@ -33,16 +31,6 @@ accepted-push (other ∷ choices) (told ∷ answers) choice answer a b steps =
 calls-push : (choices : List Choice) (choice : Choice) → most_calls_of (choices ++ choice ∷ []) ≡ most_calls_of choices + most_calls choice
 calls-push [] choice = omega arith
 calls-push (other ∷ choices) choice = let e = calls-push choices choice in omega (arith, e)
-
-goes-then : (first second : List Command) (m n : ℕ) (a b c : Station) → GoesOn first m a b → GoesOn second n b c → GoesOn (first ++ second) (m + n) a c
-goes-then first second m n a b c one two = record {
-  line = two.line ∙ one.line;
-  words = two.words ∙ one.words;
-  found = two.found ∙ one.found;
-  accepted = two.accepted ∙ ap (λ (l : List Command). l ++ second) one.accepted ∙ append_assoc a.book.accepted first second;
-  durable = let x = one.durable in let y = two.durable in omega (arith, x, y);
-  within = let x = one.within in let y = two.within in omega (arith, x, y);
-}
 
 -- each step by itself keeps what is kept
 kept-push : (m : Machine) (choices : List Choice) (answers : List Answer) (choice : Choice) (answer : Answer) (a b c : Station) → IsOfBook a.book m → LeavesOnly (KeptFor m) a.seen.state → KeptInOrder m choices a answers b
@@ -79,7 +67,7 @@ pub ran-push : (choices : List Choice) (answers : List Answer) (choice : Choice)
 ran-push choices answers choice answer a b c ran step goes keeps =
     let accepted = accepted-push choices answers choice answer a b ran.steps in
     record {
-      steps = steps-push choices answers choice answer a b c ran.steps step;
+      steps = steps-then choices (choice ∷ []) answers (answer ∷ []) a b c ran.steps (c, step, refl);
       goes_on = subst (λ (n : ℕ). GoesOn (accepted_in (choices ++ choice ∷ []) (answers ++ answer ∷ [])) n a c) (sym (calls-push choices choice))
           (subst (λ (l : List Command). GoesOn l (most_calls_of choices + most_calls choice) a c) (sym accepted)
           (goes-then (accepted_in choices answers) (accepted_by choice answer) (most_calls_of choices) (most_calls choice) a b c ran.goes_on goes));
@@ -90,7 +78,7 @@ ran-push choices answers choice answer a b c ran step goes keeps =
 pub ran-none : (s : Station) → Ran [] [] s s
 ran-none s = record {
   steps = refl;
-  goes_on = record { line = refl; words = refl; found = refl; accepted = sym (append-nil s.book.accepted); durable = omega arith; within = omega arith };
+  goes_on = goes-none 0 s;
   keeps = keeps-while-still s s refl refl;
   in_order = λ m of kept. refl;
 }

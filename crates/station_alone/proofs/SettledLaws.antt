@@ -14,12 +14,10 @@ use Rattle.book_laws.proofs.CommandLaws.{entries-contents}
 use Rattle.book_laws.proofs.PlantLaws.{plant-leads-retired}
 use Rattle.book_laws.proofs.SettledLaws.{retire-settled}
 use Rattle.book_laws.proofs.LineLaws.{holds-all}
+use Rattle.world_law.proofs.StandsLaws.{pair_read, leaves-read}
 use Rattle.site_journal.specs.Ready.{IsUp}
 use Rattle.station_alone.specs.Station.{Station}
-use Rattle.site_core.proofs.StopImages.{StopImage-same}
-use Rattle.book_laws.specs.Opening.{words_in}
 use Rattle.station_alone.specs.Settled.{HasSettled, HoldsContents, ReadAsContents}
-use Rattle.station_alone.proofs.OpenLaws.{as-read}
 
 pub settled-holds : (s : Station) → IsUp s.book s.seen → HasSettled s.book → HoldsContents s
 settled-holds s u settled pair leaves =
@@ -36,6 +34,4 @@ settled-holds s u settled pair leaves =
 
 -- the words that the slaves hold are among those that a stop may leave
 pub settled-reads : (s : Station) → HoldsContents s → ReadAsContents s
-settled-reads s holds =
-    let state = s.seen.state in
-    holds (record { disk = state.disk.bytes; words = words_in state.halves }) (record { disk = StopImage-same state.disk; words = as-read state.halves })
+settled-reads s holds = holds (pair_read s.seen.state) (leaves-read s.seen.state)

@@ -11,6 +11,7 @@ use Rattle.book_model.specs.declared.next.RomNext.{RomNext}
 use Rattle.book_model.specs.declared.next.RomNext.TheVariants as word
 use Rattle.book_model.specs.Book.{Book}
 use Rattle.book_model.specs.RomSteps.{rom_next}
+use Rattle.site_journal.specs.Left.{calls_left}
 use Rattle.site_journal.specs.Ready.{issue_outcome, settle_outcome}
 use Rattle.site_journal.specs.Recovering.{GetsNearer, IsOfIssue, IsOfSettle, MayFail}
 use Rattle.site_journal.proofs.WordLaws.{issue-done, settle-done}
@@ -23,6 +24,7 @@ use Rattle.station_alone.specs.Steps.{DoesIssue, DoesSettle, Serves, done_with}
 use Rattle.station_alone.specs.Keeping.{GoesOn, Keeps}
 use Rattle.station_alone.specs.Recovery.{LeadsTo, StopsIn}
 use Rattle.station_alone.specs.Rounds.{IsWorking, StaysKept, Works, SlaveRests, ServesSlave, told, counted}
+use Rattle.station_alone.proofs.KeepLaws.{goes-within}
 use Rattle.station_alone.proofs.RowLaws.{up-of, leads-none, leads-one, works-none}
 use Rattle.station_alone.proofs.RecoveryDiskLaws.{none-of, first-is}
 
@@ -42,7 +44,7 @@ module _ (old new : Station) (slave : ℕ) (working : IsWorking old) (stands : S
   kept : (calls words : ℕ) → GetsNearer calls words old.book new.book → clock new.seen ≤ clock old.seen + calls → StaysKept old new
   kept calls words near within =
       let left = near.left in
-      record { session = record { line = goes.line; words = goes.words; found = goes.found; accepted = goes.accepted; durable = goes.durable; within = omega (arith, within, left) }; keeps = keeps }
+      record { session = goes-within [] 10001 (calls_left old.book) old new goes (omega (arith, within, left)); keeps = keeps }
 
   works : (calls words : ℕ) → GetsNearer calls words old.book new.book → clock new.seen ≤ clock old.seen + calls → new.book.fault ≡ old.book.fault → LeadsTo old new → Works words old new
   works calls words near within same leads =

@@ -1,5 +1,5 @@
 -- Each step keeps the station's invariant, and what a stop may leave on the way is kept.
-use Rattle.std.proofs.Common.{◌≡◌, ℕ, ◌+◌, ◌≤◌, Bool, true, false, List, [], ◌∷◌, length, refl, sym, ◌∙◌, ap, subst, arith, length-append, Result, Ok, Err}
+use Rattle.std.proofs.Common.{◌≡◌, ℕ, ◌+◌, ◌≤◌, Bool, true, false, List, [], ◌∷◌, refl, sym, ◌∙◌, ap, subst, arith, Result, Ok, Err}
 use Rattle.std.specs.Prelude.{◌||◌, is_some}
 use Rattle.std.proofs.lemmas.List.{append-nil}
 use Rattle.sii_edit.specs.declared.command.Command.{Command}
@@ -11,8 +11,8 @@ use Rattle.sii_edit.proofs.PlantLaws.{fit-after}
 use Rattle.site_core.specs.declared.fault.DeviceFault.{DeviceFault}
 use Rattle.site_core.specs.declared.fault.DeviceFault.TheVariants as device
 use Rattle.site_core.specs.Line.{Line}
-use Rattle.site_core.specs.State.{Moment, Seen, clock}
-use Rattle.site_core.specs.Calls.{WritesDisk}
+use Rattle.site_core.specs.State.{Seen, clock}
+use Rattle.site_core.proofs.Times.{Calls-clock}
 use Rattle.site_core.specs.Passes.{LeavesOnly}
 use Rattle.book_model.specs.declared.next.DiskNext.{DiskNext}
 use Rattle.book_model.specs.declared.next.DiskNext.TheVariants as disk
@@ -80,15 +80,10 @@ nothing-goes told most old answer new stands n =
 
 -- ---- the disk
 
-write-clock : (old new : Seen) (at : ℕ) (bytes : List ℕ) (result : Result (Unit {0}) DeviceFault) → WritesDisk old at bytes result new → clock new ≡ clock old + 1
-write-clock old new at bytes result w =
-    ap (λ (p : List Moment). length p) w.call.past ∙ length-append old.past (record { before = old.state; faults = old.faults; middle = w.middle } ∷ [])
-
 disk-clock : (action : DiskNext) (old new : Seen) (result : Result (Unit {0}) DeviceFault) → CallsDisk action old result new → clock new ≡ clock old + 1
-disk-clock (disk.Write at bytes) old new result call = write-clock old new at bytes result call.writes
-disk-clock (disk.Gate at closed) old new result call = write-clock old new at _ result call.writes
-disk-clock disk.Sync old new result call =
-    ap (λ (p : List Moment). length p) call.call.past ∙ length-append old.past (record { before = old.state; faults = old.faults; middle = [] } ∷ [])
+disk-clock (disk.Write at bytes) old new result call = Calls-clock old call.writes.middle result new call.writes.call
+disk-clock (disk.Gate at closed) old new result call = Calls-clock old call.writes.middle result new call.writes.call
+disk-clock disk.Sync old new result call = Calls-clock old [] result new call.call
 disk-clock disk.Idle old new result call = absurd call
 disk-clock disk.Stop old new result call = absurd call
 

@@ -1,12 +1,12 @@
 -- While a station makes steps, a stop at any moment leaves only what is kept: redo gives a prefix with every acknowledged command.
 use Rattle.std.specs.Prelude.{◌≡◌, ℕ, ◌+◌, ◌≤◌, List, [], ◌∷◌, ◌++◌}
 use Rattle.sii_edit.specs.declared.command.Command.{Command}
-use Rattle.site_core.specs.State.{Pair, clock}
+use Rattle.site_core.specs.State.{Seen, clock}
 use Rattle.site_core.specs.Passes.{LeavesOnly}
 use Rattle.book_model.specs.Machine.{Machine}
-use Rattle.book_model.specs.Kept.{Kept}
 use Rattle.book_laws.specs.Keeping.{IsOfBook}
-use Rattle.site_journal.specs.Running.{KeepsWith, with_commands}
+pub use Rattle.world_law.specs.Law.{KeptFor}
+use Rattle.site_journal.specs.Running.{KeepsAll, KeepsWith, with_commands}
 use Rattle.station_alone.specs.declared.choice.Choice.{Choice}
 use Rattle.station_alone.specs.declared.choice.Choice.TheVariants.{Submit}
 use Rattle.station_alone.specs.declared.choice.Answer.{Answer}
@@ -34,9 +34,9 @@ pub record GoesOn (commands : List Command) (most : ℕ) (old new : Station) : T
   pub durable : old.book.durable ≤ new.book.durable
   pub within : clock new.seen ≤ clock old.seen + most
 
--- The disk image and the words of a pair are kept for the machine.
-abbrev pub KeptFor : Machine → Pair → Type 0
-KeptFor machine pair = Kept pair.disk pair.words machine
+-- For each machine: if all that a stop may leave was kept before, it stays kept at each moment.
+abbrev pub KeepsThroughout : Seen → Seen → Type 0
+KeepsThroughout old new = (machine : Machine) → LeavesOnly (KeptFor machine) old.state → KeepsAll machine old new
 
 -- At each moment on the way, a stop could have left only what is kept with a prefix of the commands accepted. In the end, what it may
 -- leave is kept with all of them accepted and all durable ones acknowledged.

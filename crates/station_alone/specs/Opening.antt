@@ -14,7 +14,6 @@ use Rattle.book_model.specs.Entries.{entries_of}
 use Rattle.book_model.specs.Machine.{Machine, reopened, MayKeep}
 use Rattle.book_laws.specs.Keeping.{IsOfBook}
 use Rattle.book_laws.specs.Opening.{IsFound, book_on, capacity_in, words_in}
-use Rattle.site_journal.specs.Running.{KeepsAll}
 use Rattle.station_alone.specs.declared.fault.OpenFault.{OpenFault}
 use Rattle.station_alone.specs.declared.fault.OpenFault.TheVariants as faults
 use Rattle.station_alone.specs.declared.opening.Found.{Found}
@@ -96,11 +95,7 @@ pub record FailsToOpen (its : Line) (old : Seen) (fault : OpenFault) (later : Li
   pub quiet : Quiet old (most_calls_to_open its.sizes) new
   pub why : WhyNot fault its.sizes old new
 
--- ---- what is kept
-
--- For each machine: if all that a stop may leave was kept before, it stays kept at each moment of the open.
-abbrev pub KeepsOpening : Seen → Seen → Type 0
-KeepsOpening old new = (machine : Machine) → LeavesOnly (KeptFor machine) old.state → KeepsAll machine old new
+-- ---- a session begins
 
 -- A session of the machine has begun, with the first k of its commands kept: the book is the machine reopened there, and what a stop
 -- may leave is kept for it.
@@ -110,6 +105,6 @@ pub record Begins (machine : Machine) (new : Station) : Type 0 where
   pub of : IsOfBook new.book (reopened machine k)
   pub kept : LeavesOnly (KeptFor (reopened machine k)) new.seen.state
 
--- For each machine: if all that a stop could leave was kept before the open, a session of it has begun.
+-- For each machine: if all that a stop could leave was kept before, a session of it has begun.
 abbrev pub BeginsSession : Seen → Station → Type 0
 BeginsSession old new = (machine : Machine) → LeavesOnly (KeptFor machine) old.state → Begins machine new

@@ -8,7 +8,6 @@ use Rattle.esc_rom.specs.declared.fault.RomFault.TheVariants as rom
 use Rattle.site_core.specs.declared.fault.DeviceFault.TheVariants as device
 use Rattle.site_core.specs.Line.{Line}
 use Rattle.site_core.specs.State.{Pair, Seen, Leaves, clock}
-use Rattle.site_core.specs.Passes.{LeavesOnly}
 use Rattle.site_journal.specs.declared.fault.ReadFault.TheVariants as read
 use Rattle.esc_rom.specs.Reading.{most_calls}
 use Rattle.book_model.specs.declared.fault.Fault.TheVariants as faults
@@ -19,9 +18,8 @@ use Rattle.book_model.specs.DiskSteps.{disk_next}
 use Rattle.book_model.specs.RomSteps.{rom_next}
 use Rattle.book_core.specs.Handing.{TakesMemory}
 use Rattle.book_model.specs.Reading.{planned}
-use Rattle.book_model.specs.Machine.{Machine}
 use Rattle.book_laws.specs.Opening.{words_in}
-use Rattle.site_journal.specs.Running.{CallsDisk, KeepsAll}
+use Rattle.site_journal.specs.Running.{CallsDisk}
 use Rattle.site_journal.specs.Left.{migration_calls, words_named, words_issued}
 use Rattle.station_alone.specs.declared.fault.OpenFault.{OpenFault}
 use Rattle.station_alone.specs.declared.fault.OpenFault.TheVariants as why
@@ -31,8 +29,7 @@ use Rattle.station_alone.specs.declared.choice.Answer.{Answer}
 use Rattle.station_alone.specs.declared.choice.Answer.TheVariants.{Failed}
 use Rattle.station_alone.specs.Station.{Station}
 use Rattle.station_alone.specs.Steps.{DoesSettle, Steps, StepsInOrder}
-use Rattle.station_alone.specs.Keeping.{KeptFor}
-use Rattle.station_alone.specs.Opening.{Opens, FailsToOpen, Begins}
+use Rattle.station_alone.specs.Opening.{Opens, FailsToOpen, BeginsSession}
 use Rattle.station_alone.specs.declared.recovery.Recovered.{Recovered}
 
 -- ---- how many device calls it takes
@@ -141,13 +138,8 @@ pub record IsCutShort (line : Line) (old : Seen) (fault : OpenFault) (new : Seen
 abbrev pub FailsToRecover : Line → Seen → OpenFault → (later : Line) → Seen → Type 0
 FailsToRecover line old fault later new = FailsToOpen line old fault later new ⊎ IsCutShort line old fault new
 
--- ---- what is kept
+-- ---- a session begins
 
--- For each machine: if all that a stop may leave was kept before, it stays kept at each moment, also if the recovery fails.
-abbrev pub KeepsRecovering : Seen → Seen → Type 0
-KeepsRecovering old new = (machine : Machine) → LeavesOnly (KeptFor machine) old.state → KeepsAll machine old new
-
--- For each machine: if all that a stop could leave was kept before, a complete recovery has begun a session of it, with a prefix of its
--- commands.
+-- A complete recovery has begun a session, as an open does.
 abbrev pub BeginsRecovered : Seen → Station → Type 0
-BeginsRecovered old new = (machine : Machine) → LeavesOnly (KeptFor machine) old.state → Begins machine new
+BeginsRecovered old new = BeginsSession old new

@@ -39,8 +39,8 @@ impl<S: Site> Alone<S> {
     ghost use Rattle.esc_rom.specs.Owned.{OwnsAll};
     ghost use Rattle.station_alone.specs.Station.{Stands};
     ghost use Rattle.station_alone.specs.Steps.{Steps, Serves, StepsInOrder, most_calls, most_calls_of};
-    ghost use Rattle.station_alone.specs.Keeping.{GoesOn, Keeps, KeepsInOrder, Went, accepted_by, accepted_in};
-    ghost use Rattle.station_alone.specs.Opening.{Opens, OpensCounted, FailsToOpen, KeepsOpening, BeginsSession};
+    ghost use Rattle.station_alone.specs.Keeping.{GoesOn, Keeps, KeepsInOrder, KeepsThroughout, Went, accepted_by, accepted_in};
+    ghost use Rattle.station_alone.specs.Opening.{Opens, OpensCounted, FailsToOpen, BeginsSession};
 
     /// Opens a station on a site: syncs the disk and reads its journal, and then opens and reads each slave.
     ///
@@ -55,9 +55,9 @@ impl<S: Site> Alone<S> {
         requires slaves { OwnsAll (S.line site) }
         ensures opens { IfOk result (λ alone. Opens (S.line site) (S.seen site) alone) }
         ensures begins { IfOk result (λ alone. BeginsSession (S.seen site) alone) }
-        ensures keeps { IfOk result (λ alone. KeepsOpening (S.seen site) alone.seen) }
+        ensures keeps { IfOk result (λ alone. KeepsThroughout (S.seen site) alone.seen) }
         ensures fails { IfErr result (λ back. FailsToOpen (S.line site) (S.seen site) back.1 (S.line back.0) (S.seen back.0)) }
-        ensures keeps_back { IfErr result (λ back. KeepsOpening (S.seen site) (S.seen back.0)) }
+        ensures keeps_back { IfErr result (λ back. KeepsThroughout (S.seen site) (S.seen back.0)) }
     {
         let (alone, _found) = Self::open_counted(alloc, site)?;
         Ok(alone)
@@ -73,9 +73,9 @@ impl<S: Site> Alone<S> {
         requires slaves { OwnsAll (S.line site) }
         ensures opens { IfOk result (λ opened. OpensCounted (S.line site) (S.seen site) opened.0 opened.1) }
         ensures begins { IfOk result (λ opened. BeginsSession (S.seen site) opened.0) }
-        ensures keeps { IfOk result (λ opened. KeepsOpening (S.seen site) opened.0.seen) }
+        ensures keeps { IfOk result (λ opened. KeepsThroughout (S.seen site) opened.0.seen) }
         ensures fails { IfErr result (λ back. FailsToOpen (S.line site) (S.seen site) back.1 (S.line back.0) (S.seen back.0)) }
-        ensures keeps_back { IfErr result (λ back. KeepsOpening (S.seen site) (S.seen back.0)) }
+        ensures keeps_back { IfErr result (λ back. KeepsThroughout (S.seen site) (S.seen back.0)) }
     {
         let mut site = site;
         match open_core(alloc, &mut site) {

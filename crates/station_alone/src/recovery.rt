@@ -1,12 +1,12 @@
 ghost use Rattle.std.specs.Prelude.{◌≡◌, MatchResult, IfOk, IfErr, IsTrue};
 ghost use Rattle.esc_rom.specs.Owned.{OwnsAll};
 ghost use Rattle.station_alone.specs.Rounds.{IsDone, IsLeft, IsSmall, IsWorking};
+ghost use Rattle.station_alone.specs.Keeping.{KeepsThroughout};
 ghost use Rattle.station_alone.specs.Recovery.{
   BeginsRecovered,
   CountsRecovered,
   FailsToRecover,
   HasRecovered,
-  KeepsRecovering,
   MakesFewCalls,
   RecoversBySteps,
 };
@@ -67,7 +67,7 @@ pub fn recover<S: Site>(alloc: Global, site: S) -> Result<(Alone<S>, Recovered),
     requires disk { IsTrue (S.line site).has_disk }
     requires slaves { OwnsAll (S.line site) }
     ensures line { MatchResult result (λ r. r.0.line ≡ S.line site) (λ e. S.line e.0 ≡ S.line site) }
-    ensures keeps { MatchResult result (λ r. KeepsRecovering (S.seen site) r.0.seen) (λ e. KeepsRecovering (S.seen site) (S.seen e.0)) }
+    ensures keeps { MatchResult result (λ r. KeepsThroughout (S.seen site) r.0.seen) (λ e. KeepsThroughout (S.seen site) (S.seen e.0)) }
     ensures few_calls { MatchResult result
         (λ r. MakesFewCalls (S.line site).sizes (S.seen site) r.0.seen)
         (λ e. MakesFewCalls (S.line site).sizes (S.seen site) (S.seen e.0)) }

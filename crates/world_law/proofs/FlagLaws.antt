@@ -76,11 +76,6 @@ back-flags book i (Settling word value taken) Stopped is = rw is (record { close
 pub flags-rom_done : (book : Book) (i : ℕ) (outcome : RomOutcome) → BackFlags book (rom_done book i outcome)
 flags-rom_done book i outcome = back-flags book i (slave_at book i).errand outcome refl
 
--- a fault closes a book
-pub fault-closes : (finished failed : Bool) → failed ≡ true → (finished || failed) ≡ true
-fault-closes true failed is = refl
-fault-closes false failed is = is
-
 -- ---- what comes back of the disk
 
 -- The form changes to version 2 alone, and then no commands become durable.

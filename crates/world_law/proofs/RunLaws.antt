@@ -9,8 +9,8 @@ use Rattle.book_model.specs.Kept.{Kept}
 use Rattle.book_laws.specs.Opening as opening
 use Rattle.book_laws.specs.Opening.{words_in}
 use Rattle.world_law.specs.World.{World, Step}
-use Rattle.world_law.specs.Law.{Session, EventFits, MachineFits, Starts, Runs, StaysKept}
-use Rattle.world_law.proofs.StandsLaws.{KeptFor, Stands, stands-down, stands-is_kept}
+use Rattle.world_law.specs.Law.{Session, EventFits, MachineFits, Starts, KeptFor, Runs, StaysKept}
+use Rattle.world_law.proofs.StandsLaws.{Stands, stands-down, stands-is_kept}
 use Rattle.world_law.proofs.StepLaws.{step-goes}
 
 pub run-stays : (world : World) (session : Session) (steps : List Step) → Stands world session → MachineFits session.machine → Runs world steps → AllByRecursion (λ (step : Step). EventFits step.event) steps

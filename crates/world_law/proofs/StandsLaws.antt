@@ -9,7 +9,7 @@ use Rattle.jrn_format.specs.declared.journal.Batch.{Batch}
 use Rattle.esc_model.specs.SlaveHalf.{SlaveHalf}
 use Rattle.esc_model.specs.WordAccess.{IsIdle}
 use Rattle.esc_model.proofs.Resting.{MayLeave-same}
-use Rattle.site_core.specs.State.{Pair, EachMayLeave}
+use Rattle.site_core.specs.State.{State, Pair, EachMayLeave, Leaves}
 use Rattle.site_core.specs.Passes.{LeavesOnly}
 use Rattle.site_core.proofs.StopImages.{StopImage-same}
 use Rattle.book_model.specs.Cells.{Cell}
@@ -29,11 +29,7 @@ use Rattle.book_laws.specs.Worn.{named_for, Worn}
 use Rattle.book_laws.proofs.WornBooks.{worn-few}
 use Rattle.world_law.specs.World.{World, Told}
 use Rattle.world_law.specs.Happenings.{CanOpen, Opens}
-use Rattle.world_law.specs.Law.{Session, IsRecovered, HoldsBase, IsKept}
-
--- the pairs that are kept
-abbrev pub KeptFor : Machine → Pair → Type 0
-KeptFor m pair = Kept pair.disk pair.words m
+use Rattle.world_law.specs.Law.{Session, IsRecovered, HoldsBase, KeptFor, IsKept}
 
 -- the session is closed where the book is, and knows the form of its journal; and the book's wear is bounded
 pub record IsOf (session : Session) (book : Book) : Type 0 where
@@ -60,10 +56,14 @@ pub as-read : (halves : List SlaveHalf) → EachMayLeave halves (words_in halves
 as-read [] = tt
 as-read (half ∷ halves) = (MayLeave-same half, as-read halves)
 
+abbrev pub pair_read : State → Pair
+pair_read state = record { disk = state.disk.bytes; words = words_in state.halves }
+
+pub leaves-read : (state : State) → Leaves state (pair_read state)
+leaves-read state = record { disk = StopImage-same state.disk; words = as-read state.halves }
+
 pub kept-read : (world : World) (session : Session) → Stands world session → Kept world.state.disk.bytes (words_in world.state.halves) session.machine
-kept-read world session stands =
-    let pair : Pair = record { disk = world.state.disk.bytes; words = words_in world.state.halves } in
-    stands-kept world session stands pair (record { disk = StopImage-same world.state.disk; words = as-read world.state.halves })
+kept-read world session stands = stands-kept world session stands (pair_read world.state) (leaves-read world.state)
 
 stands-opens : (world : World) (session : Session) → Stands world session → CanOpen world.book → AllByRecursion IsIdle world.state.halves → (told : Told) × (later : World) × Opens world told later
 stands-opens world session stands can idle =

@@ -1,14 +1,13 @@
 -- Each event keeps the invariant of the world.
-use Rattle.std.proofs.Common.{◌≡◌, ◌≢◌, inl, inr, ℕ, ◌<◌, ◌≤◌, Bool, true, false, List, [], ◌∷◌, ◌++◌, length, take, refl, sym, ◌∙◌, ap, subst, arith, length-set, All, Option, Some, None, Result, Ok, Err}
+use Rattle.std.proofs.Common.{◌≡◌, ◌≢◌, inl, inr, ℕ, ◌<◌, ◌≤◌, Bool, true, false, List, length, refl, sym, ◌∙◌, ap, subst, arith, length-set, Option, Some, None, Result, Ok, Err}
 use Rattle.std.specs.Prelude.{slice_get, is_some, IsOk}
 use Rattle.std.proofs.lemmas.List.{length-map}
-use Rattle.std.proofs.lemmas.List.Elements.{All-nil, All-append, All-push, All-take}
 use Rattle.std.proofs.lemmas.Option.{slice_get_within}
+use Rattle.sii_image.specs.ProcessImage.{process_image}
 use Rattle.sii_edit.specs.declared.command.Command.{Command}
 use Rattle.sii_edit.specs.Command.{outcome}
 use Rattle.sii_edit.specs.Fold.{contents, contents_after}
-use Rattle.sii_edit.specs.Fitting.{PlantFits, CommandFits}
-use Rattle.sii_edit.proofs.PlantLaws.{fit-contents}
+use Rattle.sii_edit.specs.Fitting.{CommandFits}
 use Rattle.esc_model.specs.SlaveHalf.{SlaveHalf, MayRest}
 use Rattle.esc_model.proofs.Resting.{MayRest-leaves}
 use Rattle.site_core.specs.declared.fault.DeviceFault.{DeviceFault}
@@ -37,7 +36,7 @@ use Rattle.book_laws.specs.Events.{ended_on, FailsOn, in_progress, rested}
 use Rattle.book_laws.specs.Steps.{acknowledged_by}
 use Rattle.book_laws.specs.Up.{Up}
 use Rattle.book_laws.specs.Opening.{capacity_in, words_in, book_on}
-use Rattle.book_laws.proofs.CallLaws.{up-finished, up-migrates}
+use Rattle.book_laws.proofs.CallLaws.{or-second, up-finished, up-migrates}
 use Rattle.book_laws.proofs.SubmitLaws.{up-submits}
 use Rattle.book_laws.proofs.DiskEventLaws.{up-begins, up-fails}
 use Rattle.book_laws.proofs.DiskEndLaws.{up-ends}
@@ -46,12 +45,13 @@ use Rattle.book_laws.proofs.SlaveEventLaws.{up-asks, up-back}
 use Rattle.book_laws.proofs.OpeningLaws.{up-opens}
 use Rattle.world_law.specs.World.{World, Event, Submit, Plan, Migrate, Finish, DiskBegin, DiskDone, RomIssue, RomDone, RomResolve, Stop, Open, Told, Nothing, Acknowledged, Planned, Closed, Migrated, Opened}
 use Rattle.world_law.specs.Happenings.{submitted, told_of, fault_told, DiskReturns, SlaveBegins, SlaveReturns, HappensUp, with_synced, Opens, Happens, Steps}
-use Rattle.world_law.specs.Law.{Session, contents_now, Judges, IsRefused, with_machine, Follows, EventFits, MachineFits}
+use Rattle.world_law.specs.Law.{Session, contents_now, Judges, IsRefused, with_machine, Follows, KeptFor, EventFits, MachineFits}
 use Rattle.book_laws.specs.Worn.{Worn}
 use Rattle.book_laws.proofs.WornBooks.{worn-fault, worn-opened, worn-command, worn-migrate, worn-disk_next, worn-disk_done, worn-rom_next, worn-rom_done}
-use Rattle.world_law.proofs.FlagLaws.{SameFlags, BackFlags, DoneFlags, fault-closes, flags-disk_next, flags-disk_done, flags-migrate, flags-rom_next, flags-rom_done}
+use Rattle.world_law.proofs.FlagLaws.{SameFlags, BackFlags, DoneFlags, flags-disk_next, flags-disk_done, flags-migrate, flags-rom_next, flags-rom_done}
 use Rattle.world_law.proofs.AnswerLaws.{Takes, AnswersAs, submit-answers}
-use Rattle.world_law.proofs.StandsLaws.{KeptFor, IsOf, Stands, stands-up, stands-down, stands-kept, stands-long, kept-read, applied-few}
+use Rattle.world_law.proofs.FitLaws.{fits-accepts, fits-reopened, contents-fit}
+use Rattle.world_law.proofs.StandsLaws.{IsOf, Stands, stands-up, stands-down, stands-kept, stands-long, kept-read, applied-few}
 
 -- the session that follows, and the invariant then
 pub record Goes (s : Session) (told : Told) (later : World) : Type 0 where
@@ -90,12 +90,6 @@ module _ (frame : JournalFrame) (book : Book) (state : State) (took : List Bool)
 
   -- ---- a submit
 
-  contents-fit : (command : Command) → CommandFits command → PlantFits (contents_of (with_command book command))
-  contents-fit command small =
-      let base : PlantFits (base_of book) = subst PlantFits up.of.base (fit-contents s.machine.origin s.machine.kept fits.kept fits.origin) in
-      let commands : All CommandFits book.accepted = subst (All CommandFits) up.of.accepted fits.accepted in
-      fit-contents (base_of book) (book.accepted ++ command ∷ []) (All-push CommandFits book.accepted command commands small) base
-
   same-contents : contents_of book ≡ contents_now s
   same-contents = ap (λ (p : List (List ℕ)). contents p book.accepted) (sym up.of.base) ∙ ap (contents (machines.base_of s.machine)) (sym up.of.accepted)
 
@@ -118,19 +112,17 @@ module _ (frame : JournalFrame) (book : Book) (state : State) (took : List Bool)
   goes-submit command (Ok number) is a small = record {
     session = with_machine s (accepts s.machine command);
     follows = (judges a.0, judged-ok command a.1, a.2 ∙ sym (ap length up.of.accepted), refl);
-    stands = stands-up (with_command book command) frame refl (up-submits frame book state took s.machine command number up is (contents-fit command small)) (record { closed = of.closed; form = of.form; worn = worn-command book command up.fits.durable_few of.worn });
-    fits = record { origin = fits.origin; kept = fits.kept; accepted = All-push CommandFits s.machine.accepted command fits.accepted small };
+    stands = stands-up (with_command book command) frame refl (up-submits frame book state took s.machine command number up is (contents-fit book s.machine command up.of fits small)) (record { closed = of.closed; form = of.form; worn = worn-command book command up.fits.durable_few of.worn });
+    fits = fits-accepts s.machine command fits small;
   }
 
-  goes-plan : Goes s (Planned (planned book)) (now book state took)
+  goes-plan : Goes s (Planned (applied book) (process_image (planned book))) (now book state took)
   goes-plan = record {
     session = s;
     follows = (
-      (
-        applied book,
-        omega (arith, applied-few book, ap length up.of.accepted),
-        ap (λ (p : List (List ℕ)). contents_after p book.accepted (applied book)) (sym up.of.base) ∙ ap (λ (l : List Command). contents_after (machines.base_of s.machine) l (applied book)) (sym up.of.accepted),
-      ),
+      omega (arith, applied-few book, ap length up.of.accepted),
+      ap (λ (p : List (List ℕ)). process_image (contents_after p book.accepted (applied book))) (sym up.of.base)
+          ∙ ap (λ (l : List Command). process_image (contents_after (machines.base_of s.machine) l (applied book))) (sym up.of.accepted),
       refl,
     );
     stands = stands-up book frame refl up of;
@@ -196,12 +188,12 @@ module _ (frame : JournalFrame) (book : Book) (state : State) (took : List Bool)
   failed out device.Disk disk not fails =
       let is : disk_done book (Err device.Disk) ≡ with_fault (rested book) faults.Disk = rw out refl in
       subst (λ (b : Book). Goes s Closed (now b (record state { disk = disk }) took)) (sym is)
-      (closes _ _ _ (up-fails frame book state took s.machine disk faults.Disk up out fails) (fault-closes book.is_finished true refl) refl (worn-fault (rested book) faults.Disk of.worn))
+      (closes _ _ _ (up-fails frame book state took s.machine disk faults.Disk up out fails) (or-second book.is_finished true refl) refl (worn-fault (rested book) faults.Disk of.worn))
   failed out device.Lost disk not fails = absurd (not refl)
   failed out device.Stopped disk not fails =
       let is : disk_done book (Err device.Stopped) ≡ with_fault (rested book) faults.Stopped = rw out refl in
       subst (λ (b : Book). Goes s Closed (now b (record state { disk = disk }) took)) (sym is)
-      (closes _ _ _ (up-fails frame book state took s.machine disk faults.Stopped up out fails) (fault-closes book.is_finished true refl) refl (worn-fault (rested book) faults.Stopped of.worn))
+      (closes _ _ _ (up-fails frame book state took s.machine disk faults.Stopped up out fails) (or-second book.is_finished true refl) refl (worn-fault (rested book) faults.Stopped of.worn))
 
   goes-back : book.is_handed_out ≡ true → (result : Result (Unit {0}) DeviceFault) (told : Told) (later : World) → DiskReturns result book (now book state took) told later → Goes s told later
   goes-back out (Ok done) told later back = goes-as s told _ later _ back.0 back.1 (goes-done out)
@@ -219,7 +211,7 @@ module _ (frame : JournalFrame) (book : Book) (state : State) (took : List Bool)
 
   returned : (later : Book) (after : State) (taken : List Bool) (fault : Bool) → is_some later.fault ≡ fault → Up frame later after taken s.machine → BackFlags book later → Worn later → Goes s (fault_told later) (now later after taken)
   returned later after taken true is up flags worn =
-      subst (λ (t : Told). Goes s t (now later after taken)) (rw is refl) (closes later after taken up (fault-closes later.is_finished (is_some later.fault) is) flags.form worn)
+      subst (λ (t : Told). Goes s t (now later after taken)) (rw is refl) (closes later after taken up (or-second later.is_finished (is_some later.fault) is) flags.form worn)
   returned later after taken false is up flags worn =
       let same : is_closed later ≡ is_closed book = elim flags.closed [
         | inl fault ↦ let e : true ≡ false = sym fault ∙ is in absurd cc
@@ -289,7 +281,7 @@ goes-open s world later told stands fits o =
       session = record { machine = reopened m u.k; is_closed = false; is_version_2 = is_version_2 o.journal.form };
       follows = (u.k, u.may_keep, refl);
       stands = stands-up opened u.frame refl u.up (record { closed = refl; form = refl; worn = worn-opened (words_in state.halves) (capacity_in state.disk.bytes) o.journal });
-      fits = record { origin = fits.origin; kept = All-append CommandFits m.kept (take u.k m.accepted) fits.kept (All-take CommandFits u.k m.accepted fits.accepted); accepted = All-nil CommandFits };
+      fits = fits-reopened m u.k fits;
     })
 
 goes : (s : Session) (event : Event) (world later : World) (told : Told) → Stands world s → MachineFits s.machine → EventFits event → Happens event world told later → Goes s told later

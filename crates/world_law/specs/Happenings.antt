@@ -1,6 +1,7 @@
 -- What each event does to the world. Where an event leaves a choice, such as what a power cut leaves, any choice is possible.
 use Rattle.std.specs.Prelude.{not, ◌&&◌, if◌then◌else◌, ◌≡◌, ◌≢◌, ◌⊎◌, ℕ, Bool, true, false, is_some, Some, None, Result, Ok, Err, Option, slice_get, slice_index_or}
 use Rattle.std.specs.List.{AllByRecursion}
+use Rattle.sii_image.specs.ProcessImage.{process_image}
 use Rattle.sii_edit.specs.declared.command.Command.{Command}
 use Rattle.jrn_format.specs.declared.journal.Journal.{Journal}
 use Rattle.esc_model.specs.SlaveHalf.{SlaveHalf, MayRest}
@@ -15,7 +16,7 @@ use Rattle.book_model.specs.Submit.{submit, with_command}
 use Rattle.book_model.specs.Open.{finish, migrate}
 use Rattle.book_model.specs.DiskSteps.{disk_next, disk_done}
 use Rattle.book_model.specs.RomSteps.{rom_next, rom_done}
-use Rattle.book_model.specs.Reading.{planned}
+use Rattle.book_model.specs.Reading.{applied, planned}
 use Rattle.book_laws.specs.Events.{begun_on, ended_on, FailsOn, in_progress}
 use Rattle.book_laws.specs.Steps.{MayBegin, took_after, MayComeBack}
 use Rattle.book_laws.specs.Opening.{IsFound, book_on}
@@ -79,7 +80,7 @@ pub record SlaveReturns (slave : ℕ) (outcome : RomOutcome) (book : Book) (worl
 abbrev pub HappensUp : Event → Book → World → Told → World → Type 0
 HappensUp (Submit command) book world told later =
     (told ≡ (submitted book command (submit book command)).1) × (later ≡ with_book world (submitted book command (submit book command)).0)
-HappensUp Plan book world told later = (told ≡ Planned (planned book)) × (later ≡ world)
+HappensUp Plan book world told later = (told ≡ Planned (applied book) (process_image (planned book))) × (later ≡ world)
 HappensUp Migrate book world told later = (told ≡ Nothing) × (later ≡ with_book world (migrate book).1)
 HappensUp Finish book world told later = (told ≡ Closed) × (later ≡ with_book world (finish book))
 HappensUp DiskBegin book world told later =

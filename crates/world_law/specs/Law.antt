@@ -1,6 +1,7 @@
 -- The main law: what callers of the station can rely on, whatever happens.
-use Rattle.std.specs.Prelude.{◌≡◌, ℕ, ◌*◌, ◌^◌, ◌<◌, ◌≤◌, List, [], ◌∷◌, ◌++◌, length, All, Bool, true, false, Some, None, IsOk, Err}
+use Rattle.std.specs.Prelude.{◌≡◌, ℕ, ◌*◌, ◌^◌, ◌<◌, ◌≤◌, List, [], ◌∷◌, ◌++◌, length, All, Bool, true, false, Option, Some, None, IsOk, Err}
 use Rattle.std.specs.List.{AllByRecursion}
+use Rattle.sii_image.specs.ProcessImage.{ProcessImageParts, process_image}
 use Rattle.sii_edit.specs.declared.command.Command.{Command}
 use Rattle.sii_edit.specs.Command.{outcome}
 use Rattle.sii_edit.specs.Fold.{contents, contents_after}
@@ -10,7 +11,8 @@ use Rattle.jrn_format.specs.Header.{header_bytes, IsCapacity}
 use Rattle.jrn_format.specs.Journal.{AreHalves}
 use Rattle.jrn_format.specs.Halves.{live}
 use Rattle.esc_model.specs.WordAccess.{IsIdle}
-use Rattle.site_core.specs.State.{Pair, Leaves}
+use Rattle.site_core.specs.State.{Pair}
+use Rattle.site_core.specs.Passes.{LeavesOnly}
 use Rattle.book_model.specs.declared.refusal.SubmitRefusal.{SubmitRefusal}
 use Rattle.book_model.specs.declared.refusal.SubmitRefusal.TheVariants as refusals
 use Rattle.book_model.specs.Book.{Book, own, slave_at}
@@ -35,6 +37,10 @@ pub record Session : Type 0 where
 abbrev pub contents_now : Session → List (List ℕ)
 contents_now session = contents (base_of session.machine) session.machine.accepted
 
+-- The process image of the contents after the first `count` accepted commands, if they have one.
+abbrev pub image_after : Session → ℕ → Option ProcessImageParts
+image_after session count = process_image (contents_after (base_of session.machine) session.machine.accepted count)
+
 -- The session is open and its journal is of version 2, so that a command is judged by the contents.
 pub record Judges (session : Session) : Type 0 where
   pub is_open : session.is_closed ≡ false
@@ -53,8 +59,8 @@ abbrev pub with_machine : Session → Machine → Session
 with_machine session machine = record session { machine = machine }
 
 -- The session after callers are told something. An accepted command gets the next number, and a refusal changes nothing. The number
--- of acknowledged commands never falls. A plan is of the contents after a prefix of the commands. A new session begins with a prefix of
--- the last session's commands, with every acknowledged one in it.
+-- of acknowledged commands never falls. A plan is the process image after a prefix of the commands. A new session begins with a prefix of the
+-- last session's commands, with every acknowledged one in it.
 abbrev pub Follows : Session → Told → Session → Type 0
 Follows session Nothing later = later ≡ session
 Follows session (Accepted command number) later =
@@ -64,15 +70,18 @@ Follows session (Refused command refusal) later = IsRefused session command refu
 Follows session (Acknowledged count) later =
     (session.machine.acknowledged ≤ count) × (count ≤ length session.machine.accepted)
     × (later ≡ with_machine session (record session.machine { acknowledged = count }))
-Follows session (Planned plant) later =
-    ((k : ℕ) × (k ≤ length session.machine.accepted) × (plant ≡ contents_after (base_of session.machine) session.machine.accepted k))
-    × (later ≡ session)
+Follows session (Planned count image) later =
+    (count ≤ length session.machine.accepted) × (image ≡ image_after session count) × (later ≡ session)
 Follows session Closed later = later ≡ record session { is_closed = true }
 Follows session Migrated later = later ≡ record session { is_version_2 = true }
 Follows session (Opened new) later =
     (k : ℕ) × MayKeep session.machine k × (later ≡ record { machine = reopened session.machine k; is_closed = false; is_version_2 = new })
 
 -- ---- one moment
+
+-- The disk image and the words of a pair are kept for the machine.
+abbrev pub KeptFor : Machine → Pair → Type 0
+KeptFor machine pair = Kept pair.disk pair.words machine
 
 -- A recovery is complete: since the open no command was accepted, nothing is live any more and no slave is busy.
 pub record IsRecovered (world : World) (book : Book) : Type 0 where
@@ -89,7 +98,7 @@ pub record HoldsBase (world : World) (book : Book) (machine : Machine) : Type 0 
 -- What holds of the world at each moment.
 pub record IsKept (world : World) (machine : Machine) : Type 0 where
   -- what a power cut may leave of disk and slaves is recoverable
-  pub kept : (pair : Pair) → Leaves world.state pair → Kept pair.disk pair.words machine
+  pub kept : LeavesOnly (KeptFor machine) world.state
   -- if a recovery is complete, the slaves hold the contents that the session began with
   pub recovered : (book : Book) → IsRecovered world book → HoldsBase world book machine
   -- if the station is down, or closed by a fault with nothing handed out, and no slave is busy, it can be opened

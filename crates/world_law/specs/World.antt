@@ -1,5 +1,6 @@
 -- The world of the main law: a station with its disk and its slaves, the events, and what callers are told.
 use Rattle.std.specs.Prelude.{ℕ, Bool, List, Option, Result}
+use Rattle.sii_image.specs.ProcessImage.{ProcessImageParts}
 use Rattle.sii_edit.specs.declared.command.Command.{Command}
 use Rattle.site_core.specs.declared.fault.DeviceFault.{DeviceFault}
 use Rattle.site_core.specs.State.{State}
@@ -41,8 +42,8 @@ pub data Told : Type 0 where
   Refused : Command → SubmitRefusal → Told
   -- this number of commands is acknowledged
   Acknowledged : (count : ℕ) → Told
-  -- the plan is the process image of these contents
-  Planned : List (List ℕ) → Told
+  -- the plan: a number of commands, and the process image of the contents after them, if they have one
+  Planned : (count : ℕ) → Option ProcessImageParts → Told
   -- a finish or a fault has closed the station
   Closed : Told
   -- the journal is of version 2 now

@@ -1,6 +1,7 @@
 -- Calls of callers and actions of the disk, as events of a world.
 use Rattle.std.proofs.Common.{◌≡◌, ◌≢◌, ◌∙◌, ℕ, Bool, true, false, List, [], Option, Some, None, Result, Ok, Err, refl, sym, ap, subst, arith}
 use Rattle.std.specs.Prelude.{if◌then◌else◌}
+use Rattle.sii_image.specs.ProcessImage.{process_image}
 use Rattle.sii_edit.specs.declared.command.Command.{Command}
 use Rattle.site_core.specs.declared.fault.DeviceFault.{DeviceFault}
 use Rattle.site_core.specs.declared.fault.DeviceFault.TheVariants as device
@@ -14,11 +15,12 @@ use Rattle.book_model.specs.Memory.{OutOfMemory}
 use Rattle.book_model.specs.Book.{Book}
 use Rattle.book_model.specs.Submit.{submit, with_command, IsSubmitted, answered, out_of_memory}
 use Rattle.book_model.specs.Open.{migrate, finish}
-use Rattle.book_model.specs.Reading.{planned}
+use Rattle.book_model.specs.Reading.{applied, planned}
 use Rattle.book_model.specs.DiskSteps.{action_of, disk_next, disk_done}
 use Rattle.world_law.specs.World as law
 use Rattle.world_law.specs.World.{World, Told}
 use Rattle.world_law.specs.Happenings.{with_book, with_disk, submitted, told_of}
+use Rattle.site_journal.proofs.DiskLaws.{not-both}
 use Rattle.world_run.specs.declared.leaving.LeftByte.{LeftByte}
 use Rattle.world_run.specs.declared.happenings.Event.{Event}
 use Rattle.world_run.specs.declared.happenings.Event.TheVariants as events
@@ -47,7 +49,7 @@ pub finishes : (world : World) (book later : Book) → world.book ≡ Some book 
 finishes world book later up is = happens law.Closed (book, up, (refl, ap (with_book world) is)) tt
 
 pub plans : (world : World) (book later : Book) → world.book ≡ Some book → later ≡ book → Happened events.Plan world (with_book world later)
-plans world book later up is = happens (law.Planned (planned book)) (book, up, (refl, ap (with_book world) is ∙ same-book world book up)) tt
+plans world book later up is = happens (law.Planned (applied book) (process_image (planned book))) (book, up, (refl, ap (with_book world) is ∙ same-book world book up)) tt
 
 pub submits : (world : World) (book later : Book) (command : Command) (number : ℕ) → world.book ≡ Some book → IsSubmitted book command (Ok number) → later ≡ with_command book command
     → Happened (events.Submit command) world (with_book world later)
@@ -105,14 +107,11 @@ ends-action world book later action disk up out goes is =
 pub some-one : (a b : Book) (x : Option Book) → x ≡ Some a → x ≡ Some b → a ≡ b
 some-one a b x is there = let both : Some a ≡ Some b = sym is ∙ there in cc
 
-true-false : (b : Bool) → b ≡ true → b ≡ false → ⊥
-true-false b up down = let both : true ≡ false = sym up ∙ down in absurd cc
-
 pub nothing-ends : (world : World) (book : Book) → world.book ≡ Some book → book.is_handed_out ≡ false → Happened (events.DiskDone ends.Done) world world
-nothing-ends world book up out = cannot (λ told later h. true-false h.0.is_handed_out h.2.0 (ap (λ (b : Book). b.is_handed_out) (some-one h.0 book world.book h.1 up) ∙ out)) refl
+nothing-ends world book up out = cannot (λ told later h. not-both h.0.is_handed_out h.2.0 (ap (λ (b : Book). b.is_handed_out) (some-one h.0 book world.book h.1 up) ∙ out)) refl
 
 pub nothing-fails : (world : World) (book : Book) (fault : DeviceFault) (bytes : Vec LeftByte) → world.book ≡ Some book → book.is_handed_out ≡ false → Happened (events.DiskDone (ends.Failed fault bytes)) world world
-nothing-fails world book fault bytes up out = cannot (λ told later h. true-false h.0.is_handed_out h.2.0 (ap (λ (b : Book). b.is_handed_out) (some-one h.0 book world.book h.1 up) ∙ out)) refl
+nothing-fails world book fault bytes up out = cannot (λ told later h. not-both h.0.is_handed_out h.2.0 (ap (λ (b : Book). b.is_handed_out) (some-one h.0 book world.book h.1 up) ∙ out)) refl
 
 pub never-lost : (world : World) (bytes : Vec LeftByte) → Happened (events.DiskDone (ends.Failed device.Lost bytes)) world world
 never-lost world bytes = cannot (λ told later h. h.2.1.1 refl) refl

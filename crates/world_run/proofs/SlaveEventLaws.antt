@@ -1,6 +1,5 @@
 -- Actions for a slave that begin and end, as events of a world.
-use Rattle.std.proofs.Common.{◌≡◌, ◌∙◌, inl, inr, ℕ, zero, suc, ◌<◌, ◌≤◌, Bool, true, false, List, [], ◌∷◌, length, Option, Some, None, slice_get, slice_index_or, refl, sym, ap, subst, arith}
-use Rattle.std.proofs.lemmas.Option.{slice_get_within}
+use Rattle.std.proofs.Common.{◌≡◌, ◌∙◌, inl, inr, ℕ, suc, ◌<◌, Bool, true, false, List, [], ◌∷◌, length, Option, Some, None, slice_get, slice_index_or, refl, sym, ap, subst, arith}
 use Rattle.esc_model.specs.SlaveHalf.{SlaveHalf, Activity, Idle, Reading, Writing, in_flight, MayRest, MayEnd, MayStop, IsTorn, settled, with_errors}
 use Rattle.esc_model.specs.WordAccess.{IsIdle, IsWell}
 use Rattle.esc_model.proofs.OnlyResting.{OnlyRests-same}
@@ -15,6 +14,7 @@ use Rattle.book_model.specs.declared.next.RomOutcome.TheVariants as outcomes
 use Rattle.book_model.specs.Book.{Book, Errand, Free, Issuing, Unsettled, Settling, slave_at}
 use Rattle.book_model.specs.RomSteps.{rom_next, rom_done}
 use Rattle.book_laws.specs.Steps.{TakesOrNot, MayBegin, took_after, MayComeBack}
+use Rattle.book_laws.proofs.LineLaws.{half-there}
 use Rattle.book_laws.proofs.OutcomeLaws.{set-same}
 use Rattle.world_law.specs.World as law
 use Rattle.world_law.specs.World.{World, Told}
@@ -30,15 +30,6 @@ use Rattle.world_run.specs.Progress.{asked_of}
 use Rattle.world_run.specs.Returns.{MayReturn}
 use Rattle.world_run.specs.Step.{Happened, happens, cannot, sides_of}
 use Rattle.world_run.proofs.EventLaws.{some-one, stops-disk}
-
--- the half of a slave that is there
-half-at : (halves : List SlaveHalf) (slave : ℕ) → slave < length halves → (half : SlaveHalf) × (slice_get halves slave ≡ Some half)
-half-at [] slave inside = absurd (omega arith)
-half-at (h ∷ hs) zero inside = (h, refl)
-half-at (h ∷ hs) (suc slave) inside = half-at hs slave (omega arith)
-
-nobody-there : (halves : List SlaveHalf) (slave : ℕ) (half : SlaveHalf) → length halves ≤ slave → slice_get halves slave ≡ Some half → ⊥
-nobody-there halves slave half past here = let w = slice_get_within halves slave half here in omega arith
 
 -- another book, and other halves and marks
 abbrev pub with_sides : World → Book → Sides → World
@@ -106,7 +97,7 @@ same-half world book slave half took here same =
 pub issues-nothing : (world : World) (book later : Book) (slave : ℕ) (takes : Bool) (answer : RomNext) → world.book ≡ Some book → slave < length world.state.halves → answer ≡ (rom_next book slave).0 → IsQuiet answer
     → later ≡ (rom_next book slave).1 → Happened (events.RomIssue slave takes) world (with_book world later)
 issues-nothing world book later slave takes answer up inside is quiet goes =
-    let there = half-at world.state.halves slave inside in
+    let there = half-there world.state.halves slave inside in
     let quiet_there : IsQuiet (rom_next book slave).0 = subst IsQuiet is quiet in
     happens law.Nothing (
       book,
@@ -166,7 +157,7 @@ module _ (slave : ℕ) (sides : Sides) (half : SlaveHalf) (here : slice_get side
 pub comes-back : (world : World) (book later : Book) (slave : ℕ) (outcome : RomOutcome) → world.book ≡ Some book → slave < length world.state.halves
     → MayReturn (asked_of (slave_at book slave).errand) outcome slave (sides_of world) → later ≡ rom_done book slave outcome → Happened (events.RomDone slave outcome) world (with_book world later)
 comes-back world book later slave outcome up inside may goes =
-    let there = half-at world.state.halves slave inside in
+    let there = half-there world.state.halves slave inside in
     happens (fault_told (rom_done book slave outcome)) (
       book,
       up,
