@@ -14,7 +14,13 @@ pub record Place : Type 0 where
   pub beside_id : Option FileId
 
 abbrev pub place_of : Location → Place
-place_of found = record { name = string_bytes found.name; path = string_bytes found.path; beside = string_bytes found.beside; id = found.id; beside_id = found.beside_id }
+place_of found = record {
+  name = string_bytes found.name;
+  path = string_bytes found.path;
+  beside = string_bytes found.beside;
+  id = found.id;
+  beside_id = found.beside_id;
+}
 
 -- where each name leads, as far as it is known
 abbrev pub Leads : Type 0

@@ -45,7 +45,8 @@ impl FileNames {
         line_file: &str,
         capture: Option<&str>,
     ) -> Result<FileNames, AllocError>
-        ensures names { IfOk result (λ files. spelt files.names.items ≡ files_with (option_map (λ given. given.now) capture.entry) line.now line_file.now) }
+        ensures names { IfOk result (λ files. spelt files.names.items
+            ≡ files_with (option_map (λ given. given.now) capture.entry) line.now line_file.now) }
         ensures written { IfOk result (λ files. files.written ≡ length (written_of (option_map (λ given. given.now) capture.entry) line.now)) }
         ensures capture { IfOk result (λ files. files.has_capture ≡ is_some capture.entry) }
     {

@@ -50,7 +50,8 @@ fn push_images(
     command: &ScriptCommand,
     names: &mut Vec<String>,
 ) -> Result<(), AllocError>
-    ensures { OnOk result (map (λ name. string_bytes name) names.new.items ≡ map (λ name. string_bytes name) names.old.items ++ images_of command.now) }
+    ensures { OnOk result (map (λ name. string_bytes name) names.new.items
+        ≡ map (λ name. string_bytes name) names.old.items ++ images_of command.now) }
 {
     match command {
         ScriptCommand::One(edit) => push_image(alloc, edit, names),
@@ -65,7 +66,8 @@ fn push_group_images(
     edits: &[ScriptGroupEdit],
     names: &mut Vec<String>,
 ) -> Result<(), AllocError>
-    ensures { OnOk result (map (λ name. string_bytes name) names.new.items ≡ map (λ name. string_bytes name) names.old.items ++ flat_map (λ one. image_of one.edit) edits.now) }
+    ensures { OnOk result (map (λ name. string_bytes name) names.new.items
+        ≡ map (λ name. string_bytes name) names.old.items ++ flat_map (λ one. image_of one.edit) edits.now) }
 {
     for one in edits {
         push_image(alloc, &one.edit, names)?;
@@ -75,7 +77,8 @@ fn push_group_images(
 
 /// Appends the name of the image of an edit, if it has one.
 fn push_image(alloc: Global, edit: &ScriptEdit, names: &mut Vec<String>) -> Result<(), AllocError>
-    ensures { OnOk result (map (λ name. string_bytes name) names.new.items ≡ map (λ name. string_bytes name) names.old.items ++ image_of edit.now) }
+    ensures { OnOk result (map (λ name. string_bytes name) names.new.items
+        ≡ map (λ name. string_bytes name) names.old.items ++ image_of edit.now) }
 {
     if let ScriptEdit::Image { file, .. } = edit {
         names.push(String::from_str(alloc, file.as_str())?)?;
