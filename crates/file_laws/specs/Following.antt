@@ -52,9 +52,9 @@ abbrev pub Holds : State → LineFile → File → Type 0
 Holds state Journal file = HoldsDisk state.disk file
 Holds state (Image slave) file = HoldsWords state.halves slave file
 
--- A device stands behind a site that owns some of the files, and has done so since a moment of its own. Whatever the files were then that held the
--- site's parts: by what was asked since, a power cut at any moment has left of them a pair that it may have left of the site; and as long as no call on a
--- file has failed and the site goes on, they hold its parts.
+-- A device stands behind a site that owns some of the files, and has done so since a moment of its own. Whatever the files were then that held
+-- the site's parts: by what was asked since, a power cut at any moment has left of them a pair that it may have left of the site; and as long as no
+-- call on a file has failed and the site goes on, they hold its parts.
 pub record FilesFollow
     {F : Type 0} (owned : LineFile → Bool) (begun : LineFile → File) (start : ℕ) (device : FileDevice F) (seen : Seen) : Type 0 where
   pub calls : List Asked

@@ -66,7 +66,9 @@ impl<'p, D, T: Write, R: Clock> Watched<'p, D, T, R> {
     }
 
     /// Something was written to the journal from `at` on: a gate, a batch or a header.
-    fn note_write(&mut self, at: usize, bytes: &[u8]) {
+    fn note_write(&mut self, at: usize, bytes: &[u8])
+        ensures { self.new.device ≡ self.old.device }
+    {
         if at < AREA_START {
             return;
         }
@@ -77,7 +79,9 @@ impl<'p, D, T: Write, R: Clock> Watched<'p, D, T, R> {
     }
 
     /// The journal was synced.
-    fn note_sync(&mut self, progress: &Progress<T>) {
+    fn note_sync(&mut self, progress: &Progress<T>)
+        ensures { self.new.device ≡ self.old.device }
+    {
         if self.is_open {
             progress.add_durable(u64::from(self.appended));
             self.appended = 0;

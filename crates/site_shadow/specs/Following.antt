@@ -75,4 +75,5 @@ TakeKeeps follows before state after later = (old : Seen) (middle : List State) 
 
 -- a frame is taken
 abbrev pub PassKeeps : {D : Type 0} → (D → Seen → Type 0) → Seen → D → List State → D → State → Type 0
-PassKeeps follows old before middle after state = old.is_stopped ≡ false → follows before (noted old [] old.state) → follows after (noted old middle state)
+PassKeeps follows old before middle after state =
+    old.is_stopped ≡ false → follows before (noted old [] old.state) → follows after (noted old middle state)
