@@ -47,7 +47,7 @@ enum { INIT = 1, PRE_OPERATIONAL = 2, SAFE_OPERATIONAL = 4, OPERATIONAL = 8, ACK
 struct row { unsigned slave, manager, is_output, offset, size; };
 
 static struct row rows[MAX_ROWS];
-static unsigned row_count, slave_count, image_size, wanted_counter, wanted_states = OPERATIONAL, left_count;
+static unsigned row_count, slave_count, image_size, wanted_counter, wanted_states, left_count;
 static uint8_t is_left[65536];  // which slaves stay in Pre-Operational
 static uint8_t image[LONGEST];
 static int wire;
@@ -208,7 +208,6 @@ static void leave_out(unsigned slave) {
         if (rows[r].slave == slave) *(rows[r].is_output ? &outputs : &inputs) = 1;
     wanted_counter -= 2 * outputs + inputs;
     left_count++;
-    wanted_states |= PRE_OPERATIONAL;
     is_left[slave] = 1;
 }
 
@@ -230,6 +229,7 @@ static void bring_up(void) {
             if (rows[r].slave == k) is_good = is_good && configure(&rows[r], unit++);
         if (!is_good || !change_state(k, SAFE_OPERATIONAL)) leave_out(k);
     }
+    wanted_states = (left_count < slave_count ? OPERATIONAL : 0) | (left_count ? PRE_OPERATIONAL : 0);
 }
 
 // ---- The layout
