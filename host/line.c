@@ -2,7 +2,8 @@
 // from ETG.1000.4 and controllers' data sheets alone; it shares no code with the stations. INTERFACE may be -, for a socket as descriptor 0.
 //
 // Each IMAGE is the EEPROM chip of one slave, in the order of the line, low byte of each word first. A word that a slave writes is in its
-// file as soon as the chip has programmed it. A file that isn't there becomes a blank chip. These options hold for each image behind them:
+// file as soon as the chip has programmed it. A file that isn't there becomes a blank chip. At SIGTERM it says how many words were written,
+// and ends. These options hold for each image behind them:
 //   --read US        how long a read takes (500 us)             --write US       how long a write takes (3000 us)
 //   --program US     how long the chip programs on behind the write: it acknowledges no command meanwhile (0)
 //   --nack N         each Nth command isn't acknowledged by the chip (0: none)
@@ -29,6 +30,7 @@
 #include <linux/if_packet.h>
 #include <net/if.h>
 #include <poll.h>
+#include <signal.h>
 #include <stdint.h>
 #include <stdio.h>
 #include <stdlib.h>
@@ -70,6 +72,7 @@ static int slave_count, lose, watchdog_ms = 100;
 static unsigned words_begun, cut_at;
 static uint16_t left;
 static int64_t cut_time = INT64_MAX, now;
+static volatile sig_atomic_t interrupted;
 
 static int64_t clock_us(void) {
     struct timespec at;
@@ -388,10 +391,12 @@ static int open_wire(const char *name) {
 
 static int is_lost(void) { return lose && rand() % (2 * lose) == 0; }
 
+static void interrupt(int number) { interrupted = number; }
+
 static void serve(int wire) {
     uint8_t packet[2048];
     struct pollfd ready = { .fd = wire, .events = POLLIN };
-    for (;;) {
+    while (!interrupted) {
         int waits = 100;
         for (int k = 0; k < slave_count; k++) if (slaves[k]->command || slaves[k]->programming) waits = 1;
         int count = poll(&ready, 1, waits);
@@ -446,6 +451,9 @@ int main(int argc, char **argv) {
     for (int k = 0; k < slave_count; k++) power_up(slaves[k]);
     int wire = open_wire(argv[argc - 1]);
     printf("%d slaves\n", slave_count);
+    struct sigaction action = { .sa_handler = interrupt };
+    sigaction(SIGTERM, &action, NULL);
     serve(wire);
+    printf("%u words were written\n", words_begun);
     return 0;
 }

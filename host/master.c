@@ -2,7 +2,8 @@
 //
 // Brings slaves without mailboxes from Init to Operational, as LAYOUT says, exchanges their process data each millisecond from one thread,
 // and counts how well that went. LAYOUT is what `sii_station layout LINE` prints, in a file, or - for standard input. Where sync managers
-// lie in a slave's memory isn't said there, so it is read from the slave's EEPROM.
+// lie in a slave's memory isn't said there, so it is read from the slave's EEPROM. A slave whose EEPROM doesn't say it, as behind a power cut
+// in the midst of its words, or that refuses a step, stays in Pre-Operational, without process data, and the others are cycled.
 //
 // Meanwhile it lends the wire to a station that it starts (`sii_wire .. --beside`; docs/EMBEDDING.md says what both may do). The station's
 // standard input is one end of a socket pair, of which each message is an Ethernet frame around an EtherCAT frame. Its datagrams ride in the
@@ -13,7 +14,8 @@
 // An interface - is a socket that is descriptor 0 and takes Ethernet frames. The last line is
 // 'cycles N missed M lost L counters C states S delay D us, rides R': M deadlines were missed by a whole period, L frames weren't back by the
 // next one, C came back with another working counter than the layout's, S while not all slaves were Operational, and D is how much later
-// than its deadline a cycle began, at most. The status is 0 where all of M, L, C and S are 0.
+// than its deadline a cycle began, at most. Slaves that stay in Pre-Operational aren't counted in C and S. The status is 0 where all of M, L,
+// C and S are 0.
 #define _GNU_SOURCE
 #include <arpa/inet.h>
 #include <err.h>
@@ -45,7 +47,8 @@ enum { INIT = 1, PRE_OPERATIONAL = 2, SAFE_OPERATIONAL = 4, OPERATIONAL = 8, ACK
 struct row { unsigned slave, manager, is_output, offset, size; };
 
 static struct row rows[MAX_ROWS];
-static unsigned row_count, slave_count, image_size, wanted_counter;
+static unsigned row_count, slave_count, image_size, wanted_counter, wanted_states, left_count;
+static uint8_t is_left[65536];  // which slaves stay in Pre-Operational
 static uint8_t image[LONGEST];
 static int wire;
 static volatile sig_atomic_t interrupted;
@@ -133,15 +136,16 @@ static void must_write(unsigned slave, unsigned offset, const uint8_t *data, siz
     if (one(FPWR, FIRST_ADDRESS + slave, offset, copy, size) != 1) errx(1, "slave %u doesn't take register 0x%04x", slave, offset);
 }
 
-static void change_state(unsigned slave, unsigned state) {
+// Asks for a state, and tells whether it is reached.
+static int change_state(unsigned slave, unsigned state) {
     uint8_t data[2] = { (uint8_t)state, 0 };
     must_write(slave, AL_CONTROL, data, 2);
     for (int64_t until = now_ns() + 3000000000; now_ns() < until;) {
         uint8_t status[6] = { 0 };
-        if (one(FPRD, FIRST_ADDRESS + slave, AL_STATUS, status, 6) == 1 && (status[0] & 0x0f) == (state & 0x0f)) return;
-        if (status[0] & ACKNOWLEDGE) errx(1, "slave %u refuses state %u: code 0x%04x", slave, state, get16(status + 4));
+        if (one(FPRD, FIRST_ADDRESS + slave, AL_STATUS, status, 6) == 1 && (status[0] & 0x0f) == (state & 0x0f)) return 1;
+        if (status[0] & ACKNOWLEDGE) return warnx("slave %u refuses state %u: code 0x%04x", slave, state, get16(status + 4)), 0;
     }
-    errx(1, "slave %u doesn't reach state %u", slave, state);
+    return warnx("slave %u doesn't reach state %u", slave, state), 0;
 }
 
 // Two words of a slave's EEPROM.
@@ -156,24 +160,27 @@ static uint32_t eeprom(unsigned slave, unsigned word) {
     errx(1, "slave %u: its EEPROM can't be read", slave);
 }
 
-// Where the sync manager lies, and its control byte, as the category of sync managers in the EEPROM says (ETG.1000.6).
-static uint32_t manager_words(unsigned slave, unsigned manager, unsigned *control) {
-    for (unsigned at = 0x40; at < 0x8000;) {
+// Finds where the sync manager lies, and its control byte, as the category of sync managers in the EEPROM says (ETG.1000.6).
+static int find_manager(unsigned slave, unsigned manager, unsigned *start, unsigned *control) {
+    unsigned words = ((eeprom(slave, 0x3e) & 0xffff) + 1) * 64;
+    for (unsigned at = 0x40; at + 2 <= words && at < 0x8000;) {
         uint32_t head = eeprom(slave, at);
         if ((head & 0xffff) == 0xffff) break;
         if ((head & 0x7fff) == 41) {
             *control = eeprom(slave, at + 2 + 4 * manager + 2) & 0xff;
-            return eeprom(slave, at + 2 + 4 * manager) & 0xffff;
+            *start = eeprom(slave, at + 2 + 4 * manager) & 0xffff;
+            return 1;
         }
         at += 2 + (head >> 16);
     }
-    errx(1, "slave %u: its EEPROM says nothing of sync managers", slave);
+    return warnx("slave %u: its EEPROM says nothing of sync managers", slave), 0;
 }
 
 // Configures a sync manager and its unit of the memory management.
-static void configure(const struct row *row, unsigned unit) {
-    unsigned control, start = manager_words(row->slave, row->manager, &control);
+static int configure(const struct row *row, unsigned unit) {
+    unsigned control, start;
     uint8_t manager[8] = { 0 }, mapping[16] = { 0 };
+    if (!find_manager(row->slave, row->manager, &start, &control)) return 0;
     put16(manager, start);
     put16(manager + 2, row->size);
     manager[4] = (uint8_t)control;
@@ -186,6 +193,22 @@ static void configure(const struct row *row, unsigned unit) {
     mapping[11] = row->is_output ? 2 : 1;
     mapping[12] = 1;
     must_write(row->slave, FMMUS + 16 * unit, mapping, sizeof mapping);
+    return 1;
+}
+
+// Leaves a slave in Pre-Operational, without process data.
+static void leave_out(unsigned slave) {
+    static const uint8_t NONE[128];
+    printf("slave %u stays in Pre-Operational\n", slave);
+    must_write(slave, FMMUS, NONE, sizeof NONE);
+    must_write(slave, MANAGERS, NONE, sizeof NONE);
+    if (!change_state(slave, PRE_OPERATIONAL | ACKNOWLEDGE)) exit(1);
+    unsigned outputs = 0, inputs = 0;
+    for (unsigned r = 0; r < row_count; r++)
+        if (rows[r].slave == slave) *(rows[r].is_output ? &outputs : &inputs) = 1;
+    wanted_counter -= 2 * outputs + inputs;
+    left_count++;
+    is_left[slave] = 1;
 }
 
 static void bring_up(void) {
@@ -201,11 +224,12 @@ static void bring_up(void) {
         if (one(APWR, -k & 0xffff, ADDRESS, data, 2) != 1) errx(1, "slave %u doesn't take its address", k);
         must_write(k, SII_ACCESS, (uint8_t[1]){ 2 }, 1);
         must_write(k, SII_ACCESS, (uint8_t[1]){ 0 }, 1);
-        change_state(k, PRE_OPERATIONAL);
+        int is_good = change_state(k, PRE_OPERATIONAL);
         for (unsigned r = 0, unit = 0; r < row_count; r++)
-            if (rows[r].slave == k) configure(&rows[r], unit++);
-        change_state(k, SAFE_OPERATIONAL);
+            if (rows[r].slave == k) is_good = is_good && configure(&rows[r], unit++);
+        if (!is_good || !change_state(k, SAFE_OPERATIONAL)) leave_out(k);
     }
+    wanted_states = (left_count < slave_count ? OPERATIONAL : 0) | (left_count ? PRE_OPERATIONAL : 0);
 }
 
 // ---- The layout
@@ -309,7 +333,7 @@ static void cycle(int lent, struct ride *ride, int64_t until) {
     if (!send_frame(&frame) || !receive(&frame, until)) { count.lost++; return; }
     memcpy(image, frame.bytes + data, image_size);
     count.counters += get16(frame.bytes + data + image_size) != wanted_counter;
-    count.states += get16(frame.bytes + states) != OPERATIONAL || get16(frame.bytes + states + 2) != slave_count;
+    count.states += get16(frame.bytes + states) != wanted_states || get16(frame.bytes + states + 2) != slave_count;
     if (riding) hand_back(lent, ride, &frame, riding);
     if (lent >= 0) ride_between(lent, ride, &index, until);
 }
@@ -328,16 +352,16 @@ static int64_t wake_at(int64_t deadline, int64_t period) {
 static void become_operational(int64_t period) {
     int64_t deadline = now_ns();
     for (int turn = 0, good = 0; good < 20; turn++) {
-        uint8_t operational[2] = { OPERATIONAL, 0 };
         deadline = wake_at(deadline + period, period);
         memset(&count, 0, sizeof count);
         cycle(-1, NULL, deadline + period);
         good = count.lost || count.counters || count.states ? 0 : good + 1;
-        if (!good && turn % 10 == 0) one(BWR, 0, AL_CONTROL, operational, 2);
+        for (unsigned k = 0; !good && turn % 10 == 0 && k < slave_count; k++)
+            if (!is_left[k]) must_write(k, AL_CONTROL, (uint8_t[2]){ OPERATIONAL, 0 }, 2);
         if (turn == 3000) errx(1, "not all slaves become Operational");
     }
     memset(&count, 0, sizeof count);
-    printf("%u slaves are Operational\n", slave_count);
+    printf("%u slaves are Operational\n", slave_count - left_count);
 }
 
 // Whether the station has ended.
