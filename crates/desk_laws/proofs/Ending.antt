@@ -1,15 +1,13 @@
 -- What a power cut leaves of the disk and the slaves, each at the end of its log.
 use Rattle.std.proofs.Common.{◌≡◌, ◌∙◌, ℕ, zero, suc, Bool, true, false, List, [], ◌∷◌, map, take, get_or, refl, sym, ap, subst, arith}
 use Rattle.std.proofs.lemmas.List.{length-map, take_all}
-use Rattle.std.proofs.lemmas.List.Elements.{All-nil, All-append, All-take}
 use Rattle.std.proofs.lemmas.Option.{slice_get_within}
 use Rattle.sii_edit.specs.declared.command.Command.{Command}
 use Rattle.sii_edit.specs.Fold.{contents}
-use Rattle.sii_edit.specs.Fitting.{CommandFits}
 use Rattle.jrn_format.specs.declared.journal.Journal.{Journal}
 use Rattle.esc_model.specs.SlaveHalf.{SlaveHalf, MayLeave}
 use Rattle.esc_model.proofs.Resting.{MayLeave-same, length-MayLeave}
-use Rattle.site_core.specs.State.{State, Pair, EachMayLeave}
+use Rattle.site_core.specs.State.{State, EachMayLeave}
 use Rattle.site_core.specs.Passes.{LeavesOnly}
 use Rattle.book_model.specs.Cells.{Cell}
 use Rattle.book_model.specs.Book.{Book, Slave, Errand, Free, Issuing, Unsettled, Settling, base_of, contents_of, nobody, slave_at, all_cells}
@@ -24,6 +22,8 @@ use Rattle.book_laws.specs.Opening.{capacity_in, words_in, book_on}
 use Rattle.book_laws.proofs.FormLaws.{journal-kept}
 use Rattle.book_laws.proofs.LineLaws.{half-there, holds-all}
 use Rattle.book_laws.proofs.OpeningLaws.{up-opens}
+use Rattle.world_law.specs.Law.{KeptFor}
+use Rattle.world_law.proofs.FitLaws.{fits-reopened}
 use Rattle.desk_book.specs.declared.call.Call.{Call}
 use Rattle.desk_book.specs.Calls.{replayed, AreAnswered, IsOut}
 use Rattle.desk_book.specs.Closing.{is_served}
@@ -104,7 +104,7 @@ module _ (began : Machine) (end : State) (book : Book) (j : Joined began end [] 
       ∙ ap (λ (l : List Command). record j.machine { origin = began.origin; kept = began.kept; accepted = l }) j.up.of.accepted
       ∙ ap (λ (n : ℕ). record { origin = began.origin; kept = began.kept; accepted = book.accepted; acknowledged = n }) j.up.of.acknowledged
 
-  pub ends-kept : LeavesOnly (λ (pair : Pair). Kept pair.disk pair.words (served_by began book)) end
+  pub ends-kept : LeavesOnly (KeptFor (served_by began book)) end
   ends-kept pair leaves =
       subst (Kept pair.disk pair.words) is-session
       (journal-kept j.frame book j.machine j.up.gone j.state.disk pair.disk pair.words j.up.line j.up.of j.up.fits j.up.disk (holds pair.words leaves.words)
@@ -147,7 +147,7 @@ module _ (machine : Machine) (journal : Journal) (old new : State) (calls : List
           up = u.up;
           origin = refl;
           kept = refl;
-          fits = record { origin = f.origin; kept = All-append CommandFits machine.kept (take u.k machine.accepted) f.kept (All-take CommandFits u.k machine.accepted f.accepted); accepted = All-nil CommandFits };
+          fits = fits-reopened machine u.k f;
           disk = record { log = []; real = old.disk; on = rests refl refl refl; led = led-disk calls old.disk new.disk go.disk };
           count = go.count;
           slaves = parts;

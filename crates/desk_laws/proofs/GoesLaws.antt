@@ -26,6 +26,7 @@ use Rattle.book_model.specs.Reading.{all_entries, applied, settled_prefix}
 use Rattle.book_laws.specs.Fits.{OwesNoMore}
 use Rattle.book_laws.proofs.SettledLaws.{prefix-stays}
 use Rattle.book_laws.proofs.CommandLaws.{entry_after, entries-push}
+use Rattle.book_laws.specs.Events.{rested}
 use Rattle.desk_laws.specs.Turns.{AppendsNext}
 use Rattle.desk_laws.proofs.OwedLaws.{OweLess, owe-same, owe-asked, owe-written, count-set, owes-set, owes-live, count-live}
 
@@ -201,10 +202,6 @@ disk-asked-on book = from (asked-is book book.is_handed_out (is_some book.fault)
     from : ((disk_next book).1 ≡ book) ⊎ ((disk_next book).1 ≡ out_of book) → GoesOn book (disk_next book).1
     from (inl is) = subst (GoesOn book) (sym is) (same-on book)
     from (inr is) = subst (GoesOn book) (sym is) (out-on book)
-
--- the book with nothing handed out
-abbrev rested : Book → Book
-rested book = record book { is_handed_out = false }
 
 -- the later book has the same entries and slaves, and appends nothing
 nothing-on : (book later : Book) → later.words ≡ book.words → later.found ≡ book.found → later.accepted ≡ book.accepted → later.durable ≡ book.durable → later.slaves ≡ book.slaves → appended later.doing ≡ None → GoesOn book later

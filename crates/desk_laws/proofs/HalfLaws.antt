@@ -1,9 +1,9 @@
 -- What a slave's half may hold, given what the book knows of its words and which job is out.
-use Rattle.std.proofs.Common.{◌≡◌, ◌≢◌, inl, inr, ℕ, ◌<◌, Bool, true, false, List, length, map, get_or, set, refl, sym, ◌∙◌, ap, subst, arith, length-set}
-use Rattle.std.proofs.lemmas.List.{get_or-set_same, get_or-set_other, length-map, get_or-map}
+use Rattle.std.proofs.Common.{◌≡◌, inl, inr, ℕ, ◌<◌, Bool, true, false, List, length, map, get_or, set, refl, sym, ◌∙◌, ap, subst, arith, length-set}
+use Rattle.std.proofs.lemmas.List.{get_or-set_same, length-map, get_or-map}
 use Rattle.std.proofs.lemmas.Bool.{cases_eq}
-use Rattle.esc_model.specs.SlaveHalf.{SlaveHalf, Activity, MayRest, MayLeave, MayHold}
-use Rattle.esc_model.specs.WordAccess.{IsIdle, IsWell, OnlyRests, TakesWord}
+use Rattle.esc_model.specs.SlaveHalf.{SlaveHalf, MayRest, MayLeave}
+use Rattle.esc_model.specs.WordAccess.{IsIdle, IsWell, OnlyRests}
 use Rattle.esc_model.proofs.Resting.{MayRest-leaves, MayRest-twice, MayLeave-same, MayLeave-idle}
 use Rattle.esc_model.proofs.OnlyResting.{MayRest-only, OnlyRests-leaves, OnlyRests-length}
 use Rattle.esc_model.proofs.WordWriting.{taken_then_well}

@@ -1,14 +1,12 @@
 -- The invariant of the station (`Up`) holds of disk and slaves together, call by call.
-use Rattle.std.proofs.Common.{◌≡◌, ◌∙◌, ℕ, Bool, List, [], ◌∷◌, ◌++◌, length, get_or, refl, sym, ap, subst, All, Ok, Err}
+use Rattle.std.proofs.Common.{◌≡◌, ◌∙◌, ℕ, Bool, List, [], ◌∷◌, length, get_or, refl, sym, ap, subst, Ok, Err}
 use Rattle.std.specs.Prelude.{fold}
 use Rattle.std.specs.List.{AllByRecursion}
-use Rattle.std.proofs.lemmas.List.Elements.{All-push}
 use Rattle.sii_edit.specs.declared.command.Command.{Command}
-use Rattle.sii_edit.specs.Fitting.{PlantFits, CommandFits}
-use Rattle.sii_edit.proofs.PlantLaws.{fit-contents}
+use Rattle.sii_edit.specs.Fitting.{CommandFits}
 use Rattle.site_core.specs.Disk.{Disk}
 use Rattle.site_core.specs.State.{State}
-use Rattle.book_model.specs.Book.{Book, Slave, base_of, contents_of, nobody, slave_at}
+use Rattle.book_model.specs.Book.{Book, Slave, nobody, slave_at}
 use Rattle.book_model.specs.Submit.{submit, with_command}
 use Rattle.book_model.specs.Open.{finish}
 use Rattle.book_model.specs.DiskSteps.{disk_next, disk_done}
@@ -17,6 +15,7 @@ use Rattle.book_model.specs.Machine.{Machine, accepts}
 use Rattle.book_laws.specs.Frame.{JournalFrame}
 use Rattle.book_laws.specs.Up.{Up}
 use Rattle.world_law.specs.Law.{MachineFits}
+use Rattle.world_law.proofs.FitLaws.{fits-accepts, contents-fit}
 use Rattle.book_laws.proofs.CallLaws.{up-finished}
 use Rattle.book_laws.proofs.SubmitLaws.{up-submits}
 use Rattle.desk_book.specs.declared.call.Call.{Call}
@@ -73,18 +72,11 @@ module _ (began : Machine) (end : State) (calls : List Call) (book : Book) (call
     slaves = parts-behind book later call calls j.state.halves end.halves (λ i. ap (λ (l : List Slave). (get_or l i nobody).errand) slaves) none j.slaves;
   }
 
-  contents-fit : (command : Command) → CommandFits command → PlantFits (contents_of (with_command book command))
-  contents-fit command small =
-      let m = j.machine in
-      let base : PlantFits (base_of book) = subst PlantFits j.up.of.base (fit-contents m.origin m.kept j.fits.kept j.fits.origin) in
-      let commands : All CommandFits book.accepted = subst (All CommandFits) j.up.of.accepted j.fits.accepted in
-      fit-contents (base_of book) (book.accepted ++ command ∷ []) (All-push CommandFits book.accepted command commands small) base
-
   joins-command : (command : Command) (number : ℕ) → submit book command ≡ Ok number → CommandFits command → ((log : List DiskEntry) → disk_noted log call ≡ log) → ((i : ℕ) (log : List RomEntry) → rom_noted i log call ≡ log)
       → Joined began end calls (with_command book command)
   joins-command command number is small unnoted none =
-      quiet (with_command book command) (accepts j.machine command) (up-submits j.frame book j.state j.took j.machine command number j.up is (contents-fit command small)) refl refl
-      (record { origin = j.fits.origin; kept = j.fits.kept; accepted = All-push CommandFits j.machine.accepted command j.fits.accepted small }) (record { out = refl; action = refl; failed = λ has. has }) refl unnoted none
+      quiet (with_command book command) (accepts j.machine command) (up-submits j.frame book j.state j.took j.machine command number j.up is (contents-fit book j.machine command j.up.of j.fits small)) refl refl
+      (fits-accepts j.machine command j.fits small) (record { out = refl; action = refl; failed = λ has. has }) refl unnoted none
 
   joins-finished : ((log : List DiskEntry) → disk_noted log call ≡ log) → ((i : ℕ) (log : List RomEntry) → rom_noted i log call ≡ log) → Joined began end calls (finish book)
   joins-finished unnoted none =

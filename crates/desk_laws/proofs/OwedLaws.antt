@@ -1,13 +1,13 @@
 -- The values that words must still be given, after a call.
-use Rattle.std.proofs.Common.{◌≡◌, ℕ, zero, suc, ◌+◌, ◌≤◌, List, [], ◌∷◌, length, get_or, set, refl, ap, subst, arith, add-zero, zero-add, add-suc, suc-add}
+use Rattle.std.proofs.Common.{◌≡◌, ℕ, zero, suc, ◌+◌, ◌≤◌, List, [], ◌∷◌, length, get_or, set, refl, ap, subst, arith, zero-add}
 use Rattle.sii_words.specs.declared.run.Run.{Run}
 use Rattle.book_model.specs.Cells.{Cell, Holds, all_named, cell_of, asked, written}
 use Rattle.book_model.specs.Entries.{values}
 use Rattle.book_model.specs.Book.{Slave, nobody, all_cells, cell_at}
-use Rattle.book_model.specs.Open.{owing_words, owing_slaves}
+use Rattle.book_model.specs.Open.{owing_slaves}
 use Rattle.book_laws.specs.Fits.{OwesNoMore}
 use Rattle.book_laws.proofs.CellLaws.{length-all_named}
-use Rattle.book_core.proofs.LiveLaws.{owes-slave, owes-word}
+use Rattle.book_core.proofs.LiveLaws.{owes-slave}
 
 -- ---- one slave
 

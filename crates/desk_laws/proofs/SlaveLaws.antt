@@ -1,7 +1,8 @@
 -- Once everything is settled, a slave reads as the contents after all accepted commands.
-use Rattle.std.proofs.Common.{◌≡◌, ◌≢◌, ◌∙◌, ◌⊎◌, inl, inr, ℕ, zero, suc, ◌<◌, Bool, true, false, List, [], ◌∷◌, ◌++◌, length, take, refl, sym, ap, subst, arith, Some, None}
+use Rattle.std.proofs.Common.{◌≡◌, ◌≢◌, ◌∙◌, ◌⊎◌, inl, inr, ℕ, zero, suc, ◌<◌, true, List, [], ◌∷◌, ◌++◌, length, take, refl, sym, ap, subst, arith, Some, None}
 use Rattle.std.specs.Prelude.{is_some, not, ◌&&◌, ◌==◌, slice_get}
 use Rattle.std.proofs.lemmas.List.{take_all}
+use Rattle.std.proofs.lemmas.Bool.{not-true}
 use Rattle.std.proofs.lemmas.Bool.Decides.{nat_tests}
 use Rattle.sii_words.specs.Plant.{words_of}
 use Rattle.sii_words.specs.declared.run.Run.{Run}
@@ -82,10 +83,6 @@ pub record Served (book : Book) : Type 0 where
   pub durable : book.durable ≡ length book.accepted
   pub settled : settled_prefix (all_cells book.slaves) (all_entries book) ≡ length (all_entries book)
 
-is-not : (failed : Bool) → not failed ≡ true → failed ≡ false
-is-not true is = absurd cc
-is-not false is = refl
-
 same-of : (n m : ℕ) → (n == m) ≡ true → n ≡ m
 same-of n m is = grind (arith, nat_tests)
 
@@ -95,7 +92,7 @@ served-is book is =
     let second = book.durable == length book.accepted in
     let both : (first && second) ≡ true = and-left (first && second) (is_settled book) is in
     record {
-      none = is-not (is_some book.fault) (and-left first second both);
+      none = not-true (is_some book.fault) (and-left first second both);
       durable = same-of book.durable (length book.accepted) (and-right first second both);
       settled = same-of (settled_prefix (all_cells book.slaves) (all_entries book)) (length (all_entries book)) (and-right (first && second) (is_settled book) is);
     }

@@ -1,8 +1,7 @@
 -- What holds of one slave at each call of its book, whatever the other slaves do.
-use Rattle.std.proofs.Common.{◌≡◌, ◌∙◌, inl, inr, ℕ, zero, suc, ◌+◌, ◌<◌, ◌≤◌, Bool, true, false, List, [], ◌∷◌, ◌++◌, length, map, take, drop, get_or, set, refl, sym, ap, subst, arith, add-zero, zero-add, add-suc, suc-add, length-append, length-drop, length-set, append_assoc, Option, Result, Ok, Err}
+use Rattle.std.proofs.Common.{◌≡◌, ◌∙◌, ℕ, zero, suc, ◌+◌, ◌<◌, ◌≤◌, Bool, true, false, List, [], ◌∷◌, ◌++◌, length, map, take, drop, get_or, set, refl, sym, ap, subst, arith, add-zero, zero-add, add-suc, suc-add, length-append, length-drop, length-set, append_assoc, Option, Result, Ok, Err}
 use Rattle.std.specs.Prelude.{is_some, filter}
-use Rattle.std.proofs.lemmas.Bool.{cases_lt}
-use Rattle.std.proofs.lemmas.List.{append-nil, get_or-set_same, get_or_past, length-map, length-take, take-append-le}
+use Rattle.std.proofs.lemmas.List.{append-nil, get_or-set_same, length-map, length-take, take-append-le}
 use Rattle.std.proofs.Math.Seq.{take-add}
 use Rattle.sii_words.specs.Plant.{words_of}
 use Rattle.sii_words.specs.declared.run.Run.{Run}
@@ -13,8 +12,7 @@ use Rattle.esc_model.specs.SlaveHalf.{SlaveHalf}
 use Rattle.esc_model.specs.WordAccess.{IsIdle}
 use Rattle.site_core.specs.declared.fault.DeviceFault.{DeviceFault}
 use Rattle.site_core.specs.declared.fault.DeviceFault.TheVariants.{Disk, Lost, Stopped}
-use Rattle.book_model.specs.Cells.{Cell, is_any, opened, cell_of}
-use Rattle.book_model.specs.Cells.{nothing as no_cell}
+use Rattle.book_model.specs.Cells.{is_any, opened, cell_of}
 use Rattle.book_model.specs.declared.next.DiskNext.{DiskNext}
 use Rattle.book_model.specs.declared.fault.Fault.{Fault}
 use Rattle.book_model.specs.declared.fault.Fault.TheVariants as faults
@@ -29,7 +27,9 @@ use Rattle.jrn_format.specs.Halves.{Place, live}
 use Rattle.book_model.specs.Reading.{all_entries}
 use Rattle.book_laws.proofs.CommandLaws.{entry_after, entries-push}
 use Rattle.book_laws.proofs.FitLaws.{runs_of-append}
+use Rattle.book_laws.proofs.OwingLaws.{length-owing_slaves}
 use Rattle.book_laws.proofs.WorkLaws.{owed-inside, some-of}
+use Rattle.book_laws.specs.Events.{rested}
 use Rattle.desk_book.proofs.OutLaws.{DiskNexts, disk_rests, disk_goes, nexts-of}
 use Rattle.desk_laws.specs.Turns.{AppendsNext}
 use Rattle.desk_laws.proofs.GoesLaws.{command-on, disk-asked-on, disk-told-on}
@@ -61,10 +61,6 @@ owing-slave runs first (s ∷ slaves) (suc i) within = rw (add-suc first i, ← 
 slave-owing : (runs : List Run) (slaves : List Slave) (i : ℕ) → i < length slaves → get_or (owing_slaves runs 0 slaves) i nobody ≡ record (get_or slaves i nobody) { cells = owing_words runs i 0 (get_or slaves i nobody).cells }
 slave-owing runs slaves i within = rw zero-add at (owing-slave runs 0 slaves i within)
 
-count-owing : (runs : List Run) (first : ℕ) (slaves : List Slave) → length (owing_slaves runs first slaves) ≡ length slaves
-count-owing runs first [] = refl
-count-owing runs first (s ∷ slaves) = omega (arith, count-owing runs (suc first) slaves)
-
 -- ---- at the open
 
 slave-read : (words : List (List ℕ)) (i : ℕ) → i < length words → get_or (map opened_slave words) i nobody ≡ opened_slave (words_of words i)
@@ -95,7 +91,7 @@ stands-opened words capacity journal i half within idle holds =
       appends = resting-next book refl;
       few = omega arith;
       plant = within;
-      inside = omega (arith, within, count, count-owing runs 0 read);
+      inside = omega (arith, within, count, length-owing_slaves runs 0 read);
       words = subst (λ (s : Slave). WordsFit i (words_of words i) (all_runs book) s.cells) (sym slave)
           (subst (λ (es : List Entry). WordsFit i (words_of words i) (runs_of es) cells) (sym all) (words-live i (words_of words i) [] runs (map opened (words_of words i)) (words-opened i (words_of words i))));
       fits = subst (λ (s : Slave). HalfFits i half s.errand s.cells) (sym slave)
@@ -150,10 +146,6 @@ stands-asked i book half stands = from (nexts-of book)
 
 -- ---- the book after an outcome of the disk
 
--- the book with nothing handed out
-abbrev rested : Book → Book
-rested book = record book { is_handed_out = false }
-
 -- the slaves stay the same, or a batch becomes live; a fault stays
 data DiskBack (book later : Book) : Type 0 where
   quiet : Quiet book later → (is_some book.fault ≡ true → is_some later.fault ≡ true) → DiskBack book later
@@ -201,7 +193,7 @@ stands-live i book half place entries is appends stands =
       appends = appends;
       few = omega (arith, stands.few, ap length next, length-take (length entries) (drop book.durable (own book)), length-drop book.durable (own book));
       plant = stands.plant;
-      inside = omega (arith, stands.inside, count-owing runs 0 book.slaves);
+      inside = omega (arith, stands.inside, length-owing_slaves runs 0 book.slaves);
       words = subst (λ (s : Slave). WordsFit i (words_of book.words i) (all_runs later) s.cells) (sym slave)
           (subst (λ (r : List Run). WordsFit i (words_of book.words i) r (owing_words runs i 0 cells)) (sym (ap runs_of all ∙ runs_of-append (all_entries book) entries)) (words-live i (words_of book.words i) (all_runs book) runs cells stands.words));
       fits = subst (λ (s : Slave). HalfFits i half s.errand s.cells) (sym slave) (half-same i (slave_at book i).errand half cells (owing_words runs i 0 cells) (same-owing runs i cells) stands.fits);

@@ -2,7 +2,7 @@
 use Rattle.std.proofs.Common.{◌≡◌, ◌⊎◌, inl, inr, ℕ, zero, suc, ◌+◌, ◌<◌, ◌≤◌, Bool, true, false, List, [], ◌∷◌, ◌++◌, length, map, get_or, set, refl, sym, ◌∙◌, ap, subst, arith, length-set, add-zero, zero-add, add-suc, suc-add, Option, Some, None, unwrap_or, ext_get_or}
 use Rattle.std.specs.Prelude.{if◌then◌else◌}
 use Rattle.std.specs.Option.{option_or}
-use Rattle.std.proofs.lemmas.List.{get_or-set_same, get_or-set_other, length-map, get_or-map}
+use Rattle.std.proofs.lemmas.List.{nil_from_length, get_or-set_same, get_or-set_other, length-map, get_or-map}
 use Rattle.std.proofs.lemmas.Bool.{cases_eq}
 use Rattle.sii_words.specs.Plant.{words_of}
 use Rattle.sii_words.specs.declared.run.Run.{Run}
@@ -11,10 +11,10 @@ use Rattle.sii_words.proofs.RedoLaws.{last_given-append, word-redone, length-wor
 use Rattle.jrn_format.specs.declared.journal.Entry.{Entry}
 use Rattle.book_model.specs.Cells.{Cell, Known, owing, opened, nothing, cell_of}
 use Rattle.book_model.specs.Pending.{namings_settled}
-use Rattle.book_model.proofs.SettledLaws.{and-left, and-right, word-settled}
+use Rattle.book_model.proofs.SettledLaws.{word-settled}
 use Rattle.book_model.specs.Entries.{runs_of, namings, values}
 use Rattle.book_model.specs.Open.{owing_words}
-use Rattle.book_model.specs.Reading.{settled_from, runs_settled, settled_prefix}
+use Rattle.book_model.specs.Reading.{runs_settled, settled_prefix}
 use Rattle.book_laws.specs.Owed.{MayBe, IsUnsure, CellFits, due, redone_word}
 use Rattle.book_laws.proofs.CellLaws.{values-append, opened-fits, owing-fits}
 use Rattle.book_laws.proofs.SettledLaws.{slave-settled}
@@ -93,11 +93,7 @@ abbrev pub IsSettledWord : List Run → (slave at : ℕ) → Cell → Type 0
 IsSettledWord runs slave at cell = (values runs slave at ≡ []) ⊎ (length cell.owed ≤ 0)
 
 owes-nothing : (runs : List Run) (slave at target : ℕ) (cell : Cell) → CellFits runs slave at target cell → IsSettledWord runs slave at cell → cell.owed ≡ []
-owes-nothing runs slave at target cell fits settled = none cell.owed (elim settled [ inl unnamed ↦ omega (arith, fits.owed, ap length unnamed) | inr few ↦ few ])
-  where
-    none : (owed : List ℕ) → length owed ≤ 0 → owed ≡ []
-    none [] few = refl
-    none (v ∷ owed) few = absurd (omega arith)
+owes-nothing runs slave at target cell fits settled = nil_from_length cell.owed (elim settled [ inl unnamed ↦ omega (arith, fits.owed, ap length unnamed) | inr few ↦ omega (arith, few) ])
 
 holds-target : (runs : List Run) (slave at target word : ℕ) (cell : Cell) → CellFits runs slave at target cell → IsSettledWord runs slave at cell → MayBe cell.known word → word ≡ target
 holds-target runs slave at target word cell fits settled may = sym (ap (due word) (owes-nothing runs slave at target cell fits settled)) ∙ fits.leads word may

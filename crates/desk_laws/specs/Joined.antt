@@ -14,7 +14,7 @@ use Rattle.book_model.specs.Machine.{Machine, reopened, MayKeep}
 use Rattle.book_model.specs.Machine as machines
 use Rattle.book_model.specs.Kept.{Kept}
 use Rattle.book_laws.specs.Opening.{IsFound, words_in}
-use Rattle.world_law.specs.Law.{EventFits, MachineFits}
+use Rattle.world_law.specs.Law.{EventFits, KeptFor, MachineFits}
 use Rattle.station_jobs.specs.declared.log.Assignment.{Assignment}
 use Rattle.station_jobs.specs.Left.{LeftInProgress}
 use Rattle.station_jobs.specs.Flushing.{LeftInAction, IsFlushed}
@@ -92,7 +92,7 @@ pub record IsKeptAs (machine : Machine) (book : Book) (state : State) : Type 0 w
   pub k : ℕ
   pub may_keep : MayKeep machine k
   pub base : machines.base_of (reopened machine k) ≡ base_of book
-  pub kept : LeavesOnly (λ (pair : Pair). Kept pair.disk pair.words (served_by (reopened machine k) book)) state
+  pub kept : LeavesOnly (KeptFor (served_by (reopened machine k) book)) state
 
 -- Redo of the live journal on this disk turns these words into these contents.
 pub record LeadsTo (contents : List (List ℕ)) (pair : Pair) : Type 0 where
