@@ -9,4 +9,4 @@ mod Leaving
 mod AllFiles
 mod PairsLeft
 mod Following
-mod FollowingWords
+pub mod FollowingWords
