@@ -1,7 +1,8 @@
 -- Once everything is settled, a slave reads as the contents after all accepted commands.
-use Rattle.std.proofs.Common.{◌≡◌, ◌∙◌, inl, inr, ℕ, zero, suc, ◌<◌, true, List, [], ◌∷◌, length, take, sym, ap, subst, arith, Some}
+use Rattle.std.proofs.Common.{◌≡◌, ◌∙◌, inl, inr, ℕ, ◌<◌, true, List, length, take, sym, ap, subst, arith, Some}
 use Rattle.std.specs.Prelude.{is_some, not, ◌&&◌, ◌==◌, slice_get}
 use Rattle.std.proofs.lemmas.List.{take_all}
+use Rattle.std.proofs.lemmas.Option.{slice_get_within}
 use Rattle.std.proofs.lemmas.Bool.{not-true}
 use Rattle.std.proofs.lemmas.Bool.Decides.{nat_tests}
 use Rattle.sii_words.specs.Plant.{words_of}
@@ -113,16 +114,11 @@ slave-reads opened calls slave old new just all served within worked start =
 
 -- ---- the line
 
-within-count : {A : Type 0} (xs : List A) (i : ℕ) (x : A) → slice_get xs i ≡ Some x → i < length xs
-within-count [] i x is = absurd cc
-within-count (y ∷ xs) zero x is = omega arith
-within-count (y ∷ xs) (suc i) x is = omega (arith, within-count xs i x is)
-
 pub all-read : {S : Type 0} (opened : Book) (calls : List Call) (seen : S → Seen) (workers : List (Stay S SlaveLog)) → IsJustOpened opened → AreAnswered opened calls → is_served (replayed opened calls) ≡ true
     → AreWorkersOf opened calls workers → AllWorked seen workers → AllReadAsContents opened (replayed opened calls) seen workers
 all-read opened calls seen workers just all served are worked slave end is start =
     let work = are.each slave end is in
-    let within : slave < length opened.words = omega (arith, within-count workers slave end is, are.count, each-slave opened (replayed opened calls).accepted) in
+    let within : slave < length opened.words = omega (arith, slice_get_within workers slave end is, are.count, each-slave opened (replayed opened calls).accepted) in
     let led : IsWorked slave (rom_log slave calls) (seen end.start) (seen end.site) =
     subst (λ (k : ℕ). IsWorked k (rom_log slave calls) (seen end.start) (seen end.site)) work.0 (subst (λ (l : List RomEntry). IsWorked end.log.slave l (seen end.start) (seen end.site)) work.1 (worked slave end is)) in
     slave-reads opened calls slave (seen end.start) (seen end.site) just all served within led start

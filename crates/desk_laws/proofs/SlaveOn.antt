@@ -2,7 +2,7 @@
 use Rattle.std.proofs.Common.{◌≡◌, ◌≢◌, ◌⊎◌, ◌∙◌, inl, inr, ℕ, zero, suc, ◌<◌, ◌≤◌, Bool, true, false, List, [], ◌∷◌, length, get_or, set, refl, sym, ap, subst, arith, length-set, Some}
 use Rattle.std.specs.Prelude.{slice_get, nat_lt}
 use Rattle.std.proofs.lemmas.Bool.Decides.{nat_tests}
-use Rattle.std.proofs.lemmas.List.{get_or-set_same}
+use Rattle.std.proofs.lemmas.List.{get_or-set_same, set-set}
 use Rattle.std.proofs.lemmas.Option.{slice_get_within}
 use Rattle.esc_model.specs.SlaveHalf.{SlaveHalf, MayLeave, MayRest}
 use Rattle.esc_model.proofs.OnlyResting.{OnlyRests-same}
@@ -73,11 +73,6 @@ slave-asked book state took j stays = from (next-of book j)
 
 -- ---- it comes back
 
-set-twice : {A : Type 0} (xs : List A) (i : ℕ) (x y : A) → set (set xs i x) i y ≡ set xs i y
-set-twice [] i x y = refl
-set-twice (z ∷ xs) zero x y = refl
-set-twice {A} (z ∷ xs) (suc i) x y = ap (λ (l : List A). z ∷ l) (set-twice xs i x y)
-
 -- what may come back of a settle doesn't depend on the word
 settle-any : (took now taken : Bool) (word value x y : ℕ) (outcome : RomOutcome) (half later : SlaveHalf) → MayComeBack took (Settling word value taken) outcome half later → MayComeBack now (Settling x y taken) outcome half later
 settle-any took now taken word value x y (outcomes.Issued how) half later back = absurd back
@@ -105,7 +100,7 @@ module _ (book : Book) (state : State) (took : List Bool) (j : ℕ) (half mid : 
             may = subst (λ (e : Errand). MayComeBack (get_or t j false) e outcome rested later) (sym is) back;
             is = refl;
           })) in
-      subst (λ (l : List SlaveHalf). Stays (rom_done book j outcome) (record state { halves = l }) t) (set-twice (set state.halves j begun) j rested later ∙ set-twice state.halves j begun later) done
+      subst (λ (l : List SlaveHalf). Stays (rom_done book j outcome) (record state { halves = l }) t) (set-set (set state.halves j begun) j rested later ∙ set-set state.halves j begun later) done
 
   -- it is as it was
   unchanged : Stays book (with_half state j half) took
@@ -149,7 +144,7 @@ module _ (book : Book) (state : State) (took : List Bool) (j : ℕ) (half mid : 
       let free : (slave_at later j).errand ≡ Free =
       ap (λ (b : Book). (slave_at b j).errand) later_is ∙ ap (λ (s : Slave). s.errand) (get_or-set_same book.slaves j (record (slave_at book j) { errand = Free }) nobody (omega (arith, inside, slave-count book state took stays))) in
       let faded = fades later (with_half state j half) took j half mid done free (set-here state.halves j half inside) (subst (λ (n : RomNext). (left : List ℕ) → MayLeave mid left → HalfLeft n half left) of leaves) in
-      record { took = set took j false; stays = subst (λ (l : List SlaveHalf). Stays later (record state { halves = l }) (set took j false)) (set-twice state.halves j half mid) faded }
+      record { took = set took j false; stays = subst (λ (l : List SlaveHalf). Stays later (record state { halves = l }) (set took j false)) (set-set state.halves j half mid) faded }
 
   told-back : (outcome : RomOutcome) (job : RomNext) → IsJobOf (slave_at book j).errand job → HalfSteps j (record { job = job; outcome = Some outcome }) half mid → Told outcome
   told-back (outcomes.Issued how) job of steps = job-back (slave_at book j).errand job (outcomes.Issued how) refl of (steps.returns (outcomes.Issued how) refl (λ no. absurd (cc no)))
