@@ -142,9 +142,11 @@ module _ (i : ℕ) (end : SlaveHalf) where
           → HalfLedBy i (fold (rom_noted i) log (SlaveTold i outcome ∷ calls)) half end → (rom_done book i outcome ≡ book) ⊎ IsIdleAfter outcome → Course i book (SlaveTold i outcome ∷ calls) half end
       told-as outcome log half out all (inl none) led kind = absurd (none.0 out)
       told-as outcome log half out all (inr p) led (inl is) =
-          let noted : rom_noted i log (SlaveTold i outcome) ≡ record { job = p.0; outcome = Some outcome } ∷ [] = told-here i outcome log ∙ ap (λ (l : List RomEntry). with_outcome l outcome) p.3 in
-          (half, still refl (λ o told. let q : outcome ≡ o = cc told in subst (λ (o : RomOutcome). rom_done book i o ≡ book) q is),
-          leads (rom_done book i outcome) _ half all (inr (p.0, Some outcome, subst (λ (b : Book). IsJobOf (slave_at b i).errand p.0) (sym is) p.2, refl)) (subst (λ (l : List RomEntry). HalfLedBy i (fold (rom_noted i) l calls) half end) noted led))
+          let noted : rom_noted i log (SlaveTold i outcome) ≡ record { job = p.0; outcome = Some outcome } ∷ [] = told-here i outcome log ∙ ap (λ (l : List RomEntry). with_outcome l outcome) p.3 in (
+            half,
+            still refl (λ o told. let q : outcome ≡ o = cc told in subst (λ (o : RomOutcome). rom_done book i o ≡ book) q is),
+            leads (rom_done book i outcome) _ half all (inr (p.0, Some outcome, subst (λ (b : Book). IsJobOf (slave_at b i).errand p.0) (sym is) p.2, refl)) (subst (λ (l : List RomEntry). HalfLedBy i (fold (rom_noted i) l calls) half end) noted led),
+          )
       told-as outcome log half out all (inr p) led (inr idle) =
           let entry : RomEntry = record { job = p.0; outcome = Some outcome } in
           let noted : rom_noted i log (SlaveTold i outcome) ≡ entry ∷ [] = told-here i outcome log ∙ ap (λ (l : List RomEntry). with_outcome l outcome) p.3 in

@@ -143,8 +143,8 @@ stands-still i book (SlaveAsked j answer) half told stands = elim (same-or-not i
 ]
 stands-still i book (SlaveTold j outcome) half told stands = elim (same-or-not i j) [
   | inl it ↦
-    let same : rom_done book i outcome ≡ book = told outcome (ap (λ (k : ℕ). SlaveTold k outcome) (sym it)) in
-    subst (λ (k : ℕ). Stands i (rom_done book k outcome) half) it (subst (λ (b : Book). Stands i b half) (sym same) stands)
+      let same : rom_done book i outcome ≡ book = told outcome (ap (λ (k : ℕ). SlaveTold k outcome) (sym it)) in
+      subst (λ (k : ℕ). Stands i (rom_done book k outcome) half) it (subst (λ (b : Book). Stands i b half) (sym same) stands)
   | inr other ↦ told-stands i book j outcome half other stands
 ]
 stands-still i book (PlanAsked answer) half told stands = stands

@@ -60,7 +60,7 @@ handed book state took j job later stays is inside begins =
     let h = half-there state.halves j (omega (arith, within, slave-count book state took stays)) in
     let taken = took_after (rom_next book j).0 took j false in
     let now = happens (RomIssue j) Nothing book (rom_next book j).1 state (with_half state j h.0) took taken stays tt
-        (book, refl, (refl, record { half = h.0; here = h.1; taken = false; after = h.0; may = subst (λ (p : RomNext × Book). MayBegin p.0 j false h.0 h.0) (sym is) (begins h.0); is = refl })) in
+    (book, refl, (refl, record { half = h.0; here = h.1; taken = false; after = h.0; may = subst (λ (p : RomNext × Book). MayBegin p.0 j false h.0 h.0) (sym is) (begins h.0); is = refl })) in
     record { took = taken; stays = subst (λ (l : List SlaveHalf). Stays (rom_next book j).1 (record state { halves = l }) taken) (set-same state.halves j h.0 h.1) now }
 
 pub slave-asked : (book : Book) (state : State) (took : List Bool) (j : ℕ) → Stays book state took → StaysNow (rom_next book j).1 state
@@ -92,14 +92,20 @@ module _ (book : Book) (state : State) (took : List Bool) (j : ℕ) (half mid : 
       let first = set-here state.halves j begun inside in
       let s = with_half state j begun in
       let at_rest = happens (RomResolve j) Nothing book book s (with_half s j rested) t t now tt (refl, record { half = begun; here = first; later = rested; new_is = refl; goes = resting }, refl) in
-      let done = happens (RomDone j outcome) (fault_told (rom_done book j outcome)) book (rom_done book j outcome) (with_half s j rested) (with_half (with_half s j rested) j later) t t at_rest tt
-          (book, refl, (refl, record {
+      let done = happens (RomDone j outcome) (fault_told (rom_done book j outcome)) book (rom_done book j outcome) (with_half s j rested) (with_half (with_half s j rested) j later) t t at_rest tt (
+        book,
+        refl,
+        (
+          refl,
+          record {
             half = rested;
             here = set-here s.halves j rested (slice_get_within s.halves j begun first);
             after = later;
             may = subst (λ (e : Errand). MayComeBack (get_or t j false) e outcome rested later) (sym is) back;
             is = refl;
-          })) in
+          },
+        ),
+      ) in
       subst (λ (l : List SlaveHalf). Stays (rom_done book j outcome) (record state { halves = l }) t) (set-set (set state.halves j begun) j rested later ∙ set-set state.halves j begun later) done
 
   -- it is as it was
@@ -240,9 +246,9 @@ module _ (book : Book) (state : State) (ends : List SlaveHalf) (n : ℕ) (b : En
     less = λ i h e lt is last. elim (below-or-last i n lt) [
       | inl below ↦ b.less i h e below (sym (apart i (λ it. omega (arith, it, below))) ∙ is) last
       | inr it ↦
-        let half_is : half ≡ h = (let q : Some half ≡ Some h = sym here ∙ subst (λ (k : ℕ). slice_get halves k ≡ Some h) it is in cc) in
-        let end_is : end ≡ e = (let q : Some end ≡ Some e = sym there ∙ subst (λ (k : ℕ). slice_get ends k ≡ Some e) it last in cc) in
-        subst (λ (x : SlaveHalf). LeavesLess x e) half_is (subst (λ (x : SlaveHalf). LeavesLess half x) end_is less)
+          let half_is : half ≡ h = (let q : Some half ≡ Some h = sym here ∙ subst (λ (k : ℕ). slice_get halves k ≡ Some h) it is in cc) in
+          let end_is : end ≡ e = (let q : Some end ≡ Some e = sym there ∙ subst (λ (k : ℕ). slice_get ends k ≡ Some e) it last in cc) in
+          subst (λ (x : SlaveHalf). LeavesLess x e) half_is (subst (λ (x : SlaveHalf). LeavesLess half x) end_is less)
     ];
     others = λ i le. apart i (λ it. omega (arith, it, le)) ∙ b.others i (omega (arith, le));
   }
@@ -253,7 +259,7 @@ module _ (book : Book) (state : State) (ends : List SlaveHalf) (n : ℕ) (b : En
       elim (ends-so (slave_at book n).errand half end out) [
         | inl less ↦ one-more b.halves b.took half end b.stays b.count (λ i other. refl) now there less
         | inr torn ↦ one-more (set b.halves n end) (set b.took n false) end end (tears book (record state { halves = b.halves }) b.took n torn.0 torn.1 half end b.stays torn.2 now torn.3) (length-set b.halves n end ∙ b.count)
-          (λ i other. set-apart b.halves n i end other) (set-here b.halves n end (slice_get_within b.halves n half now)) there (λ left may. may)
+            (λ i other. set-apart b.halves n i end other) (set-here b.halves n end (slice_get_within b.halves n half now)) there (λ left may. may)
       ]
 
   ends-past : length state.halves ≤ n → EndsBefore book state ends (suc n)
