@@ -92,20 +92,10 @@ module _ (book : Book) (state : State) (took : List Bool) (j : ℕ) (half mid : 
       let first = set-here state.halves j begun inside in
       let s = with_half state j begun in
       let at_rest = happens (RomResolve j) Nothing book book s (with_half s j rested) t t now tt (refl, record { half = begun; here = first; later = rested; new_is = refl; goes = resting }, refl) in
-      let done = happens (RomDone j outcome) (fault_told (rom_done book j outcome)) book (rom_done book j outcome) (with_half s j rested) (with_half (with_half s j rested) j later) t t at_rest tt (
-        book,
-        refl,
-        (
-          refl,
-          record {
-            half = rested;
-            here = set-here s.halves j rested (slice_get_within s.halves j begun first);
-            after = later;
-            may = subst (λ (e : Errand). MayComeBack (get_or t j false) e outcome rested later) (sym is) back;
-            is = refl;
-          },
-        ),
-      ) in
+      let there = set-here s.halves j rested (slice_get_within s.halves j begun first) in
+      let may = subst (λ (e : Errand). MayComeBack (get_or t j false) e outcome rested later) (sym is) back in
+      let done = happens (RomDone j outcome) (fault_told (rom_done book j outcome)) book (rom_done book j outcome) (with_half s j rested) (with_half (with_half s j rested) j later) t t at_rest tt
+      (book, refl, (refl, record { half = rested; here = there; after = later; may = may; is = refl })) in
       subst (λ (l : List SlaveHalf). Stays (rom_done book j outcome) (record state { halves = l }) t) (set-set (set state.halves j begun) j rested later ∙ set-set state.halves j begun later) done
 
   -- it is as it was

@@ -1,5 +1,5 @@
--- The desk's book, disk and slaves as a world of the main law. Of a slave with a job out the world may change in two more ways than by an event: it takes an
--- issued datagram late, or the issued word holds anything.
+-- The desk's book, disk and slaves as a world of the main law. A slave may change in three ways more than its events say: it takes an issued datagram only
+-- now, the word that is issued holds anything, or a power cut leaves no more of it once the book is done with it.
 use Rattle.std.proofs.Common.{◌≡◌, ◌∙◌, inl, inr, ℕ, ◌<◌, Bool, false, List, length, get_or, set, refl, sym, ap, subst, arith, length-set, Some}
 use Rattle.std.specs.Prelude.{slice_get}
 use Rattle.std.proofs.lemmas.Bool.{cases_eq}
