@@ -101,7 +101,7 @@ module _ (machine : Machine) (journal : Journal) (old new : State) (calls : List
         count = go.count;
         courses = λ i half end here there. course-of i calls opened half end answered (λ out. subst IsOut (free i half here) out) (led-slave calls i half end (go.slaves i half end here there));
       }) in
-      let last = ends-before (replayed opened calls) joined.state joined.took new.halves joined.stays joined.count joined.courses (length joined.state.halves) in
+      let last = ends-before (replayed opened calls) joined.state joined.took new.halves joined.stays joined.count joined.courses (length joined.state.halves) (omega arith) in
       let base = u.up.of.base ∙ sym (base-replayed opened calls) in
       record { k = u.k; may_keep = u.may_keep; base = base; kept = ends-kept new (replayed opened calls) joined last (reopened machine u.k) base }
 

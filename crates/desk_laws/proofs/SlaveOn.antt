@@ -252,18 +252,8 @@ module _ (book : Book) (state : State) (ends : List SlaveHalf) (n : ℕ) (b : En
             (λ i other. set-apart b.halves n i end other) (set-here b.halves n end (slice_get_within b.halves n half now)) there (λ left may. may)
       ]
 
-  ends-past : length state.halves ≤ n → EndsBefore book state ends (suc n)
-  ends-past past = record {
-    halves = b.halves;
-    took = b.took;
-    stays = b.stays;
-    count = b.count;
-    less = λ i half end lt here there. let inside = slice_get_within b.halves i half here in b.less i half end (omega (arith, inside, b.count, past)) here there;
-    others = λ i le. b.others i (omega (arith, le));
-  }
-
-pub ends-before : (book : Book) (state : State) (took : List Bool) (ends : List SlaveHalf) → Stays book state took → length ends ≡ length state.halves → Courses book [] state.halves ends → (n : ℕ) → EndsBefore book state ends n
-ends-before book state took ends stays count courses zero = record {
+pub ends-before : (book : Book) (state : State) (took : List Bool) (ends : List SlaveHalf) → Stays book state took → length ends ≡ length state.halves → Courses book [] state.halves ends → (n : ℕ) → n ≤ length state.halves → EndsBefore book state ends n
+ends-before book state took ends stays count courses zero le = record {
   halves = state.halves;
   took = took;
   stays = stays;
@@ -271,12 +261,7 @@ ends-before book state took ends stays count courses zero = record {
   less = λ i half end lt. absurd (omega (arith, lt));
   others = λ i le. refl;
 }
-ends-before book state took ends stays count courses (suc n) = by (ends-before book state took ends stays count courses n) (nat_lt n (length state.halves)) refl
-  where
-    by : EndsBefore book state ends n → (inside : Bool) → nat_lt n (length state.halves) ≡ inside → EndsBefore book state ends (suc n)
-    by before true is =
-        let within : n < length state.halves = grind (arith, nat_tests) in
-        let h = half-there state.halves n within in
-        let e = half-there ends n (omega (arith, within, count)) in
-        ends-next book state ends n before h.0 e.0 h.1 e.1 (courses n h.0 e.0 h.1 e.1)
-    by before false is = ends-past book state ends n before (grind (arith, nat_tests))
+ends-before book state took ends stays count courses (suc n) le =
+    let h = half-there state.halves n (omega (arith, le)) in
+    let e = half-there ends n (omega (arith, le, count)) in
+    ends-next book state ends n (ends-before book state took ends stays count courses n (omega (arith, le))) h.0 e.0 h.1 e.1 (courses n h.0 e.0 h.1 e.1)
