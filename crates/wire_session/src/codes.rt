@@ -20,7 +20,7 @@ pub enum WireCode {
     Differs = 105,
     /// A slave failed to write a word.
     WordFailed = 106,
-    /// A slave may not have taken a command.
+    /// A slave may not have taken a command. Reserved: no fault has this number.
     Unconfirmed = 107,
     /// A frame was to be sent that this program doesn't send over a wire.
     NotForWire = 108,
