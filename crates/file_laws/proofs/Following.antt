@@ -1,5 +1,5 @@
 -- The files behind a site follow it, step by step.
-use Rattle.std.proofs.Common.{◌≡◌, ◌⊎◌, ℕ, ◌≤◌, Bool, true, false, List, [], ◌∷◌, ◌++◌, length, Any, Some, slice_get, Result, Ok, Err, IsErrOf, IsTrue, refl, sym, ap, subst, ◌∙◌, inl, inr, append_assoc}
+use Rattle.std.proofs.Common.{◌≡◌, ◌⊎◌, ℕ, ◌≤◌, Bool, true, false, List, [], ◌∷◌, ◌++◌, length, Any, Some, slice_get, Result, Ok, Err, IsErrOf, IsTrue, refl, sym, ap, subst, ◌∙◌, inl, inr}
 use Rattle.esc_model.specs.SlaveHalf.{SlaveHalf}
 use Rattle.esc_model.proofs.Resting.{MayLeave-same}
 use Rattle.site_core.specs.declared.fault.DeviceFault.{DeviceFault}
@@ -87,12 +87,12 @@ whole_words halves slave file image holds stop = record {
 
 -- STEPS
 
-module _ {F : Type 0} (owned : LineFile → Bool) (begun : LineFile → File) (start : ℕ) where
+module _ {F : Type 0} (owned : LineFile → Bool) (begun : LineFile → File) where
   -- the device has asked nothing
-  pub goes_on : (old new : Seen) (d : FileDevice F) → GoesOn old new → FilesFollow owned begun start d old → FilesFollow owned begun start d new
+  pub goes_on : (old new : Seen) (d : FileDevice F) → GoesOn old new → FilesFollow owned begun d old → FilesFollow owned begun d new
   goes_on old new d goes follows = record {
     calls = follows.calls;
-    asks = follows.asks;
+    has = follows.has;
     leaves = λ images bytes left. let was = follows.leaves images bytes left in (was.0, goes.extends.left was.0 was.1, was.2);
     holds = λ going_on going name later is_owned becomes.
         keeps_holding old.state new.state (goes.kept going) name later
@@ -101,10 +101,10 @@ module _ {F : Type 0} (owned : LineFile → Bool) (begun : LineFile → File) (s
 
   -- it asks nothing more, since a call on a file has failed
   pub over : (old new : Seen) (d later : FileDevice F) → later.asking.calls ≡ d.asking.calls → IsTrue later.has_failed → Extends old new
-      → FilesFollow owned begun start d old → FilesFollow owned begun start later new
+      → FilesFollow owned begun d old → FilesFollow owned begun later new
   over old new d later same failed extends follows = record {
     calls = follows.calls;
-    asks = subst (λ (n : ℕ). Asks start n follows.calls) (sym same) follows.asks;
+    has = subst (λ (n : ℕ). HasLog n follows.calls) (sym same) follows.has;
     leaves = λ images bytes left. let was = follows.leaves images bytes left in (was.0, extends.left was.0 was.1, was.2);
     holds = λ going_on going name file is_owned becomes. absurd (let e : true ≡ false = sym failed ∙ going_on in cc);
   }
@@ -117,13 +117,10 @@ module _ {F : Type 0} (owned : LineFile → Bool) (begun : LineFile → File) (s
       → (pair : Pair) × LeftSince new 0 pair × ((name : LineFile) → IsTrue (owned name) → Shows pair name (images name)))
       → (later.has_failed ≡ false → ¬ IsTrue new.is_stopped → (name : LineFile) (mid file : File) → IsTrue (owned name) → Holds old.state name mid
       → BecomesBy (of_file name calls) mid file → Holds new.state name file)
-      → FilesFollow owned begun start d old → FilesFollow owned begun start later new
+      → FilesFollow owned begun d old → FilesFollow owned begun later new
   asks_more old new d later calls going running asks extends leaves holds follows = record {
     calls = follows.calls ++ calls;
-    asks = record {
-      goes_on = λ log had. subst (λ (l : List Asked). HasLog later.asking.calls l) (append_assoc log follows.calls calls)
-          (asks.goes_on (log ++ follows.calls) (follows.asks.goes_on log had));
-    };
+    has = asks.goes_on follows.calls follows.has;
     leaves = λ images bytes left. elim (earlier_or_later follows.calls calls begun images left) [
       | inl early ↦ (let was = follows.leaves images bytes early in (was.0, extends.left was.0 was.1, was.2))
       | inr late ↦ leaves late.0 images bytes (λ name is_owned. held name (late.0 name) is_owned (late.1.each name)) late.2
@@ -185,15 +182,15 @@ write_left old new at bytes given pair running wrote leaves =
     (inr (inr (subst (λ (states : List State). Any (λ state. Leaves state pair) states) (sym middle)
     (Any-first (λ state. Leaves state pair) (begin_write old.state at (length bytes)) [] leaves))))
 
-module _ {F : Type 0} (owned : LineFile → Bool) (begun : LineFile → File) (start : ℕ) where
+module _ {F : Type 0} (owned : LineFile → Bool) (begun : LineFile → File) where
   write_asked : (old new : Seen) (d later : FileDevice F) (at : ℕ) (bytes : List ℕ) (given : Result (Unit {0}) DeviceFault) (done : Bool)
       → at ≤ length old.state.disk.bytes → old.is_stopped ≡ false → WritesDisk old at bytes given new → d.has_failed ≡ false
       → (done ≡ true → IsErrOf given faults.Disk → ⊥) → (done ≡ false → later.has_failed ≡ true)
       → Asks d.asking.calls later.asking.calls (asked Journal (writes at bytes) done ∷ [])
-      → FilesFollow owned begun start d old → FilesFollow owned begun start later new
+      → FilesFollow owned begun d old → FilesFollow owned begun later new
   write_asked old new d later at bytes given done inside running wrote going passes fails asks follows =
       let calls : List Asked = asked Journal (writes at bytes) done ∷ [] in
-      asks_more owned begun start old new d later calls going running asks (Extends-by old new wrote.middle given wrote.call)
+      asks_more owned begun old new d later calls going running asks (Extends-by old new wrote.middle given wrote.call)
       (λ files images are holds left.
       let each = left_of_each calls files images left in
       let shown : ShownPair (begin_write old.state at (length bytes)) owned images = shown_pair (begin_write old.state at (length bytes)) owned images
@@ -213,9 +210,9 @@ module _ {F : Type 0} (owned : LineFile → Bool) (begun : LineFile → File) (s
   pub write_step : (old new : Seen) (d later : FileDevice F) (at : ℕ) (bytes : List ℕ) (passing : Passing) (given : Result (Unit {0}) DeviceFault)
       → at ≤ length old.state.disk.bytes → old.is_stopped ≡ false → WritesDisk old at bytes given new
       → (passing ≡ Passes → IsErrOf given faults.Disk → ⊥) → device.CallsJournal (writes at bytes) d passing later
-      → FilesFollow owned begun start d old → FilesFollow owned begun start later new
+      → FilesFollow owned begun d old → FilesFollow owned begun later new
   write_step old new d later at bytes passing given inside running wrote passes (device.over failed stops same) follows =
-      over owned begun start old new d later (ap (λ (x : FileDevice F). x.asking.calls) same)
+      over owned begun old new d later (ap (λ (x : FileDevice F). x.asking.calls) same)
       (subst (λ (x : FileDevice F). IsTrue x.has_failed) (sym same) failed) (Extends-by old new wrote.middle given wrote.call) follows
   write_step old new d later at bytes passing given inside running wrote passes (device.passes going asks passed going_on) follows =
       write_asked old new d later at bytes given true inside running wrote going (λ done. passes passed) (λ e. absurd cc) asks follows
@@ -251,16 +248,16 @@ sync_done old new (Err faults.Disk) syncs_it not going = absurd (not refl)
 sync_done old new (Err faults.Lost) syncs_it not going = absurd (syncs_it.not_lost refl)
 sync_done old new (Err faults.Stopped) syncs_it not going = absurd (going (syncs_it.call.stopped.1 refl))
 
-module _ {F : Type 0} (owned : LineFile → Bool) (begun : LineFile → File) (start : ℕ) where
+module _ {F : Type 0} (owned : LineFile → Bool) (begun : LineFile → File) where
   sync_asked : (old new : Seen) (d later : FileDevice F) (given : Result (Unit {0}) DeviceFault) (done : Bool)
       → old.is_stopped ≡ false → SyncsDisk old given new → d.has_failed ≡ false
       → (done ≡ true → IsErrOf given faults.Disk → ⊥) → (done ≡ false → later.has_failed ≡ true)
       → Asks d.asking.calls later.asking.calls (asked Journal syncs done ∷ [])
-      → FilesFollow owned begun start d old → FilesFollow owned begun start later new
+      → FilesFollow owned begun d old → FilesFollow owned begun later new
   sync_asked old new d later given done running syncs_it going passes fails asks follows =
       let calls : List Asked = asked Journal syncs done ∷ [] in
       let extends : Extends old new = Extends-by old new [] given syncs_it.call in
-      asks_more owned begun start old new d later calls going running asks extends
+      asks_more owned begun old new d later calls going running asks extends
       (λ files images are holds left.
       let each = left_of_each calls files images left in
       let shown : ShownPair old.state owned images = shown_pair old.state owned images
@@ -280,9 +277,9 @@ module _ {F : Type 0} (owned : LineFile → Bool) (begun : LineFile → File) (s
   pub sync_step : (old new : Seen) (d later : FileDevice F) (passing : Passing) (given : Result (Unit {0}) DeviceFault)
       → old.is_stopped ≡ false → SyncsDisk old given new
       → (passing ≡ Passes → IsErrOf given faults.Disk → ⊥) → device.CallsJournal syncs d passing later
-      → FilesFollow owned begun start d old → FilesFollow owned begun start later new
+      → FilesFollow owned begun d old → FilesFollow owned begun later new
   sync_step old new d later passing given running syncs_it passes (device.over failed stops same) follows =
-      over owned begun start old new d later (ap (λ (x : FileDevice F). x.asking.calls) same)
+      over owned begun old new d later (ap (λ (x : FileDevice F). x.asking.calls) same)
       (subst (λ (x : FileDevice F). IsTrue x.has_failed) (sym same) failed) (Extends-by old new [] given syncs_it.call) follows
   sync_step old new d later passing given running syncs_it passes (device.passes going asks passed going_on) follows =
       sync_asked old new d later given true running syncs_it going (λ done. passes passed) (λ e. absurd cc) asks follows

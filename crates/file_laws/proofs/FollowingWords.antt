@@ -1,5 +1,5 @@
 -- The files behind a site follow it as a half becomes idle, and over any number of steps.
-use Rattle.std.proofs.Common.{◌≡◌, ℕ, zero, suc, Bool, true, false, List, [], ◌∷◌, ◌++◌, ◌==◌, ◌<◌, ◌^◌, length, Some, None, slice_get, slice_set, IsTrue, if◌then◌else◌, refl, sym, ap, subst, ◌∙◌, inl, inr, append_assoc}
+use Rattle.std.proofs.Common.{◌≡◌, ◌⊎◌, Any, ℕ, zero, suc, Bool, true, false, List, [], ◌∷◌, ◌++◌, ◌==◌, ◌<◌, ◌^◌, length, Some, None, slice_get, slice_set, IsTrue, if◌then◌else◌, refl, sym, ap, subst, ◌∙◌, inl, inr, append_assoc}
 use Rattle.std.proofs.lemmas.List.{append-nil}
 use Rattle.std.specs.List.{AllByRecursion}
 use Rattle.std.proofs.lemmas.Bool.{eqb-true, eq-eqb}
@@ -7,7 +7,8 @@ use Rattle.esc_model.specs.declared.rest.WordWrite.{WordWrite}
 use Rattle.esc_model.specs.declared.rest.Rest.TheVariants as rests
 use Rattle.esc_model.specs.SlaveHalf.{SlaveHalf, Activity, Idle, Reading, Writing, in_flight}
 use Rattle.site_core.specs.Disk.{StopImage}
-use Rattle.site_core.specs.State.{State, Seen, Moment, with_half}
+use Rattle.site_core.specs.State.{State, Seen, Moment, Pair, Leaves, LeftAt, with_half}
+use Rattle.site_core.proofs.Moments.{Any-first}
 use Rattle.site_shadow.specs.declared.device.Resting.{Resting}
 use Rattle.site_shadow.specs.Resting.{Ends, RestsAs}
 use Rattle.site_file.specs.declared.asking.LineFile.{LineFile}
@@ -23,7 +24,7 @@ use Rattle.site_file.specs.Following as following
 use Rattle.site_file.specs.Following.{ChangesNoFile, FitsWords, Step, Run, Follows}
 use Rattle.site_shadow.specs.Following.{Extends, KeepsContents, begin_of, first_of}
 use Rattle.site_shadow.proofs.Keeping.{Extends-by}
-use Rattle.file_laws.specs.Following.{AreLeft, HoldsDisk, HoldsWords, Holds, FilesFollow, BeginsToFollow, FollowsOn, SiteIsFollowed}
+use Rattle.file_laws.specs.Following.{AreLeft, Shows, HoldsDisk, HoldsWords, Holds, FilesFollow, BeginsToFollow, FollowsOn, SiteIsFollowed}
 use Rattle.file_laws.proofs.AllFiles.{left_of_each}
 use Rattle.file_laws.proofs.PairsLeft.{IsLeftOfSlave, IsLeftOfPart, ShownPair, shown_pair}
 use Rattle.file_laws.proofs.OneFile.{AllOf, is_same-true, of_file-append, of_file-same, of_file-other}
@@ -158,15 +159,15 @@ module _ (state : State) (slave : ℕ) (half later : SlaveHalf) (write : WordWri
             file_is = same ∙ holds.file_is;
           }
 
-module _ {F : Type 0} (owned : LineFile → Bool) (begun : LineFile → File) (start : ℕ) where
+module _ {F : Type 0} (owned : LineFile → Bool) (begun : LineFile → File) where
   word_asked : (old new : Seen) (d after : FileDevice F) (slave : ℕ) (half later : SlaveHalf) (write : WordWrite) (done : Bool) (calls : List Asked)
       → old.is_stopped ≡ false → slice_get old.state.halves slave ≡ Some half → IsFlying half write
       → (done ≡ true → later.words ≡ slice_set half.words write.word write.value) → (done ≡ false → after.has_failed ≡ true)
       → new.state ≡ with_half old.state slave later → Extends old new → d.has_failed ≡ false
       → Asks d.asking.calls after.asking.calls calls → WordCalls (Image slave) write.word write.value calls done
-      → FilesFollow owned begun start d old → FilesFollow owned begun start after new
+      → FilesFollow owned begun d old → FilesFollow owned begun after new
   word_asked old new d after slave half later write done calls running here flying words failed is extends going asks are follows =
-      asks_more owned begun start old new d after calls going running asks extends
+      asks_more owned begun old new d after calls going running asks extends
       (λ files images bytes holds left.
       let each = left_of_each calls files images left in
       let shown : ShownPair old.state owned images = shown_pair old.state owned images
@@ -189,17 +190,17 @@ module _ {F : Type 0} (owned : LineFile → Bool) (begun : LineFile → File) (s
       → new.state ≡ with_half old.state slave later → Extends old new
       → FitsWords half
       → device.Rests slave (in_flight half.activity) d resting after
-      → FilesFollow owned begun start d old → FilesFollow owned begun start after new
+      → FilesFollow owned begun d old → FilesFollow owned begun after new
   rest_step old new d after slave half rested later resting running here said words is extends fits (device.idle none well same) follows =
       let said_well : Ends half.activity rests.Well half rested = subst (λ (r : Resting). RestsAs r half rested) well said in
       let kept : later.words ≡ half.words = words ∙ ends_words half.activity half rested none said_well in
-      subst (λ (x : FileDevice F). FilesFollow owned begun start x new) (sym same)
-      (goes_on owned begun start old new d (record { extends = extends; kept = λ going. kept_by old.state new.state slave half later here kept is }) follows)
+      subst (λ (x : FileDevice F). FilesFollow owned begun x new) (sym same)
+      (goes_on owned begun old new d (record { extends = extends; kept = λ going. kept_by old.state new.state slave half later here kept is }) follows)
   rest_step old new d after slave half rested later resting running here said words is extends fits (device.over failed stays same) follows =
-      over owned begun start old new d after (ap (λ (x : FileDevice F). x.asking.calls) same)
+      over owned begun old new d after (ap (λ (x : FileDevice F). x.asking.calls) same)
       (subst (λ (x : FileDevice F). IsTrue x.has_failed) (sym same) failed) extends follows
   rest_step old new d after slave half rested later resting running here said words is extends fits (device.absent none stays same) follows =
-      over owned begun start old new d after (ap (λ (x : FileDevice F). x.asking.calls) same)
+      over owned begun old new d after (ap (λ (x : FileDevice F). x.asking.calls) same)
       (subst (λ (x : FileDevice F). IsTrue x.has_failed) (sym same) refl) extends follows
   rest_step old new d after slave half rested later resting running here said words is extends fits (device.writes write flying going wrote well going_on) follows =
       let said_well : Ends half.activity rests.Well half rested = subst (λ (r : Resting). RestsAs r half rested) well said in
@@ -297,15 +298,12 @@ reads_quietly file old new (piece mid later at count done so_far once) =
       quiet = both_quiet before.calls one before.quiet (tt, tt);
     }
 
-module _ {F : Type 0} (owned : LineFile → Bool) (begun : LineFile → File) (start : ℕ) where
+module _ {F : Type 0} (owned : LineFile → Bool) (begun : LineFile → File) where
   asks_quietly : (seen : Seen) (d after : FileDevice F) (calls : List Asked) → Asks d.asking.calls after.asking.calls calls → AreQuiet calls
-      → d.has_failed ≡ false → FilesFollow owned begun start d seen → FilesFollow owned begun start after seen
+      → d.has_failed ≡ false → FilesFollow owned begun d seen → FilesFollow owned begun after seen
   asks_quietly seen d after calls asks quiet going follows = record {
     calls = follows.calls ++ calls;
-    asks = record {
-      goes_on = λ log had. subst (λ (l : List Asked). HasLog after.asking.calls l) (append_assoc log follows.calls calls)
-          (asks.goes_on (log ++ follows.calls) (follows.asks.goes_on log had));
-    };
+    has = asks.goes_on follows.calls follows.has;
     leaves = λ images bytes left. follows.leaves images bytes (quiet_behind follows.calls calls begun images quiet left);
     holds = λ going_on goes name file is_owned becomes.
         let apart : BecomesBy (of_file name follows.calls ++ of_file name calls) (begun name) file =
@@ -316,11 +314,11 @@ module _ {F : Type 0} (owned : LineFile → Bool) (begun : LineFile → File) (s
         (follows.holds going goes name parts.0 is_owned parts.1);
   }
 
-  same_device : (seen : Seen) (d after : FileDevice F) → after ≡ d → FilesFollow owned begun start d seen → FilesFollow owned begun start after seen
-  same_device seen d after same follows = subst (λ (x : FileDevice F). FilesFollow owned begun start x seen) (sym same) follows
+  same_device : (seen : Seen) (d after : FileDevice F) → after ≡ d → FilesFollow owned begun d seen → FilesFollow owned begun after seen
+  same_device seen d after same follows = subst (λ (x : FileDevice F). FilesFollow owned begun x seen) (sym same) follows
 
-  changes_no_file : (seen : Seen) (d after : FileDevice F) → ChangesNoFile d after → FilesFollow owned begun start d seen
-      → FilesFollow owned begun start after seen
+  changes_no_file : (seen : Seen) (d after : FileDevice F) → ChangesNoFile d after → FilesFollow owned begun d seen
+      → FilesFollow owned begun after seen
   changes_no_file seen d after (following.unasked same) follows = same_device seen d after same follows
   changes_no_file seen d after (following.asks_length result (device.calls (device.over failed stops same))) follows = same_device seen d after same follows
   changes_no_file seen d after (following.asks_length result (device.calls (device.passes going asks passed going_on))) follows =
@@ -339,19 +337,19 @@ module _ {F : Type 0} (owned : LineFile → Bool) (begun : LineFile → File) (s
 
   -- ANY STEPS
 
-  step : (old new : Seen) (d after : FileDevice F) → Step old d new after → FilesFollow owned begun start d old
-      → FilesFollow owned begun start after new
+  step : (old new : Seen) (d after : FileDevice F) → Step old d new after → FilesFollow owned begun d old
+      → FilesFollow owned begun after new
   step old new d after (following.goes_on goes quiet) follows =
-      goes_on owned begun start old new after goes (changes_no_file old d after quiet follows)
+      goes_on owned begun old new after goes (changes_no_file old d after quiet follows)
   step old new d after (following.write at bytes passing given running inside wrote passes calls) follows =
-      write_step owned begun start old new d after at bytes passing given inside running wrote passes calls follows
+      write_step owned begun old new d after at bytes passing given inside running wrote passes calls follows
   step old new d after (following.sync passing given running syncs_it passes calls) follows =
-      sync_step owned begun start old new d after passing given running syncs_it passes calls follows
+      sync_step owned begun old new d after passing given running syncs_it passes calls follows
   step old new d after (following.rest slave half rested later resting running here said words is extends fits rests_so) follows =
-      rest_step owned begun start old new d after slave half rested later resting running here said words is extends fits rests_so follows
+      rest_step owned begun old new d after slave half rested later resting running here said words is extends fits rests_so follows
 
-  run : (old : Seen) (d : FileDevice F) (new : Seen) (after : FileDevice F) → Run old d new after → FilesFollow owned begun start d old
-      → FilesFollow owned begun start after new
+  run : (old : Seen) (d : FileDevice F) (new : Seen) (after : FileDevice F) → Run old d new after → FilesFollow owned begun d old
+      → FilesFollow owned begun after new
   run old d new after following.none follows = follows
   run old d new after (following.more mid last half_way end so_far one) follows =
       step mid last half_way end one (run old d mid half_way so_far follows)
@@ -361,19 +359,26 @@ begun_part : (state : State) (name : LineFile) (file : File) (image : List ℕ) 
 begun_part state Journal file image holds stop = within file.disk state.disk image holds.bytes holds.synced_length holds.synced stop
 begun_part state (Image slave) file image holds stop = whole_words state.halves slave file image holds stop
 
+-- a power cut while the files hold the state
+pub left_at_first : (state : State) (owned : LineFile → Bool) (begun : LineFile → File)
+    → ((name : LineFile) → IsTrue (owned name) → Holds state name (begun name)) → (images : LineFile → List ℕ)
+    → ((name : LineFile) → StopImage (begun name).disk (images name))
+    → (pair : Pair) × Leaves state pair × ((name : LineFile) → IsTrue (owned name) → Shows pair name (images name))
+left_at_first state owned begun holds images left =
+    let shown : ShownPair state owned images = shown_pair state owned images
+    (λ name is_owned. begun_part state name (begun name) (images name) (holds name is_owned) (left name)) in
+    (shown.pair, shown.leaves, shown.shows)
+
 pub begins_to_follow : (F : Type 0) → BeginsToFollow F
-begins_to_follow F owned begun d seen holds = record {
+begins_to_follow F owned begun d seen none holds = record {
   calls = [];
-  asks = record { goes_on = λ log had. subst (λ (l : List Asked). HasLog d.asking.calls l) (sym (append-nil log)) had };
-  leaves = λ images bytes left.
-      let shown : ShownPair seen.state owned images = shown_pair seen.state owned images
-      (λ name is_owned. begun_part seen.state name (begun name) (images name) (holds name is_owned) (left name)) in
-      (shown.pair, inl shown.leaves, shown.shows);
+  has = none;
+  leaves = λ images bytes left. let shown = left_at_first seen.state owned begun holds images left in (shown.0, inl shown.1, shown.2);
   holds = λ going_on going name file is_owned becomes. subst (λ (f : File). Holds seen.state name f) (sym becomes) (holds name is_owned);
 }
 
 pub follows_on : (F : Type 0) → FollowsOn F
-follows_on F owned begun start old new d after follows steps = run owned begun start old d new after steps follows
+follows_on F owned begun old new d after follows steps = run owned begun old d new after steps follows
 
 -- A SITE ON FILES
 
@@ -392,12 +397,26 @@ run_first old d new after (following.more mid last half_way end so_far one) =
 begun_first : (seen : Seen) → seen.past ≡ [] → first_of seen ≡ seen.state
 begun_first seen none = ap (λ (p : List Moment). begin_of p seen.state) none
 
+-- the pair was left as the site began
+first_left : (state : State) (past : List Moment) (pair : Pair) → Leaves (begin_of past state) pair → Leaves state pair ⊎ Any (LeftAt pair) past
+first_left state [] pair leaves = inl leaves
+first_left state (moment ∷ past) pair leaves = inr (Any-first (LeftAt pair) moment past (inl leaves))
+
+-- a device that was put behind its site later has asked nothing
+refused : {F : Type 0} (d : FileDevice F) (seen : Seen) (owned : LineFile → Bool) (begun : LineFile → File) → HasLog d.asking.calls []
+    → IsTrue d.has_failed → ((name : LineFile) → IsTrue (owned name) → Holds (first_of seen) name (begun name)) → FilesFollow owned begun d seen
+refused d seen owned begun none failed holds = record {
+  calls = [];
+  has = none;
+  leaves = λ images bytes left.
+      let shown = left_at_first (first_of seen) owned begun holds images left in (shown.0, first_left seen.state seen.past shown.0 shown.1, shown.2);
+  holds = λ going_on going name file is_owned becomes. absurd (let e : true ≡ false = sym failed ∙ going_on in cc);
+}
+
 pub site_is_followed : (F : Type 0) → SiteIsFollowed F
-site_is_followed F d seen follows is =
-    let so_far = follows is in
-    let same : first_of seen ≡ so_far.first.state = run_first so_far.first so_far.began seen d so_far.run ∙ begun_first so_far.first so_far.unasked in (
-      so_far.began.asking.calls,
-      λ owned begun holds.
-          run owned begun so_far.began.asking.calls so_far.first so_far.began seen d so_far.run
-          (begins_to_follow F owned begun so_far.began so_far.first (λ name is_owned. subst (λ (s : State). Holds s name (begun name)) same (holds name is_owned))),
-    )
+site_is_followed F d seen (following.refuses none failed) owned begun holds = refused d seen owned begun none failed holds
+site_is_followed F d seen (following.has_followed so_far) owned begun holds =
+    let same : first_of seen ≡ so_far.first.state = run_first so_far.first so_far.began seen d so_far.run ∙ begun_first so_far.first so_far.new in
+    run owned begun so_far.first so_far.began seen d so_far.run
+    (begins_to_follow F owned begun so_far.began so_far.first so_far.log
+    (λ name is_owned. subst (λ (s : State). Holds s name (begun name)) same (holds name is_owned)))

@@ -9,7 +9,7 @@ use Rattle.site_file.specs.declared.asking.LineFile.{LineFile}
 use Rattle.site_file.specs.declared.asking.LineFile.TheVariants.{Journal, Image}
 use Rattle.site_file.specs.declared.files.FileDevice.{FileDevice}
 use Rattle.site_file.specs.Calls.{Asked}
-use Rattle.site_file.specs.Asking.{Asks}
+use Rattle.site_file.specs.Asking.{HasLog}
 use Rattle.site_file.specs.Following.{Follows, Run}
 use Rattle.file_laws.specs.Files.{File, IsBytes, image_of, Becomes, BecomesBy, under_way}
 use Rattle.file_laws.specs.Held.{is_same, of_file, with_file}
@@ -52,13 +52,13 @@ abbrev pub Holds : State → LineFile → File → Type 0
 Holds state Journal file = HoldsDisk state.disk file
 Holds state (Image slave) file = HoldsWords state.halves slave file
 
--- A device stands behind a site that owns some of the files, and has done so since a moment of its own. Whatever the files were then that held
--- the site's parts: by what was asked since, a power cut at any moment has left of them a pair that it may have left of the site; and as long as no
--- call on a file has failed and the site goes on, they hold its parts.
+-- A device stands behind a site that owns some of the files. Whatever the files were, as its log began, that held the site's parts: by this log a
+-- power cut at any moment has left of them a pair that it may have left of the site; and as long as no call on a file has failed and the site goes
+-- on, they hold its parts.
 pub record FilesFollow
-    {F : Type 0} (owned : LineFile → Bool) (begun : LineFile → File) (start : ℕ) (device : FileDevice F) (seen : Seen) : Type 0 where
+    {F : Type 0} (owned : LineFile → Bool) (begun : LineFile → File) (device : FileDevice F) (seen : Seen) : Type 0 where
   pub calls : List Asked
-  pub asks : Asks start device.asking.calls calls
+  pub has : HasLog device.asking.calls calls
   pub leaves : (images : LineFile → List ℕ) → ((name : LineFile) → IsBytes (images name)) → AreLeft calls begun images
       → (pair : Pair) × LeftSince seen 0 pair × ((name : LineFile) → IsTrue (owned name) → Shows pair name (images name))
   pub holds : device.has_failed ≡ false → ¬ IsTrue seen.is_stopped → (name : LineFile) (later : File) → IsTrue (owned name)
@@ -66,19 +66,18 @@ pub record FilesFollow
 
 -- THE LAWS
 
--- A device that has asked nothing since the files held the site's parts.
+-- A device that has asked nothing, while the files hold the site's parts.
 abbrev pub BeginsToFollow : Type 0 → Type 0
-BeginsToFollow F = (owned : LineFile → Bool) (begun : LineFile → File) (device : FileDevice F) (seen : Seen)
-    → ((name : LineFile) → IsTrue (owned name) → Holds seen.state name (begun name)) → FilesFollow owned begun device.asking.calls device seen
+BeginsToFollow F = (owned : LineFile → Bool) (begun : LineFile → File) (device : FileDevice F) (seen : Seen) → HasLog device.asking.calls []
+    → ((name : LineFile) → IsTrue (owned name) → Holds seen.state name (begun name)) → FilesFollow owned begun device seen
 
 -- From then on, whatever is asked and answered.
 abbrev pub FollowsOn : Type 0 → Type 0
-FollowsOn F = (owned : LineFile → Bool) (begun : LineFile → File) (start : ℕ) (old new : Seen) (before after : FileDevice F)
-    → FilesFollow owned begun start before old → Run old before new after → FilesFollow owned begun start after new
+FollowsOn F = (owned : LineFile → Bool) (begun : LineFile → File) (old new : Seen) (before after : FileDevice F)
+    → FilesFollow owned begun before old → Run old before new after → FilesFollow owned begun after new
 
--- A site on files, whose device was put behind it before its first call. Of any files that held the parts with which the site began, a power cut has
--- left at each moment since a pair that it may have left of the site.
+-- A site on files. Of any files that held the parts with which the site began, as the device's log began, a power cut has left at each moment since
+-- a pair that it may have left of the site.
 abbrev pub SiteIsFollowed : Type 0 → Type 0
-SiteIsFollowed F = (device : FileDevice F) (seen : Seen) → Follows device seen → IsTrue device.is_behind
-    → (start : ℕ) × ((owned : LineFile → Bool) (begun : LineFile → File)
-    → ((name : LineFile) → IsTrue (owned name) → Holds (first_of seen) name (begun name)) → FilesFollow owned begun start device seen)
+SiteIsFollowed F = (device : FileDevice F) (seen : Seen) → Follows device seen → (owned : LineFile → Bool) (begun : LineFile → File)
+    → ((name : LineFile) → IsTrue (owned name) → Holds (first_of seen) name (begun name)) → FilesFollow owned begun device seen

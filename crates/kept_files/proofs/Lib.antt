@@ -1,1 +1,2 @@
-mod OnFiles
+pub mod OnFiles
+pub mod Extending

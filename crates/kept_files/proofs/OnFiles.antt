@@ -1,30 +1,67 @@
 -- The laws of a station on files, from those of the files and of the station.
-use Rattle.std.proofs.Common.{◌≡◌, ◌∙◌, ℕ, List, length, sym, ap, subst, slice_get}
+use Rattle.std.proofs.Common.{◌≡◌, ◌∙◌, ℕ, List, [], length, Option, Some, None, slice_get, is_some, IsTrue, refl, sym, ap, subst}
 use Rattle.std.proofs.lemmas.Option.{slice_get-map}
 use Rattle.std.specs.Option.{option_map}
 use Rattle.esc_model.specs.SlaveHalf.{SlaveHalf}
 use Rattle.site_core.specs.State.{Moment, State, LeftSince}
+use Rattle.site_shadow.specs.Following.{first_of}
 use Rattle.site_file.specs.declared.asking.LineFile.{LineFile}
 use Rattle.site_file.specs.declared.asking.LineFile.TheVariants.{Journal, Image}
-use Rattle.file_laws.specs.Files.{File}
-use Rattle.file_laws.specs.Following.{SiteIsFollowed, Holds}
+use Rattle.site_file.specs.Asking.{nothing_asked}
+use Rattle.file_laws.specs.Files.{File, image_of}
+use Rattle.file_laws.specs.Following.{AreLeft, FilesFollow, Holds, HoldsWords}
+use Rattle.file_laws.proofs.FollowingWords.{left_at_first, site_is_followed}
 use Rattle.book_model.specs.Book.{Book, base_of}
 use Rattle.book_laws.specs.Opening.{words_in}
-use Rattle.kept_files.specs.KeptFiles.{CutLeavesKept, RecoveryLeavesContents, HasContents}
+use Rattle.kept_files.specs.KeptFiles.{has_file, holding, words_or_none, KeepsFiles, SiteHasFiles, CutLeavesKept, RecoveryLeavesContents, HasContents}
 
-pub cut_leaves_kept : (F : Type 0) → SiteIsFollowed F → CutLeavesKept F
-cut_leaves_kept F site machine before now owned begun device new kept keeps stands =
-    let followed = site device now stands.follows stands.behind in
-    let files = followed.1 owned begun stands.held in
-    let within = keeps machine kept in
+-- WHAT THE FILES HOLD AT FIRST
+
+holds_words : (halves : List SlaveHalf) (slave : ℕ) (here : Option SlaveHalf) → slice_get halves slave ≡ here → IsTrue (is_some here)
+    → HoldsWords halves slave (image_of (words_or_none here))
+holds_words halves slave (Some half) is there = record { half = half; here = is; file_is = refl }
+holds_words halves slave None is there = absurd cc
+
+holds_state : (state : State) (name : LineFile) → IsTrue (has_file state name) → Holds state name (holding state name)
+holds_state state Journal there = record { sound = refl; bytes = refl; synced_length = refl; synced = λ at is. is }
+holds_state state (Image slave) there = holds_words state.halves slave (slice_get state.halves slave) refl there
+
+-- nothing was asked of the files
+pub keeps_unasked : (before : State) → KeepsFiles before []
+keeps_unasked before = record {
+  moment = 0;
+  log = nothing_asked;
+  kept = λ machine kept images bytes left.
+      let shown = left_at_first before (has_file before) (holding before) (holds_state before) images left in (shown.0, kept shown.0 shown.1, shown.2);
+}
+
+-- THE LAWS
+
+pub site_has_files : (F : Type 0) → SiteHasFiles F
+site_has_files F device seen is_sound follows sound =
+    let files : FilesFollow (has_file (first_of seen)) (holding (first_of seen)) device seen =
+    site_is_followed F device seen follows (has_file (first_of seen)) (holding (first_of seen)) (holds_state (first_of seen)) in
     record {
-      start = followed.0;
       calls = files.calls;
-      asks = files.asks;
-      only = λ images bytes left.
-          let found = files.leaves images bytes left in
-          (found.0, within.left found.0 (subst (λ (past : List Moment). LeftSince now (length past) found.0) (sym new) found.1), found.2);
+      moment = device.asking.calls;
+      log = files.has;
+      leave = files.leaves;
+      hold = λ is name later there becomes. files.holds (sound is).0 (sound is).1 name later there becomes;
     }
+
+pub cut_leaves_kept : CutLeavesKept
+cut_leaves_kept before now is_sound files new first keeps = record {
+  moment = files.moment;
+  log = files.log;
+  kept = λ machine kept images bytes left.
+      let within = keeps machine kept in
+      let start : first_of now ≡ before.state = first in
+      let found = files.leave images bytes (subst (λ (s : State). AreLeft files.calls (holding s) images) (sym start) left) in (
+        found.0,
+        within.left found.0 (subst (λ (past : List Moment). LeftSince now (length past) found.0) (sym new) found.1),
+        λ name there. found.2 name (subst (λ (s : State). IsTrue (has_file s name)) (sym start) there),
+      );
+}
 
 has_contents : (book : Book) (state : State) (name : LineFile) (file : File) → words_in state.halves ≡ base_of book → Holds state name file
     → HasContents book name file
@@ -36,14 +73,6 @@ has_contents book state (Image slave) file same holds = (
   holds.file_is,
 )
 
-pub recovery_leaves_contents : (F : Type 0) → SiteIsFollowed F → RecoveryLeavesContents F
-recovery_leaves_contents F site s owned begun device recovered stands sound going =
-    let followed = site device s.seen stands.follows stands.behind in
-    let files = followed.1 owned begun stands.held in
-    record {
-      start = followed.0;
-      calls = files.calls;
-      asks = files.asks;
-      only = λ name later is_owned becomes.
-          has_contents s.book s.seen.state name later recovered.words (files.holds sound going name later is_owned becomes);
-    }
+pub recovery_leaves_contents : RecoveryLeavesContents
+recovery_leaves_contents s is_sound files recovered sound name later there becomes =
+    has_contents s.book s.seen.state name later recovered.words (files.hold sound name later there becomes)

@@ -1,15 +1,16 @@
--- Files behind the site of a station: what it keeps of the site, it keeps of them.
-use Rattle.std.specs.Prelude.{◌≡◌, ℕ, Bool, false, List, [], Some, slice_get, IsTrue}
-use Rattle.site_core.specs.State.{Seen, Pair}
+-- The files behind the site of a station: what it keeps of the site, it keeps of them.
+use Rattle.std.specs.Prelude.{◌≡◌, ℕ, Bool, true, false, List, [], Option, Some, None, is_some, slice_get, IsTrue}
+use Rattle.esc_model.specs.SlaveHalf.{SlaveHalf}
+use Rattle.site_core.specs.State.{State, Seen, Pair, LeftSince}
 use Rattle.site_core.specs.Passes.{LeavesOnly}
 use Rattle.site_shadow.specs.Following.{first_of}
 use Rattle.site_file.specs.declared.asking.LineFile.{LineFile}
 use Rattle.site_file.specs.declared.asking.LineFile.TheVariants.{Journal, Image}
 use Rattle.site_file.specs.declared.files.FileDevice.{FileDevice}
 use Rattle.site_file.specs.Calls.{Asked}
-use Rattle.site_file.specs.Asking.{Asks}
+use Rattle.site_file.specs.Asking.{HasLog}
 use Rattle.site_file.specs.Following.{Follows}
-use Rattle.file_laws.specs.Files.{File, IsBytes, image_of, BecomesBy}
+use Rattle.file_laws.specs.Files.{File, IsBytes, sound, image_of, BecomesBy}
 use Rattle.file_laws.specs.Held.{of_file}
 use Rattle.file_laws.specs.Following.{AreLeft, Holds, Shows}
 use Rattle.book_model.specs.Book.{Book, base_of}
@@ -19,43 +20,69 @@ use Rattle.station_alone.specs.Keeping.{KeepsThroughout}
 use Rattle.station_alone.specs.Recovery.{HasRecovered}
 use Rattle.station_alone.specs.Station.{Station}
 
--- A device of files was put behind a site before its first call, and those of the files that the site owns held the parts with which it began.
-pub record StandsBehind
-    {F : Type 0} (owned : LineFile → Bool) (begun : LineFile → File) (device : FileDevice F) (seen : Seen) : Type 0 where
-  pub follows : Follows device seen
-  pub behind : IsTrue device.is_behind
-  pub held : (name : LineFile) → IsTrue (owned name) → Holds (first_of seen) name (begun name)
+-- THE FILES OF A LINE
 
--- By what the device has asked since, a power cut at any moment has left in the files, all at once, only what shows a pair with `Q`.
-pub record LeaveOnly
-    {F : Type 0} (Q : Pair → Type 0) (owned : LineFile → Bool) (begun : LineFile → File) (device : FileDevice F) : Type 0 where
-  pub start : ℕ
+-- The line has this file: the journal, and an image for each slave.
+abbrev pub has_file : State → LineFile → Bool
+has_file state Journal = true
+has_file state (Image slave) = is_some (slice_get state.halves slave)
+
+abbrev pub words_or_none : Option SlaveHalf → List ℕ
+words_or_none (Some half) = half.words
+words_or_none None = []
+
+-- the files that hold this state: the journal is the disk, and each image has the words of its slave, all of them synced
+abbrev pub holding : State → LineFile → File
+holding state Journal = sound state.disk
+holding state (Image slave) = image_of (words_or_none (slice_get state.halves slave))
+
+-- By these calls, made since the files held this state, a power cut at any moment has left in the files, all at once, only what shows a pair
+-- with `Q`.
+abbrev pub LeaveOnly : (Pair → Type 0) → State → List Asked → Type 0
+LeaveOnly Q state calls = (images : LineFile → List ℕ) → ((name : LineFile) → IsBytes (images name)) → AreLeft calls (holding state) images
+    → (pair : Pair) × Q pair × ((name : LineFile) → IsTrue (has_file state name) → Shows pair name (images name))
+
+-- By these calls, made since the files held this state, each of the files can only have become one with `Q`.
+abbrev pub BecomeOnly : (LineFile → File → Type 0) → State → List Asked → Type 0
+BecomeOnly Q state calls = (name : LineFile) (later : File) → IsTrue (has_file state name) → BecomesBy (of_file name calls) (holding state name) later
+    → Q name later
+
+-- A site stands on files. These calls, the log of its device, are all that was asked of them since they held the state in which the site began. A
+-- power cut at any moment has left in them what it may have left of the site. If no call failed and the site goes on, they hold it.
+pub record FilesOf (seen : Seen) (is_sound : Bool) : Type 0 where
   pub calls : List Asked
-  pub asks : Asks start device.asking.calls calls
-  pub only : (images : LineFile → List ℕ) → ((name : LineFile) → IsBytes (images name)) → AreLeft calls begun images
-      → (pair : Pair) × Q pair × ((name : LineFile) → IsTrue (owned name) → Shows pair name (images name))
+  pub moment : ℕ
+  pub log : HasLog moment calls
+  pub leave : LeaveOnly (LeftSince seen 0) (first_of seen) calls
+  pub hold : IsTrue is_sound → BecomeOnly (Holds seen.state) (first_of seen) calls
 
--- By what the device has asked since, each of the files can only have become one with `Q`.
-pub record BecomeOnly
-    {F : Type 0} (Q : LineFile → File → Type 0) (owned : LineFile → Bool) (begun : LineFile → File) (device : FileDevice F) : Type 0 where
-  pub start : ℕ
-  pub calls : List Asked
-  pub asks : Asks start device.asking.calls calls
-  pub only : (name : LineFile) (later : File) → IsTrue (owned name) → BecomesBy (of_file name calls) (begun name) later → Q name later
+-- WHAT IS KEPT
 
--- What was kept for a machine before the calls of a station, and throughout them, a power cut leaves in the files.
-abbrev pub CutLeavesKept : Type 0 → Type 0
-CutLeavesKept F = (machine : Machine) (before now : Seen) (owned : LineFile → Bool) (begun : LineFile → File) (device : FileDevice F)
-    → before.past ≡ [] → LeavesOnly (KeptFor machine) before.state → KeepsThroughout before now → StandsBehind owned begun device now
-    → LeaveOnly (KeptFor machine) owned begun device
+-- These calls are all that was asked of the files of a line since they held the state in which a site began. For each machine: if all that a power
+-- cut could leave of the site then was kept, a power cut at any moment has left in the files, all at once, only what is kept.
+pub record KeepsFiles (before : State) (calls : List Asked) : Type 0 where
+  pub moment : ℕ
+  pub log : HasLog moment calls
+  pub kept : (machine : Machine) → LeavesOnly (KeptFor machine) before → LeaveOnly (KeptFor machine) before calls
 
 -- The image of a slave has the words with which the book was opened, all synced.
 abbrev pub HasContents : Book → LineFile → File → Type 0
 HasContents book Journal file = Unit {0}
 HasContents book (Image slave) file = (words : List ℕ) × (slice_get (base_of book) slave ≡ Some words) × (file ≡ image_of words)
 
--- Behind a complete recovery that met no fault of a file, the images have the contents.
-abbrev pub RecoveryLeavesContents : Type 0 → Type 0
-RecoveryLeavesContents F = (s : Station) (owned : LineFile → Bool) (begun : LineFile → File) (device : FileDevice F)
-    → HasRecovered s → StandsBehind owned begun device s.seen → device.has_failed ≡ false → ¬ IsTrue s.seen.is_stopped
-    → BecomeOnly (HasContents s.book) owned begun device
+-- THE LAWS
+
+-- The files behind a site, by what its device keeps of it.
+abbrev pub SiteHasFiles : Type 0 → Type 0
+SiteHasFiles F = (device : FileDevice F) (seen : Seen) (is_sound : Bool) → Follows device seen
+    → (IsTrue is_sound → (device.has_failed ≡ false) × ¬ IsTrue seen.is_stopped) → FilesOf seen is_sound
+
+-- What was kept for a machine before the calls of a station, and throughout them, a power cut leaves in the files.
+abbrev pub CutLeavesKept : Type 0
+CutLeavesKept = (before now : Seen) (is_sound : Bool) (files : FilesOf now is_sound) → before.past ≡ [] → first_of now ≡ before.state
+    → KeepsThroughout before now → KeepsFiles before.state files.calls
+
+-- Behind a complete recovery the images have the contents, if no call on a file has failed and the site goes on.
+abbrev pub RecoveryLeavesContents : Type 0
+RecoveryLeavesContents = (s : Station) (is_sound : Bool) (files : FilesOf s.seen is_sound) → HasRecovered s → IsTrue is_sound
+    → BecomeOnly (HasContents s.book) (first_of s.seen) files.calls

@@ -5,4 +5,4 @@
 
 mod laws;
 
-pub use laws::{a_cut_leaves_kept_files, a_recovery_leaves_the_contents};
+pub use laws::{a_cut_leaves_kept_files, a_recovery_leaves_the_contents, a_site_has_files};

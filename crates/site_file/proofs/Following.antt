@@ -1,15 +1,18 @@
 -- A device of files follows the site through each call.
-use Rattle.std.proofs.Common.{◌≡◌, ℕ, Bool, List, [], Some, slice_get, IsTrue, refl, sym, ap, subst, ◌∙◌}
+use Rattle.std.proofs.Common.{◌≡◌, ◌↔◌, ℕ, Bool, true, false, not, ◌||◌, List, [], Option, IsTrue, refl, sym, subst, ◌∙◌}
+use Rattle.esc_model.specs.declared.rest.WordWrite.{WordWrite}
 use Rattle.esc_model.specs.SlaveHalf.{SlaveHalf, in_flight}
-use Rattle.site_core.specs.State.{State, Seen}
+use Rattle.site_core.specs.State.{Seen}
 use Rattle.site_shadow.specs.declared.device.Passing.{Passing}
 use Rattle.site_shadow.specs.declared.device.Resting.{Resting}
-use Rattle.site_shadow.specs.Following.{Extends, KeepsContents, GoesOn, Keeps, WriteKeeps, SyncKeeps, RestKeeps}
+use Rattle.site_shadow.specs.Following.{GoesOn, Keeps, WriteKeeps, SyncKeeps, RestKeeps}
 use Rattle.site_file.specs.declared.files.FileDevice.{FileDevice}
-use Rattle.site_file.specs.Calls.{writes, syncs}
+use Rattle.site_file.specs.Calls.{Call, tells_length, writes, syncs}
+use Rattle.site_file.specs.Asking.{HasLog}
+use Rattle.site_file.specs.Device as device
 use Rattle.site_file.specs.Device.{CallsJournal, AsksLength, ReadsJournal, Rests}
 use Rattle.site_file.specs.Following as following
-use Rattle.site_file.specs.Following.{ChangesNoFile, FitsWords, Step, Follows}
+use Rattle.site_file.specs.Following.{ChangesNoFile, FitsWords, Step, Follows, one_step}
 
 GoesOn-same : (seen : Seen) → GoesOn seen seen
 GoesOn-same seen = record {
@@ -17,42 +20,80 @@ GoesOn-same seen = record {
   kept = λ going. record { bytes = refl; synced_length = refl; synced = λ at is. is; words = λ slave half here. (half, here, refl) };
 }
 
+-- A device that has failed is left as it is by each call.
+same_journal : {F : Type 0} (call : Call) (before after : FileDevice F) (result : Passing) → IsTrue before.has_failed → CallsJournal call before result after
+    → after ≡ before
+same_journal call before after result failed (device.over is stops same) = same
+same_journal call before after result failed (device.passes going asks passed sound) = absurd (let e : true ≡ false = sym failed ∙ going in cc)
+same_journal call before after result failed (device.fails going asks fails now) = absurd (let e : true ≡ false = sym failed ∙ going in cc)
+
+same_length : {F : Type 0} (before after : FileDevice F) (result : Passing) → IsTrue before.has_failed → AsksLength before result after → after ≡ before
+same_length before after result failed (device.calls one) = same_journal tells_length before after result failed one
+same_length before after result failed (device.differs going asks stops sound) = absurd (let e : true ≡ false = sym failed ∙ going in cc)
+
+same_read : {F : Type 0} (before after : FileDevice F) (result : Passing) → IsTrue before.has_failed → ReadsJournal before result after → after ≡ before
+same_read before after result failed (device.over is stops same) = same
+same_read before after result failed (device.compared going asks passed sound) = absurd (let e : true ≡ false = sym failed ∙ going in cc)
+same_read before after result failed (device.fails going asks fails now) = absurd (let e : true ≡ false = sym failed ∙ going in cc)
+
+-- A device that has asked nothing and has failed.
+abbrev Refuses : {F : Type 0} → FileDevice F → Type 0
+Refuses d = HasLog d.asking.calls [] × IsTrue d.has_failed
+
+refuses_on : {F : Type 0} (before after : FileDevice F) → after ≡ before → Refuses before → Refuses after
+refuses_on before after same refuses = subst Refuses (sym same) refuses
+
+refuses_rest : {F : Type 0} (slave : ℕ) (flying : Option WordWrite) (before after : FileDevice F) (result : Resting)
+    → Rests slave flying before result after → Refuses before → Refuses after
+refuses_rest slave flying before after result (device.idle none well same) refuses = refuses_on before after same refuses
+refuses_rest slave flying before after result (device.over failed stays same) refuses = refuses_on before after same refuses
+refuses_rest slave flying before after result (device.absent none stays same) refuses =
+    refuses_on (record before { has_failed = true }) after same (refuses.0, refl)
+refuses_rest slave flying before after result (device.writes write there going wrote well sound) refuses =
+    absurd (let e : true ≡ false = sym refuses.1 ∙ going in cc)
+refuses_rest slave flying before after result (device.fails write there going wrote stays failed) refuses =
+    absurd (let e : true ≡ false = sym refuses.1 ∙ going in cc)
+
 module _ {F : Type 0} where
-  one_more : (old new : Seen) (before after : FileDevice F) → Step old before new after → after.is_behind ≡ before.is_behind → Follows before old
+  one_more : (old new : Seen) (before after : FileDevice F) → Step old before new after → (Refuses before → Refuses after) → Follows before old
       → Follows after new
-  one_more old new before after step same follows is =
-      let so_far = follows (sym same ∙ is) in
-      record { first = so_far.first; unasked = so_far.unasked; began = so_far.began; run = following.more old new before after so_far.run step }
+  one_more old new before after step goes_on (following.has_followed so_far) = following.has_followed (one_step old new before after step so_far)
+  one_more old new before after step goes_on (following.refuses none failed) =
+      let still = goes_on (none, failed) in following.refuses still.0 still.1
 
-  pub begins : (device : FileDevice F) (is_new : Bool) (seen : Seen) → device.is_behind ≡ is_new → (IsTrue is_new → seen.past ≡ []) → Follows device seen
-  begins device is_new seen same first is = record { first = seen; unasked = first (sym same ∙ is); began = device; run = following.none }
+  pub begins : (d : FileDevice F) (had_failed is_new : Bool) (seen : Seen) → HasLog d.asking.calls [] → d.has_failed ≡ (had_failed || not is_new)
+      → (IsTrue is_new ↔ seen.past ≡ []) → Follows d seen
+  begins d had_failed true seen none failed told =
+      following.has_followed (record { first = seen; new = told.0 refl; began = d; log = none; run = following.none })
+  begins d true false seen none failed told = following.refuses none failed
+  begins d false false seen none failed told = following.refuses none failed
 
-  quiet_keeps : (before after : FileDevice F) → ChangesNoFile before after → after.is_behind ≡ before.is_behind → Keeps Follows before after
-  quiet_keeps before after quiet same seen follows = one_more seen seen before after (following.goes_on (GoesOn-same seen) quiet) same follows
+  quiet_keeps : (before after : FileDevice F) → ChangesNoFile before after → (IsTrue before.has_failed → after ≡ before) → Keeps Follows before after
+  quiet_keeps before after quiet same seen follows =
+      one_more seen seen before after (following.goes_on (GoesOn-same seen) quiet) (λ refuses. refuses_on before after (same refuses.1) refuses) follows
 
   pub same_keeps : (before after : FileDevice F) → after ≡ before → Keeps Follows before after
-  same_keeps before after same = quiet_keeps before after (following.unasked same) (ap (λ (d : FileDevice F). d.is_behind) same)
+  same_keeps before after same = quiet_keeps before after (following.unasked same) (λ failed. same)
 
-  pub length_keeps : (before after : FileDevice F) (result : Passing) → AsksLength before result after → after.is_behind ≡ before.is_behind
-      → Keeps Follows before after
-  length_keeps before after result asks same = quiet_keeps before after (following.asks_length result asks) same
+  pub length_keeps : (before after : FileDevice F) (result : Passing) → AsksLength before result after → Keeps Follows before after
+  length_keeps before after result asks = quiet_keeps before after (following.asks_length result asks) (λ failed. same_length before after result failed asks)
 
-  pub read_keeps : (before after : FileDevice F) (result : Passing) → ReadsJournal before result after → after.is_behind ≡ before.is_behind
-      → Keeps Follows before after
-  read_keeps before after result asks same = quiet_keeps before after (following.reads_bytes result asks) same
+  pub read_keeps : (before after : FileDevice F) (result : Passing) → ReadsJournal before result after → Keeps Follows before after
+  read_keeps before after result asks = quiet_keeps before after (following.reads_bytes result asks) (λ failed. same_read before after result failed asks)
 
   pub write_keeps : (at : ℕ) (bytes : List ℕ) (before after : FileDevice F) (result : Passing) → CallsJournal (writes at bytes) before result after
-      → after.is_behind ≡ before.is_behind → WriteKeeps Follows at bytes before result after
-  write_keeps at bytes before after result calls same old new given running inside wrote told follows =
-      one_more old new before after (following.write at bytes result given running inside wrote told calls) same follows
+      → WriteKeeps Follows at bytes before result after
+  write_keeps at bytes before after result calls old new given running inside wrote told follows =
+      one_more old new before after (following.write at bytes result given running inside wrote told calls)
+      (λ refuses. refuses_on before after (same_journal (writes at bytes) before after result refuses.1 calls) refuses) follows
 
-  pub sync_keeps : (before after : FileDevice F) (result : Passing) → CallsJournal syncs before result after
-      → after.is_behind ≡ before.is_behind → SyncKeeps Follows before result after
-  sync_keeps before after result calls same old new given running synced told follows =
-      one_more old new before after (following.sync result given running synced told calls) same follows
+  pub sync_keeps : (before after : FileDevice F) (result : Passing) → CallsJournal syncs before result after → SyncKeeps Follows before result after
+  sync_keeps before after result calls old new given running synced told follows =
+      one_more old new before after (following.sync result given running synced told calls)
+      (λ refuses. refuses_on before after (same_journal syncs before after result refuses.1 calls) refuses) follows
 
   pub rest_keeps : (slave : ℕ) (half : SlaveHalf) (before after : FileDevice F) (result : Resting)
-      → Rests slave (in_flight half.activity) before result after → FitsWords half → after.is_behind ≡ before.is_behind
-      → RestKeeps Follows slave half before result after
-  rest_keeps slave half before after result rests fits same old new rested later running here said words is extends follows =
-      one_more old new before after (following.rest slave half rested later result running here said words is extends fits rests) same follows
+      → Rests slave (in_flight half.activity) before result after → FitsWords half → RestKeeps Follows slave half before result after
+  rest_keeps slave half before after result rests fits old new rested later running here said words is extends follows =
+      one_more old new before after (following.rest slave half rested later result running here said words is extends fits rests)
+      (refuses_rest slave (in_flight half.activity) before after result rests) follows

@@ -11,6 +11,7 @@ use Rattle.site_shadow.specs.Resting.{RestsAs}
 use Rattle.site_shadow.specs.Following.{Extends, GoesOn, IsTold}
 use Rattle.site_file.specs.declared.files.FileDevice.{FileDevice}
 use Rattle.site_file.specs.Calls.{writes, syncs}
+use Rattle.site_file.specs.Asking.{HasLog}
 use Rattle.site_file.specs.Device.{CallsJournal, AsksLength, ReadsJournal, Rests}
 
 -- a call of the device that changes no file
@@ -44,24 +45,30 @@ pub data Run {F : Type 0} (old : Seen) (before : FileDevice F) : (new : Seen) (a
   none : Run old before old before
   more : (mid new : Seen) (half_way after : FileDevice F) → Run old before mid half_way → Step mid half_way new after → Run old before new after
 
--- The device was put behind the site before its first call, and has been asked all that happened since.
+-- The device was put behind the site before its first call, where its log begins, and has been asked all that happened since.
 pub record HasFollowed {F : Type 0} (device : FileDevice F) (seen : Seen) : Type 0 where
   pub first : Seen
-  pub unasked : first.past ≡ []
+  pub new : first.past ≡ []
   pub began : FileDevice F
+  pub log : HasLog began.asking.calls []
   pub run : Run first began seen device
 
--- A device that was put behind a site that has seen no call yet has followed it.
-abbrev pub Follows : {F : Type 0} → FileDevice F → Seen → Type 0
-Follows device seen = IsTrue device.is_behind → HasFollowed device seen
+-- A device has followed its site from before the first call on. Or it was put there later: then it asks nothing of any file.
+pub data Follows {F : Type 0} (device : FileDevice F) (seen : Seen) : Type 0 where
+  has_followed : HasFollowed device seen → Follows device seen
+  refuses : HasLog device.asking.calls [] → IsTrue device.has_failed → Follows device seen
+
+-- one step more
+pub one_step : {F : Type 0} (old new : Seen) (before after : FileDevice F) → Step old before new after → HasFollowed before old → HasFollowed after new
+one_step old new before after step so_far = record {
+  first = so_far.first;
+  new = so_far.new;
+  began = so_far.began;
+  log = so_far.log;
+  run = more old new before after so_far.run step;
+}
 
 -- the law of the trait: a step in which the device isn't asked
 pub follows_on : {F : Type 0} (device : FileDevice F) (old new : Seen) → GoesOn old new → Follows device old → Follows device new
-follows_on device old new goes follows is =
-    let so_far : HasFollowed device old = follows is in
-    record {
-      first = so_far.first;
-      unasked = so_far.unasked;
-      began = so_far.began;
-      run = more old new device device so_far.run (goes_on goes (unasked refl));
-    }
+follows_on device old new goes (has_followed so_far) = has_followed (one_step old new device device (goes_on goes (unasked refl)) so_far)
+follows_on device old new goes (refuses unasked_yet failed) = refuses unasked_yet failed

@@ -38,7 +38,7 @@ impl<'f, F> Clone for NamedFile<'f, F> {
     }
 }
 
-/// The open files of a line, and the number of calls that were made on them, modulo 2^64: the moment.
+/// The open files of a line, and the number of calls that were made on them since the log began, modulo 2^64: the moment.
 #[derive(Drop)]
 pub struct Asking<'f, F> {
     files: &'f OpenFiles<F>,
@@ -61,9 +61,19 @@ impl<'f, F> Asking<'f, F> {
     /// No call has been made on these files yet.
     #[tactic(auto, using(crate::specs::Asking::nothing_asked))]
     pub fn of(files: &'f OpenFiles<F>) -> Asking<'f, F>
-        ensures { HasLog result.calls [] }
+        ensures log { HasLog result.calls [] }
+        ensures files { result.files.now ≡ files.now }
     {
         Asking { files, calls: 0 }
+    }
+
+    /// The same files, with a log that begins here.
+    #[tactic(auto, using(crate::specs::Asking::nothing_asked))]
+    pub fn anew(&self) -> Asking<'f, F>
+        ensures log { HasLog result.calls [] }
+        ensures files { result.files.now ≡ self.now.files.now }
+    {
+        Asking::of(self.files)
     }
 
     /// The journal.

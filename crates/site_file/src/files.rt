@@ -38,14 +38,13 @@ pub struct OpenFiles<F> {
 /// the shadow. What one copy of the device has met the others don't know.
 ///
 /// Its contracts say what each call asks of which file, in which order, and that nothing else is asked: the log that the device has by a moment,
-/// `HasLog`. A copy begins with the log as it was then; each part of a line asks its own file alone, so that the log of its copy is the file's.
+/// `HasLog`. The log begins as the device is put behind its shadow; each part of a line asks its own file alone, so that the log of its copy is
+/// what the file was asked since then.
 #[derive(Drop)]
 pub struct FileDevice<'f, F> {
     asking: Asking<'f, F>,
-    /// Whether a call of this copy on a file has failed. From then on this copy writes no file.
+    /// Whether a call of this copy on a file has failed, or it was put behind a shadow that had seen a call. From then on this copy asks nothing.
     has_failed: bool,
-    /// Whether it stands behind a site that had seen no call as it was put there.
-    is_behind: bool,
 }
 
 /// A line and a disk in files.
@@ -72,8 +71,14 @@ impl<'f, F: RandomAccessFile> FileDevice<'f, F> {
         FileDevice {
             asking: Asking::of(files),
             has_failed: false,
-            is_behind: false,
         }
+    }
+
+    /// Whether a call of this copy on a file has failed, or it was put behind a shadow that had seen a call.
+    pub fn has_failed(&self) -> bool
+        ensures { result ≡ self.now.has_failed }
+    {
+        self.has_failed
     }
 
     /// The journal, as long as no call has failed.
@@ -174,7 +179,6 @@ impl<'f, F: RandomAccessFile> FileDevice<'f, F> {
     /// Asks the journal for its length.
     fn ask_length(&mut self, length: usize) -> Passing
         ensures asks { AsksLength self.old result self.new }
-        ensures behind { self.new.is_behind ≡ self.old.is_behind }
     {
         let Some(journal) = self.sound_journal() else {
             return Passing::Stops(Pattern::Old);
@@ -188,7 +192,6 @@ impl<'f, F: RandomAccessFile> FileDevice<'f, F> {
     /// Compares the journal with what the shadow holds.
     fn compare(&mut self, at: usize, held: &[u8]) -> Passing
         ensures asks { ReadsJournal self.old result self.new }
-        ensures behind { self.new.is_behind ≡ self.old.is_behind }
     {
         let Some(journal) = self.sound_journal() else {
             return Passing::Stops(Pattern::Old);
@@ -202,7 +205,6 @@ impl<'f, F: RandomAccessFile> FileDevice<'f, F> {
     /// Writes to the journal.
     fn write_journal(&mut self, at: usize, bytes: &[u8]) -> Passing
         ensures asks { CallsJournal (writes at bytes.now) self.old result self.new }
-        ensures behind { self.new.is_behind ≡ self.old.is_behind }
     {
         let Some(journal) = self.sound_journal() else {
             return Passing::Stops(Pattern::Old);
@@ -214,7 +216,6 @@ impl<'f, F: RandomAccessFile> FileDevice<'f, F> {
     /// Syncs the journal.
     fn sync_journal(&mut self) -> Passing
         ensures asks { CallsJournal syncs self.old result self.new }
-        ensures behind { self.new.is_behind ≡ self.old.is_behind }
     {
         let Some(journal) = self.sound_journal() else {
             return Passing::Stops(Pattern::Old);
@@ -226,7 +227,6 @@ impl<'f, F: RandomAccessFile> FileDevice<'f, F> {
     /// Writes a word in flight to its image and syncs it.
     fn rest_word(&mut self, slave: usize, half: &RomHalf) -> Resting
         ensures asks { Rests slave (in_flight half.now.activity) self.old result self.new }
-        ensures behind { self.new.is_behind ≡ self.old.is_behind }
         ensures fits { FitsWords half.now }
     {
         let Some(write) = half.in_flight() else {
@@ -246,7 +246,7 @@ impl<'f, F: RandomAccessFile> FileDevice<'f, F> {
 }
 
 impl<'f, F: RandomAccessFile> Device for FileDevice<'f, F> {
-    ghost use Rattle.std.specs.Prelude.{[]};
+    ghost use Rattle.std.specs.Prelude.{[], ◌↔◌, ◌||◌, not};
     ghost use Rattle.site_core.specs.State.{Seen};
     ghost use Rattle.site_shadow.specs.Following.{Keeps, WriteKeeps, SyncKeeps, RestKeeps};
     ghost use Rattle.site_file.specs.Device.{CallsJournal, AsksLength, ReadsJournal, Rests};
@@ -254,12 +254,14 @@ impl<'f, F: RandomAccessFile> Device for FileDevice<'f, F> {
 
     ghost follows = { Follows };
 
-    #[tactic(auto, using(crate::proofs::Following::begins))]
+    /// The log of this copy begins here. Behind a shadow that has seen a call it would not know what the files hold: there each call fails.
     fn begin(&mut self, is_new: bool)
-        ensures behind { self.new.is_behind ≡ is_new }
-        ensures follows { (seen : Seen) → (IsTrue is_new → seen.past ≡ []) → Follows self.new seen }
+        ensures nothing { HasLog self.new.asking.calls [] }
+        ensures sound { self.new.has_failed ≡ (self.old.has_failed || not is_new) }
+        ensures follows { (seen : Seen) → (IsTrue is_new ↔ seen.past ≡ []) → Follows self.new seen }
     {
-        self.is_behind = is_new;
+        self.asking = self.asking.anew();
+        self.has_failed = self.has_failed || !is_new;
     }
 
     fn len(&mut self, length: usize) -> Passing
