@@ -112,7 +112,8 @@ const UNKNOWN_SIZE: CodeEntry = CodeEntry {
     name: "UnknownSize",
     meaning: "The size of a slave's EEPROM can't be told.",
     reason: "All words of the slave with this number that were compared are alike, and word 0x3E tells another size. Blank EEPROMs are like that.",
-    remedy: "Look up the size of the EEPROM in the slave's data sheet, and say it to backup: --words SLAVE=N. Later calls take it from the image file.",
+    remedy: "Look up the size of the EEPROM in the slave's data sheet, and say it to backup: --words SLAVE=N. Later calls take it from the image \
+        file.",
 };
 
 const OTHER_COUNT: CodeEntry = CodeEntry {
