@@ -1,23 +1,37 @@
-//! What is wrong in a command of a script.
+//! What is wrong in the commands of a script.
 
 use crate::flaws::{Flaw, Found, Spot, spot_in};
-use crate::forms::{ALIAS, CATEGORY, COMMAND, EDIT, EXPECT, Form, IMAGE, Shape};
+use crate::forms::{ALIAS, CATEGORY, COMMAND, EDIT, EXPECT, Form, IMAGE, SCRIPT, Shape};
 use crate::places::{Stretch, entry, from_key};
 use toml::{Table, Value};
 
+/// The keys of which a command has one.
+const COMMAND_KINDS: &[&str] = &["alias", "swap", "category", "image", "group"];
+
+/// The keys of which an edit of a group has one.
+const EDIT_KINDS: &[&str] = &["alias", "category", "image"];
+
+/// What is wrong in a script with this document, whose first bad command is the one of this place, from 0. The text's strings and comments are
+/// blanked.
+pub(crate) fn script_spot<'a>(text: &[u8], table: &'a Table, command: usize) -> Option<Spot<'a>> {
+    let whole = Stretch::whole(text);
+    if let Some(spot) = spot_in(text, whole, table, SCRIPT) {
+        return Some(spot);
+    }
+    let commands = table.get("command")?.as_array()?;
+    let value = commands.get(command)?;
+    command_spot(text, entry(text, whole, "command", command), value)
+}
+
 /// What is wrong in the command that stands in this part of a text, in the order in which it is read.
-pub(crate) fn command_spot<'a>(
-    text: &[u8],
-    within: Stretch,
-    command: &'a Value,
-) -> Option<Spot<'a>> {
+fn command_spot<'a>(text: &[u8], within: Stretch, command: &'a Value) -> Option<Spot<'a>> {
     let Some(table) = command.as_table() else {
         return Some(no_table(within, command));
     };
     if let Some(spot) = spot_in(text, within, table, COMMAND) {
         return Some(spot);
     }
-    if let Some(spot) = kinds_spot(within, table, COMMAND, COMMAND.names) {
+    if let Some(spot) = kinds_spot(within, table, COMMAND_KINDS, COMMAND.names) {
         return Some(spot);
     }
     match table.get("group") {
@@ -33,47 +47,23 @@ fn no_table<'a>(within: Stretch, value: &Value) -> Spot<'a> {
     }
 }
 
-/// What is wrong where a table has none of the kinds of a form, or two of them.
+/// What is wrong where a table has none of these keys, whose names follow, or two of them.
 fn kinds_spot<'a>(
     within: Stretch,
     table: &Table,
-    form: Form,
-    kinds: &'static str,
+    kinds: &'static [&'static str],
+    names: &'static str,
 ) -> Option<Spot<'a>> {
-    let first = kind_behind(table, form, 0);
-    let flaw = match first {
-        None => Flaw::NoneOf(kinds),
-        Some(place) => match kind_behind(table, form, place.saturating_add(1)) {
-            None => return None,
-            Some(other) => two_kinds(form, place, other),
-        },
+    let mut found = kinds.iter().filter(|key| table.contains_key(**key));
+    let flaw = match (found.next(), found.next()) {
+        (None, _) => Flaw::NoneOf(names),
+        (Some(_), None) => return None,
+        (Some(one), Some(other)) => Flaw::Two(*one, *other),
     };
     Some(Spot {
         flaw,
         at: within.from,
     })
-}
-
-fn two_kinds<'a>(form: Form, one: usize, other: usize) -> Flaw<'a> {
-    Flaw::Two(key_of(form, one), key_of(form, other))
-}
-
-fn key_of(form: Form, place: usize) -> &'static str {
-    match form.fields.get(place) {
-        Some(field) => field.key,
-        None => "",
-    }
-}
-
-/// The place of the first kind of a form, from this place on, that a table has. `expect` is no kind.
-fn kind_behind(table: &Table, form: Form, from: usize) -> Option<usize> {
-    for place in from..form.fields.len() {
-        let key = form.fields[place].key;
-        if key != "expect" && table.contains_key(key) {
-            return Some(place);
-        }
-    }
-    None
 }
 
 /// What is wrong in the entries of a group, which stands in this part of a text.
@@ -99,7 +89,7 @@ fn group_edit_spot<'a>(text: &[u8], within: Stretch, edit: &'a Value) -> Option<
     if let Some(spot) = fields_spot(text, within, table, "expect", EXPECT) {
         return Some(spot);
     }
-    match kinds_spot(within, table, EDIT, "alias, category and image") {
+    match kinds_spot(within, table, EDIT_KINDS, "alias, category and image") {
         Some(spot) => Some(spot),
         None => edit_spot(text, within, table),
     }

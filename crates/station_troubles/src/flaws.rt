@@ -1,6 +1,8 @@
 //! What is wrong in a text, in words, and where.
 
-use crate::forms::{Form, Shape};
+use crate::command_text::script_spot;
+use crate::forms::{Field, Form, Shape};
+use crate::line_text::line_spot;
 use crate::places::{Stretch, blanked, from_key, line_at};
 use std::alloc::{AllocError, Global};
 use std::fmt;
@@ -65,6 +67,29 @@ impl Found {
     }
 }
 
+impl<'a> Flaw<'a> {
+    /// The flaw of a table at a field of its form, if it has one there.
+    fn at_field(table: &Table, field: Field) -> Option<Flaw<'a>> {
+        let (key, shape) = (field.key(), field.shape());
+        match table.get(key) {
+            Some(value) if shape.fits(value) => None,
+            Some(value) => Some(Flaw::Wrong(key, Found::of(value, shape), shape)),
+            None if field.is_needed() => Some(Flaw::Missing(key)),
+            None => None,
+        }
+    }
+
+    /// The place of this flaw of a table that stands in this part of a text: that of its key, if it has one there.
+    fn spot(self, text: &[u8], within: Stretch) -> Spot<'a> {
+        let at = match self {
+            Flaw::Unknown(key, _) => from_key(text, within, key).from,
+            Flaw::Wrong(key, ..) => from_key(text, within, key).from,
+            _ => within.from,
+        };
+        Spot { flaw: self, at }
+    }
+}
+
 /// The first flaw of a table of this form, in this part of a text: an unknown key, else the first key in the form's order that is missing or
 /// has a value of another shape.
 pub(crate) fn spot_in<'a>(
@@ -73,48 +98,73 @@ pub(crate) fn spot_in<'a>(
     table: &'a Table,
     form: Form,
 ) -> Option<Spot<'a>> {
-    if let Some(key) = unknown_key(table, form) {
-        return Some(Spot {
-            flaw: Flaw::Unknown(key, form.names),
-            at: from_key(text, within, key).from,
-        });
-    }
-    for field in form.fields {
-        match table.get(field.key) {
-            Some(value) if !field.shape.fits(value) => {
-                return Some(Spot {
-                    flaw: Flaw::Wrong(field.key, Found::of(value, field.shape), field.shape),
-                    at: from_key(text, within, field.key).from,
-                });
-            }
-            None if field.is_needed => {
-                return Some(Spot {
-                    flaw: Flaw::Missing(field.key),
-                    at: within.from,
-                });
-            }
-            _ => {}
-        }
-    }
-    None
+    let flaw = match unknown_key(table, form) {
+        Some(key) => Flaw::Unknown(key, form.names),
+        None => flawed_field(table, form)?,
+    };
+    Some(flaw.spot(text, within))
 }
 
 /// The first key of a table that its form doesn't have.
 fn unknown_key<'a>(table: &'a Table, form: Form) -> Option<&'a str> {
     for key in table.keys() {
-        if !form.fields.iter().any(|field| field.key == key.as_str()) {
+        if !form.fields.iter().any(|field| field.key() == key.as_str()) {
             return Some(key.as_str());
         }
     }
     None
 }
 
-/// The trouble of a text that is TOML, from what is wrong in it.
-pub(crate) fn trouble_at(
+/// The flaw of a table at the first field of its form where it has one.
+fn flawed_field<'a>(table: &Table, form: Form) -> Option<Flaw<'a>> {
+    for field in form.fields {
+        if let Some(flaw) = Flaw::at_field(table, *field) {
+            return Some(flaw);
+        }
+    }
+    None
+}
+
+/// What a text is read as.
+#[derive(Clone, Copy)]
+pub(crate) enum TextKind {
+    Line,
+    /// A script, whose first bad command is the one of this place, from 0.
+    Script(usize),
+}
+
+/// What is wrong in a text that can't be read.
+pub(crate) fn trouble_of(
     alloc: Global,
     text: &str,
-    spot: Spot<'_>,
+    kind: TextKind,
 ) -> Result<TextTrouble, AllocError> {
+    match toml::table_from_str(alloc, text) {
+        Ok(table) => trouble_in(alloc, text, &table, kind),
+        Err(error) => no_document(alloc, text, &error),
+    }
+}
+
+/// What is wrong in a text with this document.
+fn trouble_in(
+    alloc: Global,
+    text: &str,
+    table: &Table,
+    kind: TextKind,
+) -> Result<TextTrouble, AllocError> {
+    let code = blanked(alloc, text.as_bytes())?;
+    let spot = match kind {
+        TextKind::Line => line_spot(&code, table),
+        TextKind::Script(command) => script_spot(&code, table, command),
+    };
+    match spot {
+        Some(spot) => trouble_at(alloc, text, spot),
+        None => no_spot(alloc, kind),
+    }
+}
+
+/// The trouble of a text that is TOML, from what is wrong in it.
+fn trouble_at(alloc: Global, text: &str, spot: Spot<'_>) -> Result<TextTrouble, AllocError> {
     let flaw = spot.flaw;
     Ok(TextTrouble {
         line: spot.at.map(|at| line_at(text.as_bytes(), at)),
@@ -122,16 +172,18 @@ pub(crate) fn trouble_at(
     })
 }
 
-/// Reads a text, and gives its document with the text's bytes, where strings and comments are blanked.
-pub(crate) fn document(
-    alloc: Global,
-    text: &str,
-) -> Result<Result<(Table, Vec<u8>), TextTrouble>, AllocError> {
-    match toml::table_from_str(alloc, text) {
-        Ok(table) => Ok(Ok((table, blanked(alloc, text.as_bytes())?))),
-        Err(error) if error.is_memory() => Err(AllocError),
-        Err(error) => Ok(Err(no_document(alloc, text, &error)?)),
-    }
+/// The trouble of a text in which nothing is found.
+fn no_spot(alloc: Global, kind: TextKind) -> Result<TextTrouble, AllocError> {
+    let what = match kind {
+        TextKind::Line => String::from_str(alloc, "no line file"),
+        TextKind::Script(command) => format!(in alloc;
+            "command {command} is none that the program knows"
+        ),
+    };
+    Ok(TextTrouble {
+        line: None,
+        what: what?,
+    })
 }
 
 /// The trouble of a text that isn't TOML.
@@ -140,12 +192,13 @@ fn no_document(
     text: &str,
     error: &toml::de::Error,
 ) -> Result<TextTrouble, AllocError> {
+    if error.is_memory() {
+        return Err(AllocError);
+    }
     let why = error.message();
-    let line = error
-        .span()
-        .map(|span| line_at(text.as_bytes(), span.start));
+    let span = error.span();
     Ok(TextTrouble {
-        line,
+        line: span.map(|span| line_at(text.as_bytes(), span.start)),
         what: format!(in alloc; "no TOML: {why}")?,
     })
 }

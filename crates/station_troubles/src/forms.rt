@@ -17,218 +17,123 @@ pub(crate) enum Shape {
     Words,
 }
 
-/// A key of a table.
+/// A key of a table, and what its value has to be.
 #[derive(Clone, Copy)]
-pub(crate) struct Field {
-    pub key: &'static str,
-    /// Whether the table must have it.
-    pub is_needed: bool,
-    pub shape: Shape,
+pub(crate) enum Field {
+    /// It must be there.
+    Needed(&'static str, Shape),
+    /// It may be left out.
+    Free(&'static str, Shape),
 }
 
 /// The keys of a table, and their names in words.
 #[derive(Clone, Copy)]
 pub(crate) struct Form {
-    pub fields: &'static [Field],
     pub names: &'static str,
+    pub fields: &'static [Field],
 }
+
+const SMALL: Shape = Shape::Number(0, 65_535);
+
+const LARGE: Shape = Shape::Number(0, 4_294_967_295);
 
 /// A line file.
 pub(crate) const LINE: Form = Form {
     names: "journal, area and slave",
-    fields: LINE_FIELDS,
+    fields: &[
+        Field::Needed("journal", Shape::Text),
+        Field::Free("area", Shape::Number(4_096, 4_194_304)),
+        Field::Needed("slave", Shape::Array),
+    ],
 };
-
-const LINE_FIELDS: &[Field] = &[
-    Field {
-        key: "journal",
-        is_needed: true,
-        shape: Shape::Text,
-    },
-    Field {
-        key: "area",
-        is_needed: false,
-        shape: Shape::Number(4_096, 4_194_304),
-    },
-    Field {
-        key: "slave",
-        is_needed: true,
-        shape: Shape::Array,
-    },
-];
 
 /// A slave of a line file.
 pub(crate) const SLAVE: Form = Form {
     names: "image",
-    fields: SLAVE_FIELDS,
+    fields: &[Field::Needed("image", Shape::Text)],
 };
-
-const SLAVE_FIELDS: &[Field] = &[Field {
-    key: "image",
-    is_needed: true,
-    shape: Shape::Text,
-}];
 
 /// A script.
 pub(crate) const SCRIPT: Form = Form {
     names: "command",
-    fields: SCRIPT_FIELDS,
+    fields: &[Field::Needed("command", Shape::Array)],
 };
-
-const SCRIPT_FIELDS: &[Field] = &[Field {
-    key: "command",
-    is_needed: true,
-    shape: Shape::Array,
-}];
 
 /// A command of a script.
 pub(crate) const COMMAND: Form = Form {
     names: "alias, swap, category, image and group",
-    fields: COMMAND_FIELDS,
+    fields: &[
+        Field::Free("alias", Shape::Table),
+        Field::Free("swap", Shape::Pair),
+        Field::Free("category", Shape::Table),
+        Field::Free("image", Shape::Table),
+        Field::Free("group", Shape::Array),
+    ],
 };
-
-const COMMAND_FIELDS: &[Field] = &[
-    Field {
-        key: "alias",
-        is_needed: false,
-        shape: Shape::Table,
-    },
-    Field {
-        key: "swap",
-        is_needed: false,
-        shape: Shape::Pair,
-    },
-    Field {
-        key: "category",
-        is_needed: false,
-        shape: Shape::Table,
-    },
-    Field {
-        key: "image",
-        is_needed: false,
-        shape: Shape::Table,
-    },
-    Field {
-        key: "group",
-        is_needed: false,
-        shape: Shape::Array,
-    },
-];
 
 /// An edit of a group.
 pub(crate) const EDIT: Form = Form {
     names: "alias, category, image and expect",
-    fields: EDIT_FIELDS,
+    fields: &[
+        Field::Free("alias", Shape::Table),
+        Field::Free("category", Shape::Table),
+        Field::Free("image", Shape::Table),
+        Field::Free("expect", Shape::Table),
+    ],
 };
-
-const EDIT_FIELDS: &[Field] = &[
-    Field {
-        key: "alias",
-        is_needed: false,
-        shape: Shape::Table,
-    },
-    Field {
-        key: "category",
-        is_needed: false,
-        shape: Shape::Table,
-    },
-    Field {
-        key: "image",
-        is_needed: false,
-        shape: Shape::Table,
-    },
-    Field {
-        key: "expect",
-        is_needed: false,
-        shape: Shape::Table,
-    },
-];
 
 /// The identity that an edit expects.
 pub(crate) const EXPECT: Form = Form {
     names: "vendor, product and revision",
-    fields: EXPECT_FIELDS,
+    fields: &[
+        Field::Needed("vendor", LARGE),
+        Field::Needed("product", LARGE),
+        Field::Needed("revision", LARGE),
+    ],
 };
-
-const EXPECT_FIELDS: &[Field] = &[
-    Field {
-        key: "vendor",
-        is_needed: true,
-        shape: Shape::Number(0, 4_294_967_295),
-    },
-    Field {
-        key: "product",
-        is_needed: true,
-        shape: Shape::Number(0, 4_294_967_295),
-    },
-    Field {
-        key: "revision",
-        is_needed: true,
-        shape: Shape::Number(0, 4_294_967_295),
-    },
-];
 
 /// An alias edit.
 pub(crate) const ALIAS: Form = Form {
     names: "slave and value",
-    fields: ALIAS_FIELDS,
+    fields: &[Field::Needed("slave", SMALL), Field::Needed("value", SMALL)],
 };
-
-const ALIAS_FIELDS: &[Field] = &[
-    Field {
-        key: "slave",
-        is_needed: true,
-        shape: Shape::Number(0, 65_535),
-    },
-    Field {
-        key: "value",
-        is_needed: true,
-        shape: Shape::Number(0, 65_535),
-    },
-];
 
 /// A category edit.
 pub(crate) const CATEGORY: Form = Form {
     names: "slave, kind and content",
-    fields: CATEGORY_FIELDS,
+    fields: &[
+        Field::Needed("slave", SMALL),
+        Field::Needed("kind", SMALL),
+        Field::Needed("content", Shape::Words),
+    ],
 };
-
-const CATEGORY_FIELDS: &[Field] = &[
-    Field {
-        key: "slave",
-        is_needed: true,
-        shape: Shape::Number(0, 65_535),
-    },
-    Field {
-        key: "kind",
-        is_needed: true,
-        shape: Shape::Number(0, 65_535),
-    },
-    Field {
-        key: "content",
-        is_needed: true,
-        shape: Shape::Words,
-    },
-];
 
 /// An image edit.
 pub(crate) const IMAGE: Form = Form {
     names: "slave and file",
-    fields: IMAGE_FIELDS,
+    fields: &[
+        Field::Needed("slave", SMALL),
+        Field::Needed("file", Shape::Text),
+    ],
 };
 
-const IMAGE_FIELDS: &[Field] = &[
-    Field {
-        key: "slave",
-        is_needed: true,
-        shape: Shape::Number(0, 65_535),
-    },
-    Field {
-        key: "file",
-        is_needed: true,
-        shape: Shape::Text,
-    },
-];
+impl Field {
+    pub(crate) fn key(self) -> &'static str {
+        match self {
+            Field::Needed(key, _) | Field::Free(key, _) => key,
+        }
+    }
+
+    pub(crate) fn shape(self) -> Shape {
+        match self {
+            Field::Needed(_, shape) | Field::Free(_, shape) => shape,
+        }
+    }
+
+    pub(crate) fn is_needed(self) -> bool {
+        matches!(self, Field::Needed(..))
+    }
+}
 
 impl Shape {
     /// Whether a value has this shape.

@@ -2,17 +2,18 @@
 #![tactic(auto)]
 
 mod command_text;
-mod finding;
+mod contents;
 mod flaws;
 mod forms;
 mod heard;
-mod journal;
 mod line_text;
 mod looking;
 mod places;
 mod same_files;
 mod script_text;
+mod search;
 mod telling;
+mod texts;
 
 pub use flaws::TextTrouble;
 pub use heard::Heard;

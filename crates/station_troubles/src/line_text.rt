@@ -3,7 +3,7 @@ ghost use Rattle.std.specs.Prelude.{IfOk, IfSome};
 ghost use Rattle.station_files.specs.LineFiles.{DescribesLine};
 ghost use Rattle.station_text.specs.declared.line_file.LineFile.{LineFile};
 
-use crate::flaws::{Flaw, Found, Spot, TextTrouble, document, spot_in, trouble_at};
+use crate::flaws::{Flaw, Found, Spot, TextKind, TextTrouble, spot_in, trouble_of};
 use crate::forms::{LINE, SLAVE, Shape};
 use crate::places::{Stretch, entry, from_key};
 use station_text::{LineFault, read_line};
@@ -21,34 +21,12 @@ pub fn line_trouble(alloc: Global, text: &str) -> Result<Option<TextTrouble>, Al
     match read_line(alloc, text) {
         Ok(_) => Ok(None),
         Err(LineFault::Memory) => Err(AllocError),
-        Err(LineFault::BadLine) => Ok(Some(trouble_of(alloc, text)?)),
+        Err(LineFault::BadLine) => Ok(Some(trouble_of(alloc, text, TextKind::Line)?)),
     }
 }
 
-fn trouble_of(alloc: Global, text: &str) -> Result<TextTrouble, AllocError> {
-    match document(alloc, text)? {
-        Ok((table, code)) => trouble_in(alloc, text, &table, &code),
-        Err(trouble) => Ok(trouble),
-    }
-}
-
-/// What is wrong in a text with this document, whose strings and comments are blanked in `code`.
-fn trouble_in(
-    alloc: Global,
-    text: &str,
-    table: &Table,
-    code: &[u8],
-) -> Result<TextTrouble, AllocError> {
-    match line_spot(code, table) {
-        Some(spot) => trouble_at(alloc, text, spot),
-        None => Ok(TextTrouble {
-            line: None,
-            what: String::from_str(alloc, "no line file")?,
-        }),
-    }
-}
-
-fn line_spot<'a>(text: &[u8], table: &'a Table) -> Option<Spot<'a>> {
+/// What is wrong in a text with this document, whose strings and comments are blanked.
+pub(crate) fn line_spot<'a>(text: &[u8], table: &'a Table) -> Option<Spot<'a>> {
     let whole = Stretch::whole(text);
     if let Some(spot) = spot_in(text, whole, table, LINE) {
         return Some(spot);

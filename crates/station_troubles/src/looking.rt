@@ -1,31 +1,15 @@
 //! Looks again at the files that a subcommand read.
 ghost use Rattle.std.specs.Prelude.{◌≡◌};
 
-use crate::finding::{Bad, Finding, Shown, found, in_text, is_same, keep, said};
-use crate::flaws::TextTrouble;
-use crate::journal::judge_journal;
-use crate::line_text::line_trouble;
-use crate::places::line_at;
-use crate::same_files::FilesOfLine;
-use crate::script_text::script_trouble;
-use sii_words::{ImageFile, is_device_size, is_image_size};
+use crate::contents::{Image, judge_image, judge_journal};
+use crate::same_files::look_at_names;
+use crate::search::{End, Search, but_others};
+use crate::texts::{line_of, script_of};
 use station_files::{LockFault, Store, image_names, load_slaves};
 use station_listing::Code;
-use station_text::{HexFault, LineFile, ScriptCommand, read_hex, read_line, read_script};
-use std::alloc::{AllocError, Global};
+use station_text::{LineFile, ScriptCommand};
+use std::alloc::Global;
 use std::io;
-
-/// What is said of a file that isn't hexadecimal text.
-const NO_HEX: &str = "not pairs of hexadecimal digits alone";
-
-/// What is said of the file of a capture that is there, and is none of the others.
-const TAKEN: &str = "the file is there, and is no capture of this program";
-
-/// What is said of a file that isn't there.
-const ABSENT: &str = "there is no such file";
-
-/// What is said of a journal that can't be locked.
-const BUSY: &str = "another station has locked it";
 
 /// The files that a subcommand reads, in the order in which it reads them.
 #[derive(Clone, Copy)]
@@ -88,49 +72,41 @@ pub fn look_again<S: Store>(
 ) -> Option<String>
     ensures same { S.files store.new ≡ S.files store.old }
 {
+    let search = Search { alloc, code };
     let looked = match files {
-        Files::Nothing => look_at_output(alloc, code),
-        Files::Input => look_at_input(alloc, code),
-        Files::Image { name, hex } => keep(code, look_at_image(alloc, name, hex, store)),
-        Files::Pair { old, new, hex } => look_at_pair(alloc, code, old, new, hex, store),
-        Files::Line(names) => look_at_line(alloc, code, names, store),
+        Files::Nothing => look_at_output(search),
+        Files::Input => look_at_input(search),
+        Files::Image { name, hex } => look_at_image(search, name, hex, store),
+        Files::Pair { old, new, hex } => look_at_pair(search, old, new, hex, store),
+        Files::Line(names) => look_at_line(search, names, store),
     };
     match looked {
-        Err(Bad::Found(finding)) => text_for(code, finding),
-        Err(Bad::Memory) => None,
+        Err(End::Told(text)) => Some(text),
+        Err(_) => None,
         Ok(()) => text_of_none(alloc, code),
     }
 }
 
 /// What is said where every file could be read again.
 fn text_of_none(alloc: Global, code: Code) -> Option<String> {
-    if !is_same(code, Code::File) {
+    let Code::File = code else {
         return None;
-    }
+    };
     let what = "every file can be read, so a file, its folder or standard output can't be written";
     String::from_str(alloc, what).ok()
 }
 
-/// The words of a finding, if it is for this code.
-fn text_for(code: Code, finding: Finding) -> Option<String> {
-    if is_same(finding.code, code) {
-        return Some(finding.text);
-    }
-    None
-}
-
 /// What a fault of a subcommand that only prints is about.
-fn look_at_output(alloc: Global, code: Code) -> Result<(), Bad> {
-    if !is_same(code, Code::File) {
-        return Ok(());
+fn look_at_output(search: Search) -> Result<(), End> {
+    if search.is_for(Code::File) {
+        return Err(search.say("standard output can't be written"));
     }
-    let text = String::from_str(alloc, "standard output can't be written")?;
-    Err(Bad::Found(Finding { code, text }))
+    Ok(())
 }
 
 /// What a fault of an image on standard input is about.
-fn look_at_input(alloc: Global, code: Code) -> Result<(), Bad> {
-    let what = match code {
+fn look_at_input(search: Search) -> Result<(), End> {
+    let what = match search.code {
         Code::OddLength => "standard input has an odd number of bytes, and a word has two",
         Code::BadSize => "standard input has not the 64 to 4096 words of an image",
         Code::BadHex => "standard input has not pairs of hexadecimal digits alone",
@@ -139,366 +115,201 @@ fn look_at_input(alloc: Global, code: Code) -> Result<(), Bad> {
         Code::File => "standard input can't be read, or standard output can't be written",
         _ => return Ok(()),
     };
-    let text = String::from_str(alloc, what)?;
-    Err(Bad::Found(Finding { code, text }))
+    Err(search.say(what))
 }
 
-/// What is wrong with an image file: it can't be read, or has no image, or one with a wrong check byte.
-fn look_at_image<S: Store>(alloc: Global, name: &str, hex: bool, store: &mut S) -> Result<(), Bad>
+/// Looks at an image file with a check byte, or its hexadecimal text.
+fn look_at_image<S: Store>(search: Search, name: &str, hex: bool, store: &mut S) -> Result<(), End>
     ensures same { S.files store.new ≡ S.files store.old }
 {
-    let bytes = read_again(alloc, name, store)?;
-    judge_image(alloc, name, hex, &bytes)
+    let image = if hex { Image::Spelt } else { Image::Checked };
+    image_again(search, name, image, store)
 }
 
 /// Looks at those of two images that are files, and says of standard input what it can be about where none of these gives the fault.
 fn look_at_pair<S: Store>(
-    alloc: Global,
-    code: Code,
+    search: Search,
     old: Option<&str>,
     new: Option<&str>,
     hex: bool,
     store: &mut S,
-) -> Result<(), Bad>
+) -> Result<(), End>
     ensures same { S.files store.new ≡ S.files store.old }
 {
     if let Some(name) = old {
-        keep(code, look_at_image(alloc, name, hex, store))?;
+        look_at_image(search, name, hex, store)?;
     }
     if let Some(name) = new {
-        keep(code, look_at_image(alloc, name, hex, store))?;
+        look_at_image(search, name, hex, store)?;
     }
     if old.is_none() || new.is_none() {
-        return look_at_input(alloc, code);
+        return look_at_input(search);
     }
     Ok(())
 }
 
-/// Judges the bytes of an image file, or its hexadecimal text.
-fn judge_image(alloc: Global, name: &str, hex: bool, bytes: &[u8]) -> Result<(), Bad> {
-    if !hex {
-        return judge_words(alloc, name, bytes);
-    }
-    let text = match str::from_utf8(bytes) {
-        Ok(text) => text,
-        Err(_) => return Err(Bad::Found(said(alloc, Code::BadHex, name, NO_HEX)?)),
-    };
-    match read_hex(alloc, text) {
-        Ok(spelt) => judge_words(alloc, name, &spelt),
-        Err(HexFault::BadHex) => Err(Bad::Found(said(alloc, Code::BadHex, name, NO_HEX)?)),
-        Err(HexFault::Memory) => Err(Bad::Memory),
-    }
-}
-
-/// Judges the bytes of an image: their number, and the check byte.
-fn judge_words(alloc: Global, name: &str, bytes: &[u8]) -> Result<(), Bad> {
-    judge_size(alloc, name, bytes.len(), false)?;
-    match ImageFile::from_bytes(alloc, bytes) {
-        Ok(image) if image.check_ok() => Ok(()),
-        Ok(image) => Err(Bad::Found(bad_check(alloc, name, image.check_byte())?)),
-        Err(_) => Err(Bad::Memory),
-    }
-}
-
-fn bad_check(alloc: Global, name: &str, expected: u8) -> Result<Finding, AllocError> {
-    let name = Shown { name };
-    let text = format!(in alloc;
-        "{name}: the check byte, the low byte of word 7, must be 0x{expected:02x}"
-    );
-    found(Code::BadCheck, text)
-}
-
-fn look_at_line<S: Store>(
-    alloc: Global,
-    code: Code,
-    names: LineNames<'_>,
-    store: &mut S,
-) -> Result<(), Bad>
+/// Looks at the line file, and at the files that are read behind it.
+fn look_at_line<S: Store>(search: Search, names: LineNames<'_>, store: &mut S) -> Result<(), End>
     ensures same { S.files store.new ≡ S.files store.old }
 {
-    let line = line_again(alloc, names.line, store)?;
-    if is_of_names(code, names) {
-        return look_at_names(alloc, code, names, &line, store);
+    match line_again(search, names.line, store) {
+        Ok(line) => look_behind_line(search, names, &line, store),
+        Err(end) => Err(end),
     }
-    look_behind_line(alloc, code, names, &line, store)
 }
 
-/// Looks at the files that are read behind the line file, in order.
+/// Looks at the files that are read behind the line file, or where the fault may be about two that are one, for these.
 fn look_behind_line<S: Store>(
-    alloc: Global,
-    code: Code,
+    search: Search,
     names: LineNames<'_>,
     line: &LineFile,
     store: &mut S,
-) -> Result<(), Bad>
+) -> Result<(), End>
     ensures same { S.files store.new ≡ S.files store.old }
 {
-    if names.journal == Journal::Kept {
-        keep(code, lock_again(alloc, line.journal.as_str(), store))?;
+    let may_clash = search.is_for(Code::SameFile);
+    if may_clash || (search.is_for(Code::Exists) && names.capture.is_some()) {
+        return look_at_names(search, names, line, store);
     }
-    images_again(alloc, code, &line.images, true, store)?;
-    keep(code, journal_again(alloc, names.journal, line, store))?;
+    look_at_lock(search, names.journal, line, store)?;
+    images_again(search, &line.images, Image::Eeprom, store)?;
+    look_at_journal(search, names.journal, line, store)?;
     match names.script {
-        Some(script) => look_at_script(alloc, code, script, store),
+        Some(script) => look_at_script(search, script, store),
         None => Ok(()),
     }
 }
 
-/// Whether a fault of this code may be about two files that are one.
-fn is_of_names(code: Code, names: LineNames<'_>) -> bool {
-    is_same(code, Code::SameFile) || (is_same(code, Code::Exists) && names.capture.is_some())
-}
-
-/// Says which two files of a subcommand on this line are one, or that the capture's is there already.
-fn look_at_names<S: Store>(
-    alloc: Global,
-    code: Code,
-    names: LineNames<'_>,
-    line: &LineFile,
-    store: &mut S,
-) -> Result<(), Bad>
+/// Looks at a script, and at the images that it names.
+fn look_at_script<S: Store>(search: Search, name: &str, store: &mut S) -> Result<(), End>
     ensures same { S.files store.new ≡ S.files store.old }
 {
-    files_again(alloc, names, line, store)?.judge(alloc, code, store)?;
-    match names.capture {
-        Some(name) if is_same(code, Code::Exists) => {
-            Err(Bad::Found(said(alloc, Code::Exists, name, TAKEN)?))
-        }
+    let commands = script_again(search, name, store)?;
+    let images = image_names(search.alloc, &commands)?;
+    images_again(search, &images, Image::Written, store)
+}
+
+/// Reads a file that must be there.
+fn read_again<S: Store>(search: Search, name: &str, store: &mut S) -> Result<Vec<u8>, End>
+    ensures same { S.files store.new ≡ S.files store.old }
+{
+    match store.read(search.alloc, name) {
+        Ok(Some(bytes)) => Ok(bytes),
+        Ok(None) => Err(search.end(Code::File, name, &"there is no such file")),
+        Err(error) => Err(unread(search, name, &error)),
+    }
+}
+
+/// The end at an error of the system.
+fn unread(search: Search, name: &str, error: &io::Error) -> End {
+    if error.kind() == io::ErrorKind::OutOfMemory {
+        return End::Memory;
+    }
+    search.end(Code::File, name, error)
+}
+
+fn line_again<S: Store>(search: Search, name: &str, store: &mut S) -> Result<LineFile, End>
+    ensures same { S.files store.new ≡ S.files store.old }
+{
+    let bytes = read_again(search, name, store)?;
+    line_of(search, name, &bytes)
+}
+
+/// Reads the commands of a script.
+pub(crate) fn script_again<S: Store>(
+    search: Search,
+    name: &str,
+    store: &mut S,
+) -> Result<Vec<ScriptCommand>, End>
+    ensures same { S.files store.new ≡ S.files store.old }
+{
+    let bytes = read_again(search, name, store)?;
+    script_of(search, name, &bytes)
+}
+
+/// Locks a journal that is kept, and unlocks it.
+fn look_at_lock<S: Store>(
+    search: Search,
+    journal: Journal,
+    line: &LineFile,
+    store: &mut S,
+) -> Result<(), End>
+    ensures same { S.files store.new ≡ S.files store.old }
+{
+    match journal {
+        Journal::Kept => but_others(lock_again(search, line.journal.as_str(), store)),
         _ => Ok(()),
     }
 }
 
-/// The files of a subcommand on this line.
-fn files_again<S: Store>(
-    alloc: Global,
-    names: LineNames<'_>,
-    line: &LineFile,
-    store: &mut S,
-) -> Result<FilesOfLine, Bad>
-    ensures same { S.files store.new ≡ S.files store.old }
-{
-    let files = FilesOfLine::of_line(alloc, line, names.line, names.capture)?;
-    match names.script {
-        Some(script) => with_script_again(alloc, files, script, store),
-        None => Ok(files),
-    }
-}
-
-/// These files, with a script and the images that it names.
-fn with_script_again<S: Store>(
-    alloc: Global,
-    files: FilesOfLine,
-    script: &str,
-    store: &mut S,
-) -> Result<FilesOfLine, Bad>
-    ensures same { S.files store.new ≡ S.files store.old }
-{
-    match script_again(alloc, script, store) {
-        Ok(commands) => Ok(files.with_script(alloc, script, &commands)?),
-        Err(bad) => Err(bad),
-    }
-}
-
-fn look_at_script<S: Store>(alloc: Global, code: Code, name: &str, store: &mut S) -> Result<(), Bad>
-    ensures same { S.files store.new ≡ S.files store.old }
-{
-    let commands = script_again(alloc, name, store)?;
-    let images = image_names(alloc, &commands)?;
-    images_again(alloc, code, &images, false, store)
-}
-
-/// Reads a file that must be there.
-fn read_again<S: Store>(alloc: Global, name: &str, store: &mut S) -> Result<Vec<u8>, Bad>
-    ensures same { S.files store.new ≡ S.files store.old }
-{
-    match store.read(alloc, name) {
-        Ok(Some(bytes)) => Ok(bytes),
-        Ok(None) => Err(Bad::Found(said(alloc, Code::File, name, ABSENT)?)),
-        Err(error) => Err(unread(alloc, name, &error)?),
-    }
-}
-
-/// What an error of the system says of a file.
-fn unread(alloc: Global, name: &str, error: &io::Error) -> Result<Bad, AllocError> {
-    if error.kind() == io::ErrorKind::OutOfMemory {
-        return Ok(Bad::Memory);
-    }
-    let name = Shown { name };
-    let finding = found(Code::File, format!(in alloc; "{name}: {error}"))?;
-    Ok(Bad::Found(finding))
-}
-
-fn line_again<S: Store>(alloc: Global, name: &str, store: &mut S) -> Result<LineFile, Bad>
-    ensures same { S.files store.new ≡ S.files store.old }
-{
-    let bytes = read_again(alloc, name, store)?;
-    line_of(alloc, name, &bytes)
-}
-
-fn line_of(alloc: Global, name: &str, bytes: &[u8]) -> Result<LineFile, Bad> {
-    let text = text_of(alloc, Code::BadLine, name, bytes)?;
-    if let Some(trouble) = line_trouble(alloc, text)? {
-        return Err(Bad::Found(in_text(alloc, Code::BadLine, name, &trouble)?));
-    }
-    match read_line(alloc, text) {
-        Ok(line) => Ok(line),
-        Err(_) => Err(Bad::Memory),
-    }
-}
-
-fn script_again<S: Store>(
-    alloc: Global,
-    name: &str,
-    store: &mut S,
-) -> Result<Vec<ScriptCommand>, Bad>
-    ensures same { S.files store.new ≡ S.files store.old }
-{
-    let bytes = read_again(alloc, name, store)?;
-    script_of(alloc, name, &bytes)
-}
-
-fn script_of(alloc: Global, name: &str, bytes: &[u8]) -> Result<Vec<ScriptCommand>, Bad> {
-    let text = text_of(alloc, Code::BadScript, name, bytes)?;
-    if let Some(trouble) = script_trouble(alloc, text)? {
-        return Err(Bad::Found(in_text(alloc, Code::BadScript, name, &trouble)?));
-    }
-    match read_script(alloc, text) {
-        Ok(commands) => Ok(commands),
-        Err(_) => Err(Bad::Memory),
-    }
-}
-
-/// The text of a file with these bytes, which has to be UTF-8.
-fn text_of<'a>(alloc: Global, code: Code, name: &str, bytes: &'a [u8]) -> Result<&'a str, Bad> {
-    match str::from_utf8(bytes) {
-        Ok(text) => Ok(text),
-        Err(error) => {
-            let trouble = TextTrouble {
-                line: Some(line_at(bytes, error.valid_up_to())),
-                what: String::from_str(alloc, "no UTF-8")?,
-            };
-            Err(Bad::Found(in_text(alloc, code, name, &trouble)?))
-        }
-    }
-}
-
-/// Locks the journal, and unlocks it.
-fn lock_again<S: Store>(alloc: Global, name: &str, store: &mut S) -> Result<(), Bad>
+fn lock_again<S: Store>(search: Search, name: &str, store: &mut S) -> Result<(), End>
     ensures same { S.files store.new ≡ S.files store.old }
 {
     match store.lock(name) {
         Ok(_lock) => Ok(()),
-        Err(LockFault::Busy) => Err(Bad::Found(said(alloc, Code::Busy, name, BUSY)?)),
-        Err(LockFault::Io(error)) => Err(unread(alloc, name, &error)?),
+        Err(LockFault::Busy) => Err(search.end(Code::Busy, name, &"another station has locked it")),
+        Err(LockFault::Io(error)) => Err(unread(search, name, &error)),
     }
 }
 
-/// Reads these image files, up to the first that gives the fault of this code. Images of slaves have whole blocks of 64 words.
+/// Looks at these image files, up to the first that gives the fault.
 fn images_again<S: Store>(
-    alloc: Global,
-    code: Code,
-    images: &[String],
-    is_slave: bool,
+    search: Search,
+    names: &[String],
+    image: Image,
     store: &mut S,
-) -> Result<(), Bad>
+) -> Result<(), End>
     ensures same { S.files store.new ≡ S.files store.old }
 {
-    for image in images {
-        keep(code, image_again(alloc, image.as_str(), is_slave, store))?;
+    for name in names {
+        image_again(search, name.as_str(), image, store)?;
     }
     Ok(())
 }
 
-fn image_again<S: Store>(
-    alloc: Global,
-    name: &str,
-    is_slave: bool,
-    store: &mut S,
-) -> Result<(), Bad>
+/// Looks at an image file.
+fn image_again<S: Store>(search: Search, name: &str, image: Image, store: &mut S) -> Result<(), End>
     ensures same { S.files store.new ≡ S.files store.old }
 {
-    let bytes = read_again(alloc, name, store)?;
-    judge_size(alloc, name, bytes.len(), is_slave)
-}
-
-/// Judges the length of an image file.
-fn judge_size(alloc: Global, name: &str, bytes: usize, is_slave: bool) -> Result<(), Bad> {
-    if bytes % 2 != 0 {
-        return Err(Bad::Found(odd_length(alloc, name, bytes)?));
-    }
-    let words = bytes / 2;
-    match broken_rule(words, is_slave) {
-        Some(rule) => Err(Bad::Found(bad_size(alloc, name, words, rule)?)),
-        None => Ok(()),
-    }
-}
-
-/// The rule that a number of words breaks, if it does.
-fn broken_rule(words: usize, is_slave: bool) -> Option<&'static str> {
-    if is_slave && !is_device_size(words) {
-        return Some("an EEPROM has 64 to 4096, a multiple of 64");
-    }
-    if !is_slave && !is_image_size(words) {
-        return Some("an image has 64 to 4096");
-    }
-    None
-}
-
-fn odd_length(alloc: Global, name: &str, bytes: usize) -> Result<Finding, AllocError> {
-    let name = Shown { name };
-    let text = format!(in alloc; "{name}: {bytes} bytes, an odd number, and a word has two");
-    found(Code::OddLength, text)
-}
-
-fn bad_size(alloc: Global, name: &str, words: usize, rule: &str) -> Result<Finding, AllocError> {
-    let name = Shown { name };
-    found(
-        Code::BadSize,
-        format!(in alloc; "{name}: {words} words, and {rule}"),
-    )
+    but_others(match read_again(search, name, store) {
+        Ok(bytes) => judge_image(search, name, image, &bytes),
+        Err(end) => Err(end),
+    })
 }
 
 /// Looks at the journal's file as a subcommand does.
-fn journal_again<S: Store>(
-    alloc: Global,
+fn look_at_journal<S: Store>(
+    search: Search,
     journal: Journal,
     line: &LineFile,
     store: &mut S,
-) -> Result<(), Bad>
+) -> Result<(), End>
     ensures same { S.files store.new ≡ S.files store.old }
 {
     match journal {
         Journal::Unread => Ok(()),
-        Journal::New => new_journal(alloc, line.journal.as_str(), store),
-        Journal::Kept => kept_journal(alloc, line, store),
+        Journal::New => but_others(new_journal(search, line.journal.as_str(), store)),
+        Journal::Kept => but_others(kept_journal(search, line, store)),
     }
 }
 
-fn new_journal<S: Store>(alloc: Global, name: &str, store: &mut S) -> Result<(), Bad>
+fn new_journal<S: Store>(search: Search, name: &str, store: &mut S) -> Result<(), End>
     ensures same { S.files store.new ≡ S.files store.old }
 {
-    match store.read(alloc, name) {
+    match store.read(search.alloc, name) {
         Ok(None) => Ok(()),
-        Ok(Some(_)) => Err(Bad::Found(existing(alloc, name)?)),
-        Err(error) => Err(unread(alloc, name, &error)?),
+        Ok(Some(_)) => Err(search.end(Code::Exists, name, &"the file is there already")),
+        Err(error) => Err(unread(search, name, &error)),
     }
 }
 
-fn existing(alloc: Global, name: &str) -> Result<Finding, AllocError> {
-    let name = Shown { name };
-    Ok(Finding {
-        code: Code::Exists,
-        text: format!(in alloc; "{name}: the file is there already")?,
-    })
-}
-
-fn kept_journal<S: Store>(alloc: Global, line: &LineFile, store: &mut S) -> Result<(), Bad>
+fn kept_journal<S: Store>(search: Search, line: &LineFile, store: &mut S) -> Result<(), End>
     ensures same { S.files store.new ≡ S.files store.old }
 {
     let name = line.journal.as_str();
-    let bytes = read_again(alloc, name, store)?;
-    match load_slaves(alloc, line, store) {
-        Ok(slaves) => judge_journal(alloc, name, &bytes, &slaves),
+    let bytes = read_again(search, name, store)?;
+    match load_slaves(search.alloc, line, store) {
+        Ok(slaves) => judge_journal(search, name, &bytes, &slaves),
         Err(_) => Ok(()),
     }
 }

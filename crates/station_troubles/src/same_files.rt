@@ -1,12 +1,16 @@
 //! Which two files of a subcommand on a line are one.
 ghost use Rattle.std.specs.Prelude.{◌≡◌};
 
-use crate::finding::{Bad, Finding, Shown};
-use station_files::{FileNames, Store, find_clash};
+use crate::looking::{LineNames, script_again};
+use crate::search::{End, Search, Shown};
+use station_files::{Clash, FileNames, Store, find_clash, image_names};
 use station_listing::Code;
 use station_text::{LineFile, ScriptCommand, ScriptEdit};
 use std::alloc::{AllocError, Global};
 use std::fmt;
+
+/// What is said of the file of a capture that is there, and is none of the others.
+const TAKEN: &str = "the file is there, and is no capture of this program";
 
 /// What a file is to a subcommand on a line.
 #[derive(Clone, Copy)]
@@ -21,92 +25,13 @@ enum Role {
     Image(usize),
 }
 
-/// The files of a subcommand on a line, by their names, and what each is.
-#[derive(Drop)]
-pub(crate) struct FilesOfLine {
-    files: FileNames,
-    /// What each file is, in the order of the names.
-    roles: Vec<Role>,
-}
-
-impl FilesOfLine {
-    /// The files of a line and of a capture, in the order of `FileNames::of_line`.
-    pub(crate) fn of_line(
-        alloc: Global,
-        line: &LineFile,
-        line_file: &str,
-        capture: Option<&str>,
-    ) -> Result<FilesOfLine, AllocError> {
-        let roles = roles_of(alloc, line.images.len(), capture.is_some())?;
-        let files = FileNames::of_line(alloc, line, line_file, capture)?;
-        Ok(FilesOfLine { files, roles })
-    }
-
-    /// The same files, with a script of these commands and the images that it names.
-    pub(crate) fn with_script(
-        self,
-        alloc: Global,
-        script: &str,
-        commands: &[ScriptCommand],
-    ) -> Result<FilesOfLine, AllocError> {
-        let FilesOfLine { files, mut roles } = self;
-        push_script(commands, &mut roles)?;
-        let files = files_with_script(alloc, files, script, commands)?;
-        Ok(FilesOfLine { files, roles })
-    }
-
-    /// Finds the first two of these files of which one would be lost where the other is written. No file changes.
-    ///
-    /// # Errors
-    ///
-    /// `Found` where there are such, with a fault of this code; `Memory`.
-    pub(crate) fn judge<S: Store>(
-        &self,
-        alloc: Global,
-        code: Code,
-        store: &mut S,
-    ) -> Result<(), Bad>
-        ensures same { S.files store.new ≡ S.files store.old }
-    {
-        match find_clash(alloc, &self.files, store) {
-            Ok(Some(clash)) => Err(self.meeting(alloc, code, clash.one, clash.other, store)?),
-            Ok(None) => Ok(()),
-            Err(_) => Err(Bad::Memory),
-        }
-    }
-
-    /// Says how these two meet.
-    fn meeting<S: Store>(
-        &self,
-        alloc: Global,
-        code: Code,
-        one: usize,
-        other: usize,
-        store: &mut S,
-    ) -> Result<Bad, AllocError>
-        ensures same { S.files store.new ≡ S.files store.old }
-    {
-        let (first, second) = (self.told(one), self.told(other));
-        let text = if is_same_file(alloc, first.name, second.name, store) {
-            format!(in alloc; "{first} and {second} are the same file")?
-        } else {
-            format!(in alloc;
-                "{first} and {second}: one has the name that the other takes while it is replaced"
-            )?
-        };
-        Ok(Bad::Found(Finding { code, text }))
-    }
-
-    fn told(&self, place: usize) -> Told<'_> {
-        let name = match self.files.names.get(place) {
-            Some(name) => name.as_str(),
-            None => "",
-        };
-        Told {
-            role: self.roles.get(place).copied().unwrap_or(Role::Journal),
-            name,
-        }
-    }
+/// The files of a subcommand on a line.
+#[derive(Clone, Copy)]
+struct FilesOfLine<'a> {
+    names: LineNames<'a>,
+    line: &'a LineFile,
+    /// The commands of the script; none where no script is read.
+    commands: &'a [ScriptCommand],
 }
 
 /// A file, as it is told: what it is, and its name.
@@ -114,6 +39,66 @@ impl FilesOfLine {
 struct Told<'a> {
     role: Role,
     name: &'a str,
+}
+
+/// Says which two files of a subcommand on this line are one, or that the capture's is there already.
+pub(crate) fn look_at_names<S: Store>(
+    search: Search,
+    names: LineNames<'_>,
+    line: &LineFile,
+    store: &mut S,
+) -> Result<(), End>
+    ensures same { S.files store.new ≡ S.files store.old }
+{
+    let commands = commands_again(search, names.script, store)?;
+    let files = FilesOfLine {
+        names,
+        line,
+        commands: &commands,
+    };
+    look_at_files(search, files, store)
+}
+
+/// Reads the commands of a script, if one is read.
+fn commands_again<S: Store>(
+    search: Search,
+    script: Option<&str>,
+    store: &mut S,
+) -> Result<Vec<ScriptCommand>, End>
+    ensures same { S.files store.new ≡ S.files store.old }
+{
+    match script {
+        Some(script) => script_again(search, script, store),
+        None => Ok(Vec::new(search.alloc)),
+    }
+}
+
+/// Finds the first two of these files of which one would be lost where the other is written.
+fn look_at_files<S: Store>(search: Search, files: FilesOfLine<'_>, store: &mut S) -> Result<(), End>
+    ensures same { S.files store.new ≡ S.files store.old }
+{
+    let names = files.names(search.alloc)?;
+    match find_clash(search.alloc, &names, store) {
+        Ok(Some(clash)) => {
+            let one = files.told(&names, clash.one);
+            let other = files.told(&names, clash.other);
+            Err(meeting(search.alloc, one, other, store))
+        }
+        Ok(None) => look_at_capture(search, files.names.capture),
+        Err(_) => Err(End::Memory),
+    }
+}
+
+/// Says how these two files meet.
+fn meeting<S: Store>(alloc: Global, one: Told<'_>, other: Told<'_>, store: &mut S) -> End
+    ensures same { S.files store.new ≡ S.files store.old }
+{
+    let how = if is_same_file(alloc, one.name, other.name, store) {
+        " are the same file"
+    } else {
+        ": one has the name that the other takes while it is replaced"
+    };
+    End::of_text(format!(in alloc; "{one} and {other}{how}"))
 }
 
 /// Whether both names lead to the same file.
@@ -126,42 +111,87 @@ fn is_same_file<S: Store>(alloc: Global, one: &str, other: &str, store: &mut S) 
     }
 }
 
-/// What the files of a line of so many slaves are, in the order of `FileNames::of_line`.
-fn roles_of(alloc: Global, slaves: usize, has_capture: bool) -> Result<Vec<Role>, AllocError> {
-    let mut roles = Vec::new(alloc);
-    if has_capture {
-        roles.push(Role::Capture)?;
+/// The end where the capture's file is there, and is none of the others.
+fn look_at_capture(search: Search, capture: Option<&str>) -> Result<(), End> {
+    match capture {
+        Some(name) => Err(search.end(Code::Exists, name, &TAKEN)),
+        None => Ok(()),
     }
-    roles.push(Role::Journal)?;
-    for slave in 0..slaves {
-        roles.push(Role::Slave(slave))?;
+}
+
+impl FilesOfLine<'_> {
+    /// Their names.
+    fn names(self, alloc: Global) -> Result<FileNames, AllocError> {
+        let names = self.names;
+        let files = FileNames::of_line(alloc, self.line, names.line, names.capture)?;
+        match names.script {
+            Some(script) => with_script(alloc, files, script, self.commands),
+            None => Ok(files),
+        }
     }
-    roles.push(Role::LineFile)?;
-    Ok(roles)
+
+    /// The file at this place of their names.
+    fn told<'n>(self, names: &'n FileNames, place: usize) -> Told<'n> {
+        let name = match names.names.get(place) {
+            Some(name) => name.as_str(),
+            None => "",
+        };
+        Told {
+            role: self.role(place),
+            name,
+        }
+    }
+
+    /// What the file at this place of their names is.
+    fn role(self, place: usize) -> Role {
+        match (self.names.capture, place) {
+            (Some(_), 0) => Role::Capture,
+            (Some(_), _) => self.role_behind(place - 1),
+            (None, _) => self.role_behind(place),
+        }
+    }
+
+    /// What the file at this place behind the capture is.
+    fn role_behind(self, place: usize) -> Role {
+        let slaves = self.line.images.len();
+        if place == 0 {
+            return Role::Journal;
+        }
+        if place <= slaves {
+            return Role::Slave(place - 1);
+        }
+        match place - slaves {
+            1 => Role::LineFile,
+            2 => Role::Script,
+            behind => Role::Image(command_of(self.commands, behind - 3)),
+        }
+    }
 }
 
 /// These files, with a script of these commands and the images that it names.
-fn files_with_script(
+fn with_script(
     alloc: Global,
     files: FileNames,
     script: &str,
     commands: &[ScriptCommand],
 ) -> Result<FileNames, AllocError> {
-    match station_files::image_names(alloc, commands) {
+    match image_names(alloc, commands) {
         Ok(images) => files.with_script(alloc, script, &images),
         Err(error) => Err(error),
     }
 }
 
-/// Appends what a script and its images are.
-fn push_script(commands: &[ScriptCommand], roles: &mut Vec<Role>) -> Result<(), AllocError> {
-    roles.push(Role::Script)?;
+/// The place of the command that names the image of this place, both from 0.
+fn command_of(commands: &[ScriptCommand], image: usize) -> usize {
+    let mut left = image;
     for (command, spelt) in commands.iter().enumerate() {
-        for _image in 0..images_in(spelt) {
-            roles.push(Role::Image(command))?;
+        let count = images_in(spelt);
+        if left < count {
+            return command;
         }
+        left -= count;
     }
-    Ok(())
+    commands.len()
 }
 
 /// How many images a command names.
