@@ -1,34 +1,7 @@
-//! Devices, images and lines as rows of a table.
+//! Devices of 128 words, and lines of two.
 
 use sii_words::{Plant, Words, WordsFault};
-use std::alloc::{AllocError, Global};
-
-/// The bytes of a device or of an image: pieces, each at its place, the byte that fills the rest, and how many there are.
-pub(crate) type Bytes = (&'static [(usize, &'static [u8])], u8, usize);
-
-/// 128 words of a blank slave.
-pub(crate) const BLANK: Bytes = (&[], 0xFF, 256);
-
-/// 128 words with an RXPDO category that leaves no end mark: 14 entries that no manager has, and two zero words.
-pub(crate) const FULL: Bytes = (
-    &[
-        (14, &[0x30]),
-        (
-            128,
-            &[
-                0x33, 0, 0x3E, 0, 0, 0x16, 0x0E, 0xFF, 0, 0, 0, 0, 0, 0x70, 0x01, 0, 0x05, 0x08, 0,
-                0, 0, 0x70, 0x01, 0, 0x05, 0x08, 0, 0, 0, 0x70, 0x01, 0, 0x05, 0x08, 0, 0, 0, 0x70,
-                0x01, 0, 0x05, 0x08, 0, 0, 0, 0x70, 0x01, 0, 0x05, 0x08, 0, 0, 0, 0x70, 0x01, 0,
-                0x05, 0x08, 0, 0, 0, 0x70, 0x01, 0, 0x05, 0x08, 0, 0, 0, 0x70, 0x01, 0, 0x05, 0x08,
-                0, 0, 0, 0x70, 0x01, 0, 0x05, 0x08, 0, 0, 0, 0x70, 0x01, 0, 0x05, 0x08, 0, 0, 0,
-                0x70, 0x01, 0, 0x05, 0x08, 0, 0, 0, 0x70, 0x01, 0, 0x05, 0x08, 0, 0, 0, 0x70, 0x01,
-                0, 0x05, 0x08, 0, 0, 0, 0x70, 0x01, 0, 0x05, 0x08, 0, 0, 0, 0, 0, 0,
-            ],
-        ),
-    ],
-    0,
-    256,
-);
+use std::alloc::Global;
 
 /// A slave with a byte of outputs and four bytes of inputs: its SyncM, RXPDO and TXPDO categories.
 pub(crate) const BOTH: &[u8] = &[
@@ -46,55 +19,34 @@ pub(crate) const INPUTS: &[u8] = &[
     0x00, 0x00, 0x00, 0x00, 0x00, 0x00, 0x60, 0x01, 0x00, 0x00, 0x0c, 0x00, 0x00, 0xff, 0xff,
 ];
 
-/// Writes bytes over others, from a place on.
-pub(crate) fn put(bytes: &mut [u8], from: usize, new: &[u8]) {
-    for (byte, value) in bytes.iter_mut().skip(from).zip(new) {
-        *byte = *value;
-    }
-}
+/// A slave without categories.
+pub(crate) const NOTHING: &[u8] = &[0xff, 0xff];
 
-/// The bytes, spelt out.
-pub(crate) fn spelt(alloc: Global, bytes: &Bytes) -> Result<Vec<u8>, AllocError> {
-    let (pieces, fill, count) = *bytes;
-    let mut spelt = vec![in alloc; fill; count]?;
-    for (at, piece) in pieces {
-        put(&mut spelt, *at, *piece);
-    }
-    Ok(spelt)
-}
-
-/// The words of a device.
-pub(crate) fn words_of(alloc: Global, bytes: &Bytes) -> Result<Words, WordsFault> {
-    Words::from_bytes(alloc, &spelt(alloc, bytes)?)
-}
-
-/// A line of these devices.
-pub(crate) fn line_of(alloc: Global, slaves: &[Bytes]) -> Result<Plant, WordsFault> {
-    let mut words = Vec::new(alloc);
-    for slave in slaves {
-        words.push(words_of(alloc, slave)?)?;
-    }
-    if words.is_empty() || words.len() > 64 {
-        return Err(WordsFault::BadSize);
-    }
-    Ok(Plant::of(words))
-}
-
-/// Whether the words are those of the device.
-pub(crate) fn is_device(alloc: Global, words: &Words, bytes: &Bytes) -> Result<bool, AllocError> {
-    let wanted = spelt(alloc, bytes)?;
-    Ok(words.to_bytes()?.as_slice() == wanted.as_slice())
-}
-
-/// Whether the line is one of these devices.
-pub(crate) fn is_line(alloc: Global, plant: &Plant, slaves: &[Bytes]) -> Result<bool, AllocError> {
-    for slave in 0..plant.len() {
-        let Some(bytes) = slaves.get(slave) else {
-            return Ok(false);
-        };
-        if !is_device(alloc, plant.slave(slave), bytes)? {
-            return Ok(false);
+/// The bytes of 128 words: alias 0x0908, and these categories.
+pub(crate) fn bytes_of(categories: &[u8]) -> [u8; 256] {
+    let mut bytes = [0u8; 256];
+    bytes[8] = 0x08;
+    bytes[9] = 0x09;
+    for (place, byte) in categories.iter().enumerate() {
+        if place < 128 {
+            bytes[128 + place] = *byte;
         }
     }
-    Ok(plant.len() == slaves.len())
+    bytes
+}
+
+/// A device of these words.
+pub(crate) fn device(alloc: Global, categories: &[u8]) -> Result<Words, WordsFault> {
+    Words::from_bytes(alloc, &bytes_of(categories))
+}
+
+/// A line of two devices.
+pub(crate) fn line_of(alloc: Global, first: &[u8], second: &[u8]) -> Result<Plant, WordsFault> {
+    let mut slaves = Vec::new(alloc);
+    slaves.push(device(alloc, first)?)?;
+    slaves.push(device(alloc, second)?)?;
+    if slaves.is_empty() || slaves.len() > 64 {
+        return Err(WordsFault::BadSize);
+    }
+    Ok(Plant::of(slaves))
 }

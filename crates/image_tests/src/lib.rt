@@ -1,10 +1,11 @@
-//! Tests of what an EEPROM holds and how commands change it, and of a journal's bytes.
+//! Tests of what no command line shows of an EEPROM and of a journal: copies, contents that are written again, layouts under changes, and
+//! journals that are cut off.
 #![tactic(auto)]
 
 #[cfg(test)]
-mod categories;
+mod contents;
 #[cfg(test)]
-mod commands;
+mod copies;
 #[cfg(test)]
 mod devices;
 #[cfg(test)]
@@ -12,8 +13,4 @@ mod history;
 #[cfg(test)]
 mod journal;
 #[cfg(test)]
-mod process_image;
-#[cfg(test)]
-mod readings;
-#[cfg(test)]
-mod words;
+mod layouts;
