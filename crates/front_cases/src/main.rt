@@ -1,28 +1,18 @@
 //! Runs `sii_station` over files in memory as case files say it, and compares what each run prints and leaves with what they expect.
 //!
-//! The arguments name TOML files. The first one holds contents that cases name. Each other one holds an array of tables `case`:
+//! The arguments name TOML files. The first one holds contents that cases name. Each other one holds an array of tables `case`, with a `name`
+//! that says what the case shows. A case is a run of `case_runs`, or has several:
 //!
-//! - `name`: what the case shows.
-//! - `files`: files that are there before, each with its contents.
-//! - `args`, `input`: the command line behind the program's name, its words separated by spaces, and standard input.
-//! - `status`, `output`, `faults`: the exit status, and what is printed on standard output and standard error (0 and nothing, where absent).
-//! - `writes`: how many files are written as a whole (0, where absent).
-//! - `left`: files that are there afterwards, with their contents, or `false` for a file that isn't there.
-//! - `unchanged`: whether all `files` of the case are there afterwards as they were before.
-//! - `busy`: whether another station holds the journal's lock.
-//! - `unsaved`: writing a file as a whole fails, as on a `"full"` disk or for want of `"memory"`.
-//! - `each`: several runs, each over `files` anew. `steps`: several runs in a row over the same files. Such a run is a table of the
-//!   keys above, or the text of its `args` alone; what it doesn't say, its case says for all of its runs. Its `files` are put in before it.
+//! - `each`: several runs, each over the case's `files` anew, or, where an array stands in place of a run, the runs of that in a row.
+//! - `steps`: several runs in a row over the same files.
 //!
-//! Contents are a text; `@NAME` for named ones; an array, whose parts are joined; `{ size = N, AT = "HEX", .. }`, N bytes that are 0 except at
-//! these offsets, where `"HEX * K"` repeats bytes; or `{ text = "..", times = K }`. `output` and `faults` may also be `true`, for any text but
-//! the empty one, or `{ has = ".." }`, `{ begins = ".." }` or `{ ends = ".." }`.
+//! What such a run doesn't say, its case says for all of its runs. Its `files` are put in before it.
 #![tactic(auto)]
 
-mod contents;
-mod run;
+mod faults;
 mod trial;
 
+use crate::faults::{try_faults, try_refusals};
 use crate::trial::{Tally, name_of, try_case};
 use std::alloc::Global;
 use std::io::Print;
@@ -39,7 +29,10 @@ fn main(rt: HostRuntime) -> io::Result<ExitCode> {
     for name in names.iter().skip(1) {
         tables.push(read_table(&rt, alloc, name.as_str())?)?;
     }
-    let tally = try_files(&rt, alloc, &tables)?;
+    let mut tally = Tally { runs: 0, wrong: 0 };
+    try_faults(&rt, alloc, &mut tally)?;
+    try_refusals(&rt, alloc, &mut tally)?;
+    try_files(&rt, alloc, &tables, &mut tally)?;
     println!(rt; "{} runs, {} wrong", tally.runs, tally.wrong)?;
     if tally.wrong == 0 {
         Ok(ExitCode::SUCCESS)
@@ -65,14 +58,14 @@ fn try_files(
     rt: &(impl Print + Wait + Threads + Sync),
     alloc: Global,
     tables: &[Table],
-) -> io::Result<Tally> {
-    let mut tally = Tally { runs: 0, wrong: 0 };
+    tally: &mut Tally,
+) -> io::Result<()> {
     if let [named, files @ ..] = tables {
         for file in files {
-            try_cases(rt, alloc, named, file.get("case"), &mut tally)?;
+            try_cases(rt, alloc, named, file.get("case"), tally)?;
         }
     }
-    Ok(tally)
+    Ok(())
 }
 
 /// Tries the cases of a file.

@@ -1,7 +1,10 @@
 //! Tries the runs of a case, and prints how each went.
 
-use crate::run::{Run, prepare, put_files, wrong_of};
-use station_cases::{Printed, Shelf, run_words};
+use case_runs::{
+    Mishap, Run, Wrong, try_behind, try_calls, try_inputs, try_once, try_outputs, try_page,
+    try_plan,
+};
+use station_cases::{Full, Shelf};
 use std::alloc::Global;
 use std::io::Print;
 use std::sync::Wait;
@@ -29,17 +32,23 @@ pub fn try_case(
     tally: &mut Tally,
 ) -> io::Result<()> {
     match (case.get("each"), case.get("steps")) {
-        (Some(Value::Array(runs)), None) => {
-            for run in runs.iter() {
-                try_row(rt, alloc, named, case, slice::from_ref(run), tally)?;
+        (Some(Value::Array(rows)), None) => {
+            for row in rows.iter() {
+                try_row(rt, alloc, named, case, runs_of(row), tally)?;
             }
             Ok(())
         }
-        (None, Some(Value::Array(runs))) => {
-            try_row(rt, alloc, named, case, runs.as_slice(), tally)
-        }
+        (None, Some(steps)) => try_row(rt, alloc, named, case, runs_of(steps), tally),
         (None, None) => try_row(rt, alloc, named, case, slice::from_ref(case), tally),
         _ => Err(io::Error::other("malformed runs")),
+    }
+}
+
+/// The runs of a row: those of an array, or a single one.
+fn runs_of(row: &Value) -> &[Value] {
+    match row {
+        Value::Array(runs) => runs.as_slice(),
+        _ => slice::from_ref(row),
     }
 }
 
@@ -52,10 +61,16 @@ fn try_row(
     runs: &[Value],
     tally: &mut Tally,
 ) -> io::Result<()> {
-    let mut shelf = Shelf::new(alloc)?;
-    put_files(alloc, named, case.get("files"), &mut shelf)?;
+    let durable = 0;
+    let first = Run {
+        own: case,
+        case,
+        named,
+        durable,
+    };
+    let mut shelf = first.shelf(alloc)?;
     for own in runs {
-        let run = Run { own, case, named };
+        let run = Run { own, ..first };
         try_run(rt, alloc, &run, &mut shelf, tally)?;
     }
     Ok(())
@@ -69,17 +84,49 @@ fn try_run(
     shelf: &mut Shelf,
     tally: &mut Tally,
 ) -> io::Result<()> {
-    prepare(alloc, run, shelf)?;
-    let input = run.input(alloc)?;
-    let words = format!(in alloc; "station {}", run.args())?;
-    let printed = run_words(rt, alloc, words.as_str(), &mut input.as_slice(), shelf)?;
-    let wrong = wrong_of(alloc, run, &printed, shelf)?;
+    let wrong = try_so(rt, alloc, run, shelf)?;
     tally.runs = tally.runs.saturating_add(1);
-    if wrong.is_empty() {
-        return println!(rt; "ok {}: {}", name_of(run.case), run.args());
+    match wrong {
+        None => println!(rt; "ok {}: {}", name_of(run.case), run.args()),
+        Some(wrong) => {
+            tally.wrong = tally.wrong.saturating_add(1);
+            tell(rt, run, &wrong)
+        }
     }
-    tally.wrong = tally.wrong.saturating_add(1);
-    tell(rt, run, wrong, &printed, shelf)
+}
+
+/// Tries a run in the way that it says.
+fn try_so<'a>(
+    rt: &(impl Wait + Threads + Sync),
+    alloc: Global,
+    run: &Run<'a>,
+    shelf: &mut Shelf,
+) -> io::Result<Option<Wrong<'a>>> {
+    match run.text("way") {
+        "" => try_plainly(rt, alloc, run, shelf),
+        "inputs" => try_inputs(rt, alloc, run),
+        "outputs that fail" => try_outputs(rt, alloc, run, Full::Fails),
+        "outputs that take none" => try_outputs(rt, alloc, run, Full::TakesNone),
+        "power cuts" => try_calls(rt, alloc, run, Mishap::Cut),
+        "calls that fail" => try_calls(rt, alloc, run, Mishap::Error),
+        "full disks" => try_calls(rt, alloc, run, Mishap::Full),
+        "page" => try_page(rt, alloc, run, shelf),
+        "plan" => try_plan(rt, alloc, run, shelf),
+        _ => Err(io::Error::other("an unknown way")),
+    }
+}
+
+/// Tries a run once, and what is run behind it.
+fn try_plainly<'a>(
+    rt: &(impl Wait + Threads + Sync),
+    alloc: Global,
+    run: &Run<'a>,
+    shelf: &mut Shelf,
+) -> io::Result<Option<Wrong<'a>>> {
+    match try_once(rt, alloc, run, shelf)? {
+        None => try_behind(rt, alloc, run, shelf, 0),
+        wrong => Ok(wrong),
+    }
 }
 
 /// The name of a case.
@@ -91,21 +138,20 @@ pub fn name_of(case: &Value) -> &str {
 }
 
 /// Prints what is wrong with a run, and what it printed.
-fn tell(
-    rt: &impl Print,
-    run: &Run,
-    wrong: &str,
-    printed: &Printed,
-    shelf: &Shelf,
-) -> io::Result<()> {
-    println!(rt; "WRONG {}: {}: {wrong}", name_of(run.case), run.args())?;
-    println!(rt; "status {}, {} files written", printed.status, shelf.writes)?;
+fn tell(rt: &impl Print, run: &Run, wrong: &Wrong) -> io::Result<()> {
+    println!(rt;
+        "WRONG {}: {}: {}",
+        name_of(run.case),
+        run.args(),
+        wrong.what
+    )?;
+    println!(rt; "status {}", wrong.printed.status)?;
     println!(rt;
         "output:\n{}",
-        str::from_utf8(&printed.output).unwrap_or("no UTF-8")
+        str::from_utf8(&wrong.printed.output).unwrap_or("no UTF-8")
     )?;
     println!(rt;
         "faults:\n{}",
-        str::from_utf8(&printed.faults).unwrap_or("no UTF-8")
+        str::from_utf8(&wrong.printed.faults).unwrap_or("no UTF-8")
     )
 }

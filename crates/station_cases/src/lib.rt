@@ -1,20 +1,15 @@
-//! What the tests of the whole program share: files in memory that lose power or fail, runs of the program over them, and the files that
-//! several tests run on.
+//! What the tests of the whole program stand on: files in memory that lose power or fail, streams in memory that fail, and runs of the program
+//! over them.
 #![tactic(auto)]
 
 mod case;
 mod cells;
-mod files;
 mod shelf;
+mod streams;
 mod troubles;
 
-pub use case::{
-    Bytes, Files, Printed, leaves, parted, patch, run_words, served, shelf_with, spell,
-};
+pub use case::{ALL, Printed, Streams, run_on};
 pub use cells::{OpenFile, Pattern};
-pub use files::{
-    ALL_SETTLED, ANSWERED_FILES, ANSWERED_OUTPUT, JOURNAL_OF_ONE, JOURNAL_OF_THREE, LINE, ONE,
-    QUEUED_FILES, QUEUED_OUTPUT, RUN, THREE, THREE_COMMANDS, TWO_TEXT, ZERO, ZERO_TEXT,
-};
 pub use shelf::{Shelf, ShelfLock};
+pub use streams::{Full, Room, Source, Then};
 pub use troubles::{Trouble, Troubles};

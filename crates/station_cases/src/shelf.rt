@@ -103,11 +103,13 @@ impl Shelf {
         Ok(())
     }
 
-    /// A shelf with the files as a power cut leaves them.
+    /// A shelf with the files as a power cut leaves them, each name once.
     pub fn left(&self) -> Result<Shelf, AllocError> {
         let mut left = Shelf::new(self.alloc)?;
         for held in self.files.iter() {
-            left.files.push(held.left(self.alloc, self.pattern)?)?;
+            if left.find(held.name.as_str()).is_none() {
+                left.files.push(held.left(self.alloc, self.pattern)?)?;
+            }
         }
         Ok(left)
     }

@@ -1,8 +1,6 @@
 //! The contents of files and streams, as cases say them.
 
-use station_cases::patch;
-use station_text::read_hex;
-use std::alloc::Global;
+use std::alloc::{AllocError, Global};
 use std::io;
 use toml::{Table, Value};
 
@@ -58,7 +56,7 @@ fn plain(alloc: Global, contents: &Value) -> io::Result<Vec<u8>> {
 }
 
 /// A number of bytes or of repetitions; 0 where there is none.
-fn number_of(value: Option<&Value>) -> usize {
+pub fn number_of(value: Option<&Value>) -> usize {
     match value {
         Some(Value::Integer(number)) => usize::try_from(*number).unwrap_or(0),
         _ => 0,
@@ -89,6 +87,13 @@ fn put_part(alloc: Global, bytes: &mut [u8], key: &str, value: &Value) -> io::Re
     }
 }
 
+/// Puts bytes in at an offset, as far as there is room.
+fn patch(bytes: &mut [u8], at: usize, part: &[u8]) {
+    for (byte, value) in bytes.iter_mut().skip(at).zip(part) {
+        *byte = *value;
+    }
+}
+
 /// The bytes of hexadecimal text, which may be repeated.
 fn part_bytes(alloc: Global, value: &Value) -> io::Result<Vec<u8>> {
     let text = value.as_str().unwrap_or("");
@@ -96,8 +101,17 @@ fn part_bytes(alloc: Global, value: &Value) -> io::Result<Vec<u8>> {
         Some((digits, times)) => (digits, times.parse::<usize>().unwrap_or(0)),
         None => (text, 1),
     };
-    match read_hex(alloc, digits) {
+    match hex::decode(alloc, &digits_of(alloc, digits)?) {
         Ok(bytes) => Ok(bytes.repeat(alloc, times)?),
         Err(_) => Err(io::Error::other("malformed hexadecimal text")),
     }
+}
+
+/// The text without its ASCII white space.
+fn digits_of(alloc: Global, text: &str) -> Result<Vec<u8>, AllocError> {
+    text.as_bytes()
+        .iter()
+        .copied()
+        .filter(|byte| !byte.is_ascii_whitespace())
+        .collect(alloc)
 }

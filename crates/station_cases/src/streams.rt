@@ -1,0 +1,114 @@
+//! Inputs and outputs in memory, which fail as is planned.
+ghost use Rattle.std.specs.Io.{WritesAtMost};
+
+use std::alloc::Global;
+use std::io;
+use std::io::{Read, Write};
+use std::sync::Mutex;
+
+/// What an input does behind its bytes.
+#[derive(Clone, Copy)]
+pub enum Then {
+    Ends,
+    /// It fails with this error in place of the end.
+    Fails(io::ErrorKind),
+    /// It goes on for ever, a byte a call.
+    GoesOn,
+}
+
+/// An input of these bytes.
+#[derive(Clone, Copy)]
+pub struct Source<'a> {
+    pub rest: &'a [u8],
+    /// Whether its next call is interrupted.
+    pub is_interrupted: bool,
+    pub then: Then,
+}
+
+impl Read for Source<'_> {
+    fn read(&mut self, buf: &mut [u8]) -> io::Result<usize> {
+        if self.is_interrupted {
+            self.is_interrupted = false;
+            return Err(io::Error::from(io::ErrorKind::Interrupted));
+        }
+        if !self.rest.is_empty() {
+            return self.rest.read(buf);
+        }
+        match (self.then, buf.first_mut()) {
+            (Then::Fails(kind), _) => Err(io::Error::from(kind)),
+            (Then::GoesOn, Some(byte)) => {
+                *byte = 0x30;
+                Ok(1)
+            }
+            _ => Ok(0),
+        }
+    }
+}
+
+/// How an output answers once it has taken all that it takes.
+#[derive(Clone, Copy, PartialEq, Eq)]
+pub enum Full {
+    /// With an error, as a closed pipe or a full disk.
+    Fails,
+    /// It takes none of the bytes.
+    TakesNone,
+}
+
+/// How many bytes an output takes, and how it answers then.
+#[derive(Clone, Copy)]
+pub struct Room {
+    pub bytes: usize,
+    pub then: Full,
+}
+
+/// What was written to an output or a terminal.
+#[derive(Drop)]
+pub struct Screen {
+    written: Mutex<Vec<u8>>,
+    room: Room,
+}
+
+impl Screen {
+    pub fn new(alloc: Global, room: Room) -> Screen {
+        Screen {
+            written: Mutex::new(Vec::new(alloc)),
+            room,
+        }
+    }
+
+    pub fn into_bytes(self) -> Vec<u8> {
+        let Screen { written, room: _ } = self;
+        written.into_inner()
+    }
+}
+
+/// Puts bytes behind those that were written, as far as there is room; how many these are.
+fn take(written: &mut Vec<u8>, room: Room, buf: &[u8]) -> io::Result<usize>
+    ensures { WritesAtMost result buf.now }
+{
+    let count = buf.len().min(room.bytes.saturating_sub(written.len()));
+    if count == 0 && !buf.is_empty() && room.then == Full::Fails {
+        return Err(io::Error::from(io::ErrorKind::BrokenPipe));
+    }
+    written.extend_from_slice(&buf[..count])?;
+    Ok(count)
+}
+
+/// A writer to a screen. Writers that write at the same time fail.
+#[derive(Clone, Copy)]
+pub struct Pen<'s> {
+    pub screen: &'s Screen,
+}
+
+impl Write for Pen<'_> {
+    fn write(&mut self, buf: &[u8]) -> io::Result<usize> {
+        match self.screen.written.try_lock() {
+            Some(mut written) => take(&mut written, self.screen.room, buf),
+            None => Err(io::Error::other("two writers at a time")),
+        }
+    }
+
+    fn flush(&mut self) -> io::Result<()> {
+        Ok(())
+    }
+}
