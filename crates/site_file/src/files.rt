@@ -1,5 +1,5 @@
 //! The journal and the EEPROM images of a line as files.
-ghost use Rattle.std.specs.Prelude.{◌≡◌, true, false, [], Some, None, OnOk, OnErr, IfSome, IfNone, IsTrue, if◌then◌else◌};
+ghost use Rattle.std.specs.Prelude.{◌≡◌, ◌||◌, not, true, false, [], Some, None, OnOk, OnErr, IfSome, IfNone, IsTrue, if◌then◌else◌};
 ghost use Rattle.esc_model.specs.SlaveHalf.{in_flight};
 ghost use Rattle.site_shadow.specs.declared.device.Passing.TheVariants.{Passes, Fails, Stops};
 ghost use Rattle.site_shadow.specs.declared.device.Resting.TheVariants.{Stays};
@@ -79,6 +79,13 @@ impl<'f, F: RandomAccessFile> FileDevice<'f, F> {
         ensures { result ≡ self.now.has_failed }
     {
         self.has_failed
+    }
+
+    /// Whether it asks nothing of any file, as it is put behind a shadow: a call has failed, or the shadow has seen one.
+    fn must_refuse(&self, is_new: bool) -> bool
+        ensures { result ≡ (self.now.has_failed || not is_new) }
+    {
+        self.has_failed || !is_new
     }
 
     /// The journal, as long as no call has failed.
@@ -261,7 +268,7 @@ impl<'f, F: RandomAccessFile> Device for FileDevice<'f, F> {
         ensures follows { (seen : Seen) → (IsTrue is_new ↔ seen.past ≡ []) → Follows self.new seen }
     {
         self.asking = self.asking.anew();
-        self.has_failed = self.has_failed || !is_new;
+        self.has_failed = self.must_refuse(is_new);
     }
 
     fn len(&mut self, length: usize) -> Passing
