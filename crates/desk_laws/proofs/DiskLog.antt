@@ -1,5 +1,5 @@
 -- The actions that the book hands out for the disk, and its log.
-use Rattle.std.proofs.Common.{◌≡◌, ◌⊎◌, ◌∙◌, inl, inr, ℕ, ◌<◌, Bool, true, false, ◌∷◌, List, [], length, refl, sym, ap, subst, arith, length-append, Option, Some, None, Ok, Err}
+use Rattle.std.proofs.Common.{◌≡◌, ◌⊎◌, ◌∙◌, inl, inr, ℕ, ◌<◌, Bool, true, false, ◌∷◌, List, length, refl, sym, ap, subst, Option, Some, None, Ok, Err}
 use Rattle.std.specs.Prelude.{is_some, fold, if◌then◌else◌}
 use Rattle.book_model.specs.declared.next.DiskNext.{DiskNext}
 use Rattle.book_model.specs.declared.next.DiskNext.TheVariants as disk
@@ -16,7 +16,7 @@ use Rattle.desk_book.specs.Calls.{after, AreAnswered, IsAnswered}
 use Rattle.desk_book.specs.Logs.{DiskEntry, disk_noted, with_disk_answer}
 use Rattle.desk_book.proofs.LogLaws.{with-disk-job, with-disk-rest}
 use Rattle.desk_book.proofs.OutLaws.{Next, rests, issues, settles, next-of, SlaveGoes, back-of, no-action}
-use Rattle.desk_laws.proofs.ServeLaws.{outcome-behind, outcome-length}
+use Rattle.desk_laws.proofs.LogBehind.{Notes, none, job, told, behind}
 
 -- ---- what is handed out
 
@@ -87,7 +87,7 @@ pub asked-keeps : (book : Book) (j : ℕ) → KeepsDisk book (rom_next book j).1
 asked-keeps book j = from (next-of book j)
   where
     from : Next book j → KeepsDisk book (rom_next book j).1
-    from (rests answer none is) = subst (λ (p : RomNext × Book). KeepsDisk book p.1) (sym is) (keeps-same book)
+    from (rests answer idle is) = subst (λ (p : RomNext × Book). KeepsDisk book p.1) (sym is) (keeps-same book)
     from (issues w others free todo within is) = subst (λ (p : RomNext × Book). KeepsDisk book p.1) (sym is) (record { out = refl; action = refl; failed = λ has. has })
     from (settles word value taken unsettled within is) = subst (λ (p : RomNext × Book). KeepsDisk book p.1) (sym is) (record { out = refl; action = refl; failed = λ has. has })
 
@@ -98,45 +98,25 @@ told-keeps book j outcome = from (back-of book j outcome)
     from (inl is) = subst (KeepsDisk book) (sym is) (keeps-same book)
     from (inr goes) = subst (KeepsDisk book) (sym goes.is) (record { out = refl; action = refl; failed = goes.failed })
 
--- ---- an entry with an outcome stays as it is
+-- ---- its log
 
-answer-behind : (entry : DiskEntry) (log : List DiskEntry) (answer : DiskNext) → with_disk_answer (entry ∷ log) answer ≡ entry ∷ with_disk_answer log answer
-answer-behind entry log (disk.Write at bytes) = refl
-answer-behind entry log (disk.Gate at closed) = refl
-answer-behind entry log disk.Sync = refl
-answer-behind entry log disk.Idle = refl
-answer-behind entry log disk.Stop = refl
+abbrev IsHandedOut : Book → Type 0
+IsHandedOut book = book.is_handed_out ≡ true
 
--- an action that is out is in the log
-abbrev HasOut : Book → List DiskEntry → Type 0
-HasOut book log = book.is_handed_out ≡ true → 0 < length log
+asked-notes : (book : Book) (answer : DiskNext) → answer ≡ (disk_next book).0 → Handed book → Notes (λ (log : List DiskEntry). disk_noted log (DiskAsked answer)) (IsHandedOut book) (IsHandedOut (disk_next book).1)
+asked-notes book answer is (nothing rest idle goes) =
+    none (λ log. ap (with_disk_answer log) (is ∙ ap (λ (p : DiskNext × Book). p.0) goes) ∙ with-disk-rest log rest idle) (λ now. sym (ap (λ (p : DiskNext × Book). p.1.is_handed_out) goes) ∙ now)
+asked-notes book answer is (hands action o f one there goes out) = job action (λ log. ap (with_disk_answer log) (is ∙ goes) ∙ with-disk-job log action one)
 
--- behind the entry goes what the call notes
-record GoesBehind (entry : DiskEntry) (log : List DiskEntry) (call : Call) (later : Book) : Type 0 where
-  noted : disk_noted (entry ∷ log) call ≡ entry ∷ disk_noted log call
-  has : HasOut later (disk_noted log call)
-
-asked-has : (book : Book) (log : List DiskEntry) (answer : DiskNext) → answer ≡ (disk_next book).0 → HasOut book log → Handed book → HasOut (disk_next book).1 (with_disk_answer log answer)
-asked-has book log answer is has (nothing rest none goes) =
-    let log_is : with_disk_answer log answer ≡ log = ap (with_disk_answer log) (is ∙ ap (λ (p : DiskNext × Book). p.0) goes) ∙ with-disk-rest log rest none in
-    subst (HasOut (disk_next book).1) (sym log_is) (subst (λ (p : DiskNext × Book). HasOut p.1 log) (sym goes) has)
-asked-has book log answer is has (hands action o f job there goes out) =
-    λ now. let log_is = ap (with_disk_answer log) (is ∙ goes) ∙ with-disk-job log action job in omega (arith, ap length log_is, length-append log (record { job = action; outcome = None } ∷ []))
-
-call-behind : (book : Book) (entry : DiskEntry) (log : List DiskEntry) (call : Call) → IsAnswered book call → HasOut book log → GoesBehind entry log call (after book call)
-call-behind book entry log (Submitted command (Ok number)) is has = record { noted = refl; has = has }
-call-behind book entry log (Submitted command (Err refusal)) is has = record { noted = refl; has = has }
-call-behind book entry log (DiskAsked answer) is has = record { noted = answer-behind entry log answer; has = asked-has book log answer is has (handed-of book) }
-call-behind book entry log (DiskTold outcome) is has =
-    let some = has is in
-    record { noted = outcome-behind entry log outcome some; has = λ now. omega (arith, some, outcome-length log outcome) }
-call-behind book entry log (SlaveAsked j answer) is has = record { noted = refl; has = λ now. has (sym (asked-keeps book j).out ∙ now) }
-call-behind book entry log (SlaveTold j outcome) is has = record { noted = refl; has = λ now. has (sym (told-keeps book j outcome).out ∙ now) }
-call-behind book entry log (PlanAsked answer) is has = record { noted = refl; has = has }
-call-behind book entry log Finished is has = record { noted = refl; has = has }
+disk-notes : (book : Book) (call : Call) → IsAnswered book call → Notes (λ (log : List DiskEntry). disk_noted log call) (IsHandedOut book) (IsHandedOut (after book call))
+disk-notes book (Submitted command (Ok number)) is = none (λ log. refl) (λ now. now)
+disk-notes book (Submitted command (Err refusal)) is = none (λ log. refl) (λ now. now)
+disk-notes book (DiskAsked answer) is = asked-notes book answer is (handed-of book)
+disk-notes book (DiskTold outcome) is = told outcome is (λ log. refl)
+disk-notes book (SlaveAsked j answer) is = none (λ log. refl) (λ now. sym (asked-keeps book j).out ∙ now)
+disk-notes book (SlaveTold j outcome) is = none (λ log. refl) (λ now. sym (told-keeps book j outcome).out ∙ now)
+disk-notes book (PlanAsked answer) is = none (λ log. refl) (λ now. now)
+disk-notes book Finished is = none (λ log. refl) (λ now. now)
 
 pub disk-behind : (book : Book) (calls : List Call) (entry : DiskEntry) (log : List DiskEntry) → AreAnswered book calls → (book.is_handed_out ≡ true → 0 < length log) → fold disk_noted (entry ∷ log) calls ≡ entry ∷ fold disk_noted log calls
-disk-behind book [] entry log all has = refl
-disk-behind book (call ∷ calls) entry log all has =
-    let one = call-behind book entry log call all.0 has in
-    ap (λ (l : List DiskEntry). fold disk_noted l calls) one.noted ∙ disk-behind (after book call) calls entry (disk_noted log call) all.1 one.has
+disk-behind book calls entry log all has = behind entry disk_noted IsHandedOut disk-notes book calls log all has

@@ -1,5 +1,5 @@
--- The invariant of the station (`Up`) holds after each call about the disk, and the disk changes as the log says.
-use Rattle.std.proofs.Common.{◌≡◌, ◌⊎◌, ◌∙◌, inl, inr, Bool, true, false, ◌∷◌, List, [], refl, sym, ap, subst, arith, Option, Some, None, Result, Ok, Err}
+-- Each call about the disk is an event of the main law, in which the disk changes as the log says.
+use Rattle.std.proofs.Common.{◌≡◌, ◌≢◌, ◌⊎◌, ◌∙◌, inl, inr, Bool, true, false, ◌∷◌, List, [], refl, sym, ap, subst, arith, Option, Some, None, Result, Ok, Err}
 use Rattle.std.specs.Prelude.{is_some, fold}
 use Rattle.site_core.specs.declared.fault.DeviceFault.{DeviceFault}
 use Rattle.site_core.specs.declared.fault.DeviceFault.TheVariants as device
@@ -11,13 +11,9 @@ use Rattle.book_model.specs.declared.next.DiskNext.{DiskNext}
 use Rattle.book_model.specs.declared.next.DiskNext.TheVariants as disk
 use Rattle.book_model.specs.Book.{Book, with_fault}
 use Rattle.book_model.specs.DiskSteps.{disk_next, disk_done}
-use Rattle.book_model.specs.Machine.{Machine}
-use Rattle.book_laws.specs.Frame.{JournalFrame}
 use Rattle.book_laws.specs.Events.{begun_on, ended_on, FailsOn, in_progress, rested}
-use Rattle.book_laws.specs.Steps.{acknowledged_by}
-use Rattle.book_laws.specs.Up.{Up}
-use Rattle.book_laws.proofs.DiskEventLaws.{up-begins, up-fails}
-use Rattle.book_laws.proofs.DiskEndLaws.{up-ends}
+use Rattle.world_law.specs.World.{Nothing, Closed, DiskBegin, DiskDone}
+use Rattle.world_law.specs.Happenings.{told_of}
 use Rattle.station_jobs.specs.Dispatch.{with_outcome}
 use Rattle.desk_book.specs.declared.call.Call.{Call}
 use Rattle.desk_book.specs.Calls.{AreAnswered}
@@ -25,6 +21,7 @@ use Rattle.desk_book.specs.Logs.{DiskEntry, disk_noted, with_disk_answer}
 use Rattle.desk_book.proofs.LogLaws.{with-disk-job, with-disk-rest}
 use Rattle.desk_laws.proofs.DiskWork.{LeavesLess, DiskSteps, DiskLedBy}
 use Rattle.desk_laws.proofs.DiskLog.{Handed, nothing, hands, handed-of, done-rests, KeepsDisk, disk-behind}
+use Rattle.desk_laws.proofs.WorldLaws.{Stays, happens}
 
 -- What stands for the disk, while this is the disk itself before what is out: it is this one; or that failed, and a stop leaves no more of it; or an action
 -- has begun on it.
@@ -46,12 +43,10 @@ pub record DiskPart (book : Book) (calls : List Call) (end stands : Disk) : Type
   pub on : DiskOn book log real stands
   pub led : DiskLedBy (fold disk_noted log calls) real end
 
--- The invariant holds after the call.
-pub record DiskGoesOn (frame : JournalFrame) (later : Book) (calls : List Call) (end : Disk) (state : State) (took : List Bool) (old : Machine) : Type 0 where
+-- The main law's invariant holds after the call.
+pub record DiskGoesOn (later : Book) (calls : List Call) (end : Disk) (state : State) (took : List Bool) : Type 0 where
   pub disk : Disk
-  pub machine : Machine
-  pub same : machine ≡ record old { acknowledged = machine.acknowledged }
-  pub up : Up frame later (record state { disk = disk }) took machine
+  pub stays : Stays later (record state { disk = disk }) took
   pub part : DiskPart later calls end disk
 
 -- a write that has begun may fail and change nothing
@@ -63,9 +58,9 @@ fails-same (Some disk.Sync) d = refl
 fails-same (Some disk.Idle) d = refl
 fails-same (Some disk.Stop) d = refl
 
-module _ (frame : JournalFrame) (book : Book) (calls : List Call) (end : Disk) (state : State) (took : List Bool) (m : Machine) (up : Up frame book state took m) (log : List DiskEntry) (real : Disk) where
+module _ (book : Book) (calls : List Call) (end : Disk) (state : State) (took : List Bool) (stays : Stays book state took) (log : List DiskEntry) (real : Disk) where
   abbrev OnBehind : Book → Type 0
-  OnBehind later = DiskGoesOn frame later calls end state took m
+  OnBehind later = DiskGoesOn later calls end state took
 
   -- ---- it is asked for
 
@@ -74,15 +69,14 @@ module _ (frame : JournalFrame) (book : Book) (calls : List Call) (end : Disk) (
       let log_is : with_disk_answer log answer ≡ log = ap (with_disk_answer log) (is ∙ ap (λ (p : DiskNext × Book). p.0) goes) ∙ with-disk-rest log rest none in
       let later_is : (disk_next book).1 ≡ book = ap (λ (p : DiskNext × Book). p.1) goes in
       subst OnBehind (sym later_is)
-      (record { disk = state.disk; machine = m; same = refl; up = up; part = record { log = log; real = real; on = on; led = subst (λ (l : List DiskEntry). DiskLedBy (fold disk_noted l calls) real end) log_is led } })
+      (record { disk = state.disk; stays = stays; part = record { log = log; real = real; on = on; led = subst (λ (l : List DiskEntry). DiskLedBy (fold disk_noted l calls) real end) log_is led } })
   asked-as answer is (rests free empty same) led (hands action o f job there goes out_is) =
       let one : with_disk_answer log answer ≡ record { job = action; outcome = None } ∷ [] =
       ap (with_disk_answer log) (is ∙ goes) ∙ ap (λ (l : List DiskEntry). with_disk_answer l action) empty ∙ with-disk-job [] action job in
       record {
         disk = begun_on (Some action) state.disk;
-        machine = m;
-        same = refl;
-        up = subst (λ (a : DiskNext). Up frame (disk_next book).1 (record state { disk = begun_on (Some a) state.disk }) took m) goes (up-begins frame book state took m up);
+        stays = subst (λ (a : DiskNext). Stays (disk_next book).1 (record state { disk = begun_on (Some a) state.disk }) took) goes
+            (happens DiskBegin Nothing book (disk_next book).1 state (record state { disk = begun_on (Some (disk_next book).0) state.disk }) took took stays tt (book, refl, (refl, refl)));
         part = record { log = with_disk_answer log answer; real = real; on = out out_is action None there one (ap (begun_on (Some action)) same); led = led };
       }
   asked-as answer is (failed free has empty less) led (hands action o f job there goes out_is) = absurd (let no : true ≡ false = sym has ∙ f in cc)
@@ -109,17 +103,18 @@ module _ (frame : JournalFrame) (book : Book) (calls : List Call) (end : Disk) (
       record { mid = path.0; steps = path.1; led = path.2 }
 
   -- it came back with a fault
-  faulted : (disk : Disk) (fault : Fault) (later : Book) → later ≡ with_fault (rested book) fault → book.is_handed_out ≡ true → FailsOn (in_progress book) state.disk disk → (mid : Disk) → ((disk ≡ mid) ⊎ LeavesLess disk mid)
-      → DiskLedBy (fold disk_noted [] calls) mid end → OnBehind later
-  faulted disk fault later is is_out fails mid stands led =
-      subst OnBehind (sym is)
-      (record {
-        disk = disk;
-        machine = m;
-        same = refl;
-        up = up-fails frame book state took m disk fault up is_out fails;
-        part = record { log = []; real = mid; on = elim stands [ inl same ↦ rests refl refl same | inr less ↦ failed refl refl refl less ]; led = led };
-      })
+  faulted : (disk : Disk) (why : DeviceFault) (fault : Fault) → why ≢ device.Lost → disk_done book (Err why) ≡ with_fault (rested book) fault → book.is_handed_out ≡ true → FailsOn (in_progress book) state.disk disk
+      → (mid : Disk) → ((disk ≡ mid) ⊎ LeavesLess disk mid) → DiskLedBy (fold disk_noted [] calls) mid end → OnBehind (disk_done book (Err why))
+  faulted disk why fault not is is_out fails mid stands led = record {
+    disk = disk;
+    stays = happens (DiskDone (Err why)) Closed book (disk_done book (Err why)) state (record state { disk = disk }) took took stays tt (book, refl, (is_out, (disk, not, fails, refl, refl)));
+    part = record {
+      log = [];
+      real = mid;
+      on = subst (λ (b : Book). DiskOn b [] mid disk) (sym is) (elim stands [ inl same ↦ rests refl refl same | inr less ↦ failed refl refl refl less ]);
+      led = led;
+    };
+  }
 
   module _ (is_out : book.is_handed_out ≡ true) (action : DiskNext) (before : Option (Result (Unit {0}) DeviceFault)) (there : in_progress book ≡ Some action) (one : log ≡ record { job = action; outcome = before } ∷ []) (begun : state.disk ≡ begun_on (Some action) real) where
     abbrev Told : Result (Unit {0}) DeviceFault → Type 0
@@ -137,27 +132,23 @@ module _ (frame : JournalFrame) (book : Book) (calls : List Call) (end : Disk) (
         let stands : ended_on (in_progress book) state.disk ≡ back.mid = ap (λ (a : Option DiskNext). ended_on a state.disk) there ∙ ap (ended_on (Some action)) begun ∙ sym mid_is in
         record {
           disk = ended_on (in_progress book) state.disk;
-          machine = acknowledged_by (disk_done book (Ok tt)) m;
-          same = refl;
-          up = up-ends frame book state took m up is_out;
+          stays = happens (DiskDone (Ok tt)) (told_of book (disk_done book (Ok tt))) book (disk_done book (Ok tt)) state (record state { disk = ended_on (in_progress book) state.disk }) took took stays tt (book, refl, (is_out, (refl, refl)));
           part = record { log = []; real = back.mid; on = rests free refl stands; led = back.led };
         }
     told-as (Err device.Disk) all led =
         let is : disk_done book (Err device.Disk) ≡ with_fault (rested book) faults.Disk = rw is_out refl in
         let back = came-back (disk_done book (Err device.Disk)) action before (Err device.Disk) one (ap (λ (b : Book). b.is_handed_out) is) all led in
-        faulted back.mid faults.Disk (disk_done book (Err device.Disk)) is is_out (as-out back.mid (back.steps.returns (Err device.Disk) refl (λ no. absurd cc))) back.mid (inl refl) back.led
+        faulted back.mid device.Disk faults.Disk (λ no. absurd (cc no)) is is_out (as-out back.mid (back.steps.returns (Err device.Disk) refl (λ no. absurd cc))) back.mid (inl refl) back.led
     told-as (Err device.Stopped) all led =
         let is : disk_done book (Err device.Stopped) ≡ with_fault (rested book) faults.Stopped = rw is_out refl in
         let back = came-back (disk_done book (Err device.Stopped)) action before (Err device.Stopped) one (ap (λ (b : Book). b.is_handed_out) is) all led in
-        faulted state.disk faults.Stopped (disk_done book (Err device.Stopped)) is is_out (fails-same (in_progress book) state.disk) back.mid (inr (subst (λ (d : Disk). LeavesLess d back.mid) (sym begun) back.steps.leaves)) back.led
+        faulted state.disk device.Stopped faults.Stopped (λ no. absurd (cc no)) is is_out (fails-same (in_progress book) state.disk) back.mid (inr (subst (λ (d : Disk). LeavesLess d back.mid) (sym begun) back.steps.leaves)) back.led
     told-as (Err device.Lost) all led =
         let is : disk_done book (Err device.Lost) ≡ book = rw is_out refl in
         subst OnBehind (sym is)
         (record {
           disk = state.disk;
-          machine = m;
-          same = refl;
-          up = up;
+          stays = stays;
           part = record { log = with_outcome log (Err device.Lost); real = real; on = out is_out action (Some (Err device.Lost)) there (ap (λ (l : List DiskEntry). with_outcome l (Err device.Lost)) one) begun; led = led };
         })
 

@@ -1,7 +1,7 @@
 -- A call of a book may add live entries, and pending writes only of words that these entries name.
 use Rattle.std.proofs.Common.{◌≡◌, ◌∙◌, ◌⊎◌, inl, inr, ℕ, zero, suc, ◌+◌, ◌≤◌, Bool, true, false, List, [], ◌∷◌, ◌++◌, length, take, drop, set, refl, sym, ap, subst, arith, append_assoc, Option, Some, None, Result, Ok, Err}
 use Rattle.std.specs.Prelude.{is_some, nat_lt, if◌then◌else◌}
-use Rattle.std.proofs.lemmas.List.{append-nil}
+use Rattle.std.proofs.lemmas.List.{append-nil, length-take, length-drop, take-append-le, drop-append-le}
 use Rattle.std.proofs.Math.Seq.{take-add, take-length}
 use Rattle.sii_edit.specs.declared.command.Command.{Command}
 use Rattle.jrn_format.specs.declared.journal.Entry.{Entry}
@@ -101,23 +101,12 @@ same-on book = rest-on book book (same book) refl
 -- ---- a command
 
 take-more : (n : ℕ) (xs ys es : List Entry) → length es ≡ n → take n xs ≡ es → take n (xs ++ ys) ≡ es
-take-more zero xs ys [] count is = refl
-take-more zero xs ys (e ∷ es) count is = absurd (omega (arith, count))
-take-more (suc n) xs ys [] count is = absurd (omega (arith, count))
-take-more (suc n) [] ys (e ∷ es) count is = absurd (cc is)
-take-more (suc n) (x ∷ xs) ys (e ∷ es) count is =
-    let first : x ≡ e = cc in
-    let others : take n xs ≡ es = cc in
-    let more = take-more n xs ys es (omega (arith, count)) others in
-    rw (first, more) refl
+take-more n xs ys es count is = take-append-le n xs ys (omega (arith, count, ap length is, length-take n xs)) ∙ is
 
 drop-more : (n d : ℕ) (xs ys es : List Entry) → length es ≡ n → take n (drop d xs) ≡ es → take n (drop d (xs ++ ys)) ≡ es
-drop-more n zero xs ys es count is = take-more n xs ys es count is
-drop-more n (suc d) (x ∷ xs) ys es count is = drop-more n d xs ys es count is
-drop-more zero (suc d) [] ys [] count is = refl
-drop-more zero (suc d) [] ys (e ∷ es) count is = absurd (omega (arith, count))
-drop-more (suc n) (suc d) [] ys [] count is = absurd (omega (arith, count))
-drop-more (suc n) (suc d) [] ys (e ∷ es) count is = absurd (cc is)
+drop-more zero d xs ys es count is = is
+drop-more (suc n) d xs ys es count is =
+    ap (take (suc n)) (drop-append-le d xs ys (omega (arith, count, ap length is, length-take (suc n) (drop d xs), length-drop d xs))) ∙ take-more (suc n) (drop d xs) ys es count is
 
 -- the first of these: those of the one list, and perhaps some of the other
 record TakesMore (n : ℕ) (xs ys : List Entry) : Type 0 where

@@ -1,7 +1,7 @@
 -- What the jobs of a log have done to a slave's half.
 use Rattle.std.proofs.Common.{◌≡◌, ◌≢◌, ◌⊎◌, inl, inr, ◌∙◌, ℕ, zero, suc, ◌<◌, ◌∷◌, ◌++◌, List, [], length, set, refl, sym, ap, subst, arith, length-set, append_assoc, Some, None}
 use Rattle.std.specs.Prelude.{slice_get}
-use Rattle.std.proofs.lemmas.List.{get_or-set_same, length-map}
+use Rattle.std.proofs.lemmas.List.{append-nil, get_or-set_same, length-map}
 use Rattle.std.proofs.lemmas.Option.{slice_get-get_or, slice_get_within}
 use Rattle.esc_model.specs.SlaveHalf.{SlaveHalf, MayLeave}
 use Rattle.site_core.specs.State.{State, Pair, Seen, Leaves, EachMayLeave}
@@ -15,14 +15,14 @@ use Rattle.book_model.specs.declared.next.RomOutcome.TheVariants as outcomes
 use Rattle.esc_rom.specs.Access.{DiffersAtWord}
 use Rattle.book_laws.specs.Opening.{words_in}
 use Rattle.book_laws.proofs.OutcomeLaws.{set-same}
-use Rattle.world_law.proofs.StandsLaws.{as-read}
-use Rattle.station_jobs.specs.Jobs.{DoneInTurn, MayEnd, IsDone}
+use Rattle.book_laws.proofs.LineLaws.{half-there}
+use Rattle.world_law.proofs.StandsLaws.{as-read, pair_read, leaves-read}
+use Rattle.station_jobs.specs.Jobs.{DoneInTurn, MayEnd}
 use Rattle.station_jobs.specs.Left.{CameBackInTurn, LeftInProgress}
-use Rattle.station_jobs.specs.Working.{CallsSlave, HalfReturns, SlaveReturns, LeftInCall}
-use Rattle.station_jobs.proofs.CallLaws.{calls-came-back}
+use Rattle.station_jobs.specs.Working.{CallsSlave, HalfReturns, SlaveReturns, LeftInCall, IsWorked}
+use Rattle.station_jobs.proofs.CallLaws.{calls-came-back, call-goes}
 use Rattle.desk_book.specs.declared.call.Call.{Call}
 use Rattle.desk_book.specs.Logs.{RomEntry, rom_log}
-use Rattle.desk_laws.proofs.SlaveLaws.{last-steps}
 use Rattle.desk_laws.specs.Joined.{MayBeOut, SlaveGoes}
 
 -- While a word is issued, a power cut may leave any value in it. All else is left as it could be before.
@@ -126,6 +126,14 @@ half-returns i job outcome old new half later returns here there =
     let second : returns.later ≡ later = (let e : Some returns.later ≡ Some later = sym now ∙ there in cc) in
     subst (HalfReturns i job outcome half) second (subst (λ (h : SlaveHalf). HalfReturns i job outcome h returns.later) first returns.goes)
 
+last-steps : (i : ℕ) (entry : RomEntry) (mid new : Seen) (outcome : RomOutcome) → entry.outcome ≡ Some outcome → CallsSlave i entry.job outcome mid new → outcome ≢ outcomes.Stopped → SlaveReturns i entry.job outcome mid.state new.state
+last-steps i entry mid new outcome told does going =
+    let turn : DoneInTurn (CallsSlave i) (entry ∷ []) mid new = (new, record { outcome = outcome; told = told; does = does; going = call-goes i entry.job outcome mid new does going }, refl) in
+    let back : CameBackInTurn (SlaveReturns i) (entry ∷ []) mid.state new.state = calls-came-back i (entry ∷ []) mid new turn in
+    let one = back.1 in
+    let same : one.outcome ≡ outcome = (let e : Some one.outcome ≡ Some outcome = sym one.told ∙ told in cc) in
+    subst (λ (s : State). SlaveReturns i entry.job outcome mid.state s) (sym back.2) (subst (λ (o : RomOutcome). SlaveReturns i entry.job o mid.state back.0) same one.returns)
+
 call-steps : (i : ℕ) (entry : RomEntry) (outcome : RomOutcome) (old new : Seen) (half later : SlaveHalf) → (entry.outcome ≡ Some outcome) ⊎ (entry.outcome ≡ None) → CallsSlave i entry.job outcome old new
     → slice_get old.state.halves i ≡ Some half → slice_get new.state.halves i ≡ Some later → HalfSteps i entry half later
 call-steps i entry outcome old new half later (inl told) does here there = record {
@@ -141,34 +149,61 @@ call-steps i entry outcome old new half later (inr none) does here there = recor
 
 -- ---- one after another
 
-led-last : (i : ℕ) (last rest : List RomEntry) (mid end : Seen) (half later new : SlaveHalf) → MayEnd (CallsSlave i) last mid end → slice_get mid.state.halves i ≡ Some half → slice_get end.state.halves i ≡ Some later → HalfLedBy i rest later new
-    → HalfLedBy i (last ++ rest) half new
-led-last i [] rest mid end half later new same here there led =
-    let e : Some later ≡ Some half = sym there ∙ ap (λ (s : Seen). slice_get s.state.halves i) same ∙ here in
-    let is : later ≡ half = cc in
-    subst (λ (h : SlaveHalf). HalfLedBy i rest h new) is led
-led-last i (entry ∷ []) rest mid end half later new ends here there led = (later, call-steps i entry ends.outcome mid end half later ends.told ends.does here there, led)
-led-last i (entry ∷ next ∷ last) rest mid end half later new ends here there led = absurd ends
-
 -- the half is still there
-goes-there : (i : ℕ) (job : RomNext) (outcome : RomOutcome) (old new : State) → SlaveReturns i job outcome old new → (later : SlaveHalf) × (slice_get new.halves i ≡ Some later)
-goes-there i job outcome old new returns =
-    (returns.later, ap (λ (s : State). slice_get s.halves i) returns.new_is ∙ set-here old.halves i returns.later (slice_get_within old.halves i returns.half returns.here))
+half-stays : (i : ℕ) (job : RomNext) (old now : State) (half : SlaveHalf) → LeavesOnly (LeftInCall i job old) now → slice_get old.halves i ≡ Some half → (later : SlaveHalf) × (slice_get now.halves i ≡ Some later)
+half-stays i job old now half only here =
+    let within : i < length (words_in now.halves) = inside job (only (pair_read now) (leaves-read now)) in
+    half-there now.halves i (omega (arith, within, length-map now.halves (λ (h : SlaveHalf). h.words)))
+  where
+    left-inside : (pair : Pair) → Leaves old pair → i < length pair.words
+    left-inside pair leaves = let was = EachMayLeave-at old.halves pair.words i half here leaves.words in slice_get_within pair.words i was.0 was.1
 
-done-there : (i : ℕ) (entry : RomEntry) (old new : Seen) → IsDone (CallsSlave i) entry old new → (later : SlaveHalf) × (slice_get new.state.halves i ≡ Some later)
-done-there i entry old new done =
-    let back : CameBackInTurn (SlaveReturns i) (entry ∷ []) old.state new.state = calls-came-back i (entry ∷ []) old new (new, done, refl) in
-    let one = back.1 in
-    let there = goes-there i entry.job one.outcome old.state back.0 one.returns in
-    (there.0, ap (λ (s : State). slice_get s.halves i) back.2 ∙ there.1)
+    inside : (job : RomNext) → LeftInCall i job old (pair_read now) → i < length (words_in now.halves)
+    inside (next.Issue word value) is = elim is.2.1 [
+      | inl same ↦ let was = left-inside is.0 is.1 in omega (arith, was, ap length same)
+      | inr other ↦ let was = left-inside is.0 is.1 in omega (arith, was, ap length other.3, length-set is.0.words i (set other.0 word other.1))
+    ]
+    inside (next.Settle taken) is = left-inside (pair_read now) is
+    inside next.Idle is = left-inside (pair_read now) is
+    inside next.Stop is = left-inside (pair_read now) is
 
-led-turn : (i : ℕ) (log last rest : List RomEntry) (old mid end : Seen) (half later new : SlaveHalf) → DoneInTurn (CallsSlave i) log old mid → MayEnd (CallsSlave i) last mid end
-    → slice_get old.state.halves i ≡ Some half → slice_get end.state.halves i ≡ Some later → HalfLedBy i rest later new → HalfLedBy i (log ++ (last ++ rest)) half new
-led-turn i [] last rest old mid end half later new same ends here there led = led-last i last rest mid end half later new ends (ap (λ (s : Seen). slice_get s.state.halves i) same ∙ here) there led
-led-turn i (entry ∷ log) last rest old mid end half later new turn ends here there led =
-    let one = turn.1 in
-    let on = done-there i entry old turn.0 one in
-    (on.0, call-steps i entry one.outcome old turn.0 half on.0 (inl one.told) one.does here on.1, led-turn i log last rest turn.0 mid end on.0 later new turn.2 ends on.1 there led)
+-- The jobs led the half on to this one, whatever follows.
+record LedOn (i : ℕ) (log : List RomEntry) (half : SlaveHalf) (now : State) : Type 0 where
+  later : SlaveHalf
+  there : slice_get now.halves i ≡ Some later
+  led : (rest : List RomEntry) (end : SlaveHalf) → HalfLedBy i rest later end → HalfLedBy i (log ++ rest) half end
+
+led-none : (i : ℕ) (old new : Seen) (half : SlaveHalf) → new ≡ old → slice_get old.state.halves i ≡ Some half → LedOn i [] half new.state
+led-none i old new half same here = record { later = half; there = ap (λ (s : Seen). slice_get s.state.halves i) same ∙ here; led = λ rest end led. led }
+
+led-job : (i : ℕ) (entry : RomEntry) (log : List RomEntry) (outcome : RomOutcome) (old mid : Seen) (new : State) (half : SlaveHalf) → (entry.outcome ≡ Some outcome) ⊎ (entry.outcome ≡ None) → CallsSlave i entry.job outcome old mid → slice_get old.state.halves i ≡ Some half
+    → ((half : SlaveHalf) → slice_get mid.state.halves i ≡ Some half → LedOn i log half new) → LedOn i (entry ∷ log) half new
+led-job i entry log outcome old mid new half told does here others =
+    let on = half-stays i entry.job old.state mid.state half (call-left i entry.job outcome old mid does) here in
+    let rest = others on.0 on.1 in
+    record { later = rest.later; there = rest.there; led = λ more end led. (on.0, call-steps i entry outcome old mid half on.0 told does here on.1, rest.led more end led) }
+
+led-turn : (i : ℕ) (log : List RomEntry) (old new : Seen) (half : SlaveHalf) → DoneInTurn (CallsSlave i) log old new → slice_get old.state.halves i ≡ Some half → LedOn i log half new.state
+led-turn i [] old new half same here = led-none i old new half same here
+led-turn i (entry ∷ log) old new half turn here =
+    let one = turn.1 in led-job i entry log one.outcome old turn.0 new.state half (inl one.told) one.does here (λ h there. led-turn i log turn.0 new h turn.2 there)
+
+led-last : (i : ℕ) (last : List RomEntry) (old new : Seen) (half : SlaveHalf) → MayEnd (CallsSlave i) last old new → slice_get old.state.halves i ≡ Some half → LedOn i last half new.state
+led-last i [] old new half same here = led-none i old new half same here
+led-last i (entry ∷ []) old new half ends here = led-job i entry [] ends.outcome old new new.state half ends.told ends.does here (λ h there. led-none i new new h refl there)
+led-last i (entry ∷ next ∷ last) old new half ends here = absurd ends
+
+led-worked : (i : ℕ) (log : List RomEntry) (old new : Seen) (half : SlaveHalf) → IsWorked i log old new → slice_get old.state.halves i ≡ Some half → LedOn i log half new.state
+led-worked i log old new half worked here =
+    let w = worked.led in
+    let first = led-turn i w.done old w.mid half w.in_turn here in
+    let last = led-last i w.last w.mid new first.later w.ends first.there in
+    record {
+      later = last.later;
+      there = last.there;
+      led = λ rest end led.
+          subst (λ (l : List RomEntry). HalfLedBy i l half end) (sym (append_assoc w.done w.last rest) ∙ ap (λ (l : List RomEntry). l ++ rest) (sym w.log_is)) (first.led (w.last ++ rest) end (last.led rest end led));
+    }
 
 -- the last one may be in progress
 led-out : (i : ℕ) (out : List RomEntry) (mid now : State) (half new : SlaveHalf) → MayBeOut out → LeavesOnly (LeftInProgress (LeftInCall i) out mid) now → slice_get mid.halves i ≡ Some half → slice_get now.halves i ≡ Some new → HalfLedBy i out half new
@@ -179,7 +214,11 @@ led-out i (entry ∷ next ∷ out) mid now half new may only here there = absurd
 
 pub led-slave : (calls : List Call) (i : ℕ) (old new : SlaveHalf) → SlaveGoes calls i old new → HalfLedBy i (rom_log i calls) old new
 led-slave calls i old new goes =
-    let led = goes.worked.led in
-    let all : rom_log i calls ≡ led.done ++ (led.last ++ goes.out) = goes.log_is ∙ ap (λ (l : List RomEntry). l ++ goes.out) led.log_is ∙ append_assoc led.done led.last goes.out in
-    subst (λ (l : List RomEntry). HalfLedBy i l old new) (sym all)
-    (led-turn i led.done led.last goes.out goes.start led.mid goes.mid old goes.half new led.in_turn led.ends goes.began goes.there (led-out i goes.out goes.mid.state goes.now goes.half new goes.may_be_out goes.stands goes.there goes.is))
+    let on = led-worked i goes.done goes.start goes.mid old goes.worked goes.began in
+    subst (λ (l : List RomEntry). HalfLedBy i l old new) (sym goes.log_is) (on.led goes.out new (led-out i goes.out goes.mid.state goes.now on.later new goes.may_be_out goes.stands on.there goes.is))
+
+-- the half at the worker's end
+pub led-to-end : (i : ℕ) (log : List RomEntry) (old new : Seen) (half : SlaveHalf) → IsWorked i log old new → slice_get old.state.halves i ≡ Some half → (end : SlaveHalf) × (slice_get new.state.halves i ≡ Some end) × HalfLedBy i log half end
+led-to-end i log old new half worked here =
+    let on = led-worked i log old new half worked here in
+    (on.later, on.there, subst (λ (l : List RomEntry). HalfLedBy i l half on.later) (append-nil log) (on.led [] on.later (λ left may. may)))

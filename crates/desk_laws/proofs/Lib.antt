@@ -6,13 +6,15 @@ pub mod FallLaws
 pub mod HalfLaws
 pub mod WordLaws
 pub mod StandLaws
+pub mod LogBehind
+pub mod HalfWork
+pub mod Courses
 pub mod ServeLaws
 pub mod SlaveLaws
+pub mod WorldLaws
 pub mod DiskWork
-pub mod HalfWork
 pub mod DiskLog
 pub mod DiskUp
-pub mod SlaveUp
 pub mod SlaveOn
 pub mod Joining
 pub mod Ending

@@ -1,273 +1,267 @@
--- Each slave's half changes as its log says, call by call.
-use Rattle.std.proofs.Common.{◌≡◌, ◌≢◌, ◌⊎◌, ◌∙◌, inl, inr, ℕ, ◌<◌, Bool, true, false, List, [], ◌∷◌, length, get_or, set, refl, sym, ap, subst, arith, length-set, Option, Some, None}
-use Rattle.std.specs.Prelude.{slice_get, fold, nat_lt}
+-- Each call about a slave is an event of the main law, or some: the half goes on in its course.
+use Rattle.std.proofs.Common.{◌≡◌, ◌≢◌, ◌⊎◌, ◌∙◌, inl, inr, ℕ, zero, suc, ◌<◌, ◌≤◌, Bool, true, false, List, [], ◌∷◌, length, get_or, set, refl, sym, ap, subst, arith, length-set, Some}
+use Rattle.std.specs.Prelude.{slice_get, nat_lt}
 use Rattle.std.proofs.lemmas.Bool.Decides.{nat_tests}
-use Rattle.std.proofs.lemmas.List.{get_or-set_same, get_or_past}
+use Rattle.std.proofs.lemmas.List.{get_or-set_same, set-set}
 use Rattle.std.proofs.lemmas.Option.{slice_get_within}
-use Rattle.esc_model.specs.SlaveHalf.{SlaveHalf}
+use Rattle.esc_model.specs.SlaveHalf.{SlaveHalf, MayLeave, MayRest}
+use Rattle.esc_model.proofs.OnlyResting.{OnlyRests-same}
 use Rattle.site_core.specs.declared.answers.Settled.TheVariants.{Written, Again, Dead}
 use Rattle.site_core.specs.State.{State, with_half}
-use Rattle.book_model.specs.Cells.{written, cell_of}
 use Rattle.book_model.specs.declared.next.RomNext.{RomNext}
 use Rattle.book_model.specs.declared.next.RomNext.TheVariants as next
 use Rattle.book_model.specs.declared.next.RomOutcome.{RomOutcome}
 use Rattle.book_model.specs.declared.next.RomOutcome.TheVariants as outcomes
-use Rattle.book_model.specs.Book.{Book, Slave, Errand, Free, Issuing, Unsettled, Settling, nobody, slave_at}
-use Rattle.book_model.specs.RomSteps.{was_taken, is_last, with_issue, rom_next, rom_done}
-use Rattle.book_model.specs.Machine.{Machine}
-use Rattle.book_laws.specs.Frame.{JournalFrame}
-use Rattle.book_laws.specs.Up.{Up}
+use Rattle.book_model.specs.Book.{Book, Slave, Errand, Free, Issuing, Unsettled, Settling, nobody, slave_at, with_fault}
+use Rattle.book_model.specs.declared.fault.Fault.TheVariants as faults
+use Rattle.book_model.specs.RomSteps.{with_errand, rom_next, rom_done}
+use Rattle.book_laws.specs.Steps.{MayBegin, took_after, MayComeBack}
 use Rattle.book_laws.proofs.LineLaws.{half-there}
-use Rattle.book_laws.proofs.OutcomeLaws.{set-same, up-settles}
-use Rattle.book_laws.proofs.WorkLaws.{up-works}
-use Rattle.station_jobs.specs.Dispatch.{with_outcome}
+use Rattle.book_laws.proofs.OutcomeLaws.{set-same}
+use Rattle.world_law.specs.World.{Nothing, RomIssue, RomDone, RomResolve}
+use Rattle.world_law.specs.Happenings.{fault_told}
+use Rattle.station_jobs.specs.Working.{HalfReturns}
 use Rattle.desk_book.specs.declared.call.Call.{Call}
-use Rattle.desk_book.specs.declared.call.Call.TheVariants.{SlaveAsked, SlaveTold}
-use Rattle.desk_book.specs.Calls.{AreAnswered, IsOut}
-use Rattle.desk_book.specs.Logs.{RomEntry, rom_noted, with_rom_answer}
-use Rattle.desk_book.proofs.LogLaws.{asked-here, asked-other, told-here, told-other, with-rom-rest, same-or-not}
-use Rattle.desk_book.proofs.OutLaws.{Next, rests, issues, settles, next-of, asked-apart, told-apart, issued-slave}
-use Rattle.desk_laws.proofs.ServeLaws.{IsPending, log-behind}
-use Rattle.desk_laws.proofs.HalfWork.{HalfSteps, HalfLedBy, set-here, set-apart}
-use Rattle.desk_laws.proofs.SlaveUp.{IsJobOf, UpThen, slave-back, slave-stopped}
+use Rattle.desk_book.specs.declared.call.Call.TheVariants.{SlaveTold}
+use Rattle.desk_book.specs.Calls.{after, IsOut}
+use Rattle.desk_book.proofs.LogLaws.{same-or-not}
+use Rattle.desk_book.proofs.OutLaws.{Next, rests, issues, settles, next-of}
+use Rattle.desk_laws.proofs.HalfWork.{HalfLeft, HalfSteps, set-here, set-apart}
+use Rattle.desk_laws.proofs.Courses.{IsJobOf, LeavesLess, Moves, still, came, EndsOut, Course, out-within}
+use Rattle.desk_laws.proofs.WorldLaws.{Stays, happens, slave-count, took-count, takes, tears, fades}
 
--- the pending part of the log, and that the rest leads the half to the end
-pub record SlavePart (i : ℕ) (errand : Errand) (calls : List Call) (half end : SlaveHalf) : Type 0 where
-  pub log : List RomEntry
-  pub pending : IsPending errand log
-  pub led : HalfLedBy i (fold (rom_noted i) log calls) half end
+-- the courses of all slaves
+abbrev pub Courses : Book → List Call → (now ends : List SlaveHalf) → Type 0
+Courses book calls now ends = (i : ℕ) (half end : SlaveHalf) → slice_get now i ≡ Some half → slice_get ends i ≡ Some end → Course i book calls half end
 
--- of each slave
-abbrev pub AllParts : Book → List Call → (now ends : List SlaveHalf) → Type 0
-AllParts book calls now ends = (i : ℕ) (half end : SlaveHalf) → slice_get now i ≡ Some half → slice_get ends i ≡ Some end → SlavePart i (slave_at book i).errand calls half end
+-- a call that reports no outcome of the slave
+course-behind : (i : ℕ) (book : Book) (call : Call) (calls : List Call) (half end : SlaveHalf) → ((outcome : RomOutcome) → call ≡ SlaveTold i outcome → ⊥) → Course i book (call ∷ calls) half end → Course i (after book call) calls half end
+course-behind i book call calls half end other course = from course.1
+  where
+    from : Moves i book call half course.0 → Course i (after book call) calls half end
+    from (still is told) = subst (λ (h : SlaveHalf). Course i (after book call) calls h end) is course.2
+    from (came outcome told job of steps) = absurd (other outcome told)
 
--- ---- what is pending
+pub courses-behind : (book : Book) (call : Call) (calls : List Call) (now ends : List SlaveHalf) → ((i : ℕ) (outcome : RomOutcome) → call ≡ SlaveTold i outcome → ⊥) → Courses book (call ∷ calls) now ends → Courses (after book call) calls now ends
+courses-behind book call calls now ends other courses i half end here there = course-behind i book call calls half end (other i) (courses i half end here there)
 
--- an outcome of another kind leaves it out
-still-pending : (errand : Errand) (log : List RomEntry) (outcome : RomOutcome) → IsOut errand → IsPending errand log → IsPending errand (with_outcome log outcome)
-still-pending Free log outcome out pending = absurd out
-still-pending (Unsettled word value taken) log outcome out pending = absurd out
-still-pending (Issuing word value) log outcome out pending = (Some outcome, ap (λ (l : List RomEntry). with_outcome l outcome) pending.1)
-still-pending (Settling word value taken) log outcome out pending = (Some outcome, ap (λ (l : List RomEntry). with_outcome l outcome) pending.1)
+-- of which slaves a datagram was taken, and that the main law's invariant holds
+pub record StaysNow (book : Book) (state : State) : Type 0 where
+  pub took : List Bool
+  pub stays : Stays book state took
 
--- what is pending is what is out
-pub record Job (errand : Errand) (log : List RomEntry) : Type 0 where
-  pub job : RomNext
-  pub before : Option RomOutcome
-  pub of : IsJobOf errand job
-  pub is : log ≡ record { job = job; outcome = before } ∷ []
+-- ---- it is asked for
 
-pub job-of : (errand : Errand) (log : List RomEntry) → IsOut errand → IsPending errand log → Job errand log
-job-of Free log out pending = absurd out
-job-of (Unsettled word value taken) log out pending = absurd out
-job-of (Issuing word value) log out pending = record { job = next.Issue word value; before = pending.0; of = refl; is = pending.1 }
-job-of (Settling word value taken) log out pending = record { job = next.Settle taken; before = pending.0; of = refl; is = pending.1 }
+-- an issue isn't taken yet
+handed : (book : Book) (state : State) (took : List Bool) (j : ℕ) (job : RomNext) (later : Book) → Stays book state took → rom_next book j ≡ (job, later) → nat_lt j (length book.slaves) ≡ true → ((half : SlaveHalf) → MayBegin job j false half half)
+    → StaysNow (rom_next book j).1 state
+handed book state took j job later stays is inside begins =
+    let within : j < length book.slaves = grind (arith, nat_tests) in
+    let h = half-there state.halves j (omega (arith, within, slave-count book state took stays)) in
+    let taken = took_after (rom_next book j).0 took j false in
+    let now = happens (RomIssue j) Nothing book (rom_next book j).1 state (with_half state j h.0) took taken stays tt
+    (book, refl, (refl, record { half = h.0; here = h.1; taken = false; after = h.0; may = subst (λ (p : RomNext × Book). MayBegin p.0 j false h.0 h.0) (sym is) (begins h.0); is = refl })) in
+    record { took = taken; stays = subst (λ (l : List SlaveHalf). Stays (rom_next book j).1 (record state { halves = l }) taken) (set-same state.halves j h.0 h.1) now }
 
-none-pending : (errand : Errand) → (IsOut errand → ⊥) → IsPending errand []
-none-pending Free idle = refl
-none-pending (Unsettled word value taken) idle = refl
-none-pending (Issuing word value) idle = absurd (idle tt)
-none-pending (Settling word value taken) idle = absurd (idle tt)
+pub slave-asked : (book : Book) (state : State) (took : List Bool) (j : ℕ) → Stays book state took → StaysNow (rom_next book j).1 state
+slave-asked book state took j stays = from (next-of book j)
+  where
+    from : Next book j → StaysNow (rom_next book j).1 state
+    from (rests answer none is) = record { took = took; stays = subst (λ (p : RomNext × Book). Stays p.1 state took) (sym is) stays }
+    from (issues w others free todo inside is) = handed book state took j (next.Issue w.0 w.1) _ stays is inside (λ half. inl refl)
+    from (settles word value taken unsettled inside is) = handed book state took j (next.Settle taken) _ stays is inside (λ half. refl)
 
--- ---- a call that isn't about the slave
+-- ---- it comes back
 
--- nothing is noted of it
-part-behind : (i : ℕ) (errand later : Errand) (call : Call) (calls : List Call) (half end : SlaveHalf) → later ≡ errand → ((log : List RomEntry) → rom_noted i log call ≡ log) → SlavePart i errand (call ∷ calls) half end
-    → SlavePart i later calls half end
-part-behind i errand later call calls half end same unnoted part = record {
-  log = part.log;
-  pending = subst (λ (e : Errand). IsPending e part.log) (sym same) part.pending;
-  led = subst (λ (l : List RomEntry). HalfLedBy i (fold (rom_noted i) l calls) half end) (unnoted part.log) part.led;
-}
+-- what may come back of a settle doesn't depend on the word
+settle-any : (took now taken : Bool) (word value x y : ℕ) (outcome : RomOutcome) (half later : SlaveHalf) → MayComeBack took (Settling word value taken) outcome half later → MayComeBack now (Settling x y taken) outcome half later
+settle-any took now taken word value x y (outcomes.Issued how) half later back = absurd back
+settle-any took now taken word value x y (outcomes.Settled Written) half later back = back
+settle-any took now taken word value x y (outcomes.Settled Again) half later back = back
+settle-any took now taken word value x y (outcomes.Settled Dead) half later back = back
+settle-any took now taken word value x y outcomes.Stopped half later back = back
 
-pub parts-behind : (book later : Book) (call : Call) (calls : List Call) (now ends : List SlaveHalf) → ((i : ℕ) → (slave_at later i).errand ≡ (slave_at book i).errand) → ((i : ℕ) (log : List RomEntry) → rom_noted i log call ≡ log)
-    → AllParts book (call ∷ calls) now ends → AllParts later calls now ends
-parts-behind book later call calls now ends same unnoted parts i half end here there =
-    part-behind i (slave_at book i).errand (slave_at later i).errand call calls half end (same i) (unnoted i) (parts i half end here there)
+module _ (book : Book) (state : State) (took : List Bool) (j : ℕ) (half mid : SlaveHalf) (stays : Stays book state took) (here : slice_get state.halves j ≡ Some half) where
+  inside : j < length state.halves
+  inside = slice_get_within state.halves j half here
 
--- The invariant holds after the call, and each half has changed as its log says.
-pub record SlaveGoesOn (frame : JournalFrame) (later : Book) (calls : List Call) (ends : List SlaveHalf) (state : State) (m : Machine) : Type 0 where
+  -- from this half on it rests, and then comes back
+  comes : (begun rested later : SlaveHalf) (t : List Bool) (errand : Errand) (outcome : RomOutcome) → (slave_at book j).errand ≡ errand → Stays book (with_half state j begun) t → MayRest begun rested → MayComeBack (get_or t j false) errand outcome rested later
+      → Stays (rom_done book j outcome) (with_half state j later) t
+  comes begun rested later t errand outcome is now resting back =
+      let first = set-here state.halves j begun inside in
+      let s = with_half state j begun in
+      let at_rest = happens (RomResolve j) Nothing book book s (with_half s j rested) t t now tt (refl, record { half = begun; here = first; later = rested; new_is = refl; goes = resting }, refl) in
+      let there = set-here s.halves j rested (slice_get_within s.halves j begun first) in
+      let may = subst (λ (e : Errand). MayComeBack (get_or t j false) e outcome rested later) (sym is) back in
+      let done = happens (RomDone j outcome) (fault_told (rom_done book j outcome)) book (rom_done book j outcome) (with_half s j rested) (with_half (with_half s j rested) j later) t t at_rest tt
+      (book, refl, (refl, record { half = rested; here = there; after = later; may = may; is = refl })) in
+      subst (λ (l : List SlaveHalf). Stays (rom_done book j outcome) (record state { halves = l }) t) (set-set (set state.halves j begun) j rested later ∙ set-set state.halves j begun later) done
+
+  -- it is as it was
+  unchanged : Stays book (with_half state j half) took
+  unchanged = subst (λ (l : List SlaveHalf). Stays book (record state { halves = l }) took) (sym (set-same state.halves j half here)) stays
+
+  taken-here : (t : Bool) → get_or (set took j t) j false ≡ t
+  taken-here t = get_or-set_same took j t false (omega (arith, inside, slave-count book state took stays, took-count book state took stays))
+
+  abbrev Told : RomOutcome → Type 0
+  Told outcome = StaysNow (rom_done book j outcome) (with_half state j mid)
+
+  issue-back : (word value : ℕ) (outcome : RomOutcome) → (slave_at book j).errand ≡ Issuing word value → HalfReturns j (next.Issue word value) outcome half mid → Told outcome
+  issue-back word value outcome is returns =
+      let t = returns.taken in
+      let back = subst (λ (b : Bool). MayComeBack b (Issuing word value) outcome returns.rested mid) (sym (taken-here t)) (subst (λ (e : Errand). MayComeBack t e outcome returns.rested mid) returns.errand_is returns.comes_back) in
+      record { took = set took j t; stays = comes returns.begun returns.rested mid (set took j t) (Issuing word value) outcome is (takes book state took j word value half returns.begun t stays is here returns.begins) returns.rests back }
+
+  settle-back : (word value : ℕ) (taken : Bool) (outcome : RomOutcome) → (slave_at book j).errand ≡ Settling word value taken → HalfReturns j (next.Settle taken) outcome half mid → Told outcome
+  settle-back word value taken outcome is returns =
+      let e = returns.errand_is in
+      let any = settle-any returns.taken (get_or took j false) taken e.0 e.1 word value outcome returns.rested mid (subst (λ (x : Errand). MayComeBack returns.taken x outcome returns.rested mid) e.2 returns.comes_back) in
+      record { took = took; stays = comes half returns.rested mid took (Settling word value taken) outcome is unchanged (subst (λ (h : SlaveHalf). MayRest h returns.rested) returns.begins returns.rests) any }
+
+  job-back : (errand : Errand) (job : RomNext) (outcome : RomOutcome) → (slave_at book j).errand ≡ errand → IsJobOf errand job → HalfReturns j job outcome half mid → Told outcome
+  job-back Free job outcome is of returns = absurd of
+  job-back (Unsettled word value taken) job outcome is of returns = absurd of
+  job-back (Issuing word value) job outcome is of returns = issue-back word value outcome is (subst (λ (n : RomNext). HalfReturns j n outcome half mid) of returns)
+  job-back (Settling word value taken) job outcome is of returns = settle-back word value taken outcome is (subst (λ (n : RomNext). HalfReturns j n outcome half mid) of returns)
+
+  -- its site stopped: nothing more is said than what a power cut leaves of it
+  job-stops : (errand : Errand) (job : RomNext) → (slave_at book j).errand ≡ errand → IsJobOf errand job → ((left : List ℕ) → MayLeave mid left → HalfLeft job half left) → Told outcomes.Stopped
+  job-stops Free job is of leaves = absurd of
+  job-stops (Unsettled word value taken) job is of leaves = absurd of
+  job-stops (Issuing word value) job is of leaves =
+      let torn = tears book state took j word value half mid stays is here (subst (λ (n : RomNext). (left : List ℕ) → MayLeave mid left → HalfLeft n half left) of leaves) in
+      record { took = set took j false; stays = comes mid mid mid (set took j false) (Issuing word value) outcomes.Stopped is torn (inl refl) (OnlyRests-same mid) }
+  job-stops (Settling word value taken) job is of leaves =
+      let later = rom_done book j outcomes.Stopped in
+      let done = comes half half half took (Settling word value taken) outcomes.Stopped is unchanged (inl refl) (OnlyRests-same half) in
+      let later_is : later ≡ with_fault (with_errand book j Free) faults.Stopped = rw is refl in
+      let free : (slave_at later j).errand ≡ Free =
+      ap (λ (b : Book). (slave_at b j).errand) later_is ∙ ap (λ (s : Slave). s.errand) (get_or-set_same book.slaves j (record (slave_at book j) { errand = Free }) nobody (omega (arith, inside, slave-count book state took stays))) in
+      let faded = fades later (with_half state j half) took j half mid done free (set-here state.halves j half inside) (subst (λ (n : RomNext). (left : List ℕ) → MayLeave mid left → HalfLeft n half left) of leaves) in
+      record { took = set took j false; stays = subst (λ (l : List SlaveHalf). Stays later (record state { halves = l }) (set took j false)) (set-set state.halves j half mid) faded }
+
+  told-back : (outcome : RomOutcome) (job : RomNext) → IsJobOf (slave_at book j).errand job → HalfSteps j (record { job = job; outcome = Some outcome }) half mid → Told outcome
+  told-back (outcomes.Issued how) job of steps = job-back (slave_at book j).errand job (outcomes.Issued how) refl of (steps.returns (outcomes.Issued how) refl (λ no. absurd (cc no)))
+  told-back (outcomes.Settled how) job of steps = job-back (slave_at book j).errand job (outcomes.Settled how) refl of (steps.returns (outcomes.Settled how) refl (λ no. absurd (cc no)))
+  told-back outcomes.Stopped job of steps = job-stops (slave_at book j).errand job refl of steps.leaves
+
+-- ---- the slaves behind the call
+
+pub record SlaveGoesOn (later : Book) (calls : List Call) (ends : List SlaveHalf) (state : State) : Type 0 where
   pub halves : List SlaveHalf
   pub took : List Bool
-  pub up : Up frame later (record state { halves = halves }) took m
+  pub stays : Stays later (record state { halves = halves }) took
   pub count : length halves ≡ length state.halves
-  pub parts : AllParts later calls halves ends
+  pub courses : Courses later calls halves ends
 
-module _ (frame : JournalFrame) (book : Book) (calls : List Call) (ends : List SlaveHalf) (state : State) (took : List Bool) (m : Machine) (up : Up frame book state took m) (j : ℕ) where
-  -- ---- it is asked for
-
-  -- the halves stay as they are
-  abbrev AskedOn : Book → Type 0
-  AskedOn later = SlaveGoesOn frame later calls ends state m
-
-  asked-on : (later : Book) (taken : List Bool) (call : Call) → Up frame later state taken m → ((i : ℕ) → i ≢ j → slave_at later i ≡ slave_at book i) → ((i : ℕ) (log : List RomEntry) → i ≢ j → rom_noted i log call ≡ log)
-      → AllParts book (call ∷ calls) state.halves ends → ((half end : SlaveHalf) → SlavePart j (slave_at book j).errand (call ∷ calls) half end → SlavePart j (slave_at later j).errand calls half end) → AskedOn later
-  asked-on later taken call upon apart unnoted parts here = record {
-    halves = state.halves;
-    took = taken;
-    up = upon;
-    count = refl;
-    parts = λ i half end is there. one i half end (parts i half end is there) (same-or-not i j);
-  }
+module _ (book : Book) (calls : List Call) (ends : List SlaveHalf) (state : State) (took : List Bool) (stays : Stays book state took) (j : ℕ) (outcome : RomOutcome) (courses : Courses book (SlaveTold j outcome ∷ calls) state.halves ends) where
+  -- this is the slave's half now, and the others stay as they are
+  others-stay : (now : List SlaveHalf) (half end : SlaveHalf) → ((i : ℕ) → i ≢ j → slice_get now i ≡ slice_get state.halves i) → slice_get now j ≡ Some half → slice_get ends j ≡ Some end → Course j (rom_done book j outcome) calls half end
+      → Courses (rom_done book j outcome) calls now ends
+  others-stay now half end apart here there course i h e is last = one (same-or-not i j)
     where
-      one : (i : ℕ) (half end : SlaveHalf) → SlavePart i (slave_at book i).errand (call ∷ calls) half end → (i ≡ j) ⊎ (i ≢ j) → SlavePart i (slave_at later i).errand calls half end
-      one i half end part (inl same) =
-          subst (λ (k : ℕ). SlavePart k (slave_at later k).errand calls half end) (sym same) (here half end (subst (λ (k : ℕ). SlavePart k (slave_at book k).errand (call ∷ calls) half end) same part))
-      one i half end part (inr other) = part-behind i (slave_at book i).errand (slave_at later i).errand call calls half end (ap (λ (s : Slave). s.errand) (apart i other)) (λ log. unnoted i log other) part
+      one : (i ≡ j) ⊎ (i ≢ j) → Course i (rom_done book j outcome) calls h e
+      one (inl it) =
+          let half_is : half ≡ h = (let q : Some half ≡ Some h = sym here ∙ subst (λ (k : ℕ). slice_get now k ≡ Some h) it is in cc) in
+          let end_is : end ≡ e = (let q : Some end ≡ Some e = sym there ∙ subst (λ (k : ℕ). slice_get ends k ≡ Some e) it last in cc) in
+          subst (λ (k : ℕ). Course k (rom_done book j outcome) calls h e) (sym it)
+          (subst (λ (x : SlaveHalf). Course j (rom_done book j outcome) calls x e) half_is (subst (λ (x : SlaveHalf). Course j (rom_done book j outcome) calls half x) end_is course))
+      one (inr other) = course-behind i book (SlaveTold j outcome) calls h e (λ o told. let q : i ≡ j = cc told in other q) (courses i h e (sym (apart i other) ∙ is) last)
 
-  -- what is noted of the slave itself
-  noted-here : (answer : RomNext) (log : List RomEntry) (half end : SlaveHalf) → HalfLedBy j (fold (rom_noted j) log (SlaveAsked j answer ∷ calls)) half end → HalfLedBy j (fold (rom_noted j) (with_rom_answer log answer) calls) half end
-  noted-here answer log half end led = subst (λ (l : List RomEntry). HalfLedBy j (fold (rom_noted j) l calls) half end) (asked-here j answer log) led
-
-  within-of : nat_lt j (length book.slaves) ≡ true → j < length book.slaves
-  within-of is = grind (arith, nat_tests)
-
-  asked-as : (answer : RomNext) → answer ≡ (rom_next book j).0 → AllParts book (SlaveAsked j answer ∷ calls) state.halves ends → Next book j → AskedOn (rom_next book j).1
-  asked-as answer is parts (rests nothing none goes) =
-      let later_is : (rom_next book j).1 ≡ book = ap (λ (p : RomNext × Book). p.1) goes in
-      asked-on (rom_next book j).1 took (SlaveAsked j answer) (subst (λ (b : Book). Up frame b state took m) (sym later_is) up) (λ i other. asked-apart book j i other) (λ i log other. asked-other j answer i log other) parts
-      (λ half end part.
-      let log_is : with_rom_answer part.log answer ≡ part.log = ap (with_rom_answer part.log) (is ∙ ap (λ (p : RomNext × Book). p.0) goes) ∙ with-rom-rest part.log nothing none in
+  told-by : (half end : SlaveHalf) → slice_get state.halves j ≡ Some half → slice_get ends j ≡ Some end → (mid : SlaveHalf) → Moves j book (SlaveTold j outcome) half mid → Course j (rom_done book j outcome) calls mid end
+      → SlaveGoesOn (rom_done book j outcome) calls ends state
+  told-by half end here there mid (still is told) course = record {
+    halves = state.halves;
+    took = took;
+    stays = subst (λ (b : Book). Stays b state took) (sym (told outcome refl)) stays;
+    count = refl;
+    courses = others-stay state.halves half end (λ i other. refl) here there (subst (λ (h : SlaveHalf). Course j (rom_done book j outcome) calls h end) is course);
+  }
+  told-by half end here there mid (came o told job of steps) course =
+      let it : o ≡ outcome = cc told in
+      let now = told-back book state took j half mid stays here outcome job of (subst (λ (x : RomOutcome). HalfSteps j (record { job = job; outcome = Some x }) half mid) it steps) in
+      let inside = slice_get_within state.halves j half here in
       record {
-        log = part.log;
-        pending = subst (λ (b : Book). IsPending (slave_at b j).errand part.log) (sym later_is) part.pending;
-        led = subst (λ (l : List RomEntry). HalfLedBy j (fold (rom_noted j) l calls) half end) log_is (noted-here answer part.log half end part.led);
-      })
-  asked-as answer is parts (issues w others free todo inside goes) =
-      let within = within-of inside in
-      let h = half-there state.halves j (omega (arith, within, up.slaves.count)) in
-      let works = up-works frame book state took m j h.0 h.0 w others false up within h.1 todo (inl refl) in
-      let later_is : (rom_next book j).1 ≡ with_issue book j w = ap (λ (p : RomNext × Book). p.1) goes in
-      let issued = subst (λ (l : List SlaveHalf). Up frame (with_issue book j w) (record state { halves = l }) (set took j false) m) (set-same state.halves j h.0 h.1) works in
-      let errand : (slave_at (rom_next book j).1 j).errand ≡ Issuing w.0 w.1 =
-      ap (λ (b : Book). (slave_at b j).errand) later_is ∙ ap (λ (s : Slave). s.errand) (get_or-set_same book.slaves j (issued-slave book j w) nobody within) in
-      asked-on (rom_next book j).1 (set took j false) (SlaveAsked j answer) (subst (λ (b : Book). Up frame b state (set took j false) m) (sym later_is) issued) (λ i other. asked-apart book j i other) (λ i log other. asked-other j answer i log other)
-      parts (λ half end part.
-      let empty : part.log ≡ [] = subst (λ (e : Errand). IsPending e part.log) free part.pending in
-      let one : with_rom_answer part.log answer ≡ record { job = next.Issue w.0 w.1; outcome = None } ∷ [] =
-      ap (with_rom_answer part.log) (is ∙ ap (λ (p : RomNext × Book). p.0) goes) ∙ ap (λ (l : List RomEntry). with_rom_answer l (next.Issue w.0 w.1)) empty in
-      record { log = with_rom_answer part.log answer; pending = subst (λ (e : Errand). IsPending e (with_rom_answer part.log answer)) (sym errand) (None, one); led = noted-here answer part.log half end part.led })
-  asked-as answer is parts (settles word value taken unsettled inside goes) =
-      let within = within-of inside in
-      let errand : (slave_at (rom_next book j).1 j).errand ≡ Settling word value taken =
-      ap (λ (p : RomNext × Book). (slave_at p.1 j).errand) goes ∙ ap (λ (s : Slave). s.errand) (get_or-set_same book.slaves j (record (slave_at book j) { errand = Settling word value taken }) nobody within) in
-      asked-on (rom_next book j).1 took (SlaveAsked j answer) (up-settles frame book state took m j word value taken up within unsettled) (λ i other. asked-apart book j i other) (λ i log other. asked-other j answer i log other) parts
-      (λ half end part.
-      let empty : part.log ≡ [] = subst (λ (e : Errand). IsPending e part.log) unsettled part.pending in
-      let one : with_rom_answer part.log answer ≡ record { job = next.Settle taken; outcome = None } ∷ [] =
-      ap (with_rom_answer part.log) (is ∙ ap (λ (p : RomNext × Book). p.0) goes) ∙ ap (λ (l : List RomEntry). with_rom_answer l (next.Settle taken)) empty in
-      record { log = with_rom_answer part.log answer; pending = subst (λ (e : Errand). IsPending e (with_rom_answer part.log answer)) (sym errand) (None, one); led = noted-here answer part.log half end part.led })
+        halves = set state.halves j mid;
+        took = now.took;
+        stays = now.stays;
+        count = length-set state.halves j mid;
+        courses = others-stay (set state.halves j mid) mid end (λ i other. set-apart state.halves j i mid other) (set-here state.halves j mid inside) there course;
+      }
 
-  pub slave-asked : (answer : RomNext) → answer ≡ (rom_next book j).0 → AllParts book (SlaveAsked j answer ∷ calls) state.halves ends → AskedOn (rom_next book j).1
-  slave-asked answer is parts = asked-as answer is parts (next-of book j)
+  pub slave-told : length ends ≡ length state.halves → IsOut (slave_at book j).errand → SlaveGoesOn (rom_done book j outcome) calls ends state
+  slave-told count out =
+      let within = out-within j book (nat_lt j (length book.slaves)) refl out in
+      let h = half-there state.halves j (omega (arith, within, slave-count book state took stays)) in
+      let e = half-there ends j (omega (arith, within, slave-count book state took stays, count)) in
+      let course = courses j h.0 e.0 h.1 e.1 in
+      told-by h.0 e.0 h.1 e.1 course.0 course.1 course.2
 
-  -- ---- it comes back
+-- ---- in the end
 
-  -- with nothing out any more, where the outcome isn't of another kind
-  idle-by : (later : Book) (s : Slave) → j < length book.slaves → later.slaves ≡ set book.slaves j s → (IsOut s.errand → ⊥) → IsOut (slave_at later j).errand → ⊥
-  idle-by later s within is idle out = idle (subst (λ (x : Slave). IsOut x.errand) (ap (λ (l : List Slave). get_or l j nobody) is ∙ get_or-set_same book.slaves j s nobody within) out)
+-- a power cut leaves no more of it, or its word may hold anything
+ends-so : (errand : Errand) (half end : SlaveHalf) → EndsOut errand half end → LeavesLess half end ⊎ ((word : ℕ) × (value : ℕ) × (errand ≡ Issuing word value) × ((left : List ℕ) → MayLeave end left → HalfLeft (next.Issue word value) half left))
+ends-so errand half end (inl less) = inl less
+ends-so Free half end (inr out) = absurd out.1
+ends-so (Unsettled word value taken) half end (inr out) = absurd out.1
+ends-so (Issuing word value) half end (inr out) = inr (word, value, refl, subst (λ (n : RomNext). (left : List ℕ) → MayLeave end left → HalfLeft n half left) out.1 out.2)
+ends-so (Settling word value taken) half end (inr out) = inl (subst (λ (n : RomNext). (left : List ℕ) → MayLeave end left → HalfLeft n half left) out.1 out.2)
 
-  abbrev IsIdleAfter : RomOutcome → Type 0
-  IsIdleAfter outcome = IsOut (slave_at (rom_done book j outcome) j).errand → ⊥
+below-or-last : (i n : ℕ) → i < suc n → (i < n) ⊎ (i ≡ n)
+below-or-last zero zero lt = inr refl
+below-or-last zero (suc n) lt = inl (omega arith)
+below-or-last (suc i) zero lt = absurd (omega (arith, lt))
+below-or-last (suc i) (suc n) lt = elim (below-or-last i n (omega (arith, lt))) [ inl below ↦ inl (omega (arith, below)) | inr last ↦ inr (ap suc last) ]
 
-  again-idle : (word value : ℕ) (taken last : Bool) → (slave_at book j).errand ≡ Settling word value taken → j < length book.slaves → is_last (cell_of (slave_at book j).cells word).known ≡ last → IsIdleAfter (outcomes.Settled Again)
-  again-idle word value taken true is within lasts = idle-by (rom_done book j (outcomes.Settled Again)) (record (slave_at book j) { errand = Free }) within (rw (is, lasts) refl) (λ no. no)
-  again-idle word value taken false is within lasts = idle-by (rom_done book j (outcomes.Settled Again)) (record (slave_at book j) { errand = Free }) within (rw (is, lasts) refl) (λ no. no)
+-- Of the first `n` slaves a power cut leaves no more in the end than of these halves. The others are as they were.
+pub record EndsBefore (book : Book) (state : State) (ends : List SlaveHalf) (n : ℕ) : Type 0 where
+  pub halves : List SlaveHalf
+  pub took : List Bool
+  pub stays : Stays book (record state { halves = halves }) took
+  pub count : length halves ≡ length state.halves
+  pub less : (i : ℕ) (half end : SlaveHalf) → i < n → slice_get halves i ≡ Some half → slice_get ends i ≡ Some end → LeavesLess half end
+  pub others : (i : ℕ) → n ≤ i → slice_get halves i ≡ slice_get state.halves i
 
-  told-kind : (errand : Errand) (outcome : RomOutcome) → (slave_at book j).errand ≡ errand → IsOut errand → j < length book.slaves → (rom_done book j outcome ≡ book) ⊎ IsIdleAfter outcome
-  told-kind Free outcome is out within = absurd out
-  told-kind (Unsettled word value taken) outcome is out within = absurd out
-  told-kind (Issuing word value) (outcomes.Issued how) is out within =
-      inr (idle-by (rom_done book j (outcomes.Issued how)) (record (slave_at book j) { errand = Unsettled word value (was_taken how) }) within (rw is refl) (λ no. no))
-  told-kind (Issuing word value) (outcomes.Settled how) is out within = inl (rw is refl)
-  told-kind (Issuing word value) outcomes.Stopped is out within = inr (idle-by (rom_done book j outcomes.Stopped) (record (slave_at book j) { errand = Free }) within (rw is refl) (λ no. no))
-  told-kind (Settling word value taken) (outcomes.Issued how) is out within = inl (rw is refl)
-  told-kind (Settling word value taken) (outcomes.Settled Written) is out within =
-      inr (idle-by (rom_done book j (outcomes.Settled Written)) (record (slave_at book j) { cells = set (slave_at book j).cells word (written (cell_of (slave_at book j).cells word) value); errand = Free }) within (rw is refl) (λ no. no))
-  told-kind (Settling word value taken) (outcomes.Settled Again) is out within = inr (again-idle word value taken (is_last (cell_of (slave_at book j).cells word).known) is within refl)
-  told-kind (Settling word value taken) (outcomes.Settled Dead) is out within = inr (idle-by (rom_done book j (outcomes.Settled Dead)) (record (slave_at book j) { errand = Free }) within (rw is refl) (λ no. no))
-  told-kind (Settling word value taken) outcomes.Stopped is out within = inr (idle-by (rom_done book j outcomes.Stopped) (record (slave_at book j) { errand = Free }) within (rw is refl) (λ no. no))
+module _ (book : Book) (state : State) (ends : List SlaveHalf) (n : ℕ) (b : EndsBefore book state ends n) where
+  -- one slave more
+  one-more : (halves : List SlaveHalf) (took : List Bool) (half end : SlaveHalf) → Stays book (record state { halves = halves }) took → length halves ≡ length state.halves → ((i : ℕ) → i ≢ n → slice_get halves i ≡ slice_get b.halves i)
+      → slice_get halves n ≡ Some half → slice_get ends n ≡ Some end → LeavesLess half end → EndsBefore book state ends (suc n)
+  one-more halves took half end stays count apart here there less = record {
+    halves = halves;
+    took = took;
+    stays = stays;
+    count = count;
+    less = λ i h e lt is last. elim (below-or-last i n lt) [
+      | inl below ↦ b.less i h e below (sym (apart i (λ it. omega (arith, it, below))) ∙ is) last
+      | inr it ↦
+          let half_is : half ≡ h = (let q : Some half ≡ Some h = sym here ∙ subst (λ (k : ℕ). slice_get halves k ≡ Some h) it is in cc) in
+          let end_is : end ≡ e = (let q : Some end ≡ Some e = sym there ∙ subst (λ (k : ℕ). slice_get ends k ≡ Some e) it last in cc) in
+          subst (λ (x : SlaveHalf). LeavesLess x e) half_is (subst (λ (x : SlaveHalf). LeavesLess half x) end_is less)
+    ];
+    others = λ i le. apart i (λ it. omega (arith, it, le)) ∙ b.others i (omega (arith, le));
+  }
 
-  -- the outcome is of another kind, and changes nothing
-  stays-on : (outcome : RomOutcome) → IsOut (slave_at book j).errand → rom_done book j outcome ≡ book → AllParts book (SlaveTold j outcome ∷ calls) state.halves ends → AskedOn (rom_done book j outcome)
-  stays-on outcome out is parts =
-      asked-on (rom_done book j outcome) took (SlaveTold j outcome) (subst (λ (b : Book). Up frame b state took m) (sym is) up) (λ i other. told-apart book j i outcome other) (λ i log other. told-other j outcome i log other) parts
-      (λ half end part. record {
-        log = with_outcome part.log outcome;
-        pending = subst (λ (b : Book). IsPending (slave_at b j).errand (with_outcome part.log outcome)) (sym is) (still-pending (slave_at book j).errand part.log outcome out part.pending);
-        led = subst (λ (l : List RomEntry). HalfLedBy j (fold (rom_noted j) l calls) half end) (told-here j outcome part.log) part.led;
-      })
+  ends-next : (half end : SlaveHalf) → slice_get state.halves n ≡ Some half → slice_get ends n ≡ Some end → EndsOut (slave_at book n).errand half end → EndsBefore book state ends (suc n)
+  ends-next half end here there out =
+      let now : slice_get b.halves n ≡ Some half = b.others n (omega arith) ∙ here in
+      elim (ends-so (slave_at book n).errand half end out) [
+        | inl less ↦ one-more b.halves b.took half end b.stays b.count (λ i other. refl) now there less
+        | inr torn ↦ one-more (set b.halves n end) (set b.took n false) end end (tears book (record state { halves = b.halves }) b.took n torn.0 torn.1 half end b.stays torn.2 now torn.3) (length-set b.halves n end ∙ b.count)
+            (λ i other. set-apart b.halves n i end other) (set-here b.halves n end (slice_get_within b.halves n half now)) there (λ left may. may)
+      ]
 
-  -- what came of it, and the rest of the log
-  record Back (job : RomNext) (outcome : RomOutcome) (half end : SlaveHalf) : Type 0 where
-    mid : SlaveHalf
-    steps : HalfSteps j (record { job = job; outcome = Some outcome }) half mid
-    led : HalfLedBy j (fold (rom_noted j) [] calls) mid end
-
-  came-back : (later : Book) (log : List RomEntry) (job : RomNext) (before : Option RomOutcome) (outcome : RomOutcome) (half end : SlaveHalf) → log ≡ record { job = job; outcome = before } ∷ [] → (IsOut (slave_at later j).errand → ⊥) → AreAnswered later calls
-      → HalfLedBy j (fold (rom_noted j) log (SlaveTold j outcome ∷ calls)) half end → Back job outcome half end
-  came-back later log job before outcome half end one idle all led =
-      let entry : RomEntry = record { job = job; outcome = Some outcome } in
-      let behind = log-behind j later calls entry [] all (λ out. absurd (idle out)) in
-      let path : HalfLedBy j (entry ∷ fold (rom_noted j) [] calls) half end =
-      subst (λ (l : List RomEntry). HalfLedBy j l half end) (ap (λ (l : List RomEntry). fold (rom_noted j) l calls) (told-here j outcome log ∙ ap (λ (l : List RomEntry). with_outcome l outcome) one) ∙ behind) led in
-      record { mid = path.0; steps = path.1; led = path.2 }
-
-  stopped-or : (outcome : RomOutcome) → (outcome ≡ outcomes.Stopped) ⊎ (outcome ≢ outcomes.Stopped)
-  stopped-or (outcomes.Issued how) = inr (λ is. absurd cc)
-  stopped-or (outcomes.Settled how) = inr (λ is. absurd cc)
-  stopped-or outcomes.Stopped = inl refl
-
-  up-told : (job : RomNext) (outcome : RomOutcome) (half end : SlaveHalf) → slice_get state.halves j ≡ Some half → IsJobOf (slave_at book j).errand job → (back : Back job outcome half end) → UpThen frame (rom_done book j outcome) (with_half state j back.mid) m
-  up-told job outcome half end here is back = elim (stopped-or outcome) [
-    | inl stopped ↦ subst (λ (o : RomOutcome). UpThen frame (rom_done book j o) (with_half state j back.mid) m) (sym stopped) (slave-stopped frame book state took m j half back.mid up here (slave_at book j).errand job refl is back.steps.leaves)
-    | inr going ↦ slave-back frame book state took m j half back.mid up here (slave_at book j).errand job outcome refl is (back.steps.returns outcome refl going)
-  ]
-
-  module _ (outcome : RomOutcome) (half end : SlaveHalf) (here : slice_get state.halves j ≡ Some half) (there : slice_get ends j ≡ Some end) (parts : AllParts book (SlaveTold j outcome ∷ calls) state.halves ends) where
-    goes-on : (job : RomNext) → IsJobOf (slave_at book j).errand job → IsIdleAfter outcome → Back job outcome half end → AskedOn (rom_done book j outcome)
-    goes-on job is idle back =
-        let told = up-told job outcome half end here is back in
-        record {
-          halves = set state.halves j back.mid;
-          took = told.took;
-          up = told.up;
-          count = length-set state.halves j back.mid;
-          parts = λ i h e now ends_at. one i h e now ends_at (same-or-not i j);
-        }
-      where
-        mid : SlaveHalf
-        mid = back.mid
-
-        itself : SlavePart j (slave_at (rom_done book j outcome) j).errand calls mid end
-        itself = record { log = []; pending = none-pending (slave_at (rom_done book j outcome) j).errand idle; led = back.led }
-
-        one : (i : ℕ) (h e : SlaveHalf) → slice_get (set state.halves j mid) i ≡ Some h → slice_get ends i ≡ Some e → (i ≡ j) ⊎ (i ≢ j) → SlavePart i (slave_at (rom_done book j outcome) i).errand calls h e
-        one i h e now ends_at (inl same) =
-            let at_j : slice_get (set state.halves j mid) j ≡ Some h = subst (λ (k : ℕ). slice_get (set state.halves j mid) k ≡ Some h) same now in
-            let is_mid : mid ≡ h = (let q : Some mid ≡ Some h = sym (set-here state.halves j mid (slice_get_within state.halves j half here)) ∙ at_j in cc) in
-            let at_end : slice_get ends j ≡ Some e = subst (λ (k : ℕ). slice_get ends k ≡ Some e) same ends_at in
-            let is_end : end ≡ e = (let q : Some end ≡ Some e = sym there ∙ at_end in cc) in
-            subst (λ (k : ℕ). SlavePart k (slave_at (rom_done book j outcome) k).errand calls h e) (sym same)
-            (subst (λ (x : SlaveHalf). SlavePart j (slave_at (rom_done book j outcome) j).errand calls x e) is_mid (subst (λ (x : SlaveHalf). SlavePart j (slave_at (rom_done book j outcome) j).errand calls mid x) is_end itself))
-        one i h e now ends_at (inr other) =
-            part-behind i (slave_at book i).errand (slave_at (rom_done book j outcome) i).errand (SlaveTold j outcome) calls h e (ap (λ (s : Slave). s.errand) (told-apart book j i outcome other)) (λ log. told-other j outcome i log other)
-            (parts i h e (sym (set-apart state.halves j i mid other) ∙ now) ends_at)
-
-    told-on : IsOut (slave_at book j).errand → AreAnswered (rom_done book j outcome) calls → IsIdleAfter outcome → AskedOn (rom_done book j outcome)
-    told-on out all idle =
-        let part = parts j half end here there in
-        let job = job-of (slave_at book j).errand part.log out part.pending in
-        goes-on job.job job.of idle (came-back (rom_done book j outcome) part.log job.job job.before outcome half end job.is idle all part.led)
-
-  -- a slave that is out is one of the line's
-  out-within : (cut : Bool) → nat_lt j (length book.slaves) ≡ cut → IsOut (slave_at book j).errand → j < length book.slaves
-  out-within true is out = grind (arith, nat_tests)
-  out-within false is out = absurd (subst (λ (s : Slave). IsOut s.errand) (get_or_past book.slaves j nobody (grind (arith, nat_tests))) out)
-
-  pub slave-told : (outcome : RomOutcome) → length ends ≡ length state.halves → IsOut (slave_at book j).errand → AreAnswered (rom_done book j outcome) calls → AllParts book (SlaveTold j outcome ∷ calls) state.halves ends → AskedOn (rom_done book j outcome)
-  slave-told outcome count out all parts =
-      let within = out-within (nat_lt j (length book.slaves)) refl out in
-      let h = half-there state.halves j (omega (arith, within, up.slaves.count)) in
-      let e = half-there ends j (omega (arith, within, up.slaves.count, count)) in
-      elim (told-kind (slave_at book j).errand outcome refl out within) [ inl same ↦ stays-on outcome out same parts | inr idle ↦ told-on outcome h.0 e.0 h.1 e.1 parts out all idle ]
+pub ends-before : (book : Book) (state : State) (took : List Bool) (ends : List SlaveHalf) → Stays book state took → length ends ≡ length state.halves → Courses book [] state.halves ends → (n : ℕ) → n ≤ length state.halves → EndsBefore book state ends n
+ends-before book state took ends stays count courses zero le = record {
+  halves = state.halves;
+  took = took;
+  stays = stays;
+  count = refl;
+  less = λ i half end lt. absurd (omega (arith, lt));
+  others = λ i le. refl;
+}
+ends-before book state took ends stays count courses (suc n) le =
+    let h = half-there state.halves n (omega (arith, le)) in
+    let e = half-there ends n (omega (arith, le, count)) in
+    ends-next book state ends n (ends-before book state took ends stays count courses n (omega (arith, le))) h.0 e.0 h.1 e.1 (courses n h.0 e.0 h.1 e.1)

@@ -1,7 +1,8 @@
 -- What holds of one slave at each call of its book, whatever the other slaves do.
 use Rattle.std.proofs.Common.{◌≡◌, ◌∙◌, ℕ, zero, suc, ◌+◌, ◌<◌, ◌≤◌, Bool, true, false, List, [], ◌∷◌, ◌++◌, length, map, take, drop, get_or, set, refl, sym, ap, subst, arith, add-zero, zero-add, add-suc, suc-add, length-append, length-drop, length-set, append_assoc, Option, Result, Ok, Err}
-use Rattle.std.specs.Prelude.{is_some, filter}
+use Rattle.std.specs.Prelude.{is_some, All}
 use Rattle.std.proofs.lemmas.List.{append-nil, get_or-set_same, length-map, length-take, take-append-le}
+use Rattle.std.proofs.lemmas.List.Elements.{All-head, filter_passes}
 use Rattle.std.proofs.Math.Seq.{take-add}
 use Rattle.sii_words.specs.Plant.{words_of}
 use Rattle.sii_words.specs.declared.run.Run.{Run}
@@ -250,24 +251,11 @@ stands-apart i book later j slave fault half is same stands =
 
 -- ---- a word that is to be done
 
--- the first element that passes a test does
-abbrev FirstPasses : {A : Type 0} (test : A → Bool) (xs : List A) → Type 0
-FirstPasses {A} test xs = (x : A) (rest : List A) → filter test xs ≡ x ∷ rest → test x ≡ true
-
-first-if : {A : Type 0} (test : A → Bool) (y : A) (ys : List A) → FirstPasses test ys → (c : Bool) → test y ≡ c → FirstPasses test (y ∷ ys)
-first-if test y ys later true passes x rest is =
-    let e : y ∷ filter test ys ≡ x ∷ rest = sym (rw passes refl) ∙ is in
-    let same : y ≡ x = cc in
-    ap test (sym same) ∙ passes
-first-if test y ys later false fails x rest is = later x rest (sym (rw fails refl) ∙ is)
-
-first-passes : {A : Type 0} (test : A → Bool) (xs : List A) → FirstPasses test xs
-first-passes test [] x rest is = absurd cc
-first-passes test (y ∷ ys) x rest is = first-if test y ys (first-passes test ys) (test y) refl x rest is
-
 -- it is one of the slave's, and is owed something
 pub to-do-owed : (book : Book) (i : ℕ) (w : ℕ × ℕ) (others : List (ℕ × ℕ)) → to_do book i ≡ w ∷ others → (w.0 < length (slave_at book i).cells) × (0 < length (cell_of (slave_at book i).cells w.0).owed)
 to-do-owed book i w others is =
     let cells = (slave_at book i).cells in
-    let some = first-passes (λ (n : ℕ × ℕ). is_any (cell_of cells n.0).owed) (last_of (namings (live_runs (live book.halves)) i)) w others is in
+    let test : ℕ × ℕ → Bool = λ n. is_any (cell_of cells n.0).owed in
+    let passes = λ (n : ℕ × ℕ). test n ≡ true in
+    let some = All-head passes w others (subst (All passes) is (filter_passes test (last_of (namings (live_runs (live book.halves)) i)))) in
     (owed-inside cells w.0 some, some-of (cell_of cells w.0).owed some)

@@ -52,8 +52,6 @@ module _ {S : Type 0} (opened : Book) (calls : List Call) (seen : S → Seen) (f
         now = (seen end.site).state;
         stands = λ pair leaves. leaves;
         began = first_half;
-        half = later;
-        there = last_half;
         is = last_half;
       }
 

@@ -2,7 +2,7 @@
 use Rattle.std.proofs.Common.{◌≡◌, ◌∙◌, ℕ, ◌+◌, List, [], ◌∷◌, ◌++◌, length, take, refl, sym, ap, subst, arith, append_assoc, Option, Some, None, Ok, Err}
 use Rattle.std.specs.List.{AllByRecursion}
 use Rattle.std.specs.Prelude.{fold}
-use Rattle.std.proofs.lemmas.List.{take-append-le, length-append}
+use Rattle.std.proofs.lemmas.List.{append-nil, take-append-le, length-append}
 use Rattle.sii_image.specs.ProcessImage.{ProcessImageParts, process_image}
 use Rattle.sii_edit.specs.declared.command.Command.{Command}
 use Rattle.sii_edit.specs.Fold.{contents}
@@ -27,10 +27,6 @@ record IsMore (commands later : List Command) : Type 0 where
 
 same-commands : (commands later : List Command) → later ≡ commands → IsMore commands later
 same-commands commands later is = record { more = []; all = is ∙ sym (append-nil commands) }
-  where
-    append-nil : (l : List Command) → l ++ [] ≡ l
-    append-nil [] = refl
-    append-nil (x ∷ xs) = ap (λ (l : List Command). x ∷ l) (append-nil xs)
 
 after-more : (book : Book) (call : Call) → IsMore book.accepted (after book call).accepted
 after-more book (Submitted command (Ok number)) = record { more = command ∷ []; all = refl }

@@ -58,9 +58,6 @@ pub record SlaveGoes (calls : List Call) (slave : ℕ) (old new : SlaveHalf) : T
   pub now : State
   pub stands : LeavesOnly (LeftInProgress (LeftInCall slave) out mid.state) now
   pub began : slice_get start.state.halves slave ≡ Some old
-  -- the half as the jobs that have returned left it
-  pub half : SlaveHalf
-  pub there : slice_get mid.state.halves slave ≡ Some half
   pub is : slice_get now.halves slave ≡ Some new
 
 -- The jobs that the calls handed out led the disk and all slaves from `old` to `new`, each at its own pace, with at most one job in

@@ -6,13 +6,14 @@ use ecat_frame::Frame;
 use runner_cases::line::THREE;
 use site_file::FileDevice;
 use site_shadow::ShadowSite;
-use site_wire::{LiveLine, LockedLine, NumberedWire, Wire, WireDevice};
+use site_wire::{LiveLine, LockedLine, WireDevice};
 use std::alloc::Global;
 use std::rt::Clock;
 use std::sync::Wait;
 use std::thread::Threads;
 use std::time::Duration;
 use std::{io, thread};
+use wire_frames::{NumberedWire, Wire};
 
 /// How long a frame takes, in microseconds.
 const PAUSE: u64 = 500;

@@ -7,8 +7,9 @@ use runner_cases::line::{Line, THREE};
 use runner_cases::runs::{End, SERVED, UNOPENED, Way, ended_on, kept_by};
 use runner_cases::sites::{PATTERNS, recovered};
 use site_mem::Pattern;
-use site_wire::{NumberedWire, StopReason};
+use site_wire::StopReason;
 use std::alloc::Global;
+use wire_frames::NumberedWire;
 use wire_practice::{Fate, Mishap, PracticeWire};
 
 /// Why a site may stop.

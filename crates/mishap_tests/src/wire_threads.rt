@@ -13,11 +13,12 @@ use sii_edit::Command;
 use site_core::Site;
 use site_mem::Pattern;
 use site_shadow::{Device, ShadowSite};
-use site_wire::{NumberedWire, StopReason};
+use site_wire::StopReason;
 use station_alone::Alone;
 use std::alloc::Global;
 use std::sync::Wait;
 use std::thread::Threads;
+use wire_frames::NumberedWire;
 use wire_practice::{Fate, Mishap, PracticeWire};
 
 /// What a run without trouble prints.

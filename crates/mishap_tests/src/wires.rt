@@ -5,15 +5,14 @@ use runner_cases::runs::is_found;
 use site_file::{FileDevice, OpenFiles, RandomAccessFile};
 use site_mem::{Parts, Pattern};
 use site_shadow::ShadowSite;
-use site_wire::{
-    LiveLine, LockedLine, NumberedWire, SharedSite, Sizes, StopReason, Wire, WireDevice, WireSite,
-    bring_up,
-};
+use site_wire::{LiveLine, LockedLine, SharedSite, StopReason, WireDevice, WireSite};
 use std::alloc::Global;
 use std::io;
 use std::sync::Wait;
 use std::sync::atomic::AtomicU8;
 use std::sync::atomic::Ordering::SeqCst;
+use wire_bringup::{Sizes, bring_up};
+use wire_frames::{NumberedWire, Wire};
 use wire_practice::{Fate, Mishap, PracticeClock, PracticeLine, PracticeWire};
 
 /// For how many datagrams a slave stays busy with a command.

@@ -63,7 +63,7 @@ manager_ended : (cells : List ℕ) → manager_at cells ≡ Ended → length cel
 manager_ended (s0 ∷ s1 ∷ l0 ∷ l1 ∷ control ∷ status ∷ enable ∷ kind ∷ behind) e = absurd cc
 manager_ended short e = omega arith
 
-manager_at_end : (cells : List ℕ) → length cells < 8 → manager_at cells ≡ Ended
+pub manager_at_end : (cells : List ℕ) → length cells < 8 → manager_at cells ≡ Ended
 manager_at_end (s0 ∷ s1 ∷ l0 ∷ l1 ∷ control ∷ status ∷ enable ∷ kind ∷ behind) h = absurd (omega arith)
 manager_at_end short h = refl
 
@@ -116,7 +116,7 @@ pdo_ended (i0 ∷ i1 ∷ count ∷ manager ∷ synchronization ∷ name ∷ f0 �
     absurd (never_ended (λ entries. record { index = number i0 i1; entries = entries; manager = manager; synchronization = synchronization; name = name; flags = number f0 f1 }) (counted entry_at count behind) e)
 pdo_ended short e = omega arith
 
-pdo_at_end : (cells : List ℕ) → length cells < 8 → pdo_at cells ≡ Ended
+pub pdo_at_end : (cells : List ℕ) → length cells < 8 → pdo_at cells ≡ Ended
 pdo_at_end (i0 ∷ i1 ∷ count ∷ manager ∷ synchronization ∷ name ∷ f0 ∷ f1 ∷ behind) h = absurd (omega arith)
 pdo_at_end short h = refl
 

@@ -105,7 +105,7 @@ counts_out one before count i cells total le so_far =
     let last : with_read before (counted one (count - i) cells) ≡ Ok (before, cells) = rw k (ap (λ all. Ok (all, cells)) (append-nil before)) in
     sym so_far ∙ last
 
-err_is : {A E : Type 0} (r : Result A E) → IsErr r → (e : E) × (r ≡ Err e)
+pub err_is : {A E : Type 0} (r : Result A E) → IsErr r → (e : E) × (r ≡ Err e)
 err_is (Ok x) h = absurd cc
 err_is (Err e) h = (e, refl)
 

@@ -1,6 +1,7 @@
 pub mod WordBytes
 pub mod Items
 pub mod Fields
+pub mod InPlace
 pub mod Refusals
 pub mod StringLaw
 pub mod ChainLaw

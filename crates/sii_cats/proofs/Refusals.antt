@@ -12,7 +12,7 @@ Refuses-weaker kind (BadCategory k) P Q f h = (h.0, f h.1)
 Refuses-weaker kind (RunsOut at) P Q f h = h
 Refuses-weaker kind NoRoom P Q f h = h
 
-not_both : {X E : Type 0} (read : Result X E) (x : X) → IsErr read → read ≡ Ok x → ⊥
+pub not_both : {X E : Type 0} (read : Result X E) (x : X) → IsErr read → read ≡ Ok x → ⊥
 not_both (Ok y) x h e = absurd cc
 not_both (Err d) x h e = cc
 

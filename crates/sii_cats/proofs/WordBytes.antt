@@ -1,5 +1,5 @@
 -- Words and their bytes.
-use Rattle.std.proofs.Common.{◌≡◌, ℕ, zero, suc, ◌+◌, ◌/◌, ◌%◌, ◌^◌, ◌<◌, List, [], ◌∷◌, ◌++◌, length, get_or, take, refl, sym, ap, ◌∙◌, append_assoc, arith}
+use Rattle.std.proofs.Common.{◌≡◌, ℕ, zero, suc, ◌+◌, ◌*◌, ◌/◌, ◌%◌, ◌^◌, ◌<◌, List, [], ◌∷◌, ◌++◌, length, get_or, take, refl, sym, ap, ◌∙◌, append_assoc, arith}
 use Rattle.std.specs.Int.{w16, to_le_bytes}
 use Rattle.std.proofs.lemmas.List.{take_more, flat_map_more}
 use Rattle.std.specs.List.{flat_map}
@@ -8,6 +8,10 @@ use Rattle.sii_cats.specs.Bytes.{number, bytes_of, padded}
 pub bytes_of-append : (xs ys : List ℕ) → bytes_of (xs ++ ys) ≡ bytes_of xs ++ bytes_of ys
 bytes_of-append [] ys = refl
 bytes_of-append (x ∷ xs) ys = ap (λ (bytes : List ℕ). x % 256 ∷ x / 256 ∷ bytes) (bytes_of-append xs ys)
+
+pub length-bytes_of : (words : List ℕ) → length (bytes_of words) ≡ 2 * length words
+length-bytes_of [] = refl
+length-bytes_of (word ∷ words) = omega (arith, length-bytes_of words)
 
 pub number-low : (low high : ℕ) → low < 256 → number low high % 256 ≡ low
 number-low low high h = omega arith

@@ -1,10 +1,11 @@
 -- TXPDO and RXPDO categories (types 50 and 51): a head of eight bytes for each PDO, and eight bytes for each of its entries.
-use Rattle.std.specs.Prelude.{◌≡◌, ℕ, ◌<◌, List, [], ◌∷◌, ◌++◌, length, map}
+use Rattle.std.specs.Prelude.{◌≡◌, ℕ, ◌/◌, ◌%◌, ◌<◌, List, [], ◌∷◌, ◌++◌, length, map}
 use Rattle.std.specs.List.{flat_map}
 use Rattle.sii_cats.specs.Bytes.{low_first}
 use Rattle.sii_cats.specs.Items.{AreItems}
 use Rattle.sii_cats.specs.declared.mappings.PdoEntry.{PdoEntry}
 use Rattle.sii_cats.specs.declared.mappings.Pdo.{Pdo}
+use Rattle.sii_cats.specs.declared.mappings.PdoHead.{PdoHead}
 
 -- a PDO as contracts compare it: its head, and the list of its entries
 pub record Mapping : Type 0 where
@@ -23,6 +24,23 @@ view p =
 -- the values of several PDOs
 abbrev pub views : List Pdo → List Mapping
 views ps = map view ps
+
+-- the entries that words spell, four words each; fewer than four words at the end are ignored
+abbrev pub entries_in : List ℕ → List PdoEntry
+entries_in (index ∷ named ∷ typed ∷ flags ∷ words) =
+    record { index = index; subindex = named % 256; name = named / 256; data_type = typed % 256; bit_length = typed / 256; flags = flags } ∷ entries_in words
+entries_in short = []
+
+-- the value in contracts of a PDO where it lies: its head, and the words of its entries
+abbrev pub in_place : PdoHead → List ℕ → Mapping
+in_place head words = record {
+  index = head.index;
+  entries = entries_in words;
+  manager = head.manager;
+  synchronization = head.synchronization;
+  name = head.name;
+  flags = head.flags;
+}
 
 -- the eight bytes of an entry: index, subindex, name index, data type, bit length, flags
 abbrev pub entry_bytes : PdoEntry → List ℕ

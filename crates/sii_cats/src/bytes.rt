@@ -1,6 +1,6 @@
 //! The bytes of a content: its words, low byte first.
 
-ghost use Rattle.std.specs.Prelude.{◌≡◌, ◌<◌, ◌++◌, ◌∷◌, [], length, IfOk, MatchOption};
+ghost use Rattle.std.specs.Prelude.{◌≡◌, ◌<◌, ◌/◌, ◌%◌, ◌++◌, ◌∷◌, [], length, IfOk, MatchOption};
 ghost use Rattle.sii_cats.specs.Bytes.{bytes_of, padded};
 
 use std::alloc::{AllocError, Global};
@@ -10,6 +10,13 @@ pub fn pair(low: u8, high: u8) -> u16
     ensures { bytes_of (result ∷ []) ≡ low ∷ high ∷ [] }
 {
     u16::from_le_bytes([low, high])
+}
+
+/// The low and the high byte of a word.
+pub fn halves(word: u16) -> (u8, u8)
+    ensures { result ≡ (word % 256, word / 256) }
+{
+    ((word % 256) as u8, (word / 256) as u8)
 }
 
 /// The word that begins the bytes, and the bytes behind it; `None` if there are no bytes. A single byte is a word with the high

@@ -3,13 +3,11 @@
 ghost use Rattle.std.specs.Prelude.{◌≡◌, IfOk, MatchOption, Ok};
 ghost use Rattle.std.specs.List.{flat_map};
 ghost use Rattle.sii_cats.specs.Bytes.{bytes_of};
-ghost use Rattle.sii_cats.specs.steps.Items.{items_of};
 ghost use Rattle.sii_cats.specs.steps.Items.Front.{Ended, Item};
 ghost use Rattle.sii_cats.specs.Contents.{AreManagers, manager_bytes};
 ghost use Rattle.sii_cats.specs.steps.Contents.{manager_at, managers_of};
 
-use crate::bytes::pair;
-use sii_words::bytes_of_words;
+use crate::bytes::{halves, pair};
 use std::alloc::{AllocError, Global};
 
 /// A sync manager as a SyncM category describes it (ETG.1000.6 and ETG.2010): eight bytes.
@@ -29,36 +27,27 @@ pub struct Manager {
     pub kind: u8,
 }
 
-fn manager_of(bytes: &[u8]) -> Option<(Manager, &[u8])>
-    ensures { MatchOption result (manager_at bytes.now ≡ Ended)
-        (λ x. manager_at bytes.now ≡ Item x.0 x.1.now) }
+/// The sync manager in front of the words, and the words behind it; `None` if fewer than four words are left.
+fn manager_of(words: &[u16]) -> Option<(Manager, &[u16])>
+    ensures { MatchOption result (manager_at (bytes_of words.now) ≡ Ended)
+        (λ x. manager_at (bytes_of words.now) ≡ Item x.0 (bytes_of x.1.now)) }
 {
-    match bytes {
-        [s0, s1, l0, l1, control, status, enable, kind, rest @ ..] => {
+    match words {
+        [start, length, state, mode, rest @ ..] => {
+            let (control, status) = halves(*state);
+            let (enable, kind) = halves(*mode);
             let manager = Manager {
-                start: u16::from_le_bytes([*s0, *s1]),
-                length: u16::from_le_bytes([*l0, *l1]),
-                control: *control,
-                status: *status,
-                enable: *enable,
-                kind: *kind,
+                start: *start,
+                length: *length,
+                control,
+                status,
+                enable,
+                kind,
             };
             Some((manager, rest))
         }
         _ => None,
     }
-}
-
-fn read_managers(alloc: Global, bytes: &[u8]) -> Result<Vec<Manager>, AllocError>
-    ensures { IfOk result (λ v. items_of manager_at bytes.now ≡ Ok v.items) }
-{
-    let mut managers = Vec::new(alloc);
-    let mut rest = bytes;
-    while let Some((manager, after)) = manager_of(rest) {
-        managers.push(manager)?;
-        rest = after;
-    }
-    Ok(managers)
 }
 
 /// Reads the content of a SyncM category: its sync managers, in order. Up to three words behind the last whole one are ignored,
@@ -71,7 +60,13 @@ pub fn syncms(alloc: Global, words: &[u16]) -> Result<Vec<Manager>, AllocError>
     ensures grammar { IfOk result (λ v. AreManagers (bytes_of words.now) v.items) }
     ensures exact { IfOk result (λ v. managers_of words.now ≡ Ok v.items) }
 {
-    read_managers(alloc, &bytes_of_words(alloc, words)?)
+    let mut managers = Vec::with_capacity(alloc, words.len() / 4)?;
+    let mut rest = words;
+    while let Some((manager, after)) = manager_of(rest) {
+        managers.push(manager)?;
+        rest = after;
+    }
+    Ok(managers)
 }
 
 /// The four words of a sync manager.

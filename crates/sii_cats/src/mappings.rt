@@ -1,17 +1,15 @@
 //! TXPDO and RXPDO categories (types 50 and 51; ETG.1000.6 and ETG.2010).
 
-ghost use Rattle.std.specs.Prelude.{◌≡◌, ◌<◌, ◌++◌, ◌↔◌, length, IsTrue, All, IfOk, OnOk};
+ghost use Rattle.std.specs.Prelude.{◌≡◌, ◌<◌, ◌≤◌, ◌+◌, ◌*◌, ◌++◌, ◌∷◌, [], ◌↔◌, length, sum_by, IsTrue, All, IfOk, IfSome, MatchOption, OnOk};
 ghost use Rattle.std.specs.List.{flat_map};
 ghost use Rattle.sii_cats.specs.Bytes.{bytes_of};
-ghost use Rattle.sii_cats.specs.steps.Items.{counted, items_of};
-ghost use Rattle.sii_cats.specs.Pdos.{ArePdos, entry_bytes, head_bytes, pdo_bytes, view, views, IsWritable};
-ghost use Rattle.sii_cats.specs.steps.Pdos.{entry_at, pdo_at, pdos_of};
+ghost use Rattle.sii_cats.specs.Pdos.{ArePdos, entries_in, entry_bytes, head_bytes, in_place, pdo_bytes, view, views, IsWritable};
+ghost use Rattle.sii_cats.specs.steps.Pdos.{pdo_at, pdos_of};
 ghost use Rattle.sii_cats.specs.Reading.{Answers, Writes};
 ghost use Rattle.sii_cats.specs.steps.Reading.{Gives, Takes};
 
-use crate::bytes::pair;
+use crate::bytes::{halves, pair};
 use crate::fault::CatFault;
-use sii_words::bytes_of_words;
 use std::alloc::{AllocError, Global};
 
 /// An entry of a PDO (ETG.1000.6 and ETG.2010, categories TXPDO and RXPDO): eight bytes.
@@ -48,93 +46,118 @@ pub struct Pdo {
     pub flags: u16,
 }
 
-fn entry_of(kind: u16, bytes: &[u8]) -> Result<(PdoEntry, &[u8]), CatFault>
-    ensures { Gives (λ x. (x.0, x.1.now)) kind result (entry_at bytes.now) }
+/// The head of a PDO (ETG.1000.6 and ETG.2010, categories TXPDO and RXPDO): what it says besides its entries.
+#[derive(Clone, Copy, Debug, PartialEq, Eq)]
+pub struct PdoHead {
+    /// Index of the PDO.
+    pub index: u16,
+    /// The number of the sync manager that it is assigned to; 0xFF is none.
+    pub manager: u8,
+    /// Synchronization.
+    pub synchronization: u8,
+    /// The number of its name among the strings, from 1; 0 is no name.
+    pub name: u8,
+    /// Flags.
+    pub flags: u16,
+}
+
+/// The entry in front of the words, and the words behind it; `None` if fewer than four words are left.
+fn entry_of(words: &[u16]) -> Option<(PdoEntry, &[u16])>
+    ensures { MatchOption result (entries_in words.now ≡ [])
+        (λ x. (entries_in words.now ≡ x.0 ∷ entries_in x.1.now) × (length x.1.now + 4 ≡ length words.now)) }
 {
-    match bytes {
-        [
-            i0,
-            i1,
-            subindex,
-            name,
-            data_type,
-            bit_length,
-            f0,
-            f1,
-            rest @ ..,
-        ] => {
+    match words {
+        [index, named, typed, flags, rest @ ..] => {
+            let (subindex, name) = halves(*named);
+            let (data_type, bit_length) = halves(*typed);
             let entry = PdoEntry {
-                index: u16::from_le_bytes([*i0, *i1]),
-                subindex: *subindex,
-                name: *name,
-                data_type: *data_type,
-                bit_length: *bit_length,
-                flags: u16::from_le_bytes([*f0, *f1]),
+                index: *index,
+                subindex,
+                name,
+                data_type,
+                bit_length,
+                flags: *flags,
             };
-            Ok((entry, rest))
+            Some((entry, rest))
         }
-        _ => Err(CatFault::BadCategory { kind }),
+        _ => None,
     }
 }
 
-fn entries_of(
-    alloc: Global,
-    kind: u16,
-    count: u8,
-    bytes: &[u8],
-) -> Result<(Vec<PdoEntry>, &[u8]), CatFault>
-    ensures { Gives (λ x. (x.0.items, x.1.now)) kind result (counted entry_at count bytes.now) }
+fn entries_of(alloc: Global, words: &[u16]) -> Result<Vec<PdoEntry>, AllocError>
+    ensures { IfOk result (λ v. v.items ≡ entries_in words.now) }
 {
-    let mut entries = Vec::new(alloc);
-    let mut rest = bytes;
-    for _ in 0..count {
-        let (entry, after) = entry_of(kind, rest)?;
+    let mut entries = Vec::with_capacity(alloc, words.len() / 4)?;
+    let mut rest = words;
+    while let Some((entry, after)) = entry_of(rest) {
         entries.push(entry)?;
         rest = after;
     }
-    Ok((entries, rest))
+    Ok(entries)
 }
 
-fn pdo_of(alloc: Global, kind: u16, bytes: &[u8]) -> Result<Option<(Pdo, &[u8])>, CatFault>
-    ensures { Takes (λ x. (view x.0, x.1.now)) kind result (pdo_at bytes.now) }
+/// The length in bits of the entries that these words spell, four words each. There must be at most 4,096 words.
+pub fn bits_of_entries(words: &[u16]) -> u32
+    requires { length words.now ≤ 4096 }
+    ensures bits { result ≡ sum_by (λ entry. entry.bit_length) (entries_in words.now) }
+    ensures most { result ≤ 64 * length words.now }
 {
-    match bytes {
-        [
-            i0,
-            i1,
-            count,
-            manager,
-            synchronization,
-            name,
-            f0,
-            f1,
-            rest @ ..,
-        ] => {
-            let (entries, rest) = entries_of(alloc, kind, *count, rest)?;
-            let pdo = Pdo {
-                index: u16::from_le_bytes([*i0, *i1]),
-                entries,
-                manager: *manager,
-                synchronization: *synchronization,
-                name: *name,
-                flags: u16::from_le_bytes([*f0, *f1]),
+    let mut bits = 0;
+    let mut rest = words;
+    while let Some((entry, after)) = entry_of(rest) {
+        bits += u32::from(entry.bit_length);
+        rest = after;
+    }
+    bits
+}
+
+/// The PDO in front of a content of type `kind`, TXPDO or RXPDO, where it lies: its head, the words of its entries, and the
+/// words behind it. `None` if fewer than four words are left.
+///
+/// # Errors
+///
+/// `BadCategory` if four words or more are left and the PDO that they begin isn't whole.
+pub fn front_pdo(kind: u16, words: &[u16]) -> Result<Option<(PdoHead, &[u16], &[u16])>, CatFault>
+    ensures exact { Takes (λ x. (in_place x.0 x.1.now, bytes_of x.2.now)) kind result (pdo_at (bytes_of words.now)) }
+    ensures size { IfOk result (λ front. IfSome front (λ x. 4 + length x.1.now + length x.2.now ≡ length words.now)) }
+{
+    match words {
+        [index, counted, timed, flags, rest @ ..] => {
+            let (count, manager) = halves(*counted);
+            let (synchronization, name) = halves(*timed);
+            let size = 4 * usize::from(count);
+            if size > rest.len() {
+                return Err(CatFault::BadCategory { kind });
+            }
+            let (entries, behind) = rest.split_at(size);
+            let head = PdoHead {
+                index: *index,
+                manager,
+                synchronization,
+                name,
+                flags: *flags,
             };
-            Ok(Some((pdo, rest)))
+            Ok(Some((head, entries, behind)))
         }
         _ => Ok(None),
     }
 }
 
-fn read_pdos(alloc: Global, kind: u16, bytes: &[u8]) -> Result<Vec<Pdo>, CatFault>
-    ensures { Gives (λ v. views v.items) kind result (items_of pdo_at bytes.now) }
+fn pdo_of(alloc: Global, kind: u16, words: &[u16]) -> Result<Option<(Pdo, &[u16])>, CatFault>
+    ensures { Takes (λ x. (view x.0, bytes_of x.1.now)) kind result (pdo_at (bytes_of words.now)) }
 {
-    let mut pdos = Vec::new(alloc);
-    let mut rest = bytes;
-    while let Some((pdo, after)) = pdo_of(alloc, kind, rest)? {
-        pdos.push(pdo)?;
-        rest = after;
-    }
-    Ok(pdos)
+    let Some((head, entries, rest)) = front_pdo(kind, words)? else {
+        return Ok(None);
+    };
+    let pdo = Pdo {
+        index: head.index,
+        entries: entries_of(alloc, entries)?,
+        manager: head.manager,
+        synchronization: head.synchronization,
+        name: head.name,
+        flags: head.flags,
+    };
+    Ok(Some((pdo, rest)))
 }
 
 /// Reads the content of a category of type `kind`, TXPDO or RXPDO: its PDOs, in order. Fewer than four words behind the last
@@ -148,7 +171,13 @@ pub fn pdos(alloc: Global, kind: u16, words: &[u16]) -> Result<Vec<Pdo>, CatFaul
     ensures grammar { Answers (λ v. views v.items) (ArePdos (bytes_of words.now)) kind result }
     ensures exact { Gives (λ v. views v.items) kind result (pdos_of words.now) }
 {
-    read_pdos(alloc, kind, &bytes_of_words(alloc, words)?)
+    let mut pdos = Vec::new(alloc);
+    let mut rest = words;
+    while let Some((pdo, after)) = pdo_of(alloc, kind, rest)? {
+        pdos.push(pdo)?;
+        rest = after;
+    }
+    Ok(pdos)
 }
 
 /// The four words of an entry.

@@ -1,17 +1,13 @@
 -- Items that stand one behind the other have no more cells than the list that they stand in.
-use Rattle.std.proofs.Common.{◌≡◌, ℕ, ◌+◌, ◌*◌, ◌<◌, ◌≤◌, List, [], ◌∷◌, ◌++◌, Result, Ok, Err, length, drop, map, sum_by, refl, ap, arith, length-append, length-drop}
+use Rattle.std.proofs.Common.{ℕ, ◌+◌, ◌≤◌, List, [], ◌∷◌, Result, Ok, Err, length, drop, map, sum_by, ap, arith, length-append, length-drop}
 use Rattle.std.specs.Prelude.{IfOk}
 use Rattle.std.specs.Global.{Vec}
-use Rattle.std.specs.List.{flat_map}
 use Rattle.std.proofs.lemmas.List.Sums.{sum_by-cons}
-use Rattle.sii_cats.specs.Bytes.{bytes_of}
 use Rattle.sii_cats.specs.Chain.{AnswersChain, Begins, IsChain, IsEnd, Member, content_of, member_of, member_words}
 use Rattle.sii_cats.specs.Items.{AreItems}
-use Rattle.sii_cats.specs.Pdos.{ArePdos, Mapping, entry_bytes, head_bytes, pdo_bytes}
-use Rattle.sii_cats.specs.declared.mappings.PdoEntry.{PdoEntry}
 use Rattle.sii_cats.specs.declared.categories.Category.{Category}
 use Rattle.sii_cats.specs.declared.fault.ChainFault.{ChainFault}
-use Rattle.sii_image.specs.steps.Contents.{content_sizes, entry_count}
+use Rattle.sii_image.specs.steps.Contents.{content_sizes}
 
 abbrev Shortens : {X : Type 0} → (List ℕ → X → List ℕ → Type 0) → (X → ℕ) → Type 0
 Shortens {X} Begins size = (cells : List ℕ) (x : X) (rest : List ℕ) → Begins cells x rest → size x + length rest ≤ length cells
@@ -21,34 +17,8 @@ items_fit : {X : Type 0} (Begins : List ℕ → X → List ℕ → Type 0) (Ends
 items_fit Begins Ends size fits cells [] h = omega arith
 items_fit Begins Ends size fits cells (x ∷ xs) h = omega (arith, sum_by-cons size x xs, fits cells x h.0 h.1, items_fit Begins Ends size fits h.0 xs h.2)
 
-entries_fit : (entries : List PdoEntry) → length (flat_map entry_bytes entries) ≡ 8 * length entries
-entries_fit [] = omega arith
-entries_fit (entry ∷ entries) = omega (arith, length-append (entry_bytes entry) (flat_map entry_bytes entries), entries_fit entries)
-
-bytes_fit : (words : List ℕ) → length (bytes_of words) ≡ 2 * length words
-bytes_fit [] = omega arith
-bytes_fit (word ∷ words) = omega (arith, bytes_fit words)
-
-eight_times : {X : Type 0} (f : X → ℕ) (xs : List X) → sum_by (λ x. 8 * f x) xs ≡ 8 * sum_by f xs
-eight_times f [] = refl
-eight_times f (x ∷ xs) = omega (arith, sum_by-cons f x xs, sum_by-cons (λ y. 8 * f y) x xs, eight_times f xs)
-
-pdo_fits : Shortens (λ cells (pdo : Mapping) rest. cells ≡ pdo_bytes pdo ++ rest) (λ pdo. 8 * length pdo.entries)
-pdo_fits cells pdo rest h =
-    omega (arith, ap length h, length-append (pdo_bytes pdo) rest, length-append (head_bytes pdo) (flat_map entry_bytes pdo.entries), entries_fit pdo.entries)
-
 member_fits : Shortens Begins (λ (m : Member). length m.content)
 member_fits cells m rest h = omega (arith, ap length h.1, length-append (member_words m) rest)
-
--- an entry takes eight bytes of a content
-pub pdos_fit : (words : List ℕ) (pdos : List Mapping) → ArePdos (bytes_of words) pdos → 4 * entry_count pdos ≤ length words
-pdos_fit words pdos h =
-    omega (
-      arith,
-      bytes_fit words,
-      eight_times (λ (pdo : Mapping). length pdo.entries) pdos,
-      items_fit (λ cells pdo rest. cells ≡ pdo_bytes pdo ++ rest) (λ rest. length rest < 8) (λ (pdo : Mapping). 8 * length pdo.entries) pdo_fits (bytes_of words) pdos h,
-    )
 
 -- a category takes the words of its content
 members_fit : (words : List ℕ) (members : List Member) → IsChain words members → sum_by (λ m. length m.content) members ≤ length words

@@ -1,4 +1,4 @@
-pub mod Bits
+pub mod Sums
 pub mod Contents
 pub mod Fits
 pub mod RowsMade

@@ -4,8 +4,8 @@ use Rattle.std.specs.Prelude.{filter, map, nat_lt}
 use Rattle.std.specs.List.{enumerate_from}
 use Rattle.sii_cats.specs.declared.managers.Manager.{Manager}
 use Rattle.sii_image.specs.declared.rows.Row.{Row}
-use Rattle.sii_image.specs.ProcessData.{Description, row}
+use Rattle.sii_image.specs.steps.Sums.{Summed, row_summed}
 
 -- the rows of these managers, the first with this number
-abbrev pub rows_from : Description → ℕ → List Manager → List Row
-rows_from d number managers = filter (λ r. nat_lt 0 r.bits) (map (row d) (enumerate_from number managers))
+abbrev pub rows_from : Summed → ℕ → List Manager → List Row
+rows_from s number managers = filter (λ r. nat_lt 0 r.bits) (map (row_summed s) (enumerate_from number managers))

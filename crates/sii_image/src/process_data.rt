@@ -1,16 +1,19 @@
 //! What the categories of a slave say of its process data.
 
-ghost use Rattle.std.specs.Prelude.{◌≡◌, ◌≤◌, ◌*◌, length, map, All, IfOk, Ok};
+ghost use Rattle.std.specs.Prelude.{◌≡◌, ◌≤◌, ◌<◌, ◌*◌, ◌+◌, ℕ, length, map, All, IfOk, OnOk, Ok};
 ghost use Rattle.sii_cats.specs.Chain.{end_of, member_of};
 ghost use Rattle.sii_cats.specs.steps.Chain.{GivesChain};
-ghost use Rattle.sii_cats.specs.Pdos.{view, views};
+ghost use Rattle.sii_cats.specs.steps.Pdos.{pdos_of};
 ghost use Rattle.sii_cats.specs.steps.Reading.{Gives};
-ghost use Rattle.sii_image.specs.ProcessData.{bits_for, described, manager_bits, managers_in, pdo_bits, pdos_in, rows_described, rows_of};
-ghost use Rattle.sii_image.specs.steps.Contents.{content_sizes, contents_among, entry_count};
+ghost use Rattle.sii_image.specs.ProcessData.{described, managers_in, pdos_in, rows_of};
+ghost use Rattle.sii_image.specs.steps.Contents.{content_sizes, contents_among};
+ghost use Rattle.sii_image.specs.steps.Sums.{AddsPdos, AreWithin, sums_read};
 
 use crate::rows::Row;
 use sii_cats::kind::{RXPDOS, SYNC_MANAGERS, TXPDOS};
-use sii_cats::{CatFault, Category, ChainFault, Manager, Pdo, chain, pdos, syncms};
+use sii_cats::{
+    CatFault, Category, ChainFault, Manager, bits_of_entries, chain, front_pdo, syncms,
+};
 use std::alloc::{AllocError, Global};
 
 /// The type of a sync manager with outputs, sent by the master.
@@ -22,15 +25,14 @@ const PROCESS_DATA_IN: u8 = 4;
 /// The most sync managers of a slave.
 const MOST_MANAGERS: usize = 16;
 
-/// The sync managers of a slave, and its PDOs: RXPDOs (outputs of the master) and TXPDOs (inputs).
+/// The sync managers of a slave, and for each of their numbers, 0 to 15, the bits of the RXPDOs (outputs of the master) and the
+/// TXPDOs (inputs) that are assigned to it.
 #[derive(Drop)]
 struct ProcessData {
     managers: Vec<Manager>,
-    outputs: Vec<Pdo>,
-    inputs: Vec<Pdo>,
+    outputs: [u32; MOST_MANAGERS],
+    inputs: [u32; MOST_MANAGERS],
     ghost few_managers: { length managers.items ≤ 16 },
-    ghost few_outputs: { 4 * entry_count (views outputs.items) ≤ 4096 },
-    ghost few_inputs: { 4 * entry_count (views inputs.items) ≤ 4096 },
 }
 
 /// The categories of a slave. Together their contents have at most as many words as the slave.
@@ -61,70 +63,60 @@ fn first_managers(
     Ok(Vec::new(alloc))
 }
 
-/// The PDOs of all categories of a type, in order.
-fn all_pdos(
-    alloc: Global,
+/// Adds the length in bits of each PDO of a content of type `kind` to the sum of its sync manager, if there is one.
+fn add_pdos(sums: &mut [u32], kind: u16, content: &[u16]) -> Result<(), CatFault>
+    requires few { length content.now ≤ 4096 }
+    requires room { AreWithin sums.old 262144 }
+    ensures exact { AddsPdos kind sums.old sums.new (pdos_of content.now) result }
+    ensures most { OnOk result ((most : ℕ) → AreWithin sums.old most → AreWithin sums.new (most + 64 * length content.now)) }
+{
+    let mut rest = content;
+    while let Some((head, entries, behind)) = front_pdo(kind, rest)? {
+        let number = usize::from(head.manager);
+        if number < sums.len() {
+            sums[number] += bits_of_entries(entries);
+        }
+        rest = behind;
+    }
+    Ok(())
+}
+
+/// The length in bits of the PDOs of all categories of a type, for each sync manager.
+fn all_bits(
     kind: u16,
     words: &[u16],
     categories: &[Category],
-) -> Result<Vec<Pdo>, CatFault>
+) -> Result<[u32; MOST_MANAGERS], CatFault>
     requires inside { All (λ c. end_of c ≤ length words.now) categories.now }
     requires few { content_sizes words.now categories.now ≤ 4096 }
-    ensures exact { Gives (λ v. views v.items) kind result
-        (pdos_in (contents_among words.now kind categories.now)) }
-    ensures few { IfOk result (λ v. 4 * entry_count (views v.items) ≤ 4096) }
+    ensures { Gives (λ sums. sums) kind result
+        (sums_read (pdos_in (contents_among words.now kind categories.now))) }
 {
-    let mut all = Vec::new(alloc);
+    let mut sums = [0; MOST_MANAGERS];
     for category in categories {
         if category.kind == kind {
-            all.append(&mut pdos(alloc, kind, category.content(words))?)?;
+            add_pdos(&mut sums, kind, category.content(words))?;
         }
     }
-    Ok(all)
-}
-
-/// The length of a PDO in bits.
-fn bits_of_pdo(pdo: &Pdo) -> u32
-    requires { length pdo.now.entries.items ≤ 1024 }
-    ensures bits { result ≡ pdo_bits (view pdo.now) }
-    ensures most { result ≤ 255 * length pdo.now.entries.items }
-{
-    let mut bits = 0;
-    for entry in &pdo.entries {
-        bits += u32::from(entry.bit_length);
-    }
-    bits
-}
-
-/// The length in bits of all PDOs that are assigned to a sync manager.
-fn bits_of_pdos(pdos: &[Pdo], number: u8) -> u32
-    requires { 4 * entry_count (views pdos.now) ≤ 4096 }
-    ensures { result ≡ bits_for (views pdos.now) number }
-{
-    let mut bits = 0;
-    for pdo in pdos {
-        if pdo.manager == number {
-            bits += bits_of_pdo(pdo);
-        }
-    }
-    bits
+    Ok(sums)
 }
 
 impl ProcessData {
-    ghost use Rattle.sii_image.specs.steps.Described.{as_described};
+    ghost use Rattle.sii_image.specs.steps.Described.{as_summed};
+    ghost use Rattle.sii_image.specs.steps.Sums.{manager_sum, rows_summed, summed_read};
     ghost use Rattle.sii_image.specs.steps.Reading.{Reads};
 
     /// Reads the categories of a slave.
     fn read(alloc: Global, words: &[u16]) -> Result<Self, CatFault>
         requires least { 64 ≤ length words.now }
         requires most { length words.now ≤ 4096 }
-        ensures { Reads as_described result (described words.now) }
+        ensures { Reads as_summed result (summed_read (described words.now)) }
     {
         let categories = categories_of(alloc, words)?;
         let mut managers = first_managers(alloc, words, &categories)?;
         managers.truncate(MOST_MANAGERS);
-        let outputs = all_pdos(alloc, RXPDOS, words, &categories)?;
-        let inputs = all_pdos(alloc, TXPDOS, words, &categories)?;
+        let outputs = all_bits(RXPDOS, words, &categories)?;
+        let inputs = all_bits(TXPDOS, words, &categories)?;
         Ok(ProcessData {
             managers,
             outputs,
@@ -134,18 +126,19 @@ impl ProcessData {
 
     /// The length in bits of the data of the sync manager with this number.
     fn bits(&self, number: u8, manager: Manager) -> u32
-        ensures { result ≡ manager_bits (as_described self.now) number manager }
+        requires { number < 16 }
+        ensures { result ≡ manager_sum (as_summed self.now) number manager }
     {
         match manager.kind {
-            PROCESS_DATA_OUT => bits_of_pdos(&self.outputs, number),
-            PROCESS_DATA_IN => bits_of_pdos(&self.inputs, number),
+            PROCESS_DATA_OUT => self.outputs[usize::from(number)],
+            PROCESS_DATA_IN => self.inputs[usize::from(number)],
             _ => 0,
         }
     }
 
     /// The sync managers that have data, as rows.
     fn rows(&self, alloc: Global) -> Result<Vec<Row>, AllocError>
-        ensures { IfOk result (λ v. v.items ≡ rows_described (as_described self.now)) }
+        ensures { IfOk result (λ v. v.items ≡ rows_summed (as_summed self.now)) }
     {
         let mut rows = Vec::new(alloc);
         for (number, manager) in self.managers.iter().enumerate() {

@@ -2,7 +2,6 @@
 //! library, and exits with the status that the library returns.
 #![tactic(auto)]
 
-use site_wire::EthernetWire;
 use std::alloc::Global;
 use std::fs::{File, Files, OpenOptions};
 use std::io::{IsTerminal, Read, Write};
@@ -12,6 +11,7 @@ use std::sync::Wait;
 use std::thread::Threads;
 use std::time::SystemTime;
 use std::{env, io};
+use wire_frames::EthernetWire;
 use wire_serve::{
     Arguments, FileStore, Screen, read_arguments, refuse_text, refuse_words, serve, show_usage,
 };

@@ -4,16 +4,13 @@ use Rattle.std.specs.Prelude.{IsTrue}
 use Rattle.std.specs.Int.{w16, w32, to_le_bytes}
 use Rattle.ecat_frame.specs.Frame.{Pdu, sent}
 use Rattle.ecat_frame.specs.declared.command.Command.TheVariants.{Fprd, Fpwr}
-use Rattle.esc_model.specs.Bytes.{register_of}
 use Rattle.esc_model.specs.Orders.{address_of}
 use Rattle.esc_model.specs.SlaveHalf.{SlaveHalf, Activity, Idle, Reading, Writing, is_busy, in_flight}
 use Rattle.esc_model.specs.declared.rest.WordWrite.{WordWrite}
 use Rattle.esc_model.proofs.WordTaking.{number_back}
-use Rattle.wire_laws.specs.Due.{WritesControl, is_command, NamesInside, none, reads, writes, IsFit, IsOwn, clears, IsDue}
+use Rattle.wire_laws.specs.Due.{WritesControl, none, reads, writes, IsFit, clears, IsDue}
 use Rattle.wire_laws.specs.Due as due
-
-pub register_is : (slave register : ℕ) → slave < 64 → register_of (address_of slave register) ≡ register
-register_is slave register near = omega (arith, near)
+use Rattle.wire_frames.proofs.Sending.{register_is}
 
 -- a read of registers
 pub read_due : (half : SlaveHalf) (frame : List Pdu) (address : ℕ) (content : List ℕ) → frame ≡ sent Fprd 0 address content ∷ [] → IsDue half frame

@@ -1,7 +1,4 @@
-mod Apart
+mod Boards
 mod Due
 mod Only
 mod Sending
-mod Came
-mod Handing
-mod Boards

@@ -1,9 +1,4 @@
-pub mod Access
 pub mod Answering
-pub mod Came
-pub mod Handing
 pub mod Joining
-pub mod Numbers
+pub mod Known
 pub mod Orders
-pub mod Reading
-pub mod Sending

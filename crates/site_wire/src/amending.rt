@@ -8,13 +8,12 @@ ghost use Rattle.esc_model.specs.Orders.{address_of};
 ghost use Rattle.esc_model.specs.SlaveHalf.{in_flight};
 
 use crate::answers::{Answer, Shown, state_shown};
-use crate::asking::UNCOUNTED;
-use crate::pace::{ATTEMPTS, Pace};
 use crate::reach::Reach;
 use ecat_frame::{Command, Frame, fp};
 use esc_model::{RomHalf, WordWrite, station_address};
 use esc_rom::{CONTENT, CONTROL, POLLS, write_content};
 use std::rt::Clock;
+use wire_frames::{ATTEMPTS, Pace, UNCOUNTED};
 
 /// The outcome of one try to read two words.
 #[derive(Clone, Copy)]

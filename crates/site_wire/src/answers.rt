@@ -1,17 +1,15 @@
 //! What an answer shows of a slave, and whether it is the one that the shadow gives.
-ghost use Rattle.std.specs.Prelude.{◌≡◌, ◌<◌, ◌/◌, ◌↔◌, length, IsTrue, IfSome, None, Some};
+ghost use Rattle.std.specs.Prelude.{◌≡◌, ◌≢◌, ◌<◌, ◌/◌, ◌↔◌, length, IsTrue, IfSome, None, Some};
 ghost use Rattle.ecat_frame.specs.Frame.{pdu};
 ghost use Rattle.wire_laws.specs.Answers.{compared, ReadAlike, shown_status};
 ghost use Rattle.site_wire.specs.Answering.{found_of, shown_by, IsAnswer, difference_at, FirstDiffers, IsAlike, IsUnconfirmed};
 ghost use Rattle.site_wire.specs.declared.answers.Comparison.TheVariants.{Alike, Unconfirmed};
 
-use crate::asking::Last;
 use crate::faults::Difference;
-use crate::fitting::{FPRD, FPWR, register_of, waits_for_rest};
-use crate::numbered::{Carried, Returned};
-use crate::stations::address_back;
+use crate::fitting::waits_for_rest;
 use ecat_frame::{Command, Datagram};
 use esc_model::RomHalf;
+use wire_frames::{Carried, FPRD, FPWR, Last, Returned, register_of};
 
 /// The byte that says who has access to the EEPROM (ETG.1000.4, slave information interface).
 const ACCESS: usize = 0x0500;
@@ -108,6 +106,20 @@ impl Answer {
         ensures { result.now ≡ (found_of self.now).content }
     {
         &self.front[..self.length.min(LONGEST)]
+    }
+}
+
+/// The address of an answer, where a datagram that was to go to `asked` went to `sent`: `asked` for `sent`, and another for any other one.
+fn address_back(asked: u32, sent: u32, found: u32) -> u32
+    ensures own { found ≡ sent → result ≡ asked }
+    ensures other { found ≢ sent → result ≢ asked }
+{
+    if found == sent {
+        asked
+    } else if found == asked {
+        sent
+    } else {
+        found
     }
 }
 

@@ -7,17 +7,14 @@ ghost use Rattle.site_shadow.specs.declared.device.Resting.TheVariants as restin
 ghost use Rattle.site_wire.specs.declared.answers.Shown.TheVariants as shown_as;
 ghost use Rattle.wire_laws.specs.Answers.{shown_status};
 ghost use Rattle.site_wire.specs.Answering.{found_of, shown_by, next_by, AgreesWith};
-ghost use Rattle.site_wire.specs.Sending.{IsForEeprom, IsKnown};
+ghost use Rattle.wire_frames.specs.Sending.{IsForEeprom};
+ghost use Rattle.site_wire.specs.Known.{IsKnown};
 
 use crate::amending::{issue_again, read_back};
 use crate::answers::{Answer, Comparison, Shown, compared_with, state_shown};
-use crate::asking::Last;
-use crate::faults::{Difference, Sighting, StopReason};
+use crate::faults::{Difference, StopReason};
 use crate::fitting::{is_fit, is_for_eeprom, is_known, only_datagram, waits_for_rest};
-use crate::numbered::NumberedWire;
-use crate::pace::{ATTEMPTS, Pace};
 use crate::reach::{LiveLine, Reach, SharedLine};
-use crate::wire::Wire;
 use ecat_frame::{Datagram, Frame};
 use esc_model::{RomHalf, WordWrite};
 use site_file::{FileDevice, RandomAccessFile};
@@ -25,6 +22,7 @@ use site_shadow::{Device, Passing, Pattern, Resting, ShadowSite};
 use std::alloc::AllocError;
 use std::rt::Clock;
 use std::sync::Wait;
+use wire_frames::{ATTEMPTS, Last, NumberedWire, Pace, Sighting, Wire};
 
 /// What the shadow holds of unsynced bytes and of a word in flight once the site has stopped. It could be anything: nobody reads it.
 const LEFT: Pattern = Pattern::New;

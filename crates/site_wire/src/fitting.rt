@@ -1,26 +1,14 @@
 //! Which datagrams go to a slave.
-ghost use Rattle.std.specs.Prelude.{◌≡◌, ◌<◌, ◌≤◌, ◌/◌, ◌%◌, ◌↔◌, ◌∷◌, [], length, slice_index, IsTrue, IfSome};
+ghost use Rattle.std.specs.Prelude.{◌≡◌, ◌≤◌, ◌%◌, ◌↔◌, ◌∷◌, [], length, slice_index, IsTrue, IfSome};
 ghost use Rattle.ecat_frame.specs.Frame.{pdu};
 ghost use Rattle.wire_laws.specs.Due.{WritesControl, IsFit, NamesInside, is_command};
-ghost use Rattle.site_wire.specs.Sending.{IsForEeprom, IsKnown};
+ghost use Rattle.wire_frames.specs.Sending.{IsForEeprom};
+ghost use Rattle.site_wire.specs.Known.{IsKnown};
 
 use ecat_frame::{Datagram, Frame};
 use esc_model::RomHalf;
 use esc_rom::{ACCESS, CONTENT, CONTROL};
-
-/// The code of FPRD (ETG.1000.4).
-pub(crate) const FPRD: u8 = 4;
-
-/// The code of FPWR (ETG.1000.4).
-pub(crate) const FPWR: u8 = 5;
-
-/// The register of an FP command.
-pub(crate) fn register_of(address: u32) -> usize
-    ensures register { result ≡ address / 65536 }
-    ensures small { result < 65536 }
-{
-    (address / 65536) as usize
-}
+use wire_frames::{FPRD, FPWR, register_of};
 
 /// Whether a busy slave takes nothing of the datagram: it writes to control and status or behind them.
 pub(crate) fn waits_for_rest(datagram: Datagram<'_>) -> bool

@@ -4,13 +4,12 @@ ghost use Rattle.std.specs.List.{All};
 ghost use Rattle.ecat_frame.specs.Frame.{pdu};
 ghost use Rattle.site_wire.specs.declared.joining.Stage.TheVariants.{Free};
 ghost use Rattle.site_wire.specs.Joining.{ComesToRest, Keeps, Takes, Waited, WaitsNoMore, answer_in, is_at_end, stage_of};
-ghost use Rattle.site_wire.specs.Sending.{IsForEeprom, OnlyEeprom};
+ghost use Rattle.wire_frames.specs.Sending.{IsForEeprom, OnlyEeprom};
 
 use crate::answers::Answer;
-use crate::numbered::Carried;
 use crate::order::Order;
-use crate::stations::Stations;
 use ecat_frame::{Datagram, Frame};
+use wire_frames::{Carried, Stations};
 
 /// How many slaves a line has at most.
 const SLAVES: usize = 64;

@@ -1,6 +1,6 @@
 //! A datagram that is kept until a frame takes it.
 ghost use Rattle.std.specs.Prelude.{◌/◌, ◌^◌};
-ghost use Rattle.site_wire.specs.Sending.{InEeprom};
+ghost use Rattle.wire_frames.specs.Sending.{InEeprom};
 
 /// The registers of an EEPROM: a datagram for them has so many bytes at most.
 pub(crate) const LONGEST: usize = 16;

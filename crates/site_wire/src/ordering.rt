@@ -3,12 +3,12 @@ ghost use Rattle.std.specs.Prelude.{◌≡◌, ◌/◌, ◌^◌, ◌⊎◌, ◌�
 ghost use Rattle.ecat_frame.specs.Command.{code_of};
 ghost use Rattle.ecat_frame.specs.Frame.{pdu};
 ghost use Rattle.ecat_frame.specs.declared.command.Command.TheVariants.{Fprd, Fpwr};
+ghost use Rattle.wire_frames.specs.Sending.{IsForEeprom, OnlyEeprom};
 ghost use Rattle.site_wire.specs.Orders.{IsOrderOf, command_of, datagram_of, readdressed};
-ghost use Rattle.site_wire.specs.Sending.{IsForEeprom, OnlyEeprom};
 
-use crate::fitting::FPWR;
 use crate::order::{LONGEST, Order};
 use ecat_frame::{Command, Datagram, Frame};
+use wire_frames::FPWR;
 
 impl Order {
     /// This datagram.

@@ -3,19 +3,17 @@ ghost use Rattle.std.specs.List.{All};
 ghost use Rattle.wire_laws.specs.Due.{IsDue};
 ghost use Rattle.std.specs.Prelude.{◌<◌};
 ghost use Rattle.ecat_frame.specs.Frame.{pdu};
-ghost use Rattle.site_wire.specs.Sending.{IsForEeprom, OnlyEeprom};
+ghost use Rattle.wire_frames.specs.Sending.{IsForEeprom, OnlyEeprom};
 
 use crate::answers::Answer;
-use crate::asking::{Last, sight};
-use crate::faults::{Sighting, StopReason};
+use crate::faults::StopReason;
 use crate::fitting::only_datagram;
 use crate::joining::Board;
-use crate::numbered::{Carried, NumberedWire};
-use crate::wire::Wire;
 use ecat_frame::{Datagram, Frame};
 use esc_model::{FIRST_STATION, RomHalf};
 use std::alloc::AllocError;
 use std::sync::{Condvar, Mutex, Wait};
+use wire_frames::{Carried, Last, NumberedWire, Sighting, Wire, sight};
 
 /// A wire on which a line was brought up, as the devices reach it that work on its slaves.
 pub trait Reach {

@@ -4,10 +4,10 @@ ghost use Rattle.std.specs.Prelude.{◌≡◌, ◌≤◌, length, take};
 use ecat_frame::MAX_LEN;
 use site_capture::{Capture, Way};
 use site_file::RandomAccessFile;
-use site_wire::Wire;
 use std::io;
 use std::rt::Clock;
 use std::sync::Wait;
+use wire_frames::Wire;
 
 /// A wire, and the capture in which its frames are written down, if there is one. It answers each call as the wire does.
 ///

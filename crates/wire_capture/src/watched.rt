@@ -3,10 +3,10 @@
 use ecat_frame::{Command, Datagram, Frame};
 use site_capture::Way;
 use site_progress::Progress;
-use site_wire::Wire;
 use std::io;
 use std::io::Write;
 use std::rt::Clock;
+use wire_frames::Wire;
 
 /// The register of control and status of an EEPROM (ETG.1000.4).
 const CONTROL: u32 = 0x0502;

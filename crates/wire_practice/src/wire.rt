@@ -4,8 +4,8 @@ use crate::clock::PracticeClock;
 use crate::line::PracticeLine;
 use ecat_frame::Frame;
 use site_shadow::Pattern;
-use site_wire::{Wire, number_of};
 use std::io;
+use wire_frames::{Wire, number_of};
 
 /// The most bytes of a frame that this wire carries: one with a datagram for each of six slaves.
 const LONGEST: usize = 144;

@@ -12,10 +12,10 @@ use clap::{ArgMatches, Command, Error};
 use command_table::{
     Argument, Kind, Subcommand, is_digits, refused, with_argument, with_subcommands, word_of,
 };
-use site_wire::Sizes;
 use station_input::{TYPED_COMMANDS, script_of, typed_text};
 use station_json::Form;
 use std::alloc::{AllocError, Global};
+use wire_bringup::Sizes;
 use wire_session::Asked;
 use wire_slaves::{PowerCut, Practice, QuirkList};
 

@@ -8,7 +8,6 @@ use clap::Error;
 use clap::error::ErrorKind;
 use site_capture::Capture;
 use site_progress::{Cleared, Progress};
-use site_wire::{EthernetWire, NumberedWire, Sizes, Wire};
 use station_files::{ExitStatus, Fault, Store, report_fault};
 use station_input::InputScript;
 use station_listing::Code;
@@ -20,7 +19,9 @@ use std::io::{Read, Write};
 use std::rt::Clock;
 use std::sync::Wait;
 use std::thread::Threads;
+use wire_bringup::Sizes;
 use wire_capture::{CapturedWire, WatchedWire};
+use wire_frames::{EthernetWire, NumberedWire, Wire};
 use wire_session::{
     CaptureNames, Named, WireFault, backup_line, begin_journal, init_on_wire, keep_capture_apart,
     plan_on_wire, recover_line, run_script, scan_line,

@@ -1,7 +1,7 @@
 //! The sizes of slaves' EEPROMs, as text.
 
 use sii_words::is_device_size;
-use site_wire::Sizes;
+use wire_bringup::Sizes;
 
 /// The number of a slave and its number of words, from `SLAVE=N`.
 fn size_of(text: &str) -> Option<(usize, u16)> {

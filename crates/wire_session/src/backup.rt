@@ -9,11 +9,12 @@ use crate::faults::WireFault;
 use crate::measures::{judge_measures, print_measures};
 use crate::plan::{Plan, is_there, plan_backup};
 use sii_words::Plant;
-use site_wire::{NumberedWire, Sizes, Wire, bring_up, hand_back};
 use station_files::{Fault, Store, save_slaves};
 use std::alloc::Global;
 use std::io::Write;
 use std::rt::Clock;
+use wire_bringup::{Sizes, bring_up, hand_back};
+use wire_frames::{NumberedWire, Wire};
 
 /// Brings up the line on this wire, and writes the words of each slave to its image file. The line file `name` says which that is. Where
 /// it isn't there it is written too, and then names `STEM-s0.bin`, `STEM-s1.bin` and so on, and `STEM-journal.bin`, where `STEM` is its

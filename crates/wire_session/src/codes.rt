@@ -20,7 +20,7 @@ pub enum WireCode {
     Differs = 105,
     /// A slave failed to write a word.
     WordFailed = 106,
-    /// A slave may not have taken a command.
+    /// A slave may not have taken a command. Reserved: no fault has this number.
     Unconfirmed = 107,
     /// A frame was to be sent that this program doesn't send over a wire.
     NotForWire = 108,
@@ -112,7 +112,8 @@ const UNKNOWN_SIZE: CodeEntry = CodeEntry {
     name: "UnknownSize",
     meaning: "The size of a slave's EEPROM can't be told.",
     reason: "All words of the slave with this number that were compared are alike, and word 0x3E tells another size. Blank EEPROMs are like that.",
-    remedy: "Look up the size of the EEPROM in the slave's data sheet, and say it to backup: --words SLAVE=N. Later calls take it from the image file.",
+    remedy: "Look up the size of the EEPROM in the slave's data sheet, and say it to backup: --words SLAVE=N. Later calls take it from the image \
+        file.",
 };
 
 const OTHER_COUNT: CodeEntry = CodeEntry {

@@ -4,10 +4,11 @@ ghost use Rattle.wire_session.specs.Backup.{IsOfStream};
 ghost use Rattle.wire_session.specs.declared.faults.WireFault.TheVariants as wire;
 
 use crate::codes::WireCode;
-use site_wire::{LineFault, Sighting, SlaveFault, StopReason};
+use site_wire::StopReason;
 use station_files::{ExitStatus, Fault};
 use std::alloc::{AllocError, AllocFailed};
 use std::{fmt, io};
+use wire_frames::{LineFault, Sighting, SlaveFault};
 
 /// Why a subcommand on a wire failed.
 #[derive(Clone, Copy)]
@@ -81,7 +82,6 @@ fn code_of_stop(reason: StopReason) -> (WireCode, Option<usize>) {
         StopReason::Silent | StopReason::Journal => (WireCode::Silent, None),
         StopReason::Differs { slave, .. } => (WireCode::Differs, Some(slave)),
         StopReason::WordFailed { slave } => (WireCode::WordFailed, Some(slave)),
-        StopReason::Unconfirmed { slave } => (WireCode::Unconfirmed, Some(slave)),
         StopReason::NotOneDatagram { slave } => (WireCode::NotForWire, Some(slave)),
     }
 }

@@ -7,12 +7,13 @@ use crate::asked::Asked;
 use crate::faults::WireFault;
 use crate::judging::judge_slaves;
 use crate::sizes::sizes_of_images;
-use site_wire::{NumberedWire, Wire, bring_up, hand_back};
 use station_files::{Fault, Store, load_line};
 use station_session::init_line;
 use std::alloc::Global;
 use std::io::Write;
 use std::rt::Clock;
+use wire_bringup::{bring_up, hand_back};
+use wire_frames::{NumberedWire, Wire};
 
 /// Makes an empty journal for the line on this wire, whose line file is `name`, and prints the size of its area. The line file has to name
 /// as many image files as the line has slaves, and these have to be there, as a backup leaves them; they keep their words. The journal's file

@@ -5,8 +5,8 @@ use crate::faults::WireFault;
 use sii_edit::Command;
 use sii_size::resizes;
 use sii_words::{Plant, Words};
-use site_wire::{FoundLine, SlaveState};
 use std::alloc::{AllocError, Global};
+use wire_bringup::{FoundLine, SlaveState};
 
 /// The words of the slaves of a line that was found, of which the line file names so many.
 ///

@@ -1,9 +1,11 @@
 //! What is said of the sizes of a line's EEPROMs, before they are backed up.
 
 use crate::faults::WireFault;
-use site_wire::{Extent, FoundLine, FoundSlave, LineFault, SizeFound, Sizes};
 use std::io;
 use std::io::Write;
+use wire_bringup::{FoundLine, FoundSlave, Sizes};
+use wire_frames::LineFault;
+use wire_words::{Extent, SizeFound};
 
 /// Looks whether each slave can be worked on, and has a size that can be told or was given.
 ///

@@ -12,11 +12,12 @@ use crate::judging::{judge_slaves, judge_states};
 use crate::sizes::sizes_of_images;
 use sii_words::Words;
 use site_file::OpenFiles;
-use site_wire::{FoundLine, NumberedWire, SlaveState, Wire, bring_up, hand_back, look_along};
 use station_files::{Fault, Store, keep_line_apart, load_line, read_file};
 use station_text::LineFile;
 use std::alloc::Global;
 use std::rt::Clock;
+use wire_bringup::{FoundLine, SlaveState, bring_up, hand_back, look_along};
+use wire_frames::{NumberedWire, Wire};
 
 /// A line that was found on a wire, and its journal.
 #[derive(Drop)]

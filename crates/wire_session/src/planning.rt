@@ -10,7 +10,6 @@ use crate::running::{Given, find_all};
 use sii_edit::Command;
 use sii_words::Words;
 use site_mem::FaultPlan;
-use site_wire::{NumberedWire, Wire, hand_back};
 use station_files::{ExitStatus, Store};
 use station_json::Form;
 use station_plan::plan_line;
@@ -18,6 +17,8 @@ use station_session::{is_old, site_of};
 use std::alloc::Global;
 use std::io::Write;
 use std::rt::Clock;
+use wire_bringup::hand_back;
+use wire_frames::{NumberedWire, Wire};
 
 /// Prints what `run_script` would do with this script on the line on this wire: the line is found as for a run, the commands are served on a
 /// copy of it in memory, and the answers, the words that change and the rest are printed as `station_plan::plan_line` does. No word of a

@@ -15,7 +15,7 @@ use line_report::Before;
 use sii_words::{Plant, Words};
 use site_file::FileDevice;
 use site_shadow::{Device, ShadowSite};
-use site_wire::{LiveLine, LockedLine, NumberedWire, Wire, WireDevice, hand_back};
+use site_wire::{LiveLine, LockedLine, WireDevice};
 use station_alone::Recovered;
 use station_files::Store;
 use station_session::{save_site, site_of, write_recovered};
@@ -25,6 +25,8 @@ use std::io::Write;
 use std::rt::Clock;
 use std::sync::Wait;
 use std::thread::Threads;
+use wire_bringup::hand_back;
+use wire_frames::{NumberedWire, Wire};
 
 /// Recovers the line on this wire, whose line file is `name`, with its journal: what is live in the journal is done, and the slaves then
 /// hold the contents after a prefix of the commands accepted before, with every acknowledged one in it. Threads do it, one for each slave,

@@ -6,10 +6,10 @@ ghost use Rattle.wire_session.specs.Reporting.{IsReported};
 use crate::asked::Tells;
 use crate::faults::WireFault;
 use line_report::{Before, print_image, print_report};
-use site_wire::Handed;
 use station_files::{Fault, Store};
 use std::alloc::Global;
 use std::io::Write;
+use wire_frames::Handed;
 
 /// Prints whether the process image of a line is another one than `before`, and what has changed on it, as far as that is asked for, if the work
 /// on it has ended without a fault. No file changes.

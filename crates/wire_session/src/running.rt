@@ -22,7 +22,7 @@ use sii_edit::Command;
 use sii_words::{Plant, Words};
 use site_file::FileDevice;
 use site_shadow::{Device, ShadowSite};
-use site_wire::{LiveLine, LockedLine, NumberedWire, Wire, WireDevice, hand_back};
+use site_wire::{LiveLine, LockedLine, WireDevice};
 use station_files::{ExitStatus, Script, Store, load_script_files};
 use station_session::{is_old, of_open, open_station, site_of};
 use station_text::LineFile;
@@ -31,6 +31,8 @@ use std::io::Write;
 use std::rt::Clock;
 use std::sync::Wait;
 use std::thread::Threads;
+use wire_bringup::hand_back;
+use wire_frames::{NumberedWire, Wire};
 
 /// What was found for a run: the line, and the commands of the script.
 #[derive(Drop)]

@@ -3,15 +3,14 @@ use crate::faults::WireFault;
 use crate::scan_rows::write_slaves;
 use line_report::check_of;
 use sii_words::{Identity, Words};
-use site_wire::{
-    Extent, FoundLine, FoundSlave, LineFault, NumberedWire, SizeFound, Sizes, SlaveState, Wire,
-    bring_up, hand_back,
-};
 use station_json::Form;
 use std::alloc::Global;
 use std::io::Write;
 use std::rt::Clock;
 use std::{fmt, io};
+use wire_bringup::{FoundLine, FoundSlave, Sizes, SlaveState, bring_up, hand_back};
+use wire_frames::{LineFault, NumberedWire, Wire};
+use wire_words::{Extent, SizeFound};
 
 /// Brings up the line on this wire, and prints one line for each slave: its position, the number of words of its EEPROM, its alias,
 /// whether its check byte is right, and its identity; or the fault for which it can't be worked on. Behind that stand its state, and what

@@ -5,11 +5,13 @@ use crate::scan::name_of_state;
 use line_report::check_of;
 use serde::Serialize;
 use sii_words::Words;
-use site_wire::{Extent, FoundLine, FoundSlave, LineFault, SizeFound};
 use station_files::Fault;
 use station_json::{Check, write_row};
 use std::alloc::Global;
 use std::io::Write;
+use wire_bringup::{FoundLine, FoundSlave};
+use wire_frames::LineFault;
+use wire_words::{Extent, SizeFound};
 
 /// A slave: its words, or the fault for which it can't be worked on; its state; and what was found of its EEPROM's size.
 #[derive(Clone, Copy, Serialize)]

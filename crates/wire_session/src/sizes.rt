@@ -2,9 +2,9 @@
 ghost use Rattle.std.specs.Prelude.{◌≡◌};
 
 use sii_words::Words;
-use site_wire::Sizes;
 use station_files::{Fault, Store};
 use std::alloc::Global;
+use wire_bringup::Sizes;
 
 /// The sizes of the slaves with these image files. Of one whose file isn't there nothing is known.
 ///

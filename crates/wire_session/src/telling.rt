@@ -2,9 +2,10 @@
 
 use crate::faults::WireFault;
 use esc_rom::TRIES;
-use site_wire::{Cause, Difference, LineFault, Sighting, SlaveFault, StopReason};
+use site_wire::{Difference, StopReason};
 use station_files::Fault;
 use std::fmt;
+use wire_frames::{Cause, LineFault, Sighting, SlaveFault};
 
 /// A fault, as its second line tells it.
 #[derive(Clone, Copy)]
@@ -175,8 +176,7 @@ fn write_stop<W: fmt::Write>(
             "slave {slave}: other words came back than it had: its EEPROM is smaller than its image file, or somebody else writes it: scan the line"
         ),
         (StopReason::Differs { slave, .. }, Some(seen))
-        | (StopReason::WordFailed { slave }, Some(seen))
-        | (StopReason::Unconfirmed { slave }, Some(seen)) => {
+        | (StopReason::WordFailed { slave }, Some(seen)) => {
             write_seen(f, u16::try_from(slave).unwrap_or(u16::MAX), seen)
         }
         _ => write!(f, "{reason}: recover the line; see sii_wire explain"),

@@ -5,13 +5,13 @@ use ecat_frame::{Frame, MAX_LEN};
 use sii_words::words_of_bytes;
 use site_file::RandomAccessFile;
 use site_shadow::Pattern;
-use site_wire::Wire;
 use station_files::{Fault, Store, load_line, read_file};
 use station_text::LineFile;
 use std::alloc::Global;
 use std::io;
 use std::io::Write;
 use std::rt::Clock;
+use wire_frames::Wire;
 use wire_practice::{NO_QUIRKS, PracticeFiles, PracticeLine, PracticeSlave, Quirks};
 
 /// What a slave does of which nothing is said: it stays busy with a command for two datagrams.

@@ -8,11 +8,11 @@ use sii_words::Words;
 use site_core::{Issued, Settled, Site};
 use site_file::{FileDevice, OpenFiles, RandomAccessFile};
 use site_shadow::{Parts, Pattern, ShadowSite};
-use site_wire::{
-    LiveLine, NumberedWire, Sizes, SlaveState, StopReason, Wire, WireDevice, WireSite, bring_up,
-};
+use site_wire::{LiveLine, StopReason, WireDevice, WireSite};
 use std::alloc::Global;
 use std::io;
+use wire_bringup::{Sizes, SlaveState, bring_up};
+use wire_frames::{NumberedWire, Wire};
 use wire_practice::{
     Cable, Fate, Mishap, PracticeClock, PracticeLine, PracticeSlave, PracticeWire, Quirks,
 };

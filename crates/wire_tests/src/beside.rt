@@ -5,11 +5,10 @@ use crate::bench::{Bench, Content, Slave, brought_up, device_on, line_of};
 use crate::master::{Habits, Master, PROMPT, TIME_OUT};
 use crate::quirks::{count_written, has_so_many};
 use site_shadow::{Parts, ShadowSite};
-use site_wire::{
-    FoundLine, LineFault, NumberedWire, Sizes, SlaveFault, SlaveState, StopReason, bring_up,
-    hand_back,
-};
+use site_wire::StopReason;
 use std::alloc::Global;
+use wire_bringup::{FoundLine, Sizes, SlaveState, bring_up, hand_back};
+use wire_frames::{LineFault, NumberedWire, SlaveFault};
 use wire_practice::{NO_QUIRKS, Quirks};
 
 // A slave with the station address that a master has given it, whose words take three milliseconds to write.

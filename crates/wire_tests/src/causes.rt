@@ -1,8 +1,9 @@
 //! What is told of slaves that can't be worked on.
 
 use crate::bench::{Bench, Content, Slave, wire_of};
-use site_wire::{Cause, FoundSlave, Sizes, SlaveFault, bring_up};
 use std::alloc::Global;
+use wire_bringup::{FoundSlave, Sizes, bring_up};
+use wire_frames::{Cause, SlaveFault};
 use wire_practice::{Cable, NO_QUIRKS, PowerLoss, Quirks};
 
 // What two slaves do, and a cable that is pulled.

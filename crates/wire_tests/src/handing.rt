@@ -5,8 +5,9 @@ use crate::bench::{
 };
 use crate::quirks::count_written;
 use site_shadow::{Pattern, ShadowSite};
-use site_wire::{Handed, NumberedWire, hand_back};
 use std::alloc::Global;
+use wire_bringup::hand_back;
+use wire_frames::{Handed, NumberedWire};
 use wire_practice::{Fate, Mishap, NO_QUIRKS, PracticeWire, Quirks};
 
 // A slave: whether its PDI has the EEPROM, and whether it keeps its station address without power.

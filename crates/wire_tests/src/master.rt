@@ -1,8 +1,8 @@
 //! A master in memory that lends its wire: it carries one message in a turn, and does with them what a master may do.
 
 use ecat_frame::Frame;
-use site_wire::Wire;
 use std::io;
+use wire_frames::Wire;
 use wire_practice::{PracticeClock, PracticeLine};
 
 /// How long a turn is, in microseconds.

@@ -8,8 +8,10 @@ use ecat_frame::{Command, Frame, fp};
 use esc_rom::read_all;
 use site_core::{Settled, Site};
 use site_shadow::Pattern;
-use site_wire::{Difference, LineFault, Sizes, StopReason, bring_up};
+use site_wire::{Difference, StopReason};
 use std::alloc::Global;
+use wire_bringup::{Sizes, bring_up};
+use wire_frames::LineFault;
 use wire_practice::{Fate, Mishap, NO_QUIRKS, Quirks};
 
 // What is done with a line on a wire.

@@ -5,8 +5,8 @@ use crate::bench::{
 };
 use site_core::{Settled, Site};
 use site_shadow::Pattern;
-use site_wire::hand_back;
 use std::alloc::Global;
+use wire_bringup::hand_back;
 use wire_practice::{NO_QUIRKS, PowerLoss, PracticeLine, Quirks};
 
 // What a slave does, and whether it is found above Pre-Operational, and with its PDI.

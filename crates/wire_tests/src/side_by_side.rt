@@ -1,8 +1,9 @@
 //! Slaves whose words are read side by side, by frames of many datagrams.
 
 use crate::bench::{Bench, Content, Slave, Trouble, WELL, troubled, wire_of, word_at};
-use site_wire::{Cause, FoundSlave, Sizes, SlaveFault, bring_up};
 use std::alloc::Global;
+use wire_bringup::{FoundSlave, Sizes, bring_up};
+use wire_frames::{Cause, SlaveFault};
 use wire_practice::{Cable, Fate, Mishap, NO_QUIRKS, PowerLoss, Quirks};
 
 // What becomes of each of three slaves: its words are read, or it can't be worked on.

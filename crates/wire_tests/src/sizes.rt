@@ -1,9 +1,11 @@
 //! How large the EEPROMs of slaves are found to be.
 
 use crate::bench::{Bench, Content, Slave, wire_of};
-use site_wire::{Extent, FoundSlave, SizeFound, Sizes, SlaveFault, bring_up};
 use std::alloc::Global;
+use wire_bringup::{FoundSlave, Sizes, bring_up};
+use wire_frames::SlaveFault;
 use wire_practice::{NO_QUIRKS, Quirks};
+use wire_words::{Extent, SizeFound};
 
 // The words of the image, and of the chip, whose addresses roll over; None: the slave emulates its EEPROM, and a word behind its image
 // can't be read.

@@ -3,7 +3,6 @@
 use super::{put, zero_words};
 use site_capture::Capture;
 use site_file::RandomAccessFile;
-use site_wire::{NumberedWire, Sizes, bring_up};
 use std::alloc::Global;
 use std::io;
 use std::rt::Clock;
@@ -11,7 +10,9 @@ use std::sync::Wait;
 use std::sync::atomic::AtomicU8;
 use std::sync::atomic::Ordering::SeqCst;
 use std::time::Duration;
+use wire_bringup::{Sizes, bring_up};
 use wire_capture::CapturedWire;
+use wire_frames::NumberedWire;
 use wire_practice::{Fate, Mishap, PracticeClock, PracticeLine, PracticeWire};
 
 // A file that is empty at first, and keeps what is written to its first bytes.

@@ -1,8 +1,7 @@
--- The description of a slave, as the running code holds it.
-use Rattle.sii_cats.specs.Pdos.{views}
-use Rattle.sii_image.specs.ProcessData.{Description}
+-- The process data of a slave, as the running code holds them.
 use Rattle.sii_image.specs.declared.process_data.ProcessData.{ProcessData}
+use Rattle.sii_image.specs.steps.Sums.{Summed}
 
--- the running code's process data as a description
-abbrev pub as_described : ProcessData → Description
-as_described d = record { managers = d.managers.items; outputs = views d.outputs.items; inputs = views d.inputs.items }
+-- the value of the running code's process data
+abbrev pub as_summed : ProcessData → Summed
+as_summed d = record { managers = d.managers.items; outputs = d.outputs; inputs = d.inputs }

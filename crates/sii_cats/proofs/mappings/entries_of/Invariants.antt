@@ -1,8 +1,9 @@
-use Rattle.std.proofs.Common.{◌≡◌, ◌-◌}
-use Rattle.sii_cats.specs.steps.Items.{counted}
-use Rattle.sii_cats.specs.steps.Pdos.{entry_at}
-use Rattle.sii_cats.proofs.Items.{with_read}
+use Rattle.std.proofs.Common.{◌≡◌, ◌++◌, length}
+use Rattle.sii_cats.specs.Pdos.{entries_in}
 use Rattle.sii_cats.proofs.mappings.entries_of.Given as goal
 
-abbrev pub invariant-loop : goal.invariant-loop
-invariant-loop l = with_read l.entries.items (counted entry_at (l.count - l.counter) l.rest) ≡ counted entry_at l.count l.bytes
+abbrev pub invariant-loop-entry : goal.invariant-loop-entry
+invariant-loop-entry l = l.entries.items ++ entries_in l.rest ≡ entries_in l.words
+
+abbrev pub decreases-loop-entry : goal.decreases-loop-entry
+decreases-loop-entry l = length l.rest

@@ -1,7 +1,7 @@
 use Rattle.std.specs.Prelude.{ℕ}
 use Rattle.std.specs.List.{All}
 use Rattle.site_wire.specs.Joining.{Waited, WaitsNoMore, stage_of}
-use Rattle.site_wire.specs.Sending.{OnlyEeprom}
+use Rattle.wire_frames.specs.Sending.{OnlyEeprom}
 use Rattle.site_wire.proofs.joining.Board.collect.Given as goal
 
 abbrev pub invariant-loop-turn : goal.invariant-loop-turn

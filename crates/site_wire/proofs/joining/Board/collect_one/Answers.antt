@@ -1,4 +1,4 @@
-use Rattle.std.proofs.Common.{◌≡◌, ◌∙◌, inr, refl, sym}
+use Rattle.std.proofs.Common.{◌∙◌, inr, refl, sym}
 use Rattle.site_wire.specs.Orders.{datagram_of, readdressed}
 use Rattle.site_wire.proofs.joining.Board.collect_one.Goals as goal
 

@@ -1,6 +1,0 @@
-use Rattle.std.specs.List.{All}
-use Rattle.site_wire.specs.Reading.{KeptCame}
-use Rattle.site_wire.proofs.ahead.nothing_ahead.Given as goal
-
-abbrev pub invariant-loop-place : goal.invariant-loop-place
-invariant-loop-place g l = All (KeptCame g.W.Wire.gives) l.pairs.items

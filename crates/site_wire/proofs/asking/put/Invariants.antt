@@ -1,5 +1,0 @@
-use Rattle.std.specs.Prelude.{◌≡◌}
-use Rattle.site_wire.proofs.asking.put.Given as goal
-
-abbrev pub invariant-loop-try : goal.invariant-loop-try
-invariant-loop-try g l = l.wire.stations ≡ l.fn.wire.stations

@@ -1,5 +1,0 @@
-use Rattle.std.specs.Prelude.{◌≡◌, false}
-use Rattle.site_wire.proofs.bringing_up.give_address.Given as goal
-
-abbrev pub invariant-loop-try : goal.invariant-loop-try
-invariant-loop-try g l = l.wire.is_lent ≡ false

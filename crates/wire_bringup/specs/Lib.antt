@@ -1,0 +1,4 @@
+pub mod Access
+pub mod Handing
+pub mod Lines
+pub mod States

@@ -1,0 +1,3 @@
+pub mod Came
+pub mod Numbers
+pub mod Sending

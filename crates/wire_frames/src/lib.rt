@@ -1,0 +1,22 @@
+//! EtherCAT frames over a wire: each has a number of its own, and is sent until it comes back. Datagrams to slaves, and their replies.
+#![tactic(auto)]
+
+mod asking;
+mod ethernet;
+mod faults;
+mod handed;
+mod numbered;
+mod pace;
+mod registers;
+mod stations;
+mod wire;
+
+pub use asking::{Last, Reply, ask, count_answers, read_station, reply_at, sight};
+pub use ethernet::EthernetWire;
+pub use faults::{Cause, LineFault, Sighting, SlaveFault};
+pub use handed::Handed;
+pub use numbered::{Carried, NumberedWire, Returned, number_of};
+pub use pace::{ATTEMPTS, Pace, UNCOUNTED};
+pub use registers::{AL_STATUS, APRD, APWR, BRD, BWR, DL_ALIAS, FPRD, FPWR, STATION, register_of};
+pub use stations::Stations;
+pub use wire::Wire;

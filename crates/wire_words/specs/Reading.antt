@@ -1,0 +1,59 @@
+-- Words of many slaves that are read side by side (ETG.1000.4). `Gives` is what is known of the bytes that the wire gives.
+use Rattle.std.specs.Prelude.{◌≡◌, ◌⊎◌, ℕ, ◌/◌, ◌%◌, Bool, true, false, List, take, drop, Option, Some, None}
+use Rattle.std.specs.List.{All}
+use Rattle.wire_frames.specs.Came.{Answered}
+use Rattle.wire_words.specs.Words.{PairCame, ShowsEight, read_command}
+use Rattle.wire_words.specs.declared.ahead.Ahead.{Ahead}
+use Rattle.wire_words.specs.declared.ahead.Kept.{Kept}
+use Rattle.wire_words.specs.declared.reading.Read.{Read}
+use Rattle.wire_words.specs.declared.reading.ReadSize.{ReadSize}
+use Rattle.wire_words.specs.declared.reading.ReadSize.TheVariants as size
+use Rattle.wire_words.specs.declared.reader.Phase.{Phase}
+use Rattle.wire_words.specs.declared.reader.Phase.TheVariants as phase
+use Rattle.wire_words.specs.declared.reader.Reader.{Reader}
+
+-- how many bytes a fetch of this size has
+abbrev pub bytes_loaded : ReadSize → ℕ
+bytes_loaded size.Four = 4
+bytes_loaded size.Eight = 8
+
+-- the words in so many bytes from the front of these
+abbrev pub read_of : ReadSize → List ℕ → Read
+read_of size.Four bytes = record { pair = take 4 bytes; next = None }
+read_of size.Eight bytes = record { pair = take 4 bytes; next = Some (drop 4 bytes) }
+
+-- whether the slave has taken the command to read the words, and they aren't fetched yet
+abbrev pub has_told : Phase → Bool
+has_told phase.Tells = false
+has_told phase.Polls = true
+has_told (phase.Fetches bytes) = true
+has_told phase.Settles = false
+has_told phase.Clears = false
+has_told phase.Ends = false
+
+-- The reader's slave has yet to be told to read.
+abbrev pub NothingTold : Reader → Type 0
+NothingTold reader = has_told reader.phase ≡ false
+
+-- A reader that polls or fetches has an answer of its slave to the command to read from its word on; one that fetches eight bytes has one that
+-- shows that the slave loads so many.
+pub record IsUnderWay (Gives : List ℕ → Type 0) (reader : Reader) : Type 0 where
+  pub told : has_told reader.phase ≡ true → Answered Gives reader.station 5 0x0502 (read_command reader.word)
+  pub eight : reader.phase ≡ phase.Fetches size.Eight → ShowsEight Gives reader.station
+
+-- The second reader is at the same word of the same slave as the first one, which saw this control and status. It polls or fetches only if
+-- that one does, and fetches eight bytes only if that one does or bit 6 is set.
+pub record GoesOn (status : ℕ) (before after : Reader) : Type 0 where
+  pub station : after.station ≡ before.station
+  pub word : after.word ≡ before.word
+  pub told : has_told after.phase ≡ true → has_told before.phase ≡ true
+  pub eight : after.phase ≡ phase.Fetches size.Eight → (before.phase ≡ phase.Fetches size.Eight) ⊎ ((status / 0x40) % 2 ≡ 1)
+
+-- two words that were kept came over the wire
+abbrev pub KeptCame : (Gives : List ℕ → Type 0) → Option Kept → Type 0
+KeptCame Gives None = Unit {0}
+KeptCame Gives (Some kept) = PairCame Gives kept.station kept.word kept.pair
+
+-- all that were read ahead did
+abbrev pub AllKept : (Gives : List ℕ → Type 0) → Ahead → Type 0
+AllKept Gives ahead = All (KeptCame Gives) ahead.pairs.items

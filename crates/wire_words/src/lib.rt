@@ -1,0 +1,16 @@
+//! Reading the EEPROMs of a line's slaves, before there is a shadow to compare with: by frames of one datagram, or of all slaves side by side.
+#![tactic(auto)]
+
+mod ahead;
+mod in_step;
+mod reader;
+mod reading;
+mod sizing;
+mod telling;
+
+pub use ahead::{Ahead, Kept, kept_of, nothing_ahead, words_at};
+pub use in_step::{Readers, read_in_step};
+pub use reader::Reader;
+pub use reading::Read;
+pub use sizing::{Extent, Measured, SizeFound, judge_size, measure};
+pub use telling::{Hitch, clear, put, tell};
