@@ -1,5 +1,5 @@
 //! The site of a line on its open files, once the work on it is done.
-ghost use Rattle.std.specs.Prelude.{◌≡◌, Bool, is_some, length, IfSome, IsTrue, OnErr, OnOk};
+ghost use Rattle.std.specs.Prelude.{◌≡◌, Bool, is_some, length, IfSome, IsTrue, OnOk};
 ghost use Rattle.kept_files.specs.KeptFiles.{FilesOf};
 ghost use Rattle.site_shadow.specs.Line.{halves_of};
 ghost use Rattle.station_files.specs.Files.{ChangesAmong};

@@ -10,9 +10,9 @@ ghost use Rattle.station_session.specs.Refusals.{RefusesRecovery};
 ghost use Rattle.station_session.specs.Session.{RecoversFiles, EndsRecovery};
 
 use crate::faults::{of_journal, of_open};
+use crate::on_files::{WatchedSite, save_sound, take_apart};
 use crate::opening::open_files;
 use crate::session::{Session, load_session};
-use crate::on_files::{WatchedSite, save_sound, take_apart};
 use site_file::FileDevice;
 use site_progress::{Cleared, Progress, Watched};
 use station_alone::{Recovered, recover};
