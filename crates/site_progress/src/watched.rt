@@ -65,6 +65,13 @@ impl<'p, D, T: Write, R: Clock> Watched<'p, D, T, R> {
         }
     }
 
+    /// The device whose work counts.
+    pub fn device(&self) -> &D
+        ensures { result.now ≡ self.now.device }
+    {
+        &self.device
+    }
+
     /// Something was written to the journal from `at` on: a gate, a batch or a header.
     fn note_write(&mut self, at: usize, bytes: &[u8])
         ensures { self.new.device ≡ self.old.device }

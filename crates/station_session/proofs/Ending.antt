@@ -6,7 +6,13 @@ use Rattle.sii_edit.specs.declared.command.Command.{Command}
 use Rattle.site_core.specs.Line.{Line}
 use Rattle.site_core.specs.State.{State, Seen}
 use Rattle.esc_rom.specs.Owned.{OwnsAll}
+use Rattle.site_core.specs.Times.{Follows}
 use Rattle.site_shadow.specs.Site.{SiteValue}
+use Rattle.site_file.specs.Calls.{Asked}
+use Rattle.kept_files.specs.KeptFiles.{FilesOf, BecomeOnly, HasContents, KeepsFiles}
+use Rattle.kept_files.proofs.OnFiles.{cut_leaves_kept, recovery_leaves_contents}
+use Rattle.kept_files.proofs.Extending.{first_stays}
+use Rattle.station_alone.specs.Keeping.{KeepsThroughout}
 use Rattle.book_model.specs.Book.{Book}
 use Rattle.station_alone.specs.Station.{Station}
 use Rattle.station_alone.specs.Recovery.{HasRecovered, BeginsRecovered}
@@ -137,7 +143,9 @@ ends-run-opened old mid new line site on_files commands status opened same ends 
 pub ends-recovery-opened : (old mid new : Known) (line : LineFile) (site on_files : SiteValue) (status : ExitStatus) → ChangesAmong old mid (files_of line) → on_files ≡ site → EndsRecovery mid new line on_files.seen status → EndsRecovery old new line site.seen status
 ends-recovery-opened old mid new line site on_files status opened same ends = record {
   others = λ other out. ends.others other out ∙ opened other out;
-  saved = λ done. subst (λ (s : SiteValue). SavesRecovered new line s.seen) same (ends.saved done);
+  calls = ends.calls;
+  keeps = subst (λ (s : SiteValue). KeepsFiles s.seen.state ends.calls) same ends.keeps;
+  saved = λ done. subst (λ (s : SiteValue). SavesRecovered new line s.seen ends.calls) same (ends.saved done);
 }
 
 -- what holds for a site holds for an equal one with another device
@@ -153,26 +161,44 @@ run-cut is_cut way old new line site commands status is ends = subst (λ (b : Bo
 pub ends-unopened : (is_cut : Bool) (old new : Known) (line : LineFile) (site : SiteValue) (commands : List Command) (status : ExitStatus) → ChangesAmong old new (files_of line) → ¬ IsFaultless status → EndsRun is_cut old new line site commands status
 ends-unopened is_cut old new line site commands status others bad = record { others = others; saved = λ good. absurd (bad good) }
 
-pub ends-unrecovered : (old new : Known) (line : LineFile) (before : Seen) (status : ExitStatus) → ChangesAmong old new (files_of line) → ¬ IsFaultless status → EndsRecovery old new line before status
-ends-unrecovered old new line before status others bad = record { others = others; saved = λ done. absurd (bad (done-faultless status done)) }
+pub ends-unrecovered : (old new : Known) (line : LineFile) (before : Seen) (calls : List Asked) (status : ExitStatus) → KeepsFiles before.state calls → ChangesAmong old new (files_of line) → ¬ IsFaultless status → EndsRecovery old new line before status
+ends-unrecovered old new line before calls status keeps others bad =
+    record { others = others; calls = calls; keeps = keeps; saved = λ done. absurd (bad (done-faultless status done)) }
 
 -- ---- a station that was recovered
 
-pub saved-still : (new : Known) (line : LineFile) (saved : Result (Unit {0}) Fault) (state : State) (one : ExitStatus) → OnOk saved (HoldsSite new line state) → OnErr saved (¬ IsFaultless one) → IsFaultless one → HoldsSite new line state
-saved-still new line (Ok kept) state one held bad good = held
-saved-still new line (Err fault) state one held bad good = absurd (bad good)
+-- what holds where the line was saved
+on-saved : (P : Type 0) (saved : Result (Unit {0}) Fault) (one : ExitStatus) → OnOk saved P → OnErr saved (¬ IsFaultless one) → IsFaultless one → P
+on-saved P (Ok kept) one holds bad good = holds
+on-saved P (Err fault) one holds bad good = absurd (bad good)
 
-pub ends-recovered : (old new : Known) (line : LineFile) (before : Seen) (s : Station) (saved : Result (Unit {0}) Fault) (state : State) (one other final : ExitStatus) → HasRecovered s → BeginsRecovered before s → state ≡ s.seen.state
-    → OnOk saved (HoldsSite new line state) → ChangesAmong old new (files_of line) → OnErr saved (¬ IsFaultless one) → (final ≡ Done → (one ≡ Done) × (other ≡ Done)) → EndsRecovery old new line before final
-ends-recovered old new line before s saved state one other final is_recovered begins is held others bad done_too = record {
-  others = others;
-  saved = λ done. record {
-    s = s;
-    recovered = is_recovered;
-    begins = begins;
-    held = subst (λ (x : State). HoldsSite new line x) is (saved-still new line saved state one held bad (done-faultless one (done_too done).0));
-  };
-}
+pub saved-still : (new : Known) (line : LineFile) (saved : Result (Unit {0}) Fault) (state : State) (one : ExitStatus) → OnOk saved (HoldsSite new line state) → OnErr saved (¬ IsFaultless one) → IsFaultless one → HoldsSite new line state
+saved-still new line saved state one held bad good = on-saved (HoldsSite new line state) saved one held bad good
+
+-- what the files keep through the calls of a station
+pub keeps-files : (before now : Seen) (is_sound : Bool) (files : FilesOf now is_sound) → before.past ≡ [] → Follows before now → KeepsThroughout before now → KeepsFiles before.state files.calls
+keeps-files before now is_sound files new follows keeps = cut_leaves_kept before now is_sound files new (first_stays before now new follows) keeps
+
+pub ends-recovered : (old new : Known) (line : LineFile) (before : Seen) (s : Station) (left : Seen) (is_sound : Bool) (saved : Result (Unit {0}) Fault) (one other final : ExitStatus) → HasRecovered s → BeginsRecovered before s → left ≡ s.seen
+    → before.past ≡ [] → Follows before s.seen → KeepsThroughout before s.seen → FilesOf left is_sound → OnOk saved (IsTrue is_sound)
+    → OnOk saved (HoldsSite new line left.state) → ChangesAmong old new (files_of line) → OnErr saved (¬ IsFaultless one) → (final ≡ Done → (one ≡ Done) × (other ≡ Done)) → EndsRecovery old new line before final
+ends-recovered old new line before s left is_sound saved one other final is_recovered begins is none follows keeps known sound held others bad done_too =
+    let files : FilesOf s.seen is_sound = subst (λ (x : Seen). FilesOf x is_sound) is known in
+    record {
+      others = others;
+      calls = files.calls;
+      keeps = keeps-files before s.seen is_sound files none follows keeps;
+      saved = λ done.
+          let good : IsFaultless one = done-faultless one (done_too done).0 in
+          record {
+            s = s;
+            recovered = is_recovered;
+            begins = begins;
+            held = subst (λ (x : Seen). HoldsSite new line x.state) is (on-saved (HoldsSite new line left.state) saved one held bad good);
+            contents = subst (λ (x : State). BecomeOnly (HasContents s.book) x files.calls) (first_stays before s.seen none follows)
+                (recovery_leaves_contents s is_sound files is_recovered (on-saved (IsTrue is_sound) saved one sound bad good));
+          };
+    }
 
 -- ---- a capture
 

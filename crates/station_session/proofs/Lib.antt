@@ -5,3 +5,4 @@ pub mod Saved
 pub mod SwitchedOn
 pub mod Ending
 pub mod ThreadsEnd
+mod OnFiles

@@ -4,6 +4,8 @@ use Rattle.sii_edit.specs.declared.command.Command.{Command}
 use Rattle.site_core.specs.Line.{Line}
 use Rattle.site_core.specs.State.{Seen}
 use Rattle.site_shadow.specs.Site.{SiteValue}
+use Rattle.site_file.specs.Calls.{Asked}
+use Rattle.kept_files.specs.KeptFiles.{BecomeOnly, HasContents, KeepsFiles}
 use Rattle.site_journal.specs.declared.fault.ReadFault.TheVariants as read
 use Rattle.station_alone.specs.declared.fault.OpenFault.{OpenFault}
 use Rattle.station_alone.specs.declared.fault.OpenFault.TheVariants as why
@@ -71,17 +73,21 @@ StartsFrom false site s = IsOpened site.line site.seen s
 
 -- ---- what the files hold in the end
 
--- The files hold the state of a complete recovery of this site.
-pub record SavesRecovered (files : Known) (line : LineFile) (before : Seen) : Type 0 where
+-- The files hold the state of a complete recovery of this site. By what was asked of the open files, that alone has left the contents in them.
+pub record SavesRecovered (files : Known) (line : LineFile) (before : Seen) (calls : List Asked) : Type 0 where
   pub s : Station
   pub recovered : HasRecovered s
   pub begins : BeginsRecovered before s
   pub held : HoldsSite files line s.seen.state
+  pub contents : BecomeOnly (HasContents s.book) before.state calls
 
--- No other files than the line's changed. If the status is `Done`, they hold the recovered state.
+-- No other files than the line's changed. Whatever the status is: by what was asked of the open files, a power cut at any moment has left in them,
+-- all at once, only what is kept for each machine for which it was kept before. If the status is `Done`, they hold the recovered state.
 pub record EndsRecovery (old new : Known) (line : LineFile) (before : Seen) (status : ExitStatus) : Type 0 where
   pub others : ChangesAmong old new (files_of line)
-  pub saved : status ≡ Done → SavesRecovered new line before
+  pub calls : List Asked
+  pub keeps : KeepsFiles before.state calls
+  pub saved : status ≡ Done → SavesRecovered new line before calls
 
 -- The line was read, its files stand apart, its journal is one, and it was recovered as far as the status says.
 pub record RecoversFiles (leads : Leads) (old new : Known) (name : List ℕ) (status : ExitStatus) : Type 0 where

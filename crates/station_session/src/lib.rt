@@ -7,6 +7,7 @@ mod device_faults;
 mod faults;
 mod init;
 mod judging;
+mod on_files;
 mod opening;
 mod recovery;
 mod run;

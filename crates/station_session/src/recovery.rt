@@ -1,5 +1,5 @@
 //! The subcommand `recover`.
-ghost use Rattle.std.specs.Prelude.{◌≡◌, length, IfErr, IfOk, IsTrue, OnErr};
+ghost use Rattle.std.specs.Prelude.{◌≡◌, [], length, IfErr, IfOk, IsTrue, OnErr};
 ghost use Rattle.esc_rom.specs.Owned.{OwnsAll};
 ghost use Rattle.site_core.specs.State.{Seen};
 ghost use Rattle.station_alone.specs.Station.{Station};
@@ -10,12 +10,11 @@ ghost use Rattle.station_session.specs.Refusals.{RefusesRecovery};
 ghost use Rattle.station_session.specs.Session.{RecoversFiles, EndsRecovery};
 
 use crate::faults::{of_journal, of_open};
+use crate::on_files::{WatchedSite, save_sound, take_apart};
 use crate::opening::open_files;
 use crate::session::{Session, load_session};
-use crate::site::save_site;
 use site_file::FileDevice;
 use site_progress::{Cleared, Progress, Watched};
-use site_shadow::{Device, ShadowSite};
 use station_alone::{Recovered, recover};
 use station_files::{ExitStatus, Fault, Store, report_fault, status_of, worse};
 use station_text::LineFile;
@@ -28,7 +27,8 @@ use std::sync::Wait;
 /// Recovers the line whose line file is `name`, on its files, and prints what was recovered. Returns the exit status.
 ///
 /// The files are read in this order: line file, images of the slaves, journal. After any later fault, which is printed, the files hold what
-/// was written so far, and another recovery completes it.
+/// was written so far, and another recovery completes it. What a power cut leaves in the open files at any moment, all of them together, is kept
+/// for each machine for which what was read is kept; behind `Done` each image has the contents, synced.
 ///
 /// `progress` counts what is done, if there is one. Its line is erased before anything is printed, and at the end.
 ///
@@ -72,6 +72,7 @@ fn recover_session<S: Store, W: Write, E: Write, T: Write, R: Wait + Clock>(
 ) -> ExitStatus
     requires disk { IsTrue session.site.line.has_disk }
     requires owned { OwnsAll session.site.line }
+    requires new { session.site.seen.past ≡ [] }
     requires slaves { length session.site.line.sizes ≡ length session.line.images.items }
     ensures { EndsRecovery (S.files store.old) (S.files store.new) session.line session.site.seen result }
 {
@@ -95,12 +96,12 @@ fn recover_session<S: Store, W: Write, E: Write, T: Write, R: Wait + Clock>(
     }
 }
 
-/// Recovers a line, and saves what it holds to its files. The line of `progress` gives way to what is printed.
-fn recover_watched<D: Device + Drop, S: Store, W: Write, E: Write, T: Write, R: Wait + Clock>(
+/// Recovers a line on its files, and saves what it holds. The line of `progress` gives way to what is printed.
+fn recover_watched<S: Store, W: Write, E: Write, T: Write, R: Wait + Clock>(
     rt: &R,
     alloc: Global,
     line: &LineFile,
-    site: ShadowSite<D>,
+    site: WatchedSite<'_, '_, S::File, T, R>,
     progress: Option<&Progress<T>>,
     store: &mut S,
     output: &mut W,
@@ -108,8 +109,9 @@ fn recover_watched<D: Device + Drop, S: Store, W: Write, E: Write, T: Write, R: 
 ) -> ExitStatus
     requires disk { IsTrue site.line.has_disk }
     requires owned { OwnsAll site.line }
+    requires new { site.seen.past ≡ [] }
     requires slaves { length site.line.sizes ≡ length line.now.images.items }
-    ensures { EndsRecovery (S.files store.old) (S.files store.new) line.now site.seen result }
+    ensures { EndsRecovery (S.files store.old) (S.files store.new) line.now site.entry.seen result }
 {
     let status = recover_site(
         alloc,
@@ -125,29 +127,31 @@ fn recover_watched<D: Device + Drop, S: Store, W: Write, E: Write, T: Write, R: 
     status
 }
 
-/// Recovers a line, and saves what it holds to its files.
-fn recover_site<D: Device + Drop, S: Store, W: Write, E: Write>(
+/// Recovers a line on its files, and saves what it holds.
+fn recover_site<S: Store, W: Write, E: Write, T: Write, R: Clock>(
     alloc: Global,
     line: &LineFile,
-    site: ShadowSite<D>,
+    site: WatchedSite<'_, '_, S::File, T, R>,
     store: &mut S,
     output: &mut W,
     faults: &mut E,
 ) -> ExitStatus
     requires disk { IsTrue site.line.has_disk }
     requires owned { OwnsAll site.line }
+    requires new { site.seen.past ≡ [] }
     requires slaves { length site.line.sizes ≡ length line.now.images.items }
-    ensures { EndsRecovery (S.files store.old) (S.files store.new) line.now site.seen result }
+    ensures { EndsRecovery (S.files store.old) (S.files store.new) line.now site.entry.seen result }
 {
     match recover(alloc, site) {
         Ok((alone, recovered)) => {
             let (core, left) = alone.into_parts();
             drop(core);
-            let saved = status_of(save_site(alloc, line, left, store), faults);
+            let saved = status_of(save_sound(alloc, line, left, store), faults);
             worse(saved, print_recovered(recovered, output, faults))
         }
         Err((left, fault)) => {
-            drop(left);
+            // Its contract says what the files hold, also now.
+            let _left = take_apart(left);
             report_fault(of_open(fault), faults)
         }
     }

@@ -102,7 +102,7 @@ pub fn save_site<S: Store, D: Device + Drop>(
 }
 
 /// Writes these bytes to the journal's file, and the words of these EEPROM halves to the slaves' image files.
-fn save_parts<S: Store>(
+pub(crate) fn save_parts<S: Store>(
     alloc: Global,
     line: &LineFile,
     journal: &[u8],

@@ -1,4 +1,5 @@
-use Rattle.std.proofs.Common.{inl, inr}
+use Rattle.std.proofs.Common.{ap, inl, inr}
+use Rattle.site_core.specs.State.{Seen}
 use Rattle.station_files.proofs.Loaded.{handed_on}
 use Rattle.station_session.specs.Refusals.{RefusesRecovery}
 use Rattle.station_session.proofs.Ending.{recovers}
@@ -10,6 +11,9 @@ recover_session-requires-clause-disk g c κs lives = c.in_ok-session.ensures.loa
 
 pub recover_session-requires-clause-owned : goal.recover_session-requires-clause-owned
 recover_session-requires-clause-owned g c κs lives = c.in_ok-session.ensures.loaded.made.owned
+
+pub recover_session-requires-clause-new : goal.recover_session-requires-clause-new
+recover_session-requires-clause-new g c κs lives = ap (λ (seen : Seen). seen.past) c.in_ok-session.ensures.loaded.made.seen
 
 pub recover_session-requires-clause-slaves : goal.recover_session-requires-clause-slaves
 recover_session-requires-clause-slaves g c κs lives = c.in_ok-session.ensures.loaded.count

@@ -1,3 +1,5 @@
+use Rattle.std.proofs.Common.{[]}
+use Rattle.kept_files.proofs.OnFiles.{keeps_unasked}
 use Rattle.station_session.proofs.Ending.{ends-recovery-opened, ends-unrecovered}
 use Rattle.station_session.proofs.recovery.recover_session.Goals as goal
 
@@ -8,4 +10,5 @@ returns-in-Ok g c =
 
 pub returns : goal.returns
 returns g c =
-    ends-unrecovered (g.S.Store.files c.args.store.now) (g.S.Store.files c.open_files.new.store) c.args.session.line c.args.session.site.seen c.report_fault.result c.open_files.ensures.others c.report_fault.ensures.fault
+    ends-unrecovered (g.S.Store.files c.args.store.now) (g.S.Store.files c.open_files.new.store) c.args.session.line c.args.session.site.seen [] c.report_fault.result
+    (keeps_unasked c.args.session.site.seen.state) c.open_files.ensures.others c.report_fault.ensures.fault

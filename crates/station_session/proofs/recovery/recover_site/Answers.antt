@@ -1,12 +1,18 @@
-use Rattle.std.proofs.Common.{ap, refl}
-use Rattle.site_core.specs.State.{Seen}
-use Rattle.station_session.proofs.Ending.{ends-recovered, ends-unrecovered}
+use Rattle.std.proofs.Common.{refl}
+use Rattle.kept_files.proofs.Extending.{recovers_on, fails_on}
+use Rattle.station_session.proofs.Ending.{keeps-files, ends-recovered, ends-unrecovered}
 use Rattle.station_session.proofs.recovery.recover_site.Goals as goal
 
 pub returns-in-Ok : goal.returns-in-Ok
 returns-in-Ok g c =
-    ends-recovered (g.S.Store.files c.args.store.now) (g.S.Store.files c.save_site.new.store) c.args.line.now c.args.site.seen c.in-Ok.alone c.save_site.result c.into_parts-core.result.1.seen.state c.status_of-saved.result c.print_recovered.result c.worse.result
-    c.in-Ok.ensures.recovered c.in-Ok.ensures.begins (ap (λ (seen : Seen). seen.state) c.into_parts-core.ensures.seen) c.save_site.ensures.saved c.save_site.ensures.others c.status_of-saved.ensures.fault c.worse.ensures.done
+    ends-recovered (g.S.Store.files c.args.store.now) (g.S.Store.files c.save_sound.new.store) c.args.line.now c.args.site.seen c.in-Ok.alone c.into_parts-core.result.1.seen c.save_sound.ensures.files.0 c.save_sound.result c.status_of-saved.result c.print_recovered.result c.worse.result
+    c.in-Ok.ensures.recovered c.in-Ok.ensures.begins c.into_parts-core.ensures.seen c.requires.new (recovers_on c.args.site.line c.args.site.seen c.in-Ok.alone c.in-Ok.ensures.steps) c.in-Ok.ensures.keeps
+    c.save_sound.ensures.files.1 c.save_sound.ensures.files.2 c.save_sound.ensures.saved c.save_sound.ensures.others c.status_of-saved.ensures.fault c.worse.ensures.done
 
 pub returns-in-Err : goal.returns-in-Err
-returns-in-Err g c = let files = g.S.Store.files c.args.store.now in ends-unrecovered files files c.args.line.now c.args.site.seen c.report_fault.result (λ other out. refl) c.report_fault.ensures.fault
+returns-in-Err g c =
+    let files = g.S.Store.files c.args.store.now in
+    let held = c.take_apart-left.ensures.files in
+    ends-unrecovered files files c.args.line.now c.args.site.seen held.calls c.report_fault.result
+    (keeps-files c.args.site.seen c.in-Err.left.seen c.take_apart-left.result.1 held c.requires.new (fails_on c.args.site.line c.args.site.seen c.in-Err.fault c.in-Err.left.line c.in-Err.left.seen c.in-Err.ensures.refused) c.in-Err.ensures.keeps)
+    (λ other out. refl) c.report_fault.ensures.fault
