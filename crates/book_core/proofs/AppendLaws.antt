@@ -17,16 +17,9 @@ use Rattle.book_parts.specs.Ledger.{Ledger, own, appended, queued, all_begun}
 use Rattle.book_core.specs.declared.step.Step.TheVariants.{Resting, Payload}
 use Rattle.book_core.specs.declared.book.Core.TheInside.{Inside}
 use Rattle.book_core.specs.Stands.{StepStands, PartsStand, Stands, IsAppending}
+use Rattle.book_laws.proofs.BeginLaws.{first_or, only}
 
 -- ---- a batch has its place
-
-only : (c : Bool) (p q : Place) → (if c then Some p else None) ≡ Some q → (c ≡ true) × (p ≡ q)
-only true p q is = (refl, cc is)
-only false p q is = absurd (cc is)
-
-first_or : (c d : Bool) (q : Place) → (if c then Some InOlder else if d then Some InNewer else None) ≡ Some q → ((c ≡ true) × (InOlder ≡ q)) ⊎ ((d ≡ true) × (InNewer ≡ q))
-first_or true d q is = inl (refl, cc is)
-first_or false d q is = inr (only d InNewer q is)
 
 -- The half has room for the batch, and a batch goes behind the older ones only while there are no newer.
 pub record HasPlace (room : ℕ) (halves : Halves) (entries : List Entry) (place : Place) : Type 0 where

@@ -24,6 +24,8 @@ use Rattle.book_core.specs.Parts.{book_of, doing_of, next_entries, next_place}
 use Rattle.book_core.specs.Handing.{IsOther}
 use Rattle.book_core.specs.Stands.{StepStands, PartsStand, Stands}
 use Rattle.book_core.proofs.RunLaws.{same-runs}
+use Rattle.book_model.proofs.SettledLaws.{and-right}
+use Rattle.book_laws.proofs.OldBeginLaws.{none-any}
 
 -- ---- a retire
 
@@ -34,14 +36,6 @@ settled-is core stands =
 
 pub retire-is : (core : Inside) → Stands core → is_any (live core.area.halves) ≡ true → is_settled core.work ≡ can_retire (book_of core)
 retire-is core stands any = settled-is core stands ∙ ap (λ (b : Bool). b && runs_settled (all_cells core.work.slaves) (runs_of (entries_of core.area.halves.newer)) (runs_of (entries_of core.area.halves.older))) (sym any)
-
-second : (a b : Bool) → (a && b) ≡ true → b ≡ true
-second true b is = is
-second false b is = absurd (cc is)
-
-none-of : (batches : List Batch) → not (is_any batches) ≡ true → batches ≡ []
-none-of [] is = refl
-none-of (b ∷ batches) is = absurd (cc is)
 
 -- ---- what is begun
 
@@ -143,12 +137,12 @@ begins core step entries was other stands (appends place there made) =
 begins core step entries was other stands (retires can made) =
     subst (λ (s : Step). StepStands s core.area core.ledger core.work) (same-step entries [] step CloseGate made) (record {
       no_append = subst (λ (s : Step). StepStands s core.area core.ledger core.work) was stands.doing;
-      settled = settled-is core stands ∙ second (is_any (live core.area.halves)) (runs_settled (all_cells core.work.slaves) (runs_of (entries_of core.area.halves.newer)) (runs_of (entries_of core.area.halves.older))) can;
+      settled = settled-is core stands ∙ and-right (is_any (live core.area.halves)) (runs_settled (all_cells core.work.slaves) (runs_of (entries_of core.area.halves.newer)) (runs_of (entries_of core.area.halves.older))) can;
     })
 begins core step entries was other stands (migrates can made) =
     subst (λ (s : Step). StepStands s core.area core.ledger core.work) (same-step entries [] step FarGate made) (record {
       no_append = subst (λ (s : Step). StepStands s core.area core.ledger core.work) was stands.doing;
-      nothing = none-of (live core.area.halves) (second core.is_migrating (not (is_any (live core.area.halves))) can);
+      nothing = none-any (live core.area.halves) (and-right core.is_migrating (not (is_any (live core.area.halves))) can);
     })
 begins core step entries was other stands (rests made) = absurd (subst IsOther (sym (same-step entries [] step Resting made)) other)
 

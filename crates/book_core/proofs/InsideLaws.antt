@@ -10,6 +10,7 @@ use Rattle.book_model.specs.Entries.{runs_of, sizes_of}
 use Rattle.book_model.specs.Book.{Slave, nobody}
 use Rattle.book_parts.specs.Line.{IsOfLine, AreOfLine}
 use Rattle.book_core.specs.Stands.{cell_counts}
+use Rattle.sii_words.proofs.RedoLaws.{length-redone_words}
 
 count-at : (slaves : List Slave) (k : ℕ) → get_or (cell_counts slaves) k 0 ≡ length (get_or slaves k nobody).cells
 count-at [] k = refl
@@ -30,15 +31,10 @@ pub entries-inside : (slaves : List Slave) (sizes : List ℕ) (entries : List En
 entries-inside slaves sizes [] same lie = tt
 entries-inside slaves sizes (e ∷ es) same lie = runs-inside slaves sizes e.runs (runs_of es) same lie.0 (entries-inside slaves sizes es same lie.1)
 
--- a redo keeps the sizes
-words-redone : (runs : List Run) (slave at : ℕ) (words : List ℕ) → length (redone_words runs slave at words) ≡ length words
-words-redone runs slave at [] = refl
-words-redone runs slave at (w ∷ ws) = ap suc (words-redone runs slave (suc at) ws)
-
 sizes-from : (runs : List Run) (slave : ℕ) (plant : List (List ℕ)) → sizes_of (redone_from runs slave plant) ≡ sizes_of plant
 sizes-from runs slave [] = refl
 sizes-from runs slave (words ∷ plant) =
-    ap (λ (n : ℕ). n ∷ sizes_of (redone_from runs (suc slave) plant)) (words-redone runs slave 0 words) ∙ ap (λ (l : List ℕ). length words ∷ l) (sizes-from runs (suc slave) plant)
+    ap (λ (n : ℕ). n ∷ sizes_of (redone_from runs (suc slave) plant)) (length-redone_words runs slave 0 words) ∙ ap (λ (l : List ℕ). length words ∷ l) (sizes-from runs (suc slave) plant)
 
 pub sizes-redone : (plant : List (List ℕ)) (runs : List Run) → sizes_of (redone plant runs) ≡ sizes_of plant
 sizes-redone plant runs = sizes-from runs 0 plant

@@ -97,7 +97,7 @@ owes-slave runs first (s ∷ ss) zero at =
     rw add-zero (subst (λ (n : ℕ). length (cell_of (owing_words runs first 0 s.cells) at).owed ≤ length (cell_of s.cells at).owed + length (values runs first n)) (omega arith) (owes-word runs first 0 s.cells at))
 owes-slave runs first (s ∷ ss) (suc k) at = rw (add-suc first k, ← suc-add first k) (owes-slave runs (suc first) ss k at)
 
-owes-joined : (runs : List Run) (slaves : List Slave) → OwesNoMore (all_cells slaves) (all_cells (owing_slaves runs 0 slaves)) runs
+pub owes-joined : (runs : List Run) (slaves : List Slave) → OwesNoMore (all_cells slaves) (all_cells (owing_slaves runs 0 slaves)) runs
 owes-joined runs slaves = λ k at. subst (λ (n : ℕ). length (cell_at (all_cells (owing_slaves runs 0 slaves)) k at).owed ≤ length (cell_at (all_cells slaves) k at).owed + length (values runs n at)) (omega arith) (owes-slave runs 0 slaves k at)
 
 -- ---- a batch goes live

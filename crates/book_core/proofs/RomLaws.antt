@@ -14,6 +14,7 @@ use Rattle.book_parts.specs.Line.{LineState}
 use Rattle.book_parts.specs.Line as line
 use Rattle.book_core.specs.Stands.{HasLive}
 use Rattle.book_core.proofs.RunLaws.{live-runs}
+use Rattle.book_laws.proofs.WorkLaws.{owed-inside}
 
 -- ---- the same words are to be written
 
@@ -23,11 +24,6 @@ same-to_do book work i slaves has =
     ∙ ap (λ (s : List Slave). pending.to_do (line.slave_at (record work { slaves = s }) i).cells (namings (runs_of (work.older ++ work.newer)) i)) slaves
 
 -- ---- a word that is to be written is one of the slave's
-
-owed-inside : (cells : List Cell) (at : ℕ) → is_any (cell_of cells at).owed ≡ true → at < length cells
-owed-inside [] at is = absurd (cc is)
-owed-inside (c ∷ cs) zero is = omega arith
-owed-inside (c ∷ cs) (suc at) is = omega (arith, owed-inside cs at is)
 
 pub kept-by : (cells : List Cell) (ns : List (ℕ × ℕ)) (w : ℕ × ℕ) → first (filter (λ (n : ℕ × ℕ). is_any (cell_of cells n.0).owed) ns) ≡ Some w → is_any (cell_of cells w.0).owed ≡ true
 kept-by cells [] w is = absurd (cc is)

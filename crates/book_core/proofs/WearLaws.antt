@@ -25,51 +25,10 @@ use Rattle.book_core.specs.Parts.{book_of}
 use Rattle.book_core.specs.Stands.{IsOwed, OwesLast, Stands}
 use Rattle.book_core.specs.Wear.{IssuesFew}
 use Rattle.book_core.proofs.RomLaws.{kept-by}
-
--- ---- the last of some values
-
-among-due : (word v : ℕ) (vs : List ℕ) → IsAmong (due word (v ∷ vs)) (v ∷ vs)
-among-due word v [] = inl refl
-among-due word v (w ∷ vs) = inr (among-due v w vs)
-
-among : (word : ℕ) (owed : List ℕ) → 0 < length owed → IsAmong (due word owed) owed
-among word [] some = absurd (omega arith)
-among word (v ∷ vs) some = among-due word v vs
-
-due-last : (a b : ℕ) (vs : List ℕ) → 0 < length vs → due a vs ≡ due b vs
-due-last a b [] some = absurd (omega arith)
-due-last a b (v ∷ vs) some = refl
+use Rattle.book_laws.proofs.WorkLaws.{IsLast, last-all, some-of}
+use Rattle.book_laws.proofs.IssueLaws.{among, due-last}
 
 -- ---- the last naming of a word
-
--- these namings give the word of this one its value last
-abbrev IsLast : List (ℕ × ℕ) → ℕ × ℕ → Type 0
-IsLast ns n = (word : ℕ) → due word (values_of n.0 ns) ≡ n.1
-
-last-behind : (n k : ℕ × ℕ) (ns : List (ℕ × ℕ)) → IsLast ns k → IsLast (n ∷ ns) k
-last-behind n k ns last = λ word. one (n.0 == k.0) refl word
-  where
-    one : (c : Bool) → (n.0 == k.0) ≡ c → (word : ℕ) → due word (values_of k.0 (n ∷ ns)) ≡ k.1
-    one true is word = rw is (last n.1)
-    one false is word = rw is (last word)
-
-all-behind : (n : ℕ × ℕ) (ns ks : List (ℕ × ℕ)) → AllByRecursion (IsLast ns) ks → AllByRecursion (IsLast (n ∷ ns)) ks
-all-behind n ns [] all = tt
-all-behind n ns (k ∷ ks) all = (last-behind n k ns all.0, all-behind n ns ks all.1)
-
-none-of : (vs : List ℕ) → is_any vs ≡ false → vs ≡ []
-none-of [] is = refl
-none-of (v ∷ vs) is = absurd cc
-
-last-first : (n : ℕ × ℕ) (ns : List (ℕ × ℕ)) → AllByRecursion (IsLast ns) (last_of ns) → (c : Bool) → is_any (values_of n.0 ns) ≡ c → AllByRecursion (IsLast (n ∷ ns)) (last_of (n ∷ ns))
-last-first n ns all true is = rw is (all-behind n ns (last_of ns) all)
-last-first n ns all false is =
-    let here : (n.0 == n.0) ≡ true = grind (arith, nat_tests) in
-    rw is (λ word. rw (here, none-of (values_of n.0 ns) is) refl, all-behind n ns (last_of ns) all)
-
-last-all : (ns : List (ℕ × ℕ)) → AllByRecursion (IsLast ns) (last_of ns)
-last-all [] = tt
-last-all (n ∷ ns) = last-first n ns (last-all ns) (is_any (values_of n.0 ns)) refl
 
 first-kept : (P : ℕ × ℕ → Type 0) (test : ℕ × ℕ → Bool) (ns : List (ℕ × ℕ)) (w : ℕ × ℕ) → AllByRecursion P ns → first (filter test ns) ≡ Some w → P w
 first-kept P test [] w all is = absurd (cc is)
@@ -81,15 +40,11 @@ first-kept P test (n ∷ ns) w all is = one (test n) (λ rest. first-kept P test
 
 -- ---- an issue
 
-some-owed : (owed : List ℕ) → is_any owed ≡ true → 0 < length owed
-some-owed [] is = absurd cc
-some-owed (v ∷ vs) is = omega arith
-
 -- what is issued is owed
 pub issue-owed : (live : List (ℕ × ℕ)) (cells : List Cell) (w : ℕ × ℕ) → OwesLast live cells → first (pending.to_do cells live) ≡ Some w → (0 < length (cell_of cells w.0).owed) × IsAmong w.1 (cell_of cells w.0).owed
 issue-owed live cells w last is =
     let owed = (cell_of cells w.0).owed in
-    let some = some-owed owed (kept-by cells (last_of live) w is) in
+    let some = some-of owed (kept-by cells (last_of live) w is) in
     let test : ℕ × ℕ → Bool = λ n. is_any (cell_of cells n.0).owed in
     let named : due 0 (values_of w.0 live) ≡ w.1 = first-kept (IsLast live) test (last_of live) w (last-all live) is 0 in
     (some, subst (λ (v : ℕ). IsAmong v owed) (last w.0 0 some ∙ named) (among 0 owed some))

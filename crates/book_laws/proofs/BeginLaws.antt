@@ -24,6 +24,7 @@ use Rattle.book_laws.specs.Events.{begun_on}
 use Rattle.book_laws.specs.Queue.{CanQueue}
 use Rattle.book_laws.proofs.AppendLaws.{payload-begun, close-begun}
 use Rattle.book_laws.proofs.DoneLaws.{place-at, half-at}
+use Rattle.book_model.proofs.SettledLaws.{and-right, and-left}
 
 -- ---- where a batch goes there is room for it
 
@@ -34,11 +35,11 @@ pub record HasRoom (room : ℕ) (halves : Halves) (place : Place) (entries : Lis
 pub le-of : (n m : ℕ) → nat_le n m ≡ true → n ≤ m
 le-of n m is = grind (arith, nat_tests)
 
-only : (c : Bool) (p q : Place) → (if c then Some p else None) ≡ Some q → (c ≡ true) × (p ≡ q)
+pub only : (c : Bool) (p q : Place) → (if c then Some p else None) ≡ Some q → (c ≡ true) × (p ≡ q)
 only true p q is = (refl, cc)
 only false p q is = absurd cc
 
-first_or : (c d : Bool) (q : Place) → (if c then Some InOlder else if d then Some InNewer else None) ≡ Some q → ((c ≡ true) × (InOlder ≡ q)) ⊎ ((d ≡ true) × (InNewer ≡ q))
+pub first_or : (c d : Bool) (q : Place) → (if c then Some InOlder else if d then Some InNewer else None) ≡ Some q → ((c ≡ true) × (InOlder ≡ q)) ⊎ ((d ≡ true) × (InNewer ≡ q))
 first_or true d q is = inl (refl, cc)
 first_or false d q is = inr (only d InNewer q is)
 
@@ -76,14 +77,6 @@ batch-can-stand halves place entries small payload = record {
   generation = generation-fits halves place entries small;
   payload = subst PayloadFits (sym (entries-in halves place entries)) payload;
 }
-
-pub and-first : (a b : Bool) → (a && b) ≡ true → a ≡ true
-and-first true b is = refl
-and-first false b is = is
-
-pub and-second : (a b : Bool) → (a && b) ≡ true → b ≡ true
-and-second true b is = is
-and-second false b is = absurd cc
 
 some-is : (entries : List Entry) → is_any entries ≡ true → 1 ≤ length entries
 some-is [] is = absurd cc
@@ -135,9 +128,9 @@ pub retire-begins : (frame : JournalFrame) (book : Book) (disk : Disk) → book.
     → DoingFits frame book CloseGate true false (begun_on (action_of book CloseGate) disk)
 retire-begins frame book disk same ordered tested can rest =
     let tests = runs_settled (all_cells book.slaves) (live_runs book.halves.newer) (live_runs book.halves.older) in
-    let some : book.halves.older ≢ [] = λ none. let no = not_any book.halves ordered none in let yes = and-first (is_any (live book.halves)) tests can in absurd cc in (
+    let some : book.halves.older ≢ [] = λ none. let no = not_any book.halves ordered none in let yes = and-left (is_any (live book.halves)) tests can in absurd cc in (
       tt,
-      record { settled = tested (and-second (is_any (live book.halves)) tests can); some = some },
+      record { settled = tested (and-right (is_any (live book.halves)) tests can); some = some },
       (0xA5, subst (λ (n : ℕ). HasClosing frame book.halves 0xA5 (write_begun disk n 1)) (sym (half-at frame book book.halves.at same)) (close-begun frame book.halves disk rest some)),
     )
 

@@ -29,6 +29,7 @@ use Rattle.book_laws.specs.Up.{Up}
 use Rattle.book_laws.proofs.OwingLaws.{slaves-owe, same-owing}
 use Rattle.book_laws.proofs.DiskEventLaws.{all-behind, taken_by, up-doing}
 use Rattle.book_laws.proofs.KeptLaws.{left-live}
+use Rattle.lists.proofs.Quantifiers.{all_append, all_behind}
 
 -- what is to become live
 pub appends-of : (frame : JournalFrame) (book : Book) (disk : Disk) (place : Place) (entries : List Entry) → book.doing ≡ OpenSync place entries → (form : Form) → FormFits form frame book disk → Appending book place entries
@@ -70,10 +71,6 @@ up-steps frame book state took m disk doing up same fits =
 
 -- ---- a batch becomes live
 
-all-append : {A : Type 0} (P : A → Type 0) (xs ys : List A) → AllByRecursion P xs → AllByRecursion P ys → AllByRecursion P (xs ++ ys)
-all-append P [] ys all others = others
-all-append P (x ∷ xs) ys all others = (all.0, all-append P xs ys all.1 others)
-
 some-behind : (older : List Batch) (batch : Batch) → older ++ batch ∷ [] ≢ []
 some-behind [] batch is = absurd cc
 some-behind (b ∷ older) batch is = absurd cc
@@ -96,7 +93,7 @@ up-live frame book state took m disk place entries up is fits =
         is_frame = up.line.is_frame;
         slaves = up.line.slaves;
         capacity = up.line.capacity;
-        within = subst (AllByRecursion (IsWithin sizes)) (sym (with_batch-live book.halves place batch appends.in_older)) (all-append (IsWithin sizes) (live book.halves) (batch ∷ []) up.line.within (within, tt));
+        within = subst (AllByRecursion (IsWithin sizes)) (sym (with_batch-live book.halves place batch appends.in_older)) (all_append (IsWithin sizes) (live book.halves) (batch ∷ []) up.line.within (within, tt));
       };
       of = record { base = up.of.base; accepted = up.of.accepted; acknowledged = refl };
       gone = up.gone;
@@ -121,10 +118,6 @@ left-newer : (halves : Halves) (newer : List Batch) → (left_of halves newer).n
 left-newer halves [] = refl
 left-newer halves (b ∷ newer) = refl
 
-all-second : {A : Type 0} (P : A → Type 0) (xs ys : List A) → AllByRecursion P (xs ++ ys) → AllByRecursion P ys
-all-second P [] ys all = all
-all-second P (x ∷ xs) ys all = all-second P xs ys all.1
-
 up-retired : (frame : JournalFrame) (book : Book) (state : State) (took : List Bool) (m : Machine) (disk : Disk) → Up frame book state took m → book.doing ≡ CloseSync → JournalFits frame (went_on (rested book) CloseSync) disk
     → Up frame (went_on (rested book) CloseSync) (record state { disk = disk }) took (acknowledged_by book m)
 up-retired frame book state took m disk up is fits =
@@ -137,7 +130,7 @@ up-retired frame book state took m disk up is fits =
         is_frame = up.line.is_frame;
         slaves = up.line.slaves;
         capacity = up.line.capacity;
-        within = subst (AllByRecursion (IsWithin sizes)) (sym (left-live halves halves.newer)) (all-second (IsWithin sizes) halves.older halves.newer up.line.within);
+        within = subst (AllByRecursion (IsWithin sizes)) (sym (left-live halves halves.newer)) (all_behind (IsWithin sizes) halves.older halves.newer up.line.within);
       };
       of = record { base = up.of.base; accepted = up.of.accepted; acknowledged = refl };
       gone = up.gone ++ live_runs halves.older;
@@ -154,7 +147,7 @@ up-retired frame book state took m disk up is fits =
 
 -- ---- the journal is migrated
 
-none-appended : (form : Form) → appended (behind_far_gate form) ≡ None
+pub none-appended : (form : Form) → appended (behind_far_gate form) ≡ None
 none-appended One = refl
 none-appended Two = refl
 none-appended Moving = refl

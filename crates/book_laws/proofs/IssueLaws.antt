@@ -10,11 +10,11 @@ among-due : (word v : ℕ) (vs : List ℕ) → IsAmong (due word (v ∷ vs)) (v 
 among-due word v [] = inl refl
 among-due word v (w ∷ vs) = inr (among-due v w vs)
 
-due-last : (a b : ℕ) (vs : List ℕ) → 0 < length vs → due a vs ≡ due b vs
+pub due-last : (a b : ℕ) (vs : List ℕ) → 0 < length vs → due a vs ≡ due b vs
 due-last a b [] some = absurd (omega arith)
 due-last a b (v ∷ vs) some = refl
 
-among : (word : ℕ) (owed : List ℕ) → 0 < length owed → IsAmong (due word owed) owed
+pub among : (word : ℕ) (owed : List ℕ) → 0 < length owed → IsAmong (due word owed) owed
 among word [] some = absurd (omega arith)
 among word (v ∷ vs) some = among-due word v vs
 

@@ -30,10 +30,7 @@ use Rattle.book_laws.specs.Phases.{AtRest, HasBatch, HasGate}
 use Rattle.book_laws.specs.Doing.{Appending, Retiring, DoingFits, OpensGate}
 use Rattle.book_laws.specs.Keeping.{IsOfBook, IsOfLine}
 use Rattle.book_laws.proofs.TornLaws.{with_image, rest-image, payload-image, batch-image, gate-image, closing-image, rest-journal}
-
-all-behind : {A : Type 0} (P : A → Type 0) (xs ys : List A) → AllByRecursion P (xs ++ ys) → AllByRecursion P ys
-all-behind P [] ys all = all
-all-behind P (x ∷ xs) ys all = all-behind P xs ys all.1
+use Rattle.lists.proofs.Quantifiers.{all_behind}
 
 pub same_sizes : (plant left : List (List ℕ)) → length left ≡ length plant → ((slave : ℕ) → length (words_of left slave) ≡ length (words_of plant slave)) → sizes_of left ≡ sizes_of plant
 same_sizes [] [] slaves words = refl
@@ -86,7 +83,7 @@ module _ (frame : JournalFrame) (book : Book) (m : Machine) (gone : List Run) (d
   as_newer retires rest =
       let lives : live (retired book.halves) ≡ book.halves.newer = left-live book.halves book.halves.newer in
       kept_at (retired book.halves) book.durable rest
-      (subst (AllByRecursion (IsWithin (sizes_of book.words))) (sym lives) (all-behind (IsWithin (sizes_of book.words)) book.halves.older book.halves.newer line.within))
+      (subst (AllByRecursion (IsWithin (sizes_of book.words))) (sym lives) (all_behind (IsWithin (sizes_of book.words)) book.halves.older book.halves.newer line.within))
       (omega arith) fits.durable_few
       (ap (λ (l : List Batch). redone left (live_runs l)) lives
       ∙ kept-newer book.words (base_of book) (own book) book.durable book.halves (all_cells book.slaves) gone fits retires.settled left may)

@@ -20,13 +20,14 @@ use Rattle.book_model.specs.Reading.{runs_settled}
 use Rattle.book_laws.specs.Frame.{JournalFrame, room, IsJournalFrame}
 use Rattle.book_laws.specs.Doing.{Retiring}
 use Rattle.book_laws.specs.Events.{begun_on}
-use Rattle.book_laws.proofs.BeginLaws.{and-first, and-second, BegunAs, appends, retires, migrates, rests, begun-as}
+use Rattle.book_laws.proofs.BeginLaws.{BegunAs, appends, retires, migrates, rests, begun-as}
 use Rattle.book_laws.specs.OldFile.{IsVersioned, behind, area, mark_bytes, IsEmptied, OldAtRest, OldClosing, BeforeVersion}
 use Rattle.book_laws.specs.OldDoing.{undivided, OldDoingFits, OldFits}
 use Rattle.book_laws.specs.OldQueue.{OldCanBegin}
 use Rattle.book_laws.proofs.RangeLaws.{torn-begun, torn-none}
 use Rattle.book_laws.proofs.OldCarryLaws.{OldCarries, old-goes}
 use Rattle.book_laws.proofs.NextLaws.{nothing-begun}
+use Rattle.book_model.proofs.SettledLaws.{and-right, and-left}
 
 -- ---- where the gates are
 
@@ -187,7 +188,7 @@ goes-on frame book disk is_frame same one MarkSync other f = f
 goes-on frame book disk is_frame same one Version other f = (f.0, (f.1.0, record { emptied = f.1.1.emptied; torn = torn-begun 1 1 1 1 disk f.1.1.torn (omega arith) (omega arith) }))
 goes-on frame book disk is_frame same one VersionSync other f = f
 
-none-any : (batches : List Batch) → not (is_any batches) ≡ true → batches ≡ []
+pub none-any : (batches : List Batch) → not (is_any batches) ≡ true → batches ≡ []
 none-any [] is = refl
 none-any (b ∷ batches) is = absurd cc
 
@@ -206,13 +207,13 @@ begins frame book disk can fits rest doing (rests so) = subst (Handed frame book
 begins frame book disk can fits rest doing (retires may so) =
     let tests = runs_settled (all_cells book.slaves) (live_runs book.halves.newer) (live_runs book.halves.older) in
     let older : live book.halves ≡ book.halves.older = ap live fits.halves ∙ append-nil book.halves.older in
-    let some : book.halves.older ≢ [] = some-any book.halves.older (ap is_any (sym older) ∙ and-first (is_any (live book.halves)) tests may) in
-    let settles : Retiring book = record { settled = can.tested (and-second (is_any (live book.halves)) tests may); some = some } in
+    let some : book.halves.older ≢ [] = some-any book.halves.older (ap is_any (sym older) ∙ and-left (is_any (live book.halves)) tests may) in
+    let settles : Retiring book = record { settled = can.tested (and-right (is_any (live book.halves)) tests may); some = some } in
     subst (Handed frame book disk) (sym so)
     (goes-on frame book disk can.is_frame can.capacity fits.halves CloseGate (λ e. absurd cc) (close-in frame book disk can.is_frame fits.old settles book.form refl rest))
 begins frame book disk can fits rest doing (migrates may so) =
     let older : live book.halves ≡ book.halves.older = ap live fits.halves ∙ append-nil book.halves.older in
-    let none : book.halves.older ≡ [] = sym older ∙ none-any (live book.halves) (and-second book.is_migrating (not (is_any (live book.halves))) may) in
+    let none : book.halves.older ≡ [] = sym older ∙ none-any (live book.halves) (and-right book.is_migrating (not (is_any (live book.halves))) may) in
     let k = known frame book.form disk can.is_frame fits.old (subst (λ (l : List Batch). OldAtRest frame book.form l disk) none rest) in
     subst (Handed frame book disk) (sym so) (goes-on frame book disk can.is_frame can.capacity fits.halves FarGate (λ e. absurd cc) (none, (k.mark, k.far, k.before)))
 

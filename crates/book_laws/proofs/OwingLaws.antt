@@ -11,13 +11,9 @@ use Rattle.book_laws.specs.Fits.{SameCells}
 use Rattle.book_laws.proofs.BookLaws.{cells_of, length-all_cells}
 use Rattle.book_laws.specs.Slaves.{Asks, ErrandFits, SlaveFits}
 use Rattle.book_laws.specs.Up.{SlavesFit}
+use Rattle.book_laws.proofs.WornCounts.{owing-at}
 
 -- ---- one slave
-
-owing-cell : (runs : List Run) (slave at : ℕ) (cells : List Cell) (k : ℕ) → (vs : List ℕ) × (cell_of (owing_words runs slave at cells) k ≡ owing (cell_of cells k) vs)
-owing-cell runs slave at [] k = ([], refl)
-owing-cell runs slave at (cell ∷ cells) zero = (values runs slave at, refl)
-owing-cell runs slave at (cell ∷ cells) (suc k) = owing-cell runs slave (suc at) cells k
 
 length-owing : (runs : List Run) (slave at : ℕ) (cells : List Cell) → length (owing_words runs slave at cells) ≡ length cells
 length-owing runs slave at [] = refl
@@ -36,7 +32,7 @@ among-named value issues owed (v ∷ vs) has = among-named value issues (owed ++
 asks-owes : (slave word value : ℕ) (taken : Bool) (half : SlaveHalf) (cells : List Cell) (runs : List Run) (n : ℕ) → Asks slave word value taken half cells → Asks slave word value taken half (owing_words runs n 0 cells)
 asks-owes slave word value taken half cells runs n asks =
     let cell = cell_of cells word in
-    let o = owing-cell runs n 0 cells word in
+    let o = owing-at runs n 0 cells word in
     record {
       inside = omega (arith, asks.inside, length-owing runs n 0 cells);
       unsure = (asks.unsure.0, ap (λ (c : Cell). c.known) o.1 ∙ asks.unsure.1);
@@ -55,7 +51,7 @@ slave-owes : (slave : ℕ) (half : SlaveHalf) (errand : Errand) (took : Bool) (c
 slave-owes slave half errand took cells runs n fits = record {
   size = length-owing runs n 0 cells ∙ fits.size;
   words = λ left may at within.
-      let o = owing-cell runs n 0 cells at in
+      let o = owing-at runs n 0 cells at in
       subst (λ (c : Cell). MayBe c.known (get_or left at 0)) (sym o.1) (fits.words left may at (omega (arith, within, length-owing runs n 0 cells)));
   asks = errand-owes slave errand took half cells runs n fits.asks;
 }

@@ -23,7 +23,7 @@ use Rattle.book_laws.specs.Up.{Up}
 use Rattle.book_laws.proofs.SlaveLaws.{slave-takes, slave-passes, slave-written}
 use Rattle.book_laws.proofs.GoesLaws.{slave-goes}
 
-among-some : (value : ℕ) (owed : List ℕ) → IsAmong value owed → 0 < length owed
+pub among-some : (value : ℕ) (owed : List ℕ) → IsAmong value owed → 0 < length owed
 among-some value [] has = absurd has
 among-some value (v ∷ vs) has = omega arith
 

@@ -7,7 +7,7 @@ use Rattle.sii_words.specs.declared.run.Run.{Run}
 use Rattle.jrn_format.specs.declared.journal.Entry.{Entry}
 use Rattle.book_model.specs.Cells.{Cell, cell_of}
 use Rattle.book_model.specs.Pending.{values_of, namings_settled}
-use Rattle.book_model.proofs.SettledLaws.{word-settled}
+use Rattle.book_model.proofs.SettledLaws.{word-settled, and-right, and-left}
 use Rattle.book_model.proofs.EndLaws as queue
 use Rattle.book_model.specs.Entries.{runs_of, namings, values}
 use Rattle.book_model.specs.Book.{cell_at}
@@ -16,7 +16,7 @@ use Rattle.book_laws.specs.Plants.{AllFit, AllSettled}
 use Rattle.book_laws.specs.Fits.{SameCells, OwesNoMore}
 use Rattle.book_laws.proofs.CellLaws.{namings-append, values-append}
 use Rattle.book_laws.proofs.FitLaws.{runs_of-append}
-use Rattle.book_laws.proofs.BeginLaws.{and-first, and-second, le-of}
+use Rattle.book_laws.proofs.BeginLaws.{le-of}
 
 -- ---- what the test says
 
@@ -24,10 +24,10 @@ pub slave-settled : (first : ℕ) (cells : List (List Cell)) (behind runs : List
     → namings_settled (get_or cells k []) (namings behind (first + k)) (namings runs (first + k)) ≡ true
 slave-settled first [] behind runs k is within = absurd (omega arith)
 slave-settled first (c ∷ cells) behind runs zero is within =
-    rw add-zero (and-first (namings_settled c (namings behind first) (namings runs first)) (settled_from (suc first) cells behind runs) is)
+    rw add-zero (and-left (namings_settled c (namings behind first) (namings runs first)) (settled_from (suc first) cells behind runs) is)
 slave-settled first (c ∷ cells) behind runs (suc k) is within =
     rw (add-suc first k, ← suc-add first k)
-    (slave-settled (suc first) cells behind runs k (and-second (namings_settled c (namings behind first) (namings runs first)) (settled_from (suc first) cells behind runs) is) (omega arith))
+    (slave-settled (suc first) cells behind runs k (and-right (namings_settled c (namings behind first) (namings runs first)) (settled_from (suc first) cells behind runs) is) (omega arith))
 
 settled-at : (cells : List (List Cell)) (behind runs : List Run) (slave at : ℕ) → runs_settled cells behind runs ≡ true → slave < length cells
     → (values runs slave at ≡ []) ⊎ (length (cell_at cells slave at).owed ≤ length (values behind slave at))

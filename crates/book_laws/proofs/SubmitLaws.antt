@@ -37,6 +37,7 @@ use Rattle.book_laws.proofs.KeptLaws.{same_sizes}
 use Rattle.book_laws.proofs.FormLaws.{journal-same}
 use Rattle.book_laws.specs.Up.{Up}
 use Rattle.book_laws.proofs.EntryLaws.{entry-fits, entry-within}
+use Rattle.lists.proofs.Quantifiers.{all_snoc}
 
 -- ---- what an accepted command has passed
 
@@ -115,10 +116,6 @@ own-push book command new is =
     ∙ ap (λ (n : ℕ). own book ++ record { number = n; runs = runs_between (contents_of book) (after (contents_of book) command) } ∷ []) (omega arith)
     ∙ ap (λ (p : List (List ℕ)). own book ++ record { number = length book.accepted; runs = runs_between (contents_of book) p } ∷ []) (after-is (contents_of book) new command is)
 
-all-and : {A : Type 0} (P : A → Type 0) (xs : List A) (x : A) → AllByRecursion P xs → P x → AllByRecursion P (xs ++ x ∷ [])
-all-and P [] x all last = (last, tt)
-all-and P (y ∷ ys) x all last = (all.0, all-and P ys x all.1 last)
-
 module _ (own : List Entry) (entry : Entry) where
   -- the next entries stay the next
   more-next : (sizes : List ℕ) (durable : ℕ) (halves : Halves) (place : Place) (entries : List Entry) → Appends sizes own durable halves place entries → Appends sizes (own ++ entry ∷ []) durable halves place entries
@@ -134,7 +131,7 @@ module _ (own : List Entry) (entry : Entry) where
   }
 
   more-all : (P : Entry → Type 0) (durable : ℕ) → durable ≤ length own → AllByRecursion P (drop durable own) → P entry → AllByRecursion P (drop durable (own ++ entry ∷ []))
-  more-all P durable few all last = subst (AllByRecursion P) (sym (drop-append-le durable own (entry ∷ []) few)) (all-and P (drop durable own) entry all last)
+  more-all P durable few all last = subst (AllByRecursion P) (sym (drop-append-le durable own (entry ∷ []) few)) (all_snoc P (drop durable own) entry all last)
 
   -- the queue is longer by one at most
   more-few : (n : ℕ) → length (drop n own) < QUEUE → length (drop n (own ++ entry ∷ [])) ≤ QUEUE

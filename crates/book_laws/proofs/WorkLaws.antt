@@ -28,7 +28,7 @@ use Rattle.book_laws.proofs.RomLaws.{up-issues}
 -- ---- the last naming of a word
 
 -- these namings give the word of this one its value last
-abbrev IsLast : List (ℕ × ℕ) → ℕ × ℕ → Type 0
+abbrev pub IsLast : List (ℕ × ℕ) → ℕ × ℕ → Type 0
 IsLast ns n = (word : ℕ) → due word (values_of n.0 ns) ≡ n.1
 
 last-behind : (n k : ℕ × ℕ) (ns : List (ℕ × ℕ)) → IsLast ns k → IsLast (n ∷ ns) k
@@ -52,7 +52,7 @@ last-first n ns all false is =
     let here : (n.0 == n.0) ≡ true = grind (arith, nat_tests) in
     rw is (λ word. rw (here, none-of (values_of n.0 ns) is) refl, all-behind n ns (last_of ns) all)
 
-last-all : (ns : List (ℕ × ℕ)) → AllByRecursion (IsLast ns) (last_of ns)
+pub last-all : (ns : List (ℕ × ℕ)) → AllByRecursion (IsLast ns) (last_of ns)
 last-all [] = tt
 last-all (n ∷ ns) = last-first n ns (last-all ns) (is_any (values_of n.0 ns)) refl
 

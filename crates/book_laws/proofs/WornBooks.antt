@@ -43,6 +43,7 @@ use Rattle.book_laws.proofs.DiskEndLaws.{appends-of}
 use Rattle.book_laws.proofs.WorkLaws.{to_do-owed}
 use Rattle.book_laws.specs.Worn.{named_for, owed_in, SlaveWorn, Worn}
 use Rattle.book_laws.proofs.WornSlaves.{worn-asked, worn-errand, worn-failed, worn-again, worn-written, worn-owing, few-issues}
+use Rattle.book_laws.proofs.RomLaws.{among-some}
 
 -- ---- one slave of many
 
@@ -77,7 +78,7 @@ slave-opened words = record {
   calm = λ ok at. inl (omega (arith, known-opened words at));
 }
 
-owing-slave : (runs : List Run) (first : ℕ) (slaves : List Slave) (i : ℕ) → i < length slaves
+pub owing-slave : (runs : List Run) (first : ℕ) (slaves : List Slave) (i : ℕ) → i < length slaves
     → get_or (owing_slaves runs first slaves) i nobody ≡ record (get_or slaves i nobody) { cells = owing_words runs (first + i) 0 (get_or slaves i nobody).cells }
 owing-slave runs first [] i within = absurd (omega arith)
 owing-slave runs first (s ∷ slaves) zero within = ap (λ (n : ℕ). record s { cells = owing_words runs n 0 s.cells }) (omega arith)
@@ -198,10 +199,6 @@ worn-migrate book worn = by_form (is_closed book) (is_version_2 book.form) refl 
 
 -- ---- a slave
 
-some-among : (value : ℕ) (owed : List ℕ) → IsAmong value owed → 0 < length owed
-some-among value [] has = absurd has
-some-among value (v ∷ vs) has = omega arith
-
 module _ (frame : JournalFrame) (book : Book) (state : State) (took : List Bool) (m : Machine) (i : ℕ) (up : Up frame book state took m) (within : i < length book.slaves) (worn : Worn book) where
   worn-issue : (w : ℕ × ℕ) (others : List (ℕ × ℕ)) → (slave_at book i).errand ≡ Free → is_some book.fault ≡ false → to_do book i ≡ w ∷ others → Worn (with_issue book i w)
   worn-issue w others free ok todo =
@@ -209,7 +206,7 @@ module _ (frame : JournalFrame) (book : Book) (state : State) (took : List Bool)
       let slave = slave_at book i in
       let named = named_for (all_entries book) i in
       worn-set book i (record { cells = set slave.cells w.0 (asked (cell_of slave.cells w.0)); errand = Issuing w.0 w.1; issues = slave.issues + 1 }) within worn
-      (worn-asked named slave w.0 w.1 (is_some book.fault) free owed.0 (some-among w.1 (cell_of slave.cells w.0).owed owed.1) (subst (λ (failed : Bool). SlaveWorn named failed slave) ok (worn i within)))
+      (worn-asked named slave w.0 w.1 (is_some book.fault) free owed.0 (among-some w.1 (cell_of slave.cells w.0).owed owed.1) (subst (λ (failed : Bool). SlaveWorn named failed slave) ok (worn i within)))
 
   worn-as : (errand : Errand) → ((at : ℕ) → IsAbout (slave_at book i).errand at → IsAbout errand at) → Worn (with_errand book i errand)
   worn-as errand same =

@@ -28,7 +28,9 @@ use Rattle.book_laws.proofs.SettledLaws.{prefix-stays}
 use Rattle.book_laws.proofs.CommandLaws.{entry_after, entries-push}
 use Rattle.book_laws.specs.Events.{rested}
 use Rattle.desk_laws.specs.Turns.{AppendsNext}
-use Rattle.desk_laws.proofs.OwedLaws.{OweLess, owe-same, owe-asked, owe-written, count-set, owes-set, owes-live, count-live}
+use Rattle.desk_laws.proofs.OwedLaws.{OweLess, owe-same, owe-asked, owe-written, count-set, owes-set, count-live}
+use Rattle.book_core.proofs.LiveLaws.{owes-joined}
+use Rattle.book_laws.proofs.DiskEndLaws.{none-appended}
 
 -- The later book has more entries that were live, and owes no more than these name.
 pub record Goes (book later : Book) : Type 0 where
@@ -216,15 +218,10 @@ live-on book place entries is appends =
             ap (λ (l : List Entry). book.found ++ l) (take-add book.durable (length entries) (own book) ∙ ap (λ (l : List Entry). take book.durable (own book) ++ l) next)
             ∙ sym (append_assoc book.found (take book.durable (own book)) entries);
         count = count-live (runs_of entries) 0 book.slaves;
-        owes = owes-live (runs_of entries) book.slaves;
+        owes = owes-joined (runs_of entries) book.slaves;
       };
       appends = λ appended_next at others no. absurd (cc no);
     }
-
-far-none : (form : Form) → appended (behind_far_gate form) ≡ None
-far-none One = refl
-far-none Two = refl
-far-none Moving = refl
 
 step-on : (book : Book) (doing : Doing) → book.doing ≡ doing → AppendsNext book → GoesOn book (went_on (rested book) doing)
 step-on book Resting is appends = rest-on book (rested book) (record { words = refl; found = refl; accepted = refl; durable = refl; doing = refl }) refl
@@ -234,7 +231,7 @@ step-on book (OpenGate place entries) is appends = rest-on book (went_on (rested
 step-on book (OpenSync place entries) is appends = live-on book place entries is appends
 step-on book CloseGate is appends = nothing-on book (went_on (rested book) CloseGate) refl refl refl refl refl refl
 step-on book CloseSync is appends = nothing-on book (went_on (rested book) CloseSync) refl refl refl refl refl refl
-step-on book FarGate is appends = nothing-on book (went_on (rested book) FarGate) refl refl refl refl refl (far-none book.form)
+step-on book FarGate is appends = nothing-on book (went_on (rested book) FarGate) refl refl refl refl refl (none-appended book.form)
 step-on book Mark is appends = nothing-on book (went_on (rested book) Mark) refl refl refl refl refl refl
 step-on book MarkSync is appends = nothing-on book (went_on (rested book) MarkSync) refl refl refl refl refl refl
 step-on book Version is appends = nothing-on book (went_on (rested book) Version) refl refl refl refl refl refl

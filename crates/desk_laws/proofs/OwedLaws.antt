@@ -52,9 +52,6 @@ owes-set slaves i s le k at = let less = owes-less slaves i s le k at in omega (
 
 -- ---- a batch becomes live
 
-pub owes-live : (runs : List Run) (slaves : List Slave) → OwesNoMore (all_cells slaves) (all_cells (owing_slaves runs 0 slaves)) runs
-owes-live runs slaves = λ k at. subst (λ (n : ℕ). length (cell_at (all_cells (owing_slaves runs 0 slaves)) k at).owed ≤ length (cell_at (all_cells slaves) k at).owed + length (values runs n at)) (omega arith) (owes-slave runs 0 slaves k at)
-
 pub count-live : (runs : List Run) (first : ℕ) (slaves : List Slave) → length (all_cells (owing_slaves runs first slaves)) ≡ length (all_cells slaves)
 count-live runs first [] = refl
 count-live runs first (s ∷ ss) = ap suc (count-live runs (suc first) ss)

@@ -37,6 +37,7 @@ use Rattle.desk_laws.proofs.GoesLaws.{command-on, disk-asked-on, disk-told-on}
 use Rattle.desk_laws.proofs.FallLaws.{resting-next}
 use Rattle.desk_laws.proofs.HalfLaws.{HalfFits, half-opened, half-same}
 use Rattle.desk_laws.proofs.WordLaws.{WordsFit, words-opened, words-live, same-owing}
+use Rattle.book_laws.proofs.WornBooks.{owing-slave}
 
 -- the runs of all entries that have been live since the open
 abbrev pub all_runs : Book → List Run
@@ -52,12 +53,6 @@ pub record Stands (i : ℕ) (book : Book) (half : SlaveHalf) : Type 0 where
   pub fits : HalfFits i half (slave_at book i).errand (slave_at book i).cells
 
 -- ---- a batch that becomes live, for one slave
-
-owing-slave : (runs : List Run) (first : ℕ) (slaves : List Slave) (i : ℕ) → i < length slaves
-    → get_or (owing_slaves runs first slaves) i nobody ≡ record (get_or slaves i nobody) { cells = owing_words runs (first + i) 0 (get_or slaves i nobody).cells }
-owing-slave runs first [] i within = absurd (omega arith)
-owing-slave runs first (s ∷ slaves) zero within = rw add-zero refl
-owing-slave runs first (s ∷ slaves) (suc i) within = rw (add-suc first i, ← suc-add first i) (owing-slave runs (suc first) slaves i (omega arith))
 
 slave-owing : (runs : List Run) (slaves : List Slave) (i : ℕ) → i < length slaves → get_or (owing_slaves runs 0 slaves) i nobody ≡ record (get_or slaves i nobody) { cells = owing_words runs i 0 (get_or slaves i nobody).cells }
 slave-owing runs slaves i within = rw zero-add at (owing-slave runs 0 slaves i within)

@@ -17,6 +17,7 @@ use Rattle.desk_book.specs.Logs.{turn_noted}
 use Rattle.desk_book.proofs.KeptLaws.{keeps-disk_next, keeps-disk_done, keeps-rom_next, keeps-rom_done}
 use Rattle.desk_book.proofs.BaseLaws.{base-replayed}
 use Rattle.desk_laws.specs.Turns.{IsTurnOf}
+use Rattle.lists.proofs.Quantifiers.{all_snoc}
 
 -- ---- commands are only ever added
 
@@ -65,17 +66,13 @@ turn-is book final note more (Some image) has is =
 
 -- ---- all of them
 
-all-more : {A : Type 0} (P : A → Type 0) (xs : List A) (x : A) → AllByRecursion P xs → P x → AllByRecursion P (xs ++ x ∷ [])
-all-more P [] x all one = (one, tt)
-all-more P (y ∷ ys) x all one = (all.0, all-more P ys x all.1 one)
-
 module _ (base : List (List ℕ)) (final : List Command) where
   pub turns-are : (book : Book) (calls : List Call) (log : List CycleNote) → AreAnswered book calls → base_of book ≡ base → (replayed book calls).accepted ≡ final
       → AllByRecursion (IsTurnOf base final) log → AllByRecursion (IsTurnOf base final) (fold turn_noted log calls)
   turns-are book [] log all same last sofar = sofar
   turns-are book (PlanAsked (Some note) ∷ calls) log all same last sofar =
       turns-are book calls (log ++ note ∷ []) all.1 same last
-      (all-more (IsTurnOf base final) log note sofar
+      (all_snoc (IsTurnOf base final) log note sofar
       (subst (λ (b : List (List ℕ)). IsTurnOf b final note) same (turn-is book final note (subst (IsMore book.accepted) last (replayed-more book calls)) (process_image (planned book)) refl all.0)))
   turns-are book (PlanAsked None ∷ calls) log all same last sofar = turns-are book calls log all.1 same last sofar
   turns-are book (Submitted command answer ∷ calls) log all same last sofar = turns-are (after book (Submitted command answer)) calls log all.1 (base-replayed book (Submitted command answer ∷ []) ∙ same) last sofar

@@ -13,7 +13,7 @@ use Rattle.esc_model.specs.WordAccess.{IsAt}
 station_is : (slave register : ℕ) → slave < 64 → station_of (address_of slave register) ≡ station slave
 station_is slave register near = omega arith
 
-register_is : (slave register : ℕ) → slave < 64 → register_of (address_of slave register) ≡ register
+pub register_is : (slave register : ℕ) → slave < 64 → register_of (address_of slave register) ≡ register
 register_is slave register near = omega arith
 
 concerns-here : (half : SlaveHalf) (slave register count : ℕ) → slave < 64 → IsAt slave half → lies_in 0x0500 0x0510 register count ≡ true

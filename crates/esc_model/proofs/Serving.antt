@@ -6,6 +6,7 @@ use Rattle.ecat_frame.specs.declared.Command.{Command}
 use Rattle.ecat_frame.specs.declared.Command.TheVariants.{Fprd, Fpwr, Lrw, Other}
 use Rattle.esc_model.specs.Bytes.{register_of}
 use Rattle.esc_model.specs.SlaveHalf.{SlaveHalf, Activity, Idle, Reading, Writing, is_busy, Outcome, concerns, with_command_errors, begun, with_stored, after_write, written, served}
+use Rattle.esc_model.proofs.Status.{idle_not_busy}
 
 -- What the half is doing goes on, or a command has begun: a read, or the write of the word that its registers name.
 pub record Goes (half later : SlaveHalf) : Type 0 where
@@ -15,11 +16,6 @@ pub record Goes (half later : SlaveHalf) : Type 0 where
 
 pub Goes-same : (half : SlaveHalf) → Goes half half
 Goes-same half = record { words = refl; station = refl; activity = inl refl }
-
-idle_unless_busy : (activity : Activity) → is_busy activity ≡ false → activity ≡ Idle
-idle_unless_busy Idle is = refl
-idle_unless_busy Reading is = absurd cc
-idle_unless_busy (Writing word value) is = absurd cc
 
 Goes-begun : (half : SlaveHalf) → half.activity ≡ Idle → Goes half (begun half)
 Goes-begun half idle =
@@ -36,7 +32,7 @@ Goes-after_write half at content heard =
     cond_both (nat_le at 2 && nat_le 4 (at + length content)) _ _ (Goes half)
     (λ covers.
     let ends : 4 ≤ at + length content = leb-true 4 (at + length content) (and_parts (nat_le at 2) (nat_le 4 (at + length content)) covers).1 in
-    let idle : half.activity ≡ Idle = idle_unless_busy half.activity (busy_from_heard (is_busy half.activity) (at + length content) heard (omega arith)) in
+    let idle : half.activity ≡ Idle = idle_not_busy half.activity (busy_from_heard (is_busy half.activity) (at + length content) heard (omega arith)) in
     let goes = Goes-begun (with_command_errors (with_stored half at content)) idle in
     record { words = goes.words; station = goes.station; activity = goes.activity })
     (λ _. record { words = refl; station = refl; activity = inl refl })

@@ -33,7 +33,7 @@ pub number_back : (word : ℕ) → word < 2 ^ 16
     → word % 256 + 256 * (word / 256 % 256) + 65536 * (word / 65536 % 256 + 256 * (word / 16777216 % 256)) ≡ word
 number_back word small = omega arith
 
-value_back : (value : ℕ) → value < 2 ^ 16 → value % 256 + 256 * (value / 256 % 256) ≡ value
+pub value_back : (value : ℕ) → value < 2 ^ 16 → value % 256 + 256 * (value / 256 % 256) ≡ value
 value_back value small = omega arith
 
 abbrev content_of : (word value : ℕ) → List ℕ
@@ -43,7 +43,7 @@ writing_is : {a b c d : ℕ} → a ≡ b → c ≡ d → Writing a c ≡ Writing
 writing_is e f = cc
 
 -- bit 0 of the access byte
-offered_again : (offered forced : Bool) → (((if offered then 1 else 0) + (if forced then 2 else 0)) % 2 == 1) ≡ offered
+pub offered_again : (offered forced : Bool) → (((if offered then 1 else 0) + (if forced then 2 else 0)) % 2 == 1) ≡ offered
 offered_again true true = refl
 offered_again true false = refl
 offered_again false true = refl

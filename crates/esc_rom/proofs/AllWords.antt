@@ -17,7 +17,7 @@ use Rattle.esc_rom.specs.WordPairs.{ReadsPair, ReadsAll}
 use Rattle.esc_rom.specs.Access.{BecomesRead, BecomesUnread, ReadsWords}
 use Rattle.esc_rom.proofs.Runs.{Quiet-none, Ran-then, Ran-weaker}
 use Rattle.esc_rom.proofs.Past.{Ran-tied, never_idle, NeverIdle-behind}
-use Rattle.esc_rom.proofs.SettledWords.{seen_idle}
+use Rattle.esc_rom.proofs.SettledWords.{seen_idle, seen_here}
 use Rattle.esc_rom.proofs.States.{HalfGoes-weaker}
 
 -- the half became idle, has the station address, and the first words are read
@@ -27,15 +27,11 @@ pub record Filled (slave : ℕ) (words : List ℕ) (count : ℕ) (half now : Sla
   pub at : IsAt slave now
   pub same : (at : ℕ) → at < count → slice_index words at ≡ slice_index now.words at
 
-seen_at : (slave : ℕ) (rested : Rested) (half : SlaveHalf) → IsSeen slave rested half → IsAt slave half
-seen_at slave Well half seen = seen.0
-seen_at slave Failed half seen = seen.0
-
 pub filled_none : {a b : Seen} {slave : ℕ} {words : List ℕ} (rested : Rested) → Ran (Waited a slave b (Some rested)) a slave 10000 b → Ran (Filled slave words 0) a slave 10000 b
 filled_none {slave = slave} rested ran = Ran-weaker (omega arith) (λ half later here there waited. record {
   only = MayRest-only half later waited.0;
   idle = seen_idle slave rested later waited.1;
-  at = seen_at slave rested later waited.1;
+  at = seen_here slave rested later waited.1;
   same = λ at below. absurd (omega arith);
 }) ran
 

@@ -10,7 +10,6 @@ use Rattle.esc_model.proofs.Resting.{MayLeave-same}
 use Rattle.site_core.specs.State.{State, Seen, EachMayLeave}
 use Rattle.site_core.proofs.StopImages.{StopImage-same}
 use Rattle.site_core.proofs.Counts.{counts-left, words-idle}
-use Rattle.site_core.proofs.Runs.{all_append}
 use Rattle.site_core.specs.Times.{Follows}
 use Rattle.site_core.proofs.Times.{Follows-then}
 use Rattle.esc_rom.specs.declared.fault.RomFault.{RomFault}
@@ -19,6 +18,7 @@ use Rattle.esc_rom.specs.Runs.{Quiet}
 use Rattle.esc_rom.proofs.Runs.{Quiet-none, Quiet-then}
 use Rattle.esc_rom.specs.Reading.{most_calls, ReadsSlave, WasRead, WereRead, ReadsLine, Dies, EndsLine}
 use Rattle.esc_rom.proofs.Counting.{calls_more, calls_within}
+use Rattle.lists.proofs.Quantifiers.{all_append}
 
 -- the first `count` slaves were read, and these are their words
 pub record FirstRead (count : ℕ) (plant : List (List ℕ)) (sizes : List ℕ) (old now : Seen) : Type 0 where

@@ -58,7 +58,7 @@ pub seen_idle : (slave : ℕ) (rested : Rested) (half : SlaveHalf) → IsSeen sl
 seen_idle slave Well half seen = seen.1.idle
 seen_idle slave Failed half seen = seen.1
 
-seen_here : (slave : ℕ) (rested : Rested) (half : SlaveHalf) → IsSeen slave rested half → IsAt slave half
+pub seen_here : (slave : ℕ) (rested : Rested) (half : SlaveHalf) → IsSeen slave rested half → IsAt slave half
 seen_here slave Well half seen = seen.0
 seen_here slave Failed half seen = seen.0
 

@@ -27,25 +27,17 @@ use Rattle.file_laws.proofs.PairsLeft.{IsLeftOfSlave, IsLeftOfPart, ShownPair, s
 use Rattle.file_laws.proofs.Journals.{write_may_hold_anything, sync_leaves_no_more}
 use Rattle.file_laws.proofs.OneFile.{of_file-append}
 use Rattle.file_laws.proofs.Words.{split}
+use Rattle.site_core.proofs.Unions.{Any-left, Any-right}
 
 -- ONE MOMENT AND THE NEXT
-
-any_before : {A : Type 0} (P : A → Type 0) (xs ys : List A) → Any P xs → Any P (xs ++ ys)
-any_before P [] ys any = absurd (Any-nil P any)
-any_before P (x ∷ xs) ys any =
-    elim (Any-split P x xs any) [ inl here ↦ Any-first P x (xs ++ ys) here | inr there ↦ Any-later P x (xs ++ ys) (any_before P xs ys there) ]
-
-any_behind : {A : Type 0} (P : A → Type 0) (xs ys : List A) → Any P ys → Any P (xs ++ ys)
-any_behind P [] ys any = any
-any_behind P (x ∷ xs) ys any = Any-later P x (xs ++ ys) (any_behind P xs ys any)
 
 -- a moment that was added to the past
 added : (old new : Seen) (moment : Moment) (pair : Pair) → new.past ≡ old.past ++ moment ∷ []
     → Any (LeftAt pair) old.past ⊎ LeftAt pair moment → LeftSince new 0 pair
 added old new moment pair past left =
     inr (subst (λ (ms : List Moment). Any (LeftAt pair) ms) (sym past) (elim left [
-      | inl was ↦ any_before (LeftAt pair) old.past (moment ∷ []) was
-      | inr now ↦ any_behind (LeftAt pair) old.past (moment ∷ []) (Any-first (LeftAt pair) moment [] now)
+      | inl was ↦ Any-left (LeftAt pair) old.past (moment ∷ []) was
+      | inr now ↦ Any-right (LeftAt pair) old.past (moment ∷ []) (Any-first (LeftAt pair) moment [] now)
     ]))
 
 -- WHAT A FILE HOLDS

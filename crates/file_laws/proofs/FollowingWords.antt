@@ -30,6 +30,7 @@ use Rattle.file_laws.proofs.PairsLeft.{IsLeftOfSlave, IsLeftOfPart, ShownPair, s
 use Rattle.file_laws.proofs.OneFile.{AllOf, is_same-true, of_file-append, of_file-same, of_file-other}
 use Rattle.file_laws.proofs.Words.{one_file, word_is_durable, word_may_hold_anything, split}
 use Rattle.file_laws.proofs.Following.{within, whole_words, goes_on, over, asks_more, write_step, sync_step}
+use Rattle.site_shadow.proofs.GoingThrough.{get-set}
 
 -- A HALF AT REST
 
@@ -53,12 +54,6 @@ written_words (Writing word value) half rested write flying ends =
     ap (λ (h : SlaveHalf). h.words) ends ∙ ap (λ (w : WordWrite). slice_set half.words w.word w.value) one
 
 -- ONE HALF OF SEVERAL
-
-set_here : (halves : List SlaveHalf) (slave : ℕ) (half later : SlaveHalf) → slice_get halves slave ≡ Some half
-    → slice_get (slice_set halves slave later) slave ≡ Some later
-set_here [] slave half later here = absurd cc
-set_here (h ∷ hs) zero half later here = refl
-set_here (h ∷ hs) (suc slave) half later here = set_here hs slave half later here
 
 set_elsewhere : (halves : List SlaveHalf) (slave other : ℕ) (later : SlaveHalf) → (other ≡ slave → ⊥)
     → slice_get (slice_set halves slave later) other ≡ slice_get halves other
@@ -87,7 +82,7 @@ kept_by old new slave half later here same is = subst (λ (s : State). KeepsCont
         let at : other ≡ slave = eqb-true other slave e in
         let there_so : slice_get old.halves slave ≡ Some one = subst (λ (n : ℕ). slice_get old.halves n ≡ Some one) at there in
         let found : slice_get (slice_set old.halves slave later) other ≡ Some later =
-        subst (λ (n : ℕ). slice_get (slice_set old.halves slave later) n ≡ Some later) (sym at) (set_here old.halves slave half later here) in
+        subst (λ (n : ℕ). slice_get (slice_set old.halves slave later) n ≡ Some later) (sym at) (get-set old.halves slave half later here) in
         (later, found, same ∙ (let e2 : half ≡ one = cc in ap (λ (h : SlaveHalf). h.words) e2))
     by_slave other one there false e = (one, set_elsewhere old.halves slave other later (apart other slave e) ∙ there, refl)
 
@@ -148,7 +143,7 @@ module _ (state : State) (slave : ℕ) (half later : SlaveHalf) (write : WordWri
           let leads : BecomesBy calls (image_of half.words) file = subst (λ (f : File). BecomesBy calls f file) from all in
           record {
             half = later;
-            here = subst (λ (n : ℕ). slice_get (slice_set state.halves slave later) n ≡ Some later) (sym at) (set_here state.halves slave half later here);
+            here = subst (λ (n : ℕ). slice_get (slice_set state.halves slave later) n ≡ Some later) (sym at) (get-set state.halves slave half later here);
             file_is = word_is_durable (Image slave) half write calls file flying are leads ∙ ap (λ (ws : List ℕ). image_of ws) (sym words);
           }
       by_slave false e =

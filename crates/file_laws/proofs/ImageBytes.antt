@@ -3,6 +3,7 @@ use Rattle.std.proofs.Common.{◌≡◌, ℕ, zero, suc, ◌+◌, ◌*◌, ◌/�
 use Rattle.sii_words.specs.Words.{bytes_of}
 use Rattle.site_core.specs.Disk.{IsOutside, overlaid}
 use Rattle.site_core.proofs.StopImages.{equal_by_elements}
+use Rattle.sii_words.proofs.WordBytes.{low_of, high_of}
 
 -- two bytes laid over those of a word are those of a list with another word
 laid_at : (words : List ℕ) (word value at : ℕ) → at ≡ word * 2 → word < length words
@@ -23,12 +24,6 @@ pub word_inside : (words : List ℕ) (word : ℕ) → word < length words → wo
 word_inside [] word inside = absurd (let e : word < 0 = inside in omega arith)
 word_inside (w ∷ ws) zero inside = omega arith
 word_inside (w ∷ ws) (suc n) inside = let more : n * 2 ≤ length (bytes_of ws) = word_inside ws n (omega arith) in omega arith
-
-low_of : (low high : ℕ) → low < 256 → (low + high * 256) % 256 ≡ low
-low_of low high fits = omega arith
-
-high_of : (low high : ℕ) → low < 256 → (low + high * 256) / 256 ≡ high
-high_of low high fits = omega arith
 
 further : (at n place : ℕ) → at ≡ suc (suc (n * 2)) → IsOutside place (record { start = n * 2; count = 2 })
     → IsOutside (suc (suc place)) (record { start = at; count = 2 })

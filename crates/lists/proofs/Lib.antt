@@ -1,1 +1,2 @@
 pub mod ListedMembers
+pub mod Quantifiers

@@ -5,6 +5,7 @@ use Rattle.sii_edit.specs.declared.command.Command.{Command}
 use Rattle.station_alone.specs.Station.{Station}
 use Rattle.station_alone.specs.Keeping.{GoesOn, Keeps}
 use Rattle.station_alone.proofs.KeepLaws.{keeps-then, keeps-while-still}
+use Rattle.station_alone.proofs.KeepLaws.{goes-then as goes-on-then}
 use Rattle.script_session.specs.Rounds.{Goes}
 
 pub goes-by : (commands : List Command) (most : ℕ) (old new : Station) → GoesOn commands most old new → Keeps commands old new → Goes commands old new
@@ -16,16 +17,6 @@ goes-none s = record {
   most = 0;
   on = record { line = refl; words = refl; found = refl; accepted = sym (append-nil s.book.accepted); durable = omega arith; within = omega arith };
   keeps = keeps-while-still s s refl refl;
-}
-
-goes-on-then : (first second : List Command) (m n : ℕ) (a b c : Station) → GoesOn first m a b → GoesOn second n b c → GoesOn (first ++ second) (m + n) a c
-goes-on-then first second m n a b c one two = record {
-  line = two.line ∙ one.line;
-  words = two.words ∙ one.words;
-  found = two.found ∙ one.found;
-  accepted = two.accepted ∙ ap (λ (l : List Command). l ++ second) one.accepted ∙ append_assoc a.book.accepted first second;
-  durable = let x = one.durable in let y = two.durable in omega (arith, x, y);
-  within = let x = one.within in let y = two.within in omega (arith, x, y);
 }
 
 pub goes-then : (first second : List Command) (a b c : Station) → Goes first a b → Goes second b c → Goes (first ++ second) a c

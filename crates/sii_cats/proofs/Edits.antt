@@ -154,7 +154,7 @@ pub closing_ends : (words : List ℕ) → IsEnd (closing words)
 closing_ends [] = tt
 closing_ends (word ∷ words) = refl
 
-closing_mark : (words : List ℕ) → 0 < length words → slice_get (closing words) 0 ≡ Some 0xFFFF
+pub closing_mark : (words : List ℕ) → 0 < length words → slice_get (closing words) 0 ≡ Some 0xFFFF
 closing_mark [] h = absurd (omega arith)
 closing_mark (word ∷ words) h = refl
 
@@ -162,7 +162,7 @@ pub drop-closing : (words : List ℕ) → drop 1 (closing words) ≡ drop 1 word
 drop-closing [] = refl
 drop-closing (word ∷ words) = refl
 
-slice_get_behind : (front words : List ℕ) → slice_get (front ++ words) (length front) ≡ slice_get words 0
+pub slice_get_behind : (front words : List ℕ) → slice_get (front ++ words) (length front) ≡ slice_get words 0
 slice_get_behind [] words = refl
 slice_get_behind (word ∷ front) words = slice_get_behind front words
 

@@ -17,7 +17,7 @@ use Rattle.sii_edit.specs.Refusal.{unless}
 use Rattle.sii_edit.proofs.CategoryLaws.{count-cons, count-None}
 use Rattle.sii_edit.proofs.ShapeLaws.{length-with_chain, within}
 use Rattle.sii_edit.proofs.UnlessLaws.{none_holds, unless-ok}
-use Rattle.sii_cats.proofs.Edits.{AreTyped, closing_ends, drop-closing}
+use Rattle.sii_cats.proofs.Edits.{AreTyped, closing_ends, drop-closing, chain_of_parts, closing_mark, slice_get_behind}
 
 -- ---- the place of a category
 
@@ -76,27 +76,11 @@ typed_chain : (cells : List ℕ) (ms : List Member) → AreItems Begins IsEnd ce
 typed_chain cells [] items = All-nil (λ m. m.kind ≢ 0xFFFF)
 typed_chain cells (m ∷ ms) items = All-cons (λ x. x.kind ≢ 0xFFFF) m ms items.1.0 (typed_chain items.0 ms items.2)
 
-spelled_chain : (ms : List Member) (rest : List ℕ) → AreTyped ms → IsEnd rest → AreItems Begins IsEnd (chain_words ms ++ rest) ms
-spelled_chain [] rest typed ended = ended
-spelled_chain (m ∷ ms) rest typed ended = (
-  chain_words ms ++ rest,
-  (All-head (λ x. x.kind ≢ 0xFFFF) m ms typed, append_assoc (member_words m) (chain_words ms) rest),
-  spelled_chain ms rest (All-tail (λ x. x.kind ≢ 0xFFFF) m ms typed) ended,
-)
-
 typed_spliced : (place : Option ℕ) (kind : ℕ) (content : List ℕ) (ms : List Member) → kind ≢ 0xFFFF → AreTyped ms → AreTyped (spliced place kind content ms)
 typed_spliced None kind content ms fit typed = All-push (λ m. m.kind ≢ 0xFFFF) ms (record { kind = kind; content = content }) typed fit
 typed_spliced (Some i) kind [] ms fit typed =
     All-append (λ m. m.kind ≢ 0xFFFF) (take i ms) (drop (suc i) ms) (All-take (λ m. m.kind ≢ 0xFFFF) i ms typed) (All-drop (λ m. m.kind ≢ 0xFFFF) (suc i) ms typed)
 typed_spliced (Some i) kind (word ∷ words) ms fit typed = All-set (λ m. m.kind ≢ 0xFFFF) ms i (record { kind = kind; content = word ∷ words }) fit typed
-
-closing_mark : (words : List ℕ) → 0 < length words → slice_get (closing words) 0 ≡ Some 0xFFFF
-closing_mark [] some = absurd (omega arith)
-closing_mark (word ∷ words) some = refl
-
-first_behind : (front words : List ℕ) → slice_get (front ++ words) (length front) ≡ slice_get words 0
-first_behind [] words = refl
-first_behind (word ∷ front) words = first_behind front words
 
 pub edit_is : (old new : List ℕ) (ms : List Member) → chain_end ms ≤ length old → AreTyped ms → new ≡ with_chain old ms → IsEdit old new ms
 edit_is old new ms room typed made =
@@ -113,8 +97,8 @@ edit_is old new ms room typed made =
       size = ap length made ∙ length-with_chain old ms room;
       before = ap (take 64) parts ∙ take_at head (chain_words ms ++ closing left) 64 head_size;
       chain = subst (λ (cells : List ℕ). AreItems Begins IsEnd cells ms) (sym (ap (drop 64) parts ∙ drop_at head (chain_words ms ++ closing left) 64 head_size))
-          (spelled_chain ms (closing left) typed (closing_ends left));
-      mark = λ some. ap (slice_get new) (sym size) ∙ ap (λ (ws : List ℕ). slice_get ws (length front)) made ∙ first_behind front (closing left) ∙ closing_mark left (omega arith);
+          (chain_of_parts ms (closing left) typed (closing_ends left));
+      mark = λ some. ap (slice_get new) (sym size) ∙ ap (λ (ws : List ℕ). slice_get ws (length front)) made ∙ slice_get_behind front (closing left) ∙ closing_mark left (omega arith);
       behind = ap (λ (n : ℕ). drop n new) next ∙ sym (drop-drop 1 (length front) new) ∙ ap (drop 1) tail ∙ drop-closing left ∙ drop-drop 1 (length front) old ∙ ap (λ (n : ℕ). drop n old) (sym next);
     }
 

@@ -30,10 +30,10 @@ take-two_set bytes k low high within =
     let one : k + 1 ≡ suc k = omega arith in
     rw (two, take-suc-set (set bytes k low) (k + 1) high second, one, take-suc-set bytes k low first, append_assoc) refl
 
-low_of : (low high : ℕ) → low < 256 → (low + high * 256) % 256 ≡ low
+pub low_of : (low high : ℕ) → low < 256 → (low + high * 256) % 256 ≡ low
 low_of low high fits = omega arith
 
-high_of : (low high : ℕ) → low < 256 → (low + high * 256) / 256 ≡ high
+pub high_of : (low high : ℕ) → low < 256 → (low + high * 256) / 256 ≡ high
 high_of low high fits = omega arith
 
 -- one word more is read

@@ -90,7 +90,7 @@ WritesDisk-counts old at bytes result new writes = Calls-counts old writes.middl
 
 -- EXCHANGES
 
-counts-set : (halves : List SlaveHalf) (slave : ℕ) (half later : SlaveHalf) → slice_get halves slave ≡ Some half → length later.words ≡ length half.words
+pub counts-set : (halves : List SlaveHalf) (slave : ℕ) (half later : SlaveHalf) → slice_get halves slave ≡ Some half → length later.words ≡ length half.words
     → word_counts (slice_set halves slave later) ≡ word_counts halves
 counts-set [] slave half later here same = absurd cc
 counts-set (h ∷ hs) zero half later here same =

@@ -7,11 +7,7 @@ use Rattle.site_core.specs.State.{State, Pair, Leaves, Moment, Seen, last_of, Le
 use Rattle.site_core.specs.Calls.{Calls}
 use Rattle.site_core.specs.Passes.{Passes, LeavesOnly, LeftOnly, StaysWithin}
 use Rattle.site_core.proofs.Moments.{Any-nil, Any-split, LeftSince-added}
-
--- each element of two lists, one behind the other
-pub all_append : {A : Type 0} (P : A → Type 0) (xs ys : List A) → AllByRecursion P xs → AllByRecursion P ys → AllByRecursion P (xs ++ ys)
-all_append P [] ys all more = more
-all_append P (x ∷ xs) ys all more = (all.0, all_append P xs ys all.1 more)
+use Rattle.lists.proofs.Quantifiers.{all_append}
 
 pub all_weaker : {A : Type 0} (P Q : A → Type 0) (xs : List A) → ((x : A) → P x → Q x) → AllByRecursion P xs → AllByRecursion Q xs
 all_weaker P Q [] weaker all = tt

@@ -9,11 +9,11 @@ use Rattle.site_core.specs.Laws.{SinceIsUnion}
 use Rattle.site_core.proofs.Moments.{Any-nil, Any-first, Any-later, Any-split, Any-append}
 use Rattle.site_core.proofs.Times.{slice_get-seam}
 
-Any-left : {A : Type 0} (P : A → Type 0) (xs ys : List A) → Any P xs → Any P (xs ++ ys)
+pub Any-left : {A : Type 0} (P : A → Type 0) (xs ys : List A) → Any P xs → Any P (xs ++ ys)
 Any-left P [] ys any = absurd (Any-nil P any)
 Any-left P (x ∷ xs) ys any = elim (Any-split P x xs any) [ inl here ↦ Any-first P x (xs ++ ys) here | inr there ↦ Any-later P x (xs ++ ys) (Any-left P xs ys there) ]
 
-Any-right : {A : Type 0} (P : A → Type 0) (xs ys : List A) → Any P ys → Any P (xs ++ ys)
+pub Any-right : {A : Type 0} (P : A → Type 0) (xs ys : List A) → Any P ys → Any P (xs ++ ys)
 Any-right P [] ys any = any
 Any-right P (x ∷ xs) ys any = Any-later P x (xs ++ ys) (Any-right P xs ys any)
 

@@ -22,10 +22,11 @@ use Rattle.book_model.specs.DiskSteps.{action_of, begun, behind_far_gate, can_mi
 use Rattle.book_model.specs.Reading.{runs_settled}
 use Rattle.book_model.specs.Machine.{Machine}
 use Rattle.book_laws.specs.Frame.{JournalFrame}
-use Rattle.book_laws.proofs.BeginLaws.{and-first, and-second, BegunAs, appends, retires, migrates, rests, begun-as}
+use Rattle.book_laws.proofs.BeginLaws.{BegunAs, appends, retires, migrates, rests, begun-as}
 use Rattle.book_laws.specs.Up.{Up}
 use Rattle.site_journal.specs.Left.{half_calls, halves_calls, disk_calls}
 use Rattle.site_journal.specs.Recovering.{IsStep, IsRecovering, GetsNearer, HasAction, fault_after}
+use Rattle.book_model.proofs.SettledLaws.{and-right, and-left}
 
 -- ---- what is begun
 
@@ -56,11 +57,11 @@ module _ (frame : JournalFrame) (book : Book) (state : State) (took : List Bool)
   begins doing resting (appends place some there is) = absurd (not-both (is_any (queued book)) some (none-queued book recovering.none))
   begins doing resting (retires can is) =
       let settled = runs_settled (all_cells book.slaves) (live_runs book.halves.newer) (live_runs book.halves.older) in
-      let some = some-live book.halves up.ordered (and-first (is_any (live book.halves)) settled can) in
+      let some = some-live book.halves up.ordered (and-left (is_any (live book.halves)) settled can) in
       subst (GoesTo book) (sym is) (record { step = some; calls = ap (λ (d : Doing). disk_calls d book.halves book.form) (sym resting) })
   begins doing resting (migrates can is) =
-      let asked = and-first book.is_migrating (not (is_any (live book.halves))) can in
-      let nothing = none-live (live book.halves) (not-true (is_any (live book.halves)) (and-second book.is_migrating (not (is_any (live book.halves))) can)) in
+      let asked = and-left book.is_migrating (not (is_any (live book.halves))) can in
+      let nothing = none-live (live book.halves) (not-true (is_any (live book.halves)) (and-right book.is_migrating (not (is_any (live book.halves))) can)) in
       let old = false_from_ne_true (is_version_2 book.form) (λ new. not-both book.is_migrating asked (up.no_migration new)) in
       subst (GoesTo book) (sym is) (record { step = (old, nothing); calls = ap (λ (d : Doing). disk_calls d book.halves book.form) (sym resting) })
   begins doing resting (rests is) = subst (GoesTo book) (sym is) (record { step = tt; calls = ap (λ (d : Doing). disk_calls d book.halves book.form) (sym resting) })

@@ -15,15 +15,7 @@ use Rattle.site_shadow.specs.Stopping.{noted, begun, HasStopped, CountsFault, co
 use Rattle.site_shadow.specs.Following.{begin_of, Extends, KeepsContents, GoesOn, Keeps, RestKeeps, TakeKeeps}
 use Rattle.site_shadow.proofs.Calling.{Calls-fails, WritesDisk-fails}
 use Rattle.site_shadow.proofs.LineHalves.{halves_of-get, halves_of-set}
-
-any_before : {A : Type 0} (P : A → Type 0) (xs ys : List A) → Any P xs → Any P (xs ++ ys)
-any_before P [] ys any = absurd (Any-nil P any)
-any_before P (x ∷ xs) ys any =
-    elim (Any-split P x xs any) [ inl here ↦ Any-first P x (xs ++ ys) here | inr there ↦ Any-later P x (xs ++ ys) (any_before P xs ys there) ]
-
-any_behind : {A : Type 0} (P : A → Type 0) (xs ys : List A) → Any P ys → Any P (xs ++ ys)
-any_behind P [] ys any = any
-any_behind P (x ∷ xs) ys any = Any-later P x (xs ++ ys) (any_behind P xs ys any)
+use Rattle.site_core.proofs.Unions.{Any-left, Any-right}
 
 begins_alike : (past : List Moment) (moment : Moment) (state : State) → begin_of (past ++ moment ∷ []) state ≡ begin_of past moment.before
 begins_alike [] moment state = refl
@@ -35,8 +27,8 @@ extends_with : (old new : Seen) (moment : Moment) → new.past ≡ old.past ++ m
 extends_with old new moment past before stopped = record {
   first = ap (λ (p : List Moment). begin_of p new.state) past ∙ begins_alike old.past moment new.state ∙ ap (λ (s : State). begin_of old.past s) before;
   left = λ pair left. inr (subst (λ (ms : List Moment). Any (LeftAt pair) ms) (sym past) (elim left [
-    | inl leaves ↦ any_behind (LeftAt pair) old.past (moment ∷ []) (Any-first (LeftAt pair) moment [] (inl (subst (λ (s : State). Leaves s pair) (sym before) leaves)))
-    | inr was ↦ any_before (LeftAt pair) old.past (moment ∷ []) was
+    | inl leaves ↦ Any-right (LeftAt pair) old.past (moment ∷ []) (Any-first (LeftAt pair) moment [] (inl (subst (λ (s : State). Leaves s pair) (sym before) leaves)))
+    | inr was ↦ Any-left (LeftAt pair) old.past (moment ∷ []) was
   ]));
   stopped = stopped;
 }
@@ -84,7 +76,7 @@ at_last first (s ∷ states) pair leaves = elim (at_last s states pair leaves) [
 longer : (states others : List State) (first : State) (pair : Pair) → Leaves first pair ⊎ Any (λ state. Leaves state pair) states
     → Leaves first pair ⊎ Any (λ state. Leaves state pair) (states ++ others)
 longer states others first pair (inl here) = inl here
-longer states others first pair (inr there) = inr (any_before (λ state. Leaves state pair) states others there)
+longer states others first pair (inr there) = inr (Any-left (λ state. Leaves state pair) states others there)
 
 last_longer : (past : List Moment) (old : Seen) (states others : List State) (pair : Pair)
     → Any (LeftAt pair) (past ++ record { before = old.state; faults = old.faults; middle = states } ∷ [])
@@ -92,9 +84,9 @@ last_longer : (past : List Moment) (old : Seen) (states others : List State) (pa
 last_longer past old states others pair any =
     let later : Moment = record { before = old.state; faults = old.faults; middle = states ++ others } in
     elim (Any-append (LeftAt pair) past (record { before = old.state; faults = old.faults; middle = states } ∷ []) any) [
-      | inl before ↦ any_before (LeftAt pair) past (later ∷ []) before
+      | inl before ↦ Any-left (LeftAt pair) past (later ∷ []) before
       | inr here ↦ elim (Any-split (LeftAt pair) (record { before = old.state; faults = old.faults; middle = states }) [] here) [
-        | inl at ↦ any_behind (LeftAt pair) past (later ∷ []) (Any-first (LeftAt pair) later [] (longer states others old.state pair at))
+        | inl at ↦ Any-right (LeftAt pair) past (later ∷ []) (Any-first (LeftAt pair) later [] (longer states others old.state pair at))
         | inr none ↦ absurd (Any-nil (LeftAt pair) none)
       ]
     ]
@@ -107,7 +99,7 @@ Extends-middle old middle state later last =
     record {
       first = begins_alike old.past moment later ∙ sym (begins_alike old.past (record { before = old.state; faults = old.faults; middle = middle }) state);
       left = λ pair left. inr (elim left [
-        | inl leaves ↦ any_behind (LeftAt pair) old.past (moment ∷ []) (Any-first (LeftAt pair) moment []
+        | inl leaves ↦ Any-right (LeftAt pair) old.past (moment ∷ []) (Any-first (LeftAt pair) moment []
             (longer middle (later ∷ []) old.state pair (at_last old.state middle pair (subst (λ (s : State). Leaves s pair) (sym last) leaves))))
         | inr was ↦ last_longer old.past old middle (later ∷ []) pair was
       ]);
@@ -125,7 +117,7 @@ GoesOn-torn old middle state new last has =
       extends = record {
         first = ap (λ (p : List Moment). begin_of p new.state) past ∙ begins_alike old.past moment new.state ∙ sym (begins_alike old.past moment state);
         left = λ pair left. inr (subst (λ (ms : List Moment). Any (LeftAt pair) ms) (sym past) (elim left [
-          | inl leaves ↦ any_behind (LeftAt pair) old.past (moment ∷ []) (Any-first (LeftAt pair) moment []
+          | inl leaves ↦ Any-right (LeftAt pair) old.past (moment ∷ []) (Any-first (LeftAt pair) moment []
               (at_last old.state middle pair (subst (λ (s : State). Leaves s pair) (sym last) leaves)))
           | inr was ↦ was
         ]));

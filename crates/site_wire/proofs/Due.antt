@@ -10,7 +10,7 @@ use Rattle.esc_model.specs.declared.rest.WordWrite.{WordWrite}
 use Rattle.esc_model.proofs.WordTaking.{number_back}
 use Rattle.wire_laws.specs.Due.{WritesControl, none, reads, writes, IsFit, clears, IsDue}
 use Rattle.wire_laws.specs.Due as due
-use Rattle.wire_frames.proofs.Sending.{register_is}
+use Rattle.esc_model.proofs.Addressing.{register_is}
 
 -- a read of registers
 pub read_due : (half : SlaveHalf) (frame : List Pdu) (address : ℕ) (content : List ℕ) → frame ≡ sent Fprd 0 address content ∷ [] → IsDue half frame

@@ -3,7 +3,6 @@ use Rattle.std.proofs.Common.{◌≡◌, ℕ, ◌+◌, ◌≤◌, [], ◌∷◌,
 use Rattle.esc_rom.specs.declared.fault.RomFault.TheVariants as rom
 use Rattle.site_core.specs.declared.fault.DeviceFault.TheVariants as device
 use Rattle.site_core.specs.State.{clock}
-use Rattle.site_core.proofs.Runs.{all_append}
 use Rattle.site_journal.specs.declared.fault.ReadFault.TheVariants as read
 use Rattle.sii_words.proofs.RedoLaws.{SameShape-redone}
 use Rattle.sii_edit.proofs.FoldLaws.{SameShape-contents}
@@ -22,6 +21,7 @@ use Rattle.station_alone.proofs.KeepLaws.{goes-none, goes-within, goes-then, kee
 use Rattle.station_alone.proofs.RunLaws.{steps-then}
 use Rattle.station_alone.specs.Recovery.{Breaks, IsOfRecovery, LeadsTo}
 use Rattle.station_alone.specs.Rounds.{IsWorking, StaysKept, Works, EndsEarly}
+use Rattle.lists.proofs.Quantifiers.{all_append}
 
 -- the fault that is handed on
 pub handed_on : {T : Type 0} (result : Result T OpenFault) (fault : OpenFault) → IsErrAnd result (λ other. other ≡ fault) → result ≡ Err fault

@@ -3,16 +3,12 @@ use Rattle.std.proofs.Common.{◌≡◌, ◌≢◌, ℕ, zero, suc, ◌+◌, ◌
 use Rattle.std.proofs.lemmas.List.{drop_more, get_or-drop, get_or_default, length-drop, map_more, take_more}
 use Rattle.std.specs.List.{AllByRecursion, AllZip, HoldsAt, slice_index_or}
 use Rattle.std.specs.Prelude.{MatchOption}
-use Rattle.station_files.proofs.Loaded.{AllZip-snoc}
 use Rattle.station_files.specs.declared.location.Location.{Location}
 use Rattle.station_files.specs.declared.same_files.Clash.{Clash}
 use Rattle.station_files.specs.Locations.{AreApart, IsClash, Leads, LeadsTo, MeetAt, Meets, NoneMeet, OfBoth, Place, StandApart, place_of}
+use Rattle.lists.proofs.Quantifiers.{all_snoc, zip_snoc}
 
 -- ---- lists of pairs
-
-all_snoc : {A : Type 0} (P : A → Type 0) (xs : List A) (x : A) → AllByRecursion P xs → P x → AllByRecursion P (xs ++ x ∷ [])
-all_snoc P [] x all here = (here, tt)
-all_snoc P (a ∷ xs) x all here = (all.0, all_snoc P xs x all.1 here)
 
 pub zip_length : {A B : Type 0} (R : A → B → Type 0) (xs : List A) (ys : List B) → AllZip R xs ys → length xs ≡ length ys
 zip_length R [] [] all = refl
@@ -32,7 +28,7 @@ pub leads_one_more : (leads : Leads) (names : List (String Global)) (i : ℕ) (i
     → AllZip (LeadsTo leads) (map (λ (one : String Global). string_bytes one) (take (i + 1) names)) (found ++ here ∷ [])
 leads_one_more leads names i item name found here inside same named all leads_here =
     let is : name ≡ string_bytes (get_or names i item) = named ∙ ap (λ (one : String Global). string_bytes one) same in
-    rw (map_more (λ (one : String Global). string_bytes one) names i item inside, ← is) (AllZip-snoc (LeadsTo leads) (map (λ (one : String Global). string_bytes one) (take i names)) found name here all leads_here)
+    rw (map_more (λ (one : String Global). string_bytes one) names i item inside, ← is) (zip_snoc (LeadsTo leads) (map (λ (one : String Global). string_bytes one) (take i names)) found name here all leads_here)
 
 -- ---- one file after the other
 

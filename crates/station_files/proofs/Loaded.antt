@@ -8,20 +8,14 @@ use Rattle.station_files.specs.Files.{Known, Holds, HasBytes}
 use Rattle.station_files.specs.LineFiles.{SpellsWords, RefusesWords, RefusesFirst, RefusesSlaves, RefusesPlant, RefusesLayout}
 use Rattle.station_files.specs.declared.faults.Fault.{Fault}
 use Rattle.station_files.specs.declared.faults.Fault.TheVariants.{OddLength, BadSize, ImageOverLimit, Memory, Disk, Lost, Stopped, SlaveDead, NotAJournal, BadVersion, BadJournal, WrongLine, Unserved, File, BadHex, BadLine, BadScript, Exists, Busy, SameFile}
-
--- one more pair
-pub AllZip-snoc : {A B : Type 0} (R : A → B → Type 0) (xs : List A) (ys : List B) (x : A) (y : B) → AllZip R xs ys → R x y → AllZip R (xs ++ x ∷ []) (ys ++ y ∷ [])
-AllZip-snoc R [] [] x y all here = (here, tt)
-AllZip-snoc R [] (b ∷ ys) x y all here = absurd all
-AllZip-snoc R (a ∷ xs) [] x y all here = absurd all
-AllZip-snoc R (a ∷ xs) (b ∷ ys) x y all here = (all.0, AllZip-snoc R xs ys x y all.1 here)
+use Rattle.lists.proofs.Quantifiers.{zip_snoc}
 
 -- one more item is loaded, from unchanged files
 pub loads_one_more : {A B : Type 0} (R : Known → A → B → Type 0) (old new : Known) (xs : List A) (i : ℕ) (item : A) (ys : List B) (y : B) → i < length xs → item ≡ get_or xs i item → new ≡ old → AllZip (R old) (take i xs) ys → R new item y → AllZip (R old) (take (i + 1) xs) (ys ++ y ∷ [])
 loads_one_more {A} {B} R old new xs i item ys y inside same still all here =
     let P : A → Type 0 = λ v. R old v y in
     let Q : Known → Type 0 = λ files. R files item y in
-    rw (take_more xs i item inside) (AllZip-snoc (R old) (take i xs) ys (get_or xs i item) y all (subst P same (subst Q still here)))
+    rw (take_more xs i item inside) (zip_snoc (R old) (take i xs) ys (get_or xs i item) y all (subst P same (subst Q still here)))
 
 -- the names before an item, its own name, and those after it
 split_at : {A B : Type 0} (f : A → B) (xs : List A) (i : ℕ) (d : A) → i < length xs → map f xs ≡ map f (take i xs) ++ f (get_or xs i d) ∷ map f (drop (suc i) xs)

@@ -7,7 +7,7 @@ use Rattle.std.proofs.Math.Nat.{eq-zero-or-pos}
 use Rattle.ecat_frame.specs.Frame.{Pdu}
 use Rattle.site_core.specs.State.{State, Leaves, Seen, CycleTurn}
 use Rattle.site_core.specs.Passes.{LeavesOnly, StaysWithin, AddsNothing}
-use Rattle.site_core.proofs.Runs.{all_append, Passes-none, Passes-then, Passes-stays}
+use Rattle.site_core.proofs.Runs.{Passes-none, Passes-then, Passes-stays}
 use Rattle.sii_image.specs.declared.process_image.Segment.{Segment}
 use Rattle.cyclic.specs.declared.fault.CycleFault.{CycleFault}
 use Rattle.cyclic.specs.declared.fault.CycleFault.TheVariants as cycle
@@ -20,6 +20,7 @@ use Rattle.station_jobs.specs.declared.cycle.CycleOutcome.{CycleOutcome}
 use Rattle.station_jobs.specs.Setting.{Exchanges, GoesOn, TakesJob}
 use Rattle.sii_image.specs.declared.plan.Plan.{Plan}
 use Rattle.station_jobs.specs.Cycling.{IsWrite, IsSetting, SendsTurn, SendsTurns, IsCycled}
+use Rattle.lists.proofs.Quantifiers.{all_append}
 
 -- ---- one after another
 

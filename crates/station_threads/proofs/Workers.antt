@@ -4,7 +4,8 @@ use Rattle.station_jobs.specs.declared.log.SlaveLog.{SlaveLog}
 use Rattle.station_jobs.specs.Ends.{Stay}
 use Rattle.station_threads.specs.Parts.{Part, PartOf, IsEndOfCycle, IsEndOfSlave, AreSlaveEndsOf}
 use Rattle.station_threads.specs.Starting.{Started, IsStarted, ComesTo, IsTurning, TurnsInto, Worker, IsWorkerOf, AreWorkersOfParts, EndsAs, EndAs}
-use Rattle.station_threads.proofs.Zips.{zip-more, zip-through}
+use Rattle.station_threads.proofs.Zips.{zip-through}
+use Rattle.lists.proofs.Quantifiers.{zip_snoc}
 
 -- the work began with the part's site
 pub began : {S L : Type 0} (site : S) (started : Started S L) (end : Stay S L) → IsStarted site started → ComesTo started end → end.start ≡ site
@@ -34,7 +35,7 @@ module _ {S : Type 0} where
   -- one more
   pub workers-more : {D : Type 0} (parts : List (PartOf S D)) (workers : List (Worker S)) (part : PartOf S D) (worker : Worker S)
       → AreWorkersOfParts parts workers → IsWorkerOf part.slave part.site worker → AreWorkersOfParts (parts ++ part ∷ []) (workers ++ worker ∷ [])
-  workers-more {D} parts workers part worker all one = zip-more (λ (p : PartOf S D) (w : Worker S). IsWorkerOf p.slave p.site w) parts workers part worker all one
+  workers-more {D} parts workers part worker all one = zip_snoc (λ (p : PartOf S D) (w : Worker S). IsWorkerOf p.slave p.site w) parts workers part worker all one
 
   pub ends-more : (workers : List (Worker S)) (all : List (Stay S SlaveLog)) (worker : Worker S) (end : Stay S SlaveLog) → EndAs workers all → EndsAs worker end → EndAs (workers ++ worker ∷ []) (all ++ end ∷ [])
-  ends-more workers all worker end come one = zip-more (λ (w : Worker S) (e : Stay S SlaveLog). EndsAs w e) workers all worker end come one
+  ends-more workers all worker end come one = zip_snoc (λ (w : Worker S) (e : Stay S SlaveLog). EndsAs w e) workers all worker end come one

@@ -2,12 +2,6 @@
 use Rattle.std.proofs.Common.{List, [], ◌∷◌, ◌++◌}
 use Rattle.std.specs.List.{AllZip}
 
-pub zip-more : {A B : Type 0} (R : A → B → Type 0) (xs : List A) (ys : List B) (x : A) (y : B) → AllZip R xs ys → R x y → AllZip R (xs ++ x ∷ []) (ys ++ y ∷ [])
-zip-more R [] [] x y all one = (one, tt)
-zip-more R [] (b ∷ ys) x y all one = absurd all
-zip-more R (a ∷ xs) [] x y all one = absurd all
-zip-more R (a ∷ xs) (b ∷ ys) x y all one = (all.0, zip-more R xs ys x y all.1 one)
-
 pub zip-through : {A B C : Type 0} (P : A → B → Type 0) (Q : B → C → Type 0) (R : A → C → Type 0) → ((a : A) (b : B) (c : C) → P a b → Q b c → R a c)
     → (xs : List A) (ys : List B) (zs : List C) → AllZip P xs ys → AllZip Q ys zs → AllZip R xs zs
 zip-through P Q R goes [] [] [] first last = tt

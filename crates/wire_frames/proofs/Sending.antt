@@ -8,9 +8,7 @@ use Rattle.ecat_frame.specs.declared.command.Command.TheVariants.{Fprd, Fpwr, Ot
 use Rattle.esc_model.specs.Bytes.{register_of}
 use Rattle.esc_model.specs.Orders.{address_of}
 use Rattle.wire_frames.specs.Sending.{InEeprom, IsForEeprom, LeavesRunning, OnlyEeprom, passes, looks, counts, eeprom}
-
-pub register_is : (slave register : ℕ) → slave < 64 → register_of (address_of slave register) ≡ register
-register_is slave register near = omega (arith, near)
+use Rattle.esc_model.proofs.Addressing.{register_is}
 
 -- at another address, with the same register
 pub readdressed : (d e : Pdu) → LeavesRunning d → e.command ≡ d.command → e.content ≡ d.content

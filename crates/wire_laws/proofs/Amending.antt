@@ -9,7 +9,7 @@ use Rattle.esc_model.specs.SlaveHalf.{SlaveHalf, Activity, Idle, Reading, Writin
 use Rattle.esc_model.specs.Datagrams.{served_datagram}
 use Rattle.esc_model.proofs.Resting.{MayHold-same, MayLeave-same, MayRest-station, MayRest-leaves}
 use Rattle.esc_model.proofs.Status.{idle_not_busy}
-use Rattle.esc_model.proofs.WordTaking.{number_back}
+use Rattle.esc_model.proofs.WordTaking.{number_back, value_back}
 use Rattle.wire_laws.specs.Due.{IsOwn, clears, reads, writes}
 use Rattle.wire_laws.specs.Likeness.{IsLike}
 use Rattle.wire_laws.specs.Amending.{IsAmended, start, next, PossibleIsAmended, AmendedStays, AmendedLeavesNoMore, BusyIsPossible, ReadBackIsPossible, OtherIsKept}
@@ -91,9 +91,6 @@ module _ (half : SlaveHalf) (over : List ℕ) where
       record { station = am.station; offered = offered_kept half over ∙ am.offered; forced = forced_kept half over ∙ am.forced; words = am.words; activity = inr (inl refl) }
   begins shadow idle am same Writes is =
       record { station = am.station; offered = offered_kept half over ∙ am.offered; forced = forced_kept half over ∙ am.forced; words = am.words; activity = inr (inr (same is)) }
-
-value_back : (value : ℕ) → value < 2 ^ 16 → value % 256 + 256 * (value / 256 % 256) ≡ value
-value_back value small = omega arith
 
 -- what the device sends of its own names no other word
 own_write : (shadow half : SlaveHalf) (d : Pdu) → IsOwn shadow d → doing_of (judged half 2 d.content) ≡ Writes

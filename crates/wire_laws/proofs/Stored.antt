@@ -7,6 +7,7 @@ use Rattle.esc_model.specs.Registers.{Registers, access_byte, status_byte}
 use Rattle.esc_model.specs.SlaveHalf.{SlaveHalf, is_busy, shown_bytes, with_stored}
 use Rattle.wire_laws.specs.Likeness.{SameRegisters}
 use Rattle.wire_laws.proofs.Storing.{byte_after, Lies, before, within, behind, lies, after_before, after_behind, overlaid_at, after_within, after_covered}
+use Rattle.esc_model.proofs.WordTaking.{offered_again as offered_bit}
 
 -- a word that stands at a place, after the write
 pub word_after : (old at : ℕ) → List ℕ → ℕ → ℕ
@@ -114,12 +115,6 @@ module _ (a b : SlaveHalf) (at : ℕ) (over : List ℕ) where
       (after_within (status_byte a.registers (is_busy a.activity)) at 3 over (omega arith) (omega arith) ∙ ap (λ (n : ℕ). slice_index over (3 - n)) from)
 
 -- WHAT KEEPS THE ACCESS
-
-offered_bit : (offered forced : Bool) → (((if offered then 1 else 0) + (if forced then 2 else 0)) % 2 == 1) ≡ offered
-offered_bit true true = refl
-offered_bit true false = refl
-offered_bit false true = refl
-offered_bit false false = refl
 
 forced_bit : (offered forced : Bool) → (((if offered then 1 else 0) + (if forced then 2 else 0)) / 2 % 2 == 1) ≡ forced
 forced_bit true true = refl

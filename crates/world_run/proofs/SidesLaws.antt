@@ -9,11 +9,11 @@ use Rattle.esc_model.specs.SlaveHalf.{SlaveHalf, Writing, MayRest, in_flight, po
 use Rattle.esc_model.specs.Orders.{station}
 use Rattle.esc_model.specs.WordAccess.{IsIdle, IsWell, TakesWord, IsWritingOrInError}
 use Rattle.esc_model.proofs.Resting.{MayRest-station, MayEnd-is_idle}
-use Rattle.site_core.proofs.Runs.{all_append}
 use Rattle.world_run.specs.declared.leaving.LeftWord.{LeftWord}
 use Rattle.world_run.specs.Left.{torn_half, word_left, TornBy}
 use Rattle.world_run.specs.Sides.{StandsAt, SidesStand, HandsTo, IsPoweredUp, IsIdleAt, IsWellAt}
 use Rattle.world_run.proofs.LeftLaws.{get-set_same, get-set_other}
+use Rattle.lists.proofs.Quantifiers.{all_append}
 
 -- ---- a half stands whatever happens to it
 
