@@ -1,6 +1,7 @@
 //! Closing a desk: what its users hold is handed in and compared with what the book handed out.
 
-ghost use Rattle.std.specs.Prelude.{◌≡◌, ◌↔◌, IsTrue, true, false, length, IfOk, IfErr, IfSome};
+ghost use Rattle.std.specs.Prelude.{◌≡◌, ◌↔◌, IsTrue, true, false, length, IfOk, IfErr, IfSome, OnOk};
+ghost use Rattle.book_core.specs.Appending.{AppendsNext};
 ghost use Rattle.desk_book.specs.Calls.{replayed};
 ghost use Rattle.desk_book.specs.Closing.{AllWorked, CountAll, is_served};
 ghost use Rattle.desk_laws.specs.Slaves.{IsJustOpened, AllReadAsContents};
@@ -100,14 +101,39 @@ fn all_match<T: Tickets, R: Refusals, S: Site>(
     book.shares_match(shares) && book.receipts_match(receipts) && ends_match(book, ends)
 }
 
-/// Shows that all shares of the desk together count all tickets and refusals. Nothing changes.
-fn audit_all<T: Tickets, R: Refusals>(book: &mut Served<T, R>, shares: &mut Vec<Share<T, R>>)
-    ensures counted { length shares.old.items ≡ book.old.pool.given
-        → CountAll (replayed T.opened book.old.calls) book.old.calls shares.old.items }
+/// Says whether everything was handed in and is settled, or why not, as `close` does. Nothing changes.
+fn judge<T: Tickets, R: Refusals, S: Site>(
+    book: &mut Served<T, R>,
+    shares: &mut [Share<T, R>],
+    receipts: &[Receipt],
+    ends: &Ends<S>,
+) -> Result<(), CloseFault>
+    requires next { AppendsNext T.opened }
     ensures same { book.new ≡ book.old }
-    ensures shares { shares.new.items ≡ shares.old.items }
+    ensures shares { shares.new ≡ shares.old }
+    ensures handed_in { OnOk result (IsHandedIn T.opened book.old.calls shares.old receipts.now ends.now) }
+    ensures served { OnOk result (is_served (replayed T.opened book.old.calls) ≡ true) }
+    ensures contents { OnOk result (IsJustOpened T.opened
+        → AllReadAsContents T.opened (replayed T.opened book.old.calls) S.seen ends.now.workers.items) }
+    ensures left { OnOk result (AllEndSo IsLeft T.opened book.old.calls S.seen ends.now.flusher ends.now.workers.items) }
+    ensures turns { OnOk result (IfSome ends.now.cycle (λ end. AreTurnsOf T.opened book.old.calls end.log)) }
+    ensures all_shares { length shares.old ≡ book.old.pool.given → CountAll (replayed T.opened book.old.calls) book.old.calls shares.old }
+    ensures mismatch { IfErr result (λ fault. fault ≡ CloseFault.Mismatch
+        → ¬ (IsHandedIn T.opened book.old.calls shares.old receipts.now ends.now)) }
+    ensures unserved { IfErr result (λ fault. fault ≡ CloseFault.Unserved → is_served (replayed T.opened book.old.calls) ≡ false) }
+    ensures kept { IfErr result (λ fault. fault ≡ CloseFault.Unserved
+        → AllEndSo IsKeptAs T.opened book.old.calls S.seen ends.now.flusher ends.now.workers.items) }
+    ensures turns_kept { IfErr result (λ fault. fault ≡ CloseFault.Unserved
+        → IfSome ends.now.cycle (λ end. AreTurnsOf T.opened book.old.calls end.log)) }
 {
-    book.audit(shares.as_mut_slice());
+    book.audit(shares);
+    if !all_match(book, shares, receipts, ends) {
+        return Err(CloseFault::Mismatch);
+    }
+    if !book.is_served() {
+        return Err(CloseFault::Unserved);
+    }
+    Ok(())
 }
 
 /// Closes a desk on which everything is settled, once its threads have ended.
@@ -158,26 +184,15 @@ pub fn close<T: Tickets, R: Refusals, S: Site>(
 {
     let Desk { served, .. } = desk;
     let mut book = served.into_inner();
-    audit_all(&mut book, &mut shares);
-    if !all_match(&book, shares.as_slice(), receipts.as_slice(), &ends) {
-        let fault = CloseFault::Mismatch;
-        return Err(NotClosed {
+    let judged = judge(&mut book, shares.as_mut_slice(), receipts.as_slice(), &ends);
+    match judged {
+        Ok(()) => Ok(Closed { book, ends }),
+        Err(fault) => Err(NotClosed {
             fault,
             book,
             shares,
             receipts,
             ends,
-        });
+        }),
     }
-    if !book.is_served() {
-        let fault = CloseFault::Unserved;
-        return Err(NotClosed {
-            fault,
-            book,
-            shares,
-            receipts,
-            ends,
-        });
-    }
-    Ok(Closed { book, ends })
 }
