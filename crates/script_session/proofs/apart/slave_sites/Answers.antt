@@ -1,6 +1,7 @@
 use Rattle.std.proofs.Common.{◌≡◌, ◌∷◌, [], ◌∙◌, append_assoc, arith}
 use Rattle.std.specs.Vec.Iter.{into_iter_items}
 use Rattle.script_session.proofs.PartLaws.{sites-more}
+use Rattle.station_threads.proofs.Zips.{gone-over}
 use Rattle.script_session.proofs.apart.slave_sites.Goals as goal
 
 pub loop-half-preserved : goal.loop-half-preserved
@@ -8,6 +9,6 @@ loop-half-preserved g c =
     let at = c.loop-half in
     let half = c.in-Some.half in
     let steps : into_iter_items at.half-iterator ≡ half ∷ into_iter_items c.next.new.self = c.in-Some.ensures.steps.0 in (
-      append_assoc at.yielded (half ∷ []) _ ∙ rw (← steps) at.invariant.0,
+      gone-over at.yielded half _ _ _ steps at.invariant.0,
       rw c.in_ok-push.ensures.items (sites-more at.yielded at.sites.items half c.in_ok-site.site c.len-slave.result at.invariant.1 (omega (arith, at.sites.ok.0, c.len-slave.ensures)) c.in_ok-site.ensures),
     )

@@ -3,6 +3,7 @@ use Rattle.std.specs.Vec.Iter.{into_iter_items}
 use Rattle.station_files.specs.declared.faults.Fault.{Fault}
 use Rattle.script_session.specs.Rounds.{SubmitsSo}
 use Rattle.script_session.proofs.RoundSubmitting.{submits-none, submits-then, submits-stopped, handed_on}
+use Rattle.station_threads.proofs.Zips.{gone-over}
 use Rattle.script_session.proofs.commands.submit_all.Goals as goal
 
 pub loop-command-init : goal.loop-command-init
@@ -13,7 +14,7 @@ loop-command-preserved g c =
     let at = c.loop-command in
     let command = c.in-Some.command in
     let steps : into_iter_items at.command-iterator ≡ command ∷ into_iter_items c.next.new.self = c.in-Some.ensures.steps.0 in (
-      append_assoc at.yielded (command ∷ []) _ ∙ rw (← steps) at.invariant.0,
+      gone-over at.yielded command _ _ _ steps at.invariant.0,
       submits-then at.yielded (command ∷ []) (Ok tt) c.args.status.now at.status c.submit_next.new.status c.args.alone.now at.alone c.submit_next.new.alone at.invariant.1 c.in_ok-submit_next.ensures,
     )
 

@@ -1,6 +1,7 @@
 use Rattle.std.proofs.Common.{◌≡◌, ◌∷◌, [], ◌∙◌, refl, append_assoc}
 use Rattle.std.specs.Vec.Iter.{into_iter_items}
 use Rattle.script_session.proofs.AskLaws.{asks-none, asks-next}
+use Rattle.station_threads.proofs.Zips.{gone-over}
 use Rattle.script_session.proofs.submitting.ask_all.Goals as goal
 
 pub loop-command-init : goal.loop-command-init
@@ -11,7 +12,7 @@ loop-command-preserved g c =
     let at = c.loop-command in
     let command = c.in-Some.command in
     let steps : into_iter_items at.command-iterator ≡ command ∷ into_iter_items c.next.new.self = c.in-Some.ensures.steps.0 in (
-      append_assoc at.yielded (command ∷ []) _ ∙ rw (← steps) at.invariant.0,
+      gone-over at.yielded command _ _ _ steps at.invariant.0,
       asks-next at.yielded command c.args.status.now at.status c.ask_one.new.status c.args.share.now at.share c.ask_one.new.share at.tickets.items c.keep.new.tickets.items c.in_ok-asked.asked
           at.invariant.1 c.in_ok-asked.ensures.asked c.in_ok-keep.ensures.kept,
     )

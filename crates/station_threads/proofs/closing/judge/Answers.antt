@@ -1,4 +1,4 @@
-use Rattle.std.proofs.Common.{◌≡◌, ◌∙◌, List, IsTrue, sym, ap}
+use Rattle.std.proofs.Common.{◌≡◌, ◌∙◌, IsTrue, sym, ap}
 use Rattle.station_threads.specs.Closing.{IsHandedIn}
 use Rattle.desk_laws.proofs.SlaveLaws.{all-read}
 use Rattle.desk_laws.proofs.TogetherLaws.{all-kept, all-left}

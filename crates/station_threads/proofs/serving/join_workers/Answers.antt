@@ -1,6 +1,7 @@
-use Rattle.std.proofs.Common.{◌≡◌, ◌∷◌, [], ◌∙◌, length, ap, append_assoc, arith}
+use Rattle.std.proofs.Common.{◌≡◌, ◌∷◌, length, ap, arith}
 use Rattle.std.specs.Vec.Iter.{into_iter_items}
 use Rattle.station_threads.proofs.Workers.{ends-more}
+use Rattle.station_threads.proofs.Zips.{gone-over}
 use Rattle.station_threads.proofs.serving.join_workers.Goals as goal
 
 pub loop-worker-preserved : goal.loop-worker-preserved
@@ -14,7 +15,7 @@ loop-worker-preserved g c =
     let room = at.invariant.2 in
     let pushed = c.push_reserved.ensures.len in
     let kept = c.push_reserved.ensures.capacity in (
-      append_assoc at.yielded (worker ∷ []) _ ∙ rw (← steps) at.invariant.0,
+      gone-over at.yielded worker _ _ _ steps at.invariant.0,
       omega arith,
       omega arith,
       rw c.push_reserved.ensures.items (ends-more at.yielded at.ends.items worker c.join.result at.invariant.3 c.join.ensures),

@@ -1,6 +1,7 @@
-use Rattle.std.proofs.Common.{◌≡◌, ◌∷◌, [], ◌∙◌, length, ap, append_assoc, arith}
+use Rattle.std.proofs.Common.{◌≡◌, ◌∷◌, length, ap, arith}
 use Rattle.std.specs.Vec.Iter.{into_iter_items}
 use Rattle.station_threads.proofs.Workers.{workers-more}
+use Rattle.station_threads.proofs.Zips.{gone-over}
 use Rattle.station_threads.proofs.serving.start_workers.Goals as goal
 
 pub loop-part-preserved : goal.loop-part-preserved
@@ -15,7 +16,7 @@ loop-part-preserved g c =
     let room = at.invariant.2 in
     let pushed = c.push_reserved.ensures.len in
     let kept = c.push_reserved.ensures.capacity in (
-      append_assoc at.yielded (part ∷ []) _ ∙ rw (← steps) at.invariant.0,
+      gone-over at.yielded part _ _ _ steps at.invariant.0,
       omega arith,
       omega arith,
       rw c.push_reserved.ensures.items (workers-more at.yielded at.workers.items part worker at.invariant.3 c.start_worker-worker.ensures),

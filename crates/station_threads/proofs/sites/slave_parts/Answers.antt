@@ -1,10 +1,11 @@
-use Rattle.std.proofs.Common.{◌≡◌, ◌∷◌, [], ◌∙◌, ℕ, length, ap, sym, refl, subst, append_assoc, arith}
+use Rattle.std.proofs.Common.{◌≡◌, ◌∷◌, ◌∙◌, ℕ, length, ap, sym, refl, subst, arith}
 use Rattle.std.specs.Vec.Iter.{into_iter_items}
 use denote.Param.Send.{sendable}
 use Rattle.site_core.specs.Line.{Owns}
 use Rattle.station_threads.proofs.PlaceLaws.{place-of}
 use Rattle.station_threads.proofs.EndLaws.{parts-long, parts-more}
 use Rattle.station_threads.proofs.Sent.{rom-send}
+use Rattle.station_threads.proofs.Zips.{gone-over}
 use Rattle.station_threads.proofs.sites.slave_parts.Goals as goal
 
 pub overflow_cast-slave : goal.overflow_cast-slave
@@ -45,7 +46,7 @@ loop-site-preserved g c =
     let here : c.len-slave.result ≡ length at.yielded = omega (arith, at.parts.ok.0, c.len-slave.ensures) in
     let pushed = c.push_reserved.ensures.len in
     let kept = c.push_reserved.ensures.capacity in (
-      append_assoc at.yielded (site ∷ []) _ ∙ rw (← steps) at.invariant.0,
+      gone-over at.yielded site _ _ _ steps at.invariant.0,
       omega arith,
       omega arith,
       rw c.push_reserved.ensures.items (rw c.new.ensures (parts-more at.yielded at.parts.items site _ at.invariant.3 here refl (c.rom_side.ensures.slave ∙ here))),
