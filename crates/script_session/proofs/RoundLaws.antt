@@ -1,5 +1,5 @@
 -- A station that goes on, with some commands accepted.
-use Rattle.std.proofs.Common.{ℕ, ◌+◌, List, [], ◌++◌, refl, sym, ◌∙◌, ap, arith, append_assoc}
+use Rattle.std.proofs.Common.{ℕ, ◌+◌, List, [], ◌++◌, refl, sym, arith}
 use Rattle.std.proofs.lemmas.List.{append-nil}
 use Rattle.sii_edit.specs.declared.command.Command.{Command}
 use Rattle.station_alone.specs.Station.{Station}

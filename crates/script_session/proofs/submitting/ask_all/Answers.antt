@@ -1,4 +1,4 @@
-use Rattle.std.proofs.Common.{◌≡◌, ◌∷◌, [], ◌∙◌, refl, append_assoc}
+use Rattle.std.proofs.Common.{◌≡◌, ◌∷◌, refl}
 use Rattle.std.specs.Vec.Iter.{into_iter_items}
 use Rattle.script_session.proofs.AskLaws.{asks-none, asks-next}
 use Rattle.station_threads.proofs.Zips.{gone-over}
