@@ -1,8 +1,8 @@
 use Rattle.std.proofs.Common.{◌≡◌, ◌+◌}
 use Rattle.std.specs.List.{flat_map, range_with_len}
 use Rattle.sii_edit.specs.Fold.{contents_after}
-use Rattle.sii_size.specs.Size.{resizes_between}
-use Rattle.sii_size.proofs.commands.resizes.Given as goal
+use Rattle.line_changes.specs.Size.{resizes_between}
+use Rattle.line_changes.proofs.commands.resizes.Given as goal
 
 abbrev pub invariant-loop-command : goal.invariant-loop-command
 invariant-loop-command l = record {

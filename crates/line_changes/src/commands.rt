@@ -1,7 +1,7 @@
 //! The commands that make word 0x3E say another size.
 ghost use Rattle.std.specs.Prelude.{◌≡◌, ◌++◌, IfOk, OnOk};
 ghost use Rattle.sii_edit.specs.Fold.{after};
-ghost use Rattle.sii_size.specs.Size.{resize_of, resizes_between, resizes_of};
+ghost use Rattle.line_changes.specs.Size.{resize_of, resizes_between, resizes_of};
 
 use crate::said::{is_resized, size_said};
 use sii_edit::{Cause, Command, apply};

@@ -4,7 +4,7 @@ use Rattle.std.specs.List.{flat_map, range_with_len}
 use Rattle.sii_words.specs.Plant.{words_of}
 use Rattle.sii_edit.specs.declared.command.Command.{Command}
 use Rattle.sii_edit.specs.Fold.{contents_after}
-use Rattle.sii_size.specs.declared.commands.Resize.{Resize}
+use Rattle.line_changes.specs.declared.commands.Resize.{Resize}
 
 -- word 0x3E: the size of the EEPROM in KiBit, less one (ETG.1000.6, slave information interface)
 abbrev pub size_word : ℕ

@@ -1,8 +1,8 @@
 use Rattle.std.proofs.Common.{List, ℕ, ◌++◌, ap, ◌∙◌}
 use Rattle.sii_words.specs.Plant.{words_of}
-use Rattle.sii_size.specs.Size.{resize_of}
-use Rattle.sii_size.proofs.Ranges.{next_of}
-use Rattle.sii_size.proofs.commands.note_command.Goals as goal
+use Rattle.line_changes.specs.Size.{resize_of}
+use Rattle.line_changes.proofs.Ranges.{next_of}
+use Rattle.line_changes.proofs.commands.note_command.Goals as goal
 
 pub loop-slave-preserved : goal.loop-slave-preserved
 loop-slave-preserved c =

@@ -1,6 +1,6 @@
 //! What word 0x3E says.
 ghost use Rattle.std.specs.Prelude.{◌≡◌};
-ghost use Rattle.sii_size.specs.Size.{is_resized, says_other, size_said};
+ghost use Rattle.line_changes.specs.Size.{is_resized, says_other, size_said};
 
 use sii_words::Words;
 

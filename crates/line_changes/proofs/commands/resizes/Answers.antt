@@ -1,9 +1,9 @@
 use Rattle.std.proofs.Common.{◌≡◌, List, [], ℕ, ◌+◌, ◌++◌, ap, ◌∙◌}
 use Rattle.sii_edit.specs.Fold.{contents_after}
-use Rattle.sii_size.specs.Size.{resizes_between}
-use Rattle.sii_size.proofs.Ranges.{next_of}
-use Rattle.sii_size.proofs.Steps.{one_more}
-use Rattle.sii_size.proofs.commands.resizes.Goals as goal
+use Rattle.line_changes.specs.Size.{resizes_between}
+use Rattle.line_changes.proofs.Ranges.{next_of}
+use Rattle.line_changes.proofs.Steps.{one_more}
+use Rattle.line_changes.proofs.commands.resizes.Goals as goal
 
 pub loop-command-preserved : goal.loop-command-preserved
 loop-command-preserved c =
