@@ -1,10 +1,10 @@
 //! The argument with commands that are typed in place of a script file.
 
+use crate::argument::{Argument, Kind};
 use crate::input_script::TYPED;
 use crate::typed::{is_line, typed_script};
 use clap::error::ErrorKind;
 use clap::{ArgMatches, Command, Error};
-use command_table::{Argument, Kind};
 use std::alloc::{AllocError, Global};
 
 /// The help text on typed commands.

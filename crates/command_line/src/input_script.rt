@@ -1,6 +1,6 @@
 //! The files of a store, and a script that is no file among them.
 ghost use Rattle.std.specs.Prelude.{◌≡◌, IfOk, IfSome};
-ghost use Rattle.station_input.specs.InputScript.{but_scripts, with_script};
+ghost use Rattle.command_line.specs.InputScript.{but_scripts, with_script};
 
 use station_files::{Location, LockFault, Store};
 use std::alloc::Global;

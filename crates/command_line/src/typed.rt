@@ -1,6 +1,6 @@
 //! A script whose commands were typed as arguments.
 ghost use Rattle.std.specs.Prelude.{◌≡◌, IfOk};
-ghost use Rattle.station_input.specs.Typed.{is_one_line, script_of};
+ghost use Rattle.command_line.specs.Typed.{is_one_line, script_of};
 
 use std::alloc::{AllocError, Global};
 
@@ -8,7 +8,7 @@ use std::alloc::{AllocError, Global};
 const HEAD: &str = "[[command]]\n";
 
 /// Returns whether a typed command is one line, so that it can't be more than one command of a script.
-pub fn is_line(command: &str) -> bool
+pub(crate) fn is_line(command: &str) -> bool
     ensures line { result ≡ is_one_line command.now }
 {
     let bytes = command.as_bytes();
@@ -20,7 +20,7 @@ pub fn is_line(command: &str) -> bool
 /// # Errors
 ///
 /// Memory was refused.
-pub fn typed_script(alloc: Global, commands: &[&str]) -> Result<Vec<u8>, AllocError>
+pub(crate) fn typed_script(alloc: Global, commands: &[&str]) -> Result<Vec<u8>, AllocError>
     ensures text { IfOk result (λ text. text.items ≡ script_of (λ command. command.now) commands.now) }
 {
     let bodies = commands.join(alloc, "\n[[command]]\n")?;
