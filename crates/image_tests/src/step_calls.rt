@@ -1,4 +1,4 @@
-//! Word access in steps.
+//! Calls of the library for C on word access in steps.
 
 use rom_steps::calls::{issue, next, open, read, settle, take_answer, take_loss, take_stop};
 use rom_steps::{Access, ToSend};

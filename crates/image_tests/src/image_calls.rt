@@ -1,4 +1,4 @@
-//! Calls on images.
+//! Calls of the library for C on images.
 
 use sii_bytes::{
     CategoryPlace, Head, ImageSizes, PlacedSegment, edit_category, edit_image, find_category,
