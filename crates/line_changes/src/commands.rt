@@ -9,7 +9,7 @@ use sii_words::{Plant, Words};
 use std::alloc::{AllocError, Global};
 
 /// A command makes word 0x3E of a slave say another size than the slave's EEPROM has.
-#[derive(Clone, Copy, Debug, PartialEq, Eq)]
+#[derive(Clone, Copy)]
 pub struct Resize {
     /// The command's place in its list, from 0.
     pub command: usize,
