@@ -124,16 +124,13 @@ fn in_whole_folder<R: Files<File = File>>(
 
 /// A folder's name as it stands before a slash.
 fn whole_folder(folder: &str) -> &str {
-    match folder {
-        "/" => "",
-        _ => folder,
-    }
+    folder.strip_suffix('/').unwrap_or(folder)
 }
 
 /// The folder that holds the file `name`.
 pub(crate) fn folder_of(name: &str) -> &str {
     match name.rsplit_once('/') {
-        Some(("", _)) => "/",
+        Some((folder, _)) if folder.is_empty() => "/",
         Some((folder, _)) => folder,
         None => ".",
     }
