@@ -1,8 +1,7 @@
 //! The files of a store, and a script that is no file among them.
-ghost use Rattle.std.specs.Prelude.{◌≡◌, IfOk, IfSome};
 ghost use Rattle.command_line.specs.InputScript.{but_scripts, with_script};
 
-use station_files::{Location, LockFault, Store};
+use station_files::{Location, LockFault, Store, read_to_end};
 use std::alloc::Global;
 use std::io;
 use std::io::Read;
@@ -27,7 +26,7 @@ impl<'s, S: Store> InputScript<'s, S> {
         InputScript {
             store,
             name: INPUT,
-            script: read_script(alloc, input),
+            script: read_to_end(alloc, input),
         }
     }
 
@@ -39,23 +38,6 @@ impl<'s, S: Store> InputScript<'s, S> {
             script: Ok(text),
         }
     }
-}
-
-/// Reads standard input to its end, as `read_to_end` of the files does: an interrupted read is tried again, and there are at most 1,048,576.
-fn read_script<R: Read>(alloc: Global, input: &mut R) -> io::Result<Vec<u8>>
-    ensures all { IfOk result (λ bytes. IfSome (R.remaining input.old) (λ rest. bytes.items ≡ rest)) }
-{
-    let mut bytes = Vec::new(alloc);
-    let mut buffer = [0u8; 4096];
-    for _read in 0..1_048_576u32 {
-        match input.read(&mut buffer) {
-            Ok(0) => return Ok(bytes),
-            Ok(count) => bytes.extend_from_slice(&buffer[..count])?,
-            Err(error) if error.kind() == io::ErrorKind::Interrupted => {}
-            Err(error) => return Err(error),
-        }
-    }
-    Err(io::Error::other("no end within 1048576 reads"))
 }
 
 /// The error for whatever would change the script.
