@@ -1,7 +1,7 @@
 //! Replaces a file of the operating system as a whole, so that a power cut leaves the old file or the new one.
 ghost use Rattle.std.specs.Prelude.{◌≡◌, string_bytes, IfOk};
 
-use crate::location::{FileId, Location};
+use station_files::{FileId, Location, name_beside};
 use std::alloc::{AllocError, Global};
 use std::fs::{File, Files, Permissions};
 use std::io::Read;
@@ -189,14 +189,6 @@ pub(crate) fn replace<R: Files<File = File>>(
     }
     sync_folder(files, name)?;
     Ok(file)
-}
-
-/// The name of the temporary file, `.NAME.new` in the same folder.
-pub(crate) fn name_beside(alloc: Global, name: &str) -> Result<String, AllocError> {
-    match name.rsplit_once('/') {
-        Some((folder, last)) => format!(in alloc; "{folder}/.{last}.new"),
-        None => format!(in alloc; ".{name}.new"),
-    }
 }
 
 /// Creates a file with these bytes and syncs it. A file of this name from an earlier run is removed first. If writing fails, the new

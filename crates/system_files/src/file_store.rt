@@ -1,10 +1,8 @@
 //! The files of the operating system as a store.
 
-use crate::location::Location;
-use crate::reading::read_about;
 use crate::replacing::{Place, folder_of, holds, locate, place_of, replace, sync_folder};
-use crate::store::{LockFault, Store};
 use site_file::RandomAccessFile;
+use station_files::{Location, LockFault, Store, read_about};
 use std::alloc::Global;
 use std::fs::{File, Files, OpenOptions, TryLockError};
 use std::os::unix::fs::{FileExt, MetadataExt};
