@@ -33,11 +33,21 @@
 //! of which one is left, and with how many `commands`: no fewer than the run told as durable. Where `again` names the files that are written,
 //! they also follow a run of `first` that is cut in each of its calls.
 //!
-//! What is expected of outputs and files are contents, or a pattern of `case_files`.
+//! Contents are a text; `@NAME` for named ones; an array, whose parts are joined; `{ size = N, AT = "HEX", .. }`, N bytes that are 0 except at
+//! these offsets, where `"HEX * K"` repeats bytes; or `{ text = "..", times = K }`.
+//!
+//! What is expected of bytes are contents; `true`, for any bytes but none; or a table with some of `has`, a text that stands in them; `begins`
+//! and `ends`, contents that they begin or end with; and `records = N`, for a capture of more than N bytes in which each frame for an EEPROM
+//! comes back.
 #![tactic(auto)]
 
 mod calls;
+mod captures;
+mod changes;
+mod contents;
+mod expected;
 mod run;
+mod terminals;
 mod tries;
 mod wrong;
 

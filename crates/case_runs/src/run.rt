@@ -1,6 +1,6 @@
 //! A run of a case: what its keys say.
 
-use case_files::bytes_of;
+use crate::contents::bytes_of;
 use station_cases::{ALL, Full, Pattern, Room, Shelf, Source, Streams, Then, Trouble};
 use std::alloc::{AllocError, Global};
 use std::io;

@@ -1,8 +1,10 @@
 //! Tries a run once, or with each input and each output that fails after some bytes.
 
+use crate::changes::tell_changes;
+use crate::contents::bytes_of;
+use crate::expected::has_options;
 use crate::run::{Run, parted};
 use crate::wrong::{Wrong, wrong_of};
-use case_files::{bytes_of, has_options, tell_changes};
 use station_cases::{Full, Printed, Room, Shelf, run_on};
 use std::alloc::Global;
 use std::io;

@@ -1,7 +1,9 @@
 //! Whether a run goes as is expected.
 
+use crate::contents::number_of;
+use crate::expected::fits;
 use crate::run::Run;
-use case_files::{fits, left_of, number_of};
+use crate::terminals::left_of;
 use station_cases::{Printed, Shelf};
 use std::alloc::Global;
 use std::io;

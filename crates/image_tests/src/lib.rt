@@ -1,5 +1,5 @@
-//! Tests of what no command line shows of an EEPROM and of a journal: copies, contents that are written again, layouts under changes, and
-//! journals that are cut off.
+//! Tests of what no command line shows of an EEPROM and of a journal: copies, contents that are written again, layouts under changes,
+//! journals that are cut off, and the codes that the calls of the library for C answer at their limits.
 #![tactic(auto)]
 
 #[cfg(test)]
@@ -11,6 +11,10 @@ mod devices;
 #[cfg(test)]
 mod history;
 #[cfg(test)]
+mod image_calls;
+#[cfg(test)]
 mod journal;
 #[cfg(test)]
 mod layouts;
+#[cfg(test)]
+mod step_calls;

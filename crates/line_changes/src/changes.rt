@@ -13,7 +13,7 @@ use std::io::Write;
 pub const MOST_PRINTED: usize = 8;
 
 /// A word of a slave that gets another value.
-#[derive(Clone, Copy, Debug, PartialEq, Eq)]
+#[derive(Clone, Copy)]
 pub struct ChangedWord {
     /// The slave's position on the line, from 0.
     pub slave: u16,

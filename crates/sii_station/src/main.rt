@@ -1,7 +1,7 @@
 //! The program `sii_station`: passes its arguments and streams to the library, and exits with the status that the library returns.
 #![tactic(auto)]
 
-use station_serve::{FileStore, refuse_words, serve_on};
+use station_serve::{refuse_words, serve_on};
 use std::alloc::Global;
 use std::fs::{File, Files};
 use std::io::{BufWriter, Input, IsTerminal, Print, Write};
@@ -10,6 +10,7 @@ use std::rt::Clock;
 use std::sync::Wait;
 use std::thread::Threads;
 use std::{env, io};
+use system_files::FileStore;
 
 fn main(rt: HostRuntime) -> ExitCode {
     let status = match words(&rt) {

@@ -11,10 +11,9 @@ use std::sync::Wait;
 use std::thread::Threads;
 use std::time::SystemTime;
 use std::{env, io};
+use system_files::FileStore;
 use wire_frames::EthernetWire;
-use wire_serve::{
-    Arguments, FileStore, Screen, read_arguments, refuse_text, refuse_words, serve, show_usage,
-};
+use wire_serve::{Arguments, Screen, read_arguments, refuse_text, refuse_words, serve, show_usage};
 
 fn main(rt: HostRuntime) -> ExitCode {
     let status = match words(&rt) {

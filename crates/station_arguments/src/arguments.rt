@@ -9,10 +9,10 @@ use crate::progress_arguments::{QUIET, REPORT, is_quiet};
 use crate::shell_arguments::{COMPLETIONS, MAN, shell_of};
 use clap::error::ErrorKind;
 use clap::{ArgMatches, Command, Error};
-use command_table::{
-    Argument, Kind, Subcommand, is_digits, refused, with_argument, with_subcommands, word_of,
+use command_line::{
+    Argument, Kind, Subcommand, TYPED_COMMANDS, is_digits, refused, script_of, typed_text,
+    with_argument, with_subcommands, word_of,
 };
-use station_input::{TYPED_COMMANDS, script_of, typed_text};
 use station_json::Form;
 use station_listing::{Code, find_code};
 use std::alloc::{AllocError, Global};

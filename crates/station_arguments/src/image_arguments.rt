@@ -3,7 +3,7 @@
 use crate::json_argument::{JSON, form_of};
 use clap::error::ErrorKind;
 use clap::{ArgMatches, Command, Error};
-use command_table::{Argument, Kind, Subcommand, is_digits, refused, word_of};
+use command_line::{Argument, Kind, Subcommand, is_digits, refused, word_of};
 use station_json::Form;
 
 /// What a subcommand that reads EEPROM images is asked for.

@@ -1,7 +1,7 @@
 //! The argument of the listing subcommands that asks for JSON.
 
 use clap::ArgMatches;
-use command_table::{Argument, Kind};
+use command_line::{Argument, Kind};
 use station_json::Form;
 
 /// The help text on JSON.

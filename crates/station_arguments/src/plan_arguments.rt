@@ -3,8 +3,7 @@
 use crate::arguments::{LINE, SCRIPT, Task};
 use crate::json_argument::{JSON, form_of};
 use clap::ArgMatches;
-use command_table::{Subcommand, word_of};
-use station_input::{TYPED_COMMANDS, script_of};
+use command_line::{Subcommand, TYPED_COMMANDS, script_of, word_of};
 
 /// The help text on what `plan` prints, and on its exit status.
 const PLAN_ANSWERS: &str = "Answers:

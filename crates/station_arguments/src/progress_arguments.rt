@@ -1,7 +1,7 @@
 //! The arguments of `run` and `recover` on what is printed meanwhile and behind.
 
 use clap::ArgMatches;
-use command_table::{Argument, Kind};
+use command_line::{Argument, Kind};
 
 /// The help text on the line with the progress.
 const QUIET_RUN: &str =

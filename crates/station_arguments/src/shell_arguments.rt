@@ -2,7 +2,7 @@
 
 use crate::completions::Shell;
 use clap::ArgMatches;
-use command_table::{Argument, Kind, Subcommand};
+use command_line::{Argument, Kind, Subcommand};
 
 const SHELLS: &[&str] = &["bash", "zsh", "fish"];
 

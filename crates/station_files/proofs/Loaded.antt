@@ -5,7 +5,7 @@ use Rattle.std.proofs.lemmas.List.{append_assoc, append-nil, take_more}
 use Rattle.std.specs.List.{AllZip}
 use Rattle.std.specs.Prelude.{IsErrAnd, flat_map}
 use Rattle.station_files.specs.Files.{Known, Holds, HasBytes}
-use Rattle.station_files.specs.LineFiles.{SpellsWords, RefusesWords, RefusesFirst, RefusesSlaves, RefusesPlant, RefusesLayout}
+use Rattle.station_files.specs.LineFiles.{IsNoLine, RefusesLine, RefusesLineText, SpellsWords, RefusesWords, RefusesFirst, RefusesSlaves, RefusesPlant, RefusesLayout}
 use Rattle.station_files.specs.declared.faults.Fault.{Fault}
 use Rattle.station_files.specs.declared.faults.Fault.TheVariants.{OddLength, BadSize, ImageOverLimit, Memory, Disk, Lost, Stopped, SlaveDead, NotAJournal, BadVersion, BadJournal, WrongLine, Unserved, File, BadHex, BadLine, BadScript, Exists, Busy, SameFile}
 use Rattle.lists.proofs.Quantifiers.{zip_snoc}
@@ -50,6 +50,13 @@ of_held P files name bytes same here = of_found (files name) same where
   of_found (Some (Some held)) is = subst P is here
   of_found (Some None) is = absurd is
   of_found None is = tt
+
+-- the fault for a text that was read is a fault for the line file
+pub line_refused : (files : Known) (name bytes : List ℕ) (fault : Fault) → HasBytes files name bytes → RefusesLineText bytes fault → RefusesLine files name fault
+line_refused files name bytes Memory held refused = tt
+line_refused files name bytes BadLine held refused = of_held IsNoLine files name bytes held refused
+line_refused files name bytes File held refused = tt
+line_refused files name bytes fault held refused = absurd refused
 
 -- no line is refused for its process image before it is known
 pub plant_refused : (files : Known) (name : List ℕ) (fault : Fault) → RefusesPlant files name fault → RefusesLayout files name fault

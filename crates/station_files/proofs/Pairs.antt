@@ -1,13 +1,14 @@
 -- Two images that are read one after the other, and what is known of their texts.
-use Rattle.std.proofs.Common.{◌≡◌, ◌≢◌, ◌⊎◌, ◌↔◌, ℕ, Bool, List, Option, Some, None, IfSome, IsSome, option_map, inl, inr, refl, subst}
+use Rattle.std.proofs.Common.{◌≡◌, ◌↔◌, ℕ, Bool, List, Option, Some, None, IfSome, IsSome, option_map, inl, inr, refl, subst, sym}
 use Rattle.sii_words.specs.Words.{bytes_of}
 use Rattle.image_diff.specs.Difference.{NothingDiffers}
 use Rattle.image_diff.specs.declared.difference.Difference.{Difference}
-use Rattle.station_files.specs.Diff.{IsStatusOf, RefusesPair, TellsDifference, second_text}
+use Rattle.station_files.specs.Diff.{IsStatusOf, IsStatusOfPair, RefusesPair, TellsDifference, second_text}
+use Rattle.station_files.specs.Faults.{IsOfStream}
 use Rattle.station_files.specs.Files.{Known}
-use Rattle.station_files.specs.ImageText.{RefusesInput, Spells, held_of, text_of}
+use Rattle.station_files.specs.ImageText.{Spells, held_of, text_of}
 use Rattle.station_files.specs.declared.faults.ExitStatus.{ExitStatus}
-use Rattle.station_files.specs.declared.faults.ExitStatus.TheVariants.{Done, Refused}
+use Rattle.station_files.specs.declared.faults.Fault.{Fault}
 
 -- what follows for each two values follows for those that are there
 pub both : (P Q : List ℕ → Type 0) (R : List ℕ → List ℕ → Type 0) (first second : Option (List ℕ)) → ((a b : List ℕ) → P a → Q b → R a b)
@@ -15,20 +16,6 @@ pub both : (P Q : List ℕ → Type 0) (R : List ℕ → List ℕ → Type 0) (f
 both P Q R (Some a) (Some b) follows one other = follows a b one other
 both P Q R (Some a) None follows one other = tt
 both P Q R None second follows one other = tt
-
--- what follows for a value follows for the first of two that are there
-pub first_alone : (P : List ℕ → Type 0) (R : List ℕ → List ℕ → Type 0) (first second : Option (List ℕ)) → ((a b : List ℕ) → P a → R a b)
-    → IfSome first P → IfSome first (λ a. IfSome second (λ b. R a b))
-first_alone P R (Some a) (Some b) follows one = follows a b one
-first_alone P R (Some a) None follows one = tt
-first_alone P R None second follows one = tt
-
--- what follows for a value follows for the second of two that are there
-pub second_alone : (Q : List ℕ → Type 0) (R : List ℕ → List ℕ → Type 0) (first second : Option (List ℕ)) → ((a b : List ℕ) → Q b → R a b)
-    → IfSome second Q → IfSome first (λ a. IfSome second (λ b. R a b))
-second_alone Q R (Some a) (Some b) follows other = follows a b other
-second_alone Q R (Some a) None follows other = tt
-second_alone Q R None second follows other = tt
 
 -- the first image was read from a file and left the input alone, or the second one is: what is known of the second text was known before
 pub second_known : {X : Type 0} (f : X → List ℕ) (first second : Option X) (before after : Option (List ℕ)) (old new : Known) (Q : List ℕ → Type 0)
@@ -43,11 +30,18 @@ second_known f (Some x) second before after old new Q unread same known =
     let R : Option (List ℕ) → Type 0 = λ rest. IfSome (text_of (option_map f second) rest old) Q in
     subst R (unread refl) (subst P same known)
 
--- the status tells whether the images that two texts spell have the same words
-pub tells : (hex : Bool) (old new : List ℕ) (difference : Difference) (status : ExitStatus) → NothingDiffers difference ↔ (old ≡ new)
-    → IsStatusOf difference status → (a b : List ℕ) → Spells hex a (bytes_of old) → Spells hex b (bytes_of new) → TellsDifference hex a b status
-tells hex old new difference status same judged a b one other = record { old = old; new = new; read_first = one; read_second = other; told = told judged }
-  where
-    told : IsStatusOf difference status → ((old ≡ new) × (status ≡ Done)) ⊎ ((old ≢ new) × (status ≡ Refused))
-    told (inl (none, done)) = inl (same.0 none, done)
-    told (inr (some, refused)) = inr ((λ equal. some (same.1 equal)), refused)
+-- the status tells whether two images have the same words
+pub told : (old new : List ℕ) (difference : Difference) (status : ExitStatus) → NothingDiffers difference ↔ (old ≡ new) → IsStatusOf difference status → IsStatusOfPair old new status
+told old new difference status same (inl (none, done)) = inl (same.0 none, done)
+told old new difference status same (inr (some, refused)) = inr ((λ equal. some (same.1 equal)), refused)
+
+-- the same of the images that two texts spell
+pub tells : (hex : Bool) (old new : List ℕ) (status : ExitStatus) → IsStatusOfPair old new status → (a b : List ℕ) → Spells hex a (bytes_of old) → Spells hex b (bytes_of new) → TellsDifference hex a b status
+tells hex old new status is a b one other = record { old = old; new = new; read_first = one; read_second = other; told = is }
+
+-- a stream's fault may be one of two texts
+pub stream_refuses : (hex : Bool) (first second : Option (List ℕ)) (fault : Fault) → IsOfStream fault → IfSome first (λ a. IfSome second (λ b. RefusesPair hex a b fault))
+stream_refuses hex None second fault failed = tt
+stream_refuses hex (Some a) None fault failed = tt
+stream_refuses hex (Some a) (Some b) fault (inl file) = let P : Fault → Type 0 = λ f. RefusesPair hex a b f in subst P (sym file) (inl tt)
+stream_refuses hex (Some a) (Some b) fault (inr memory) = let P : Fault → Type 0 = λ f. RefusesPair hex a b f in subst P (sym memory) (inl tt)

@@ -1,5 +1,5 @@
 -- Why a script isn't loaded.
-use Rattle.std.proofs.Common.{◌≡◌, ℕ, ◌<◌, List, length, get_or, Result, Ok, Err, IfErr, sym, subst, inl, inr}
+use Rattle.std.proofs.Common.{◌≡◌, ℕ, ◌<◌, List, length, get_or, sym, subst, inl, inr}
 use Rattle.station_text.specs.ScriptText.{SpellsScriptFile}
 use Rattle.station_text.specs.declared.script_command.ScriptCommand.{ScriptCommand}
 use Rattle.station_text.specs.declared.script_command.ScriptCommand.TheVariants.{One, Swap, Group}
@@ -59,8 +59,3 @@ text_refused files name bytes Memory held refused = tt
 text_refused files name bytes (BadScript command) held refused = of_held (λ text. IsNoScript text) files name bytes held refused
 text_refused files name bytes File held refused = tt
 text_refused files name bytes fault held refused = absurd refused
-
--- what holds of each fault that a call gives holds of the fault of its result
-pub each_refused : {A : Type 0} (P Q : Fault → Type 0) (result : Result A Fault) → ((fault : Fault) → P fault → Q fault) → IfErr result P → IfErr result Q
-each_refused P Q (Ok x) follows refused = tt
-each_refused P Q (Err fault) follows refused = follows fault refused

@@ -23,13 +23,17 @@ IfKnown old new input files Holds =
 abbrev pub IsStatusOf : Difference → ExitStatus → Type 0
 IsStatusOf difference status = (NothingDiffers difference × (status ≡ Done)) ⊎ ((¬ NothingDiffers difference) × (status ≡ Refused))
 
+-- `Done` where two images have the same words, `Refused` where they differ
+abbrev pub IsStatusOfPair : List ℕ → List ℕ → ExitStatus → Type 0
+IsStatusOfPair old new status = ((old ≡ new) × (status ≡ Done)) ⊎ ((old ≢ new) × (status ≡ Refused))
+
 -- the texts spell two images, and the status is `Done` where they have the same words and `Refused` where they differ
 pub record TellsDifference (hex : Bool) (first second : List ℕ) (status : ExitStatus) : Type 0 where
   pub old : List ℕ
   pub new : List ℕ
   pub read_first : Spells hex first (bytes_of old)
   pub read_second : Spells hex second (bytes_of new)
-  pub told : ((old ≡ new) × (status ≡ Done)) ⊎ ((old ≢ new) × (status ≡ Refused))
+  pub told : IsStatusOfPair old new status
 
 -- the fault is one of the first text, or one of the second
 abbrev pub RefusesPair : Bool → List ℕ → List ℕ → Fault → Type 0

@@ -71,6 +71,12 @@ abbrev pub RefusesSlaves : Known → List (List ℕ) → Fault → Type 0
 RefusesSlaves files names Memory = ⊤
 RefusesSlaves files names fault = RefusesFirst files names fault
 
+-- the fault for a text that should be a line file: it describes no line, or memory was refused
+abbrev pub RefusesLineText : List ℕ → Fault → Type 0
+RefusesLineText text Memory = ⊤
+RefusesLineText text BadLine = IsNoLine text
+RefusesLineText text _ = ⊥
+
 -- the fault for a line file: it can't be read, memory was refused, or its text describes no line
 abbrev pub RefusesLine : Known → List ℕ → Fault → Type 0
 RefusesLine files name File = ⊤

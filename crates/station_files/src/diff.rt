@@ -1,12 +1,14 @@
 //! The subcommand `diff`.
 ghost use Rattle.std.specs.Prelude.{◌≡◌, IfOk, IfErr, option_map};
-ghost use Rattle.station_files.specs.Diff.{IfKnown, IsStatusOf, RefusesPair, TellsDifference};
+ghost use Rattle.station_files.specs.Diff.{IfKnown, IsStatusOf, IsStatusOfPair, RefusesPair, TellsDifference};
+ghost use Rattle.station_files.specs.Faults.{IsOfStream};
 
 use crate::faults::{ExitStatus, Fault};
 use crate::image::read_image;
 use crate::printing::print_listing;
 use crate::store::Store;
 use image_diff::{Difference, compare};
+use sii_words::ImageFile;
 use std::alloc::Global;
 use std::io::{Read, Write};
 
@@ -35,7 +37,20 @@ pub fn diff_images<R: Read, S: Store, W: Write>(
 {
     let first = read_image(alloc, hex, old, input, store)?;
     let second = read_image(alloc, hex, new, input, store)?;
-    let difference = compare(alloc, &first, &second)?;
+    print_difference(alloc, &first, &second, output)
+}
+
+/// Prints what two images differ in, and returns the status.
+fn print_difference<W: Write>(
+    alloc: Global,
+    first: &ImageFile,
+    second: &ImageFile,
+    output: &mut W,
+) -> Result<ExitStatus, Fault>
+    ensures status { IfOk result (IsStatusOfPair first.now second.now) }
+    ensures failed { IfErr result IsOfStream }
+{
+    let difference = compare(alloc, first, second)?;
     print_listing(alloc, &difference, output)?;
     Ok(status_of(&difference))
 }

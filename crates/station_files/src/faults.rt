@@ -238,9 +238,10 @@ impl From<io::Error> for Fault {
     ghost from_gives = { λ _ fault. IsOfStream fault };
 
     fn from(error: io::Error) -> Self {
-        match error.kind() {
-            io::ErrorKind::OutOfMemory => Fault::Memory,
-            _ => Fault::File,
+        if error.kind() == io::ErrorKind::OutOfMemory {
+            Fault::Memory
+        } else {
+            Fault::File
         }
     }
 }

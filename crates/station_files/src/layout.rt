@@ -16,8 +16,7 @@ use std::io::Write;
 ///
 /// # Errors
 ///
-/// As for `load_plant`; then `ImageOverLimit`, where the line has no process image, or `Memory`; then as for `print_listing`. Nothing is
-/// printed before the listing is complete.
+/// As for `list_line`; then as for `print_listing`. Nothing is printed before the listing is complete.
 pub fn show_layout<S: Store, W: Write>(
     alloc: Global,
     line: &str,
@@ -34,7 +33,11 @@ pub fn show_layout<S: Store, W: Write>(
 }
 
 /// Lists the process image of the line whose line file is `name`.
-fn list_line<S: Store>(alloc: Global, name: &str, store: &mut S) -> Result<LayoutListing, Fault>
+///
+/// # Errors
+///
+/// As for `load_plant`; then `ImageOverLimit`, where the line has no process image, or `Memory`.
+pub fn list_line<S: Store>(alloc: Global, name: &str, store: &mut S) -> Result<LayoutListing, Fault>
     ensures listing { IfOk result (ListsFiles (S.files store.old) name.now) }
     ensures refused { IfErr result (RefusesLayout (S.files store.old) name.now) }
     ensures same { S.files store.new ≡ S.files store.old }

@@ -1,6 +1,7 @@
 //! Reads the files of a line: the line file, and the EEPROM image of each slave.
 ghost use Rattle.std.specs.Prelude.{◌≡◌, IfOk, IfErr, vec_len};
-ghost use Rattle.station_files.specs.LineFiles.{names_of, RefusesLine, RefusesPlant, RefusesSlaves, RefusesWords, SpellsLine, SpellsPlant, SpellsSlaves, SpellsWords};
+ghost use Rattle.station_files.specs.LineFiles.{names_of, DescribesLine, SpellsLine, SpellsPlant, SpellsSlaves, SpellsWords};
+ghost use Rattle.station_files.specs.LineFiles.{RefusesLine, RefusesLineText, RefusesPlant, RefusesSlaves, RefusesWords};
 
 use crate::faults::Fault;
 use crate::store::{Store, read_file};
@@ -19,7 +20,15 @@ pub fn load_line<S: Store>(alloc: Global, name: &str, store: &mut S) -> Result<L
     ensures same { S.files store.new ≡ S.files store.old }
 {
     let bytes = read_file(alloc, name, store)?;
-    let Ok(text) = str::from_utf8(&bytes) else {
+    spelt_line(alloc, &bytes)
+}
+
+/// The line that a file with these bytes describes.
+fn spelt_line(alloc: Global, bytes: &[u8]) -> Result<LineFile, Fault>
+    ensures line { IfOk result (DescribesLine bytes.now) }
+    ensures refused { IfErr result (RefusesLineText bytes.now) }
+{
+    let Ok(text) = str::from_utf8(bytes) else {
         return Err(Fault::BadLine);
     };
     Ok(read_line(alloc, text)?)

@@ -2,7 +2,6 @@
 ghost use Rattle.std.specs.Prelude.{◌≡◌, ◌↔◌, string_bytes, IfOk, IsTrue};
 ghost use Rattle.station_files.specs.Locations.{AreOne, IsBeside, IsSame, Meets, place_of};
 
-use crate::replacing::name_beside;
 use std::alloc::{AllocError, Global};
 
 /// What tells a file from all others: the device that holds it, and its number there.
@@ -77,4 +76,16 @@ fn are_one(one: Option<FileId>, other: Option<FileId>) -> bool
     ensures { IsTrue result ↔ AreOne one other }
 {
     one.is_some() && one == other
+}
+
+/// The name of the new file while the file `name` is replaced: `.NAME.new` in the same folder.
+///
+/// # Errors
+///
+/// Memory was refused.
+pub fn name_beside(alloc: Global, name: &str) -> Result<String, AllocError> {
+    match name.rsplit_once('/') {
+        Some((folder, last)) => format!(in alloc; "{folder}/.{last}.new"),
+        None => format!(in alloc; ".{name}.new"),
+    }
 }

@@ -19,29 +19,12 @@ pub struct Script {
     pub images: Vec<String>,
 }
 
-/// Reads the commands of the script file `name`. The whole text is judged before the first image is read.
+/// Reads the commands of the script file `name`, and the names of the images with them. The whole text is judged before the first image is read.
 ///
 /// # Errors
 ///
 /// `File` where the script is absent or can't be read; `BadScript` where it is not UTF-8 or not a script; then as for `load_commands`.
 /// `Memory` may come at any point.
-pub fn load_script<S: Store>(
-    alloc: Global,
-    name: &str,
-    store: &mut S,
-) -> Result<Vec<Command>, Fault>
-    ensures commands { IfOk result (λ commands. SpellsCommands (S.files store.old) name.now commands.items) }
-    ensures refused { IfErr result (RefusesScript (S.files store.old) name.now) }
-    ensures same { S.files store.new ≡ S.files store.old }
-{
-    Ok(load_script_files(alloc, name, store)?.commands)
-}
-
-/// Reads the commands of the script file `name` as `load_script` does, and gives the names of the images with them.
-///
-/// # Errors
-///
-/// As for `load_script`.
 pub fn load_script_files<S: Store>(
     alloc: Global,
     name: &str,

@@ -1,7 +1,8 @@
 //! The subcommand `show`.
 ghost use Rattle.std.specs.Prelude.{◌≡◌, ◌↔◌, IfOk, IfErr, IfSome, IsSome, IsTrue, option_map};
+ghost use Rattle.station_files.specs.Faults.{IsOfStream};
 ghost use Rattle.station_files.specs.ImageText.{RefusesInput, text_of};
-ghost use Rattle.station_files.specs.Show.{IsStatusOf, ShowsStatus};
+ghost use Rattle.station_files.specs.Show.{IsStatusOf, ShowsImage, ShowsStatus};
 
 use crate::faults::{ExitStatus, Fault};
 use crate::image::read_image;
@@ -36,8 +37,21 @@ pub fn show_image<R: Read, S: Store, W: Write>(
     ensures same { S.files store.new ≡ S.files store.old }
 {
     let image = read_image(alloc, hex, file, input, store)?;
-    let listing = list_image(alloc, &image)?;
-    let items = items_of(alloc, all, &image)?;
+    print_image(alloc, all, &image, output)
+}
+
+/// Prints the listing of an image, with `all` its items behind it, and returns the status.
+fn print_image<W: Write>(
+    alloc: Global,
+    all: bool,
+    image: &ImageFile,
+    output: &mut W,
+) -> Result<ExitStatus, Fault>
+    ensures status { IfOk result (ShowsImage image.now) }
+    ensures failed { IfErr result IsOfStream }
+{
+    let listing = list_image(alloc, image)?;
+    let items = items_of(alloc, all, image)?;
     let shown = Shown {
         listing: &listing,
         items: &items,

@@ -4,11 +4,10 @@ ghost use Rattle.std.specs.Prelude.{◌≡◌, IfErr};
 ghost use Rattle.station_files.specs.Faults.{IsOfStream};
 
 use crate::diff_categories::write_chains;
-use crate::images::image_of;
 use crate::row::write_cells;
 use image_diff::{Difference, Head, WordChanges, compare};
 use sii_words::{ImageFile, Run};
-use station_files::{ExitStatus, Fault, Store};
+use station_files::{ExitStatus, Fault, Store, read_image};
 use std::alloc::Global;
 use std::io::{Read, Write};
 
@@ -29,8 +28,8 @@ pub fn diff_as_json<R: Read, S: Store, W: Write>(
 ) -> Result<ExitStatus, Fault>
     ensures same { S.files store.new ≡ S.files store.old }
 {
-    let first = image_of(alloc, hex, old, input, store)?;
-    let second = image_of(alloc, hex, new, input, store)?;
+    let first = read_image(alloc, hex, old, input, store)?;
+    let second = read_image(alloc, hex, new, input, store)?;
     write_comparison(alloc, &first, &second, output)
 }
 
@@ -77,13 +76,13 @@ fn write_heads<W: Write>(alloc: Global, old: Head, new: Head, output: &mut W) ->
         ("revision", u64::from(was.revision), u64::from(is.revision)),
         ("serial", u64::from(was.serial), u64::from(is.serial)),
     ];
-    for (field, a, b) in fields {
-        if a != b {
+    for (field, a, b) in &fields {
+        if *a != *b {
             let row = [
                 ("row", "head".into()),
-                ("field", field.into()),
-                ("a", a.into()),
-                ("b", b.into()),
+                ("field", (*field).into()),
+                ("a", (*a).into()),
+                ("b", (*b).into()),
             ];
             write_cells(alloc, &row, output)?;
         }
@@ -95,8 +94,10 @@ fn write_heads<W: Write>(alloc: Global, old: Head, new: Head, output: &mut W) ->
 fn write_words<W: Write>(alloc: Global, words: &WordChanges, output: &mut W) -> Result<(), Fault>
     ensures { IfErr result IsOfStream }
 {
-    for (old, new) in words.old.iter().zip(words.new.iter()) {
-        write_stretch(alloc, old, new, output)?;
+    for (place, old) in words.old.iter().enumerate() {
+        if let Some(new) = words.new.get(place) {
+            write_stretch(alloc, old, new, output)?;
+        }
     }
     Ok(())
 }
@@ -104,16 +105,16 @@ fn write_words<W: Write>(alloc: Global, words: &WordChanges, output: &mut W) -> 
 fn write_stretch<W: Write>(alloc: Global, old: &Run, new: &Run, output: &mut W) -> Result<(), Fault>
     ensures { IfErr result IsOfStream }
 {
-    let mut word = old.first;
-    for (a, b) in old.words.as_slice().iter().zip(new.words.as_slice().iter()) {
-        let row = [
-            ("row", "word".into()),
-            ("word", word.into()),
-            ("a", (*a).into()),
-            ("b", (*b).into()),
-        ];
-        write_cells(alloc, &row, output)?;
-        word = word.saturating_add(1);
+    for (place, a) in old.words.as_slice().iter().enumerate() {
+        if let Some(b) = new.words.as_slice().get(place) {
+            let row = [
+                ("row", "word".into()),
+                ("word", usize::from(old.first).saturating_add(place).into()),
+                ("a", (*a).into()),
+                ("b", (*b).into()),
+            ];
+            write_cells(alloc, &row, output)?;
+        }
     }
     Ok(())
 }

@@ -10,7 +10,7 @@ use std::alloc::Global;
 use std::io::Write;
 
 /// One of the two images.
-#[derive(Clone, Copy, PartialEq, Eq)]
+#[derive(Clone, Copy)]
 enum Side {
     A,
     B,
@@ -169,19 +169,34 @@ fn write_content<W: Write>(
 ) -> Result<(), Fault>
     ensures { IfErr result IsOfStream }
 {
-    for (word, (a, b)) in old.words.iter().zip(new.words.iter()).enumerate() {
-        if a != b {
-            let row = [
-                ("row", "content".into()),
-                ("category", old.kind.into()),
-                ("word", word.into()),
-                ("a", (*a).into()),
-                ("b", (*b).into()),
-            ];
-            write_cells(alloc, &row, output)?;
+    for (word, a) in old.words.iter().enumerate() {
+        match new.words.get(word) {
+            Some(b) if *a != *b => write_word(alloc, old.kind, word, *a, *b, output)?,
+            _ => {}
         }
     }
     Ok(())
+}
+
+/// Writes a row for a word of a content, which both images have.
+fn write_word<W: Write>(
+    alloc: Global,
+    kind: u16,
+    word: usize,
+    a: u16,
+    b: u16,
+    output: &mut W,
+) -> Result<(), Fault>
+    ensures { IfErr result IsOfStream }
+{
+    let row = [
+        ("row", "content".into()),
+        ("category", kind.into()),
+        ("word", word.into()),
+        ("a", a.into()),
+        ("b", b.into()),
+    ];
+    write_cells(alloc, &row, output)
 }
 
 fn write_items<W: Write>(
@@ -248,9 +263,12 @@ fn write_fields<W: Write>(
 ) -> Result<(), Fault>
     ensures { IfErr result IsOfStream }
 {
-    for (was, is) in old.fields.iter().zip(new.fields.iter()) {
-        if was.value.as_str() != is.value.as_str() {
-            write_field(alloc, old.label, Some(was), Some(is), output)?;
+    for (place, was) in old.fields.iter().enumerate() {
+        match new.fields.get(place) {
+            Some(is) if was.value.as_str() != is.value.as_str() => {
+                write_field(alloc, old.label, Some(was), Some(is), output)?
+            }
+            _ => {}
         }
     }
     Ok(())

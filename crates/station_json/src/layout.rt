@@ -3,9 +3,8 @@ ghost use Rattle.std.specs.Prelude.{◌≡◌, IfErr};
 ghost use Rattle.station_files.specs.Faults.{IsOfStream};
 
 use crate::row::write_cells;
-use sii_words::Plant;
-use station_files::{Fault, Store, load_line, load_slaves};
-use station_listing::{Direction, LayoutListing, ListedSegment, list_layout};
+use station_files::{Fault, Store, list_line};
+use station_listing::{Direction, LayoutListing, ListedSegment};
 use std::alloc::Global;
 use std::io::Write;
 
@@ -14,8 +13,7 @@ use std::io::Write;
 ///
 /// # Errors
 ///
-/// As for `load_line` and `load_slaves`; then `ImageOverLimit`, where the line has no process image, or `Memory`. Nothing is printed up to
-/// there. Then as for `write_row`.
+/// As for `list_line`; nothing is printed up to there. Then as for `write_row`.
 pub fn layout_as_json<S: Store, W: Write>(
     alloc: Global,
     line: &str,
@@ -28,15 +26,6 @@ pub fn layout_as_json<S: Store, W: Write>(
     write_layout_rows(alloc, None, &listing, output)?;
     output.flush()?;
     Ok(())
-}
-
-/// Lists the process image of the line whose line file is `line`.
-fn list_line<S: Store>(alloc: Global, line: &str, store: &mut S) -> Result<LayoutListing, Fault>
-    ensures same { S.files store.new ≡ S.files store.old }
-{
-    let line = load_line(alloc, line, store)?;
-    let plant = Plant::of(load_slaves(alloc, &line, store)?);
-    Ok(list_layout(alloc, &plant)?)
 }
 
 /// Writes a row for each segment of a process image, and one for its sizes. `image` says which process image it is, where there are two.

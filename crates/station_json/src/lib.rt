@@ -7,7 +7,6 @@ mod changes;
 mod diff;
 mod diff_categories;
 mod image;
-mod images;
 mod items;
 mod layout;
 mod names;

@@ -9,7 +9,7 @@ use std::alloc::Global;
 use std::io::Write;
 
 /// How a listing is printed.
-#[derive(Clone, Copy, PartialEq, Eq)]
+#[derive(Clone, Copy)]
 pub enum Form {
     /// As text, for people.
     Text,

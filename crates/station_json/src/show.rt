@@ -2,10 +2,9 @@
 ghost use Rattle.std.specs.Prelude.{◌≡◌};
 
 use crate::image::write_listing;
-use crate::images::image_of;
 use crate::items::write_items;
 use sii_words::ImageFile;
-use station_files::{ExitStatus, Fault, Store};
+use station_files::{ExitStatus, Fault, Store, read_image};
 use station_listing::{list_image, list_items};
 use std::alloc::Global;
 use std::io::{Read, Write};
@@ -28,7 +27,7 @@ pub fn show_as_json<R: Read, S: Store, W: Write>(
 ) -> Result<ExitStatus, Fault>
     ensures same { S.files store.new ≡ S.files store.old }
 {
-    let image = image_of(alloc, hex, file, input, store)?;
+    let image = read_image(alloc, hex, file, input, store)?;
     let status = write_image(alloc, &image, output)?;
     if all {
         write_all_items(alloc, &image, output)?;

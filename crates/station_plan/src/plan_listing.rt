@@ -2,9 +2,8 @@
 ghost use Rattle.std.specs.Prelude.{IfErr};
 
 use crate::plan::Planned;
-use line_changes::write_changes;
+use line_changes::{Resize, write_changes};
 use line_report::spell_layout;
-use sii_size::Resize;
 use station_files::Fault;
 use std::alloc::Global;
 use std::io;

@@ -1,8 +1,8 @@
 //! A plan, as rows of JSON.
 use crate::plan::Planned;
 use crate::tally::Tally;
+use line_changes::Resize;
 use sii_image::ImageFault;
-use sii_size::Resize;
 use sii_words::Plant;
 use station_files::Fault;
 use station_json::{write_answers, write_cells, write_change_rows, write_layout_rows};

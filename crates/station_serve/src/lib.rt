@@ -7,5 +7,5 @@ mod serving;
 
 pub use serving::{refuse_words, serve, serve_on};
 pub use station_arguments::read_arguments;
-pub use station_files::{FileStore, LockFault, Store};
+pub use station_files::{LockFault, Store};
 pub use station_text::{read_hex, read_line, read_script};

@@ -4,13 +4,13 @@ use crate::explain::explain;
 use crate::image_serving::{files_of_images, serve_image};
 use clap::Error;
 use clap::error::ErrorKind;
+use command_line::{INPUT, InputScript};
 use line_report::{Before, look_before, report_behind};
 use site_progress::Progress;
 use station_arguments::{
     PowerCut, Request, RunTask, Task, print_completions, print_manual, read_arguments,
 };
 use station_files::{ExitStatus, Fault, Store, report_fault, show_layout, status_of};
-use station_input::{INPUT, InputScript};
 use station_json::{Form, layout_as_json};
 use station_plan::{plan_script, show_journal};
 use station_session::{Fuse, init_line, recover_line, run_script};

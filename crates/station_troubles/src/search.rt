@@ -1,6 +1,6 @@
 //! The search for what gives a fault, and how it ends.
 
-use station_input::{INPUT, TYPED};
+use command_line::{INPUT, TYPED};
 use station_listing::Code;
 use std::alloc::{AllocError, Global};
 use std::fmt;

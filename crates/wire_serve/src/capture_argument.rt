@@ -1,7 +1,7 @@
 //! The argument that names a capture file.
 
 use clap::ArgMatches;
-use command_table::{Argument, Kind};
+use command_line::{Argument, Kind};
 
 /// The help text on capture files.
 const CAPTURE_FILE: &str =

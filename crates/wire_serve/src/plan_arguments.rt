@@ -5,8 +5,7 @@ use crate::arguments::{LINE, SCRIPT};
 use crate::capture_argument::CAPTURE;
 use crate::session_arguments::{BESIDE, FORCE, JSON, QUIET, RESIZE, TRUST, asked_by_run, form_of};
 use clap::ArgMatches;
-use command_table::{Subcommand, word_of};
-use station_input::{TYPED_COMMANDS, script_of};
+use command_line::{Subcommand, TYPED_COMMANDS, script_of, word_of};
 
 /// The help text on what `plan` prints.
 const PLAN_ANSWERS: &str = "Answers, which sii_station plan --help lists in full:

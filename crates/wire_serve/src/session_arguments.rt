@@ -1,7 +1,7 @@
 //! The arguments that say how large EEPROMs are, and what is asked for on a line.
 
 use clap::ArgMatches;
-use command_table::{Argument, Kind};
+use command_line::{Argument, Kind};
 use station_json::Form;
 use wire_session::Asked;
 

@@ -2,8 +2,8 @@
 ghost use Rattle.std.specs.Prelude.{◌≡◌, ◌≤◌, length, IfOk};
 
 use crate::faults::WireFault;
+use line_changes::resizes;
 use sii_edit::Command;
-use sii_size::resizes;
 use sii_words::{Plant, Words};
 use std::alloc::{AllocError, Global};
 use wire_bringup::{FoundLine, SlaveState};

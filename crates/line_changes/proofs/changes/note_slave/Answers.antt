@@ -1,6 +1,6 @@
 use Rattle.std.proofs.Common.{slice_index}
 use Rattle.line_changes.specs.Changes.{change_at}
-use Rattle.sii_size.proofs.Ranges.{next_of}
+use Rattle.line_changes.proofs.Ranges.{next_of}
 use Rattle.line_changes.proofs.changes.note_slave.Goals as goal
 
 pub loop-at-preserved : goal.loop-at-preserved

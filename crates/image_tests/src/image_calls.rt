@@ -1,0 +1,89 @@
+//! Calls of the library for C on images.
+
+use sii_bytes::{
+    CategoryPlace, Head, ImageSizes, PlacedSegment, edit_category, edit_image, find_category,
+    judge_image, place_line, read_head, set_alias,
+};
+use std::alloc::{AllocError, Global};
+
+/// The codes that zeros get: from their head, their judgement, a new alias, category 0, the removal of a category, an image, and as a
+/// line.
+type Codes = (u32, u32, u32, u32, u32, u32, u32);
+
+/// Numbers of bytes, and the codes of so many zeros.
+const ZEROS: &[(usize, Codes)] = &[
+    (126, (2, 2, 2, 2, 2, 2, 2)),
+    (127, (1, 1, 1, 1, 1, 1, 1)),
+    (128, (0, 15, 15, 16, 16, 15, 0)),
+    (130, (0, 15, 15, 3, 2, 2, 2)),
+    (8_192, (0, 15, 15, 0, 16, 15, 0)),
+    (8_194, (2, 2, 2, 2, 2, 2, 2)),
+];
+
+const NO_HEAD: Head = Head {
+    words: 0,
+    alias: 0,
+    check: 0,
+    expected: 0,
+    vendor: 0,
+    product: 0,
+    revision: 0,
+    serial: 0,
+};
+
+const NO_PLACE: CategoryPlace = CategoryPlace {
+    kind: 0,
+    at: 0,
+    count: 0,
+};
+
+const NO_SIZES: ImageSizes = ImageSizes {
+    segments: 0,
+    outputs: 0,
+    inputs: 0,
+    counter: 0,
+};
+
+/// The codes of reading.
+fn read_codes(alloc: Global, bytes: &[u8]) -> (u32, u32, u32) {
+    let mut head = NO_HEAD;
+    let mut detail = 0;
+    let mut place = NO_PLACE;
+    (
+        read_head(alloc, bytes, &mut head),
+        judge_image(alloc, bytes, &mut detail),
+        find_category(alloc, bytes, 0, &mut place),
+    )
+}
+
+/// The codes of changing.
+fn change_codes(alloc: Global, bytes: &mut [u8], image: &[u8]) -> (u32, u32, u32) {
+    (
+        set_alias(alloc, bytes, 7),
+        edit_category(alloc, bytes, 10, &[]),
+        edit_image(alloc, bytes, image),
+    )
+}
+
+/// The code of a line of one slave.
+fn line_code(alloc: Global, bytes: &[u8]) -> u32 {
+    let mut segments: [PlacedSegment; 0] = [];
+    let mut sizes = NO_SIZES;
+    place_line(alloc, bytes, &[bytes.len()], &mut segments, &mut sizes)
+}
+
+fn codes_of_zeros(alloc: Global, count: usize) -> Result<Codes, AllocError> {
+    let mut bytes = vec![in alloc; 0u8; count]?;
+    let image = vec![in alloc; 0u8; count]?;
+    let (head, judged, category) = read_codes(alloc, &bytes);
+    let line = line_code(alloc, &bytes);
+    let (alias, removed, written) = change_codes(alloc, &mut bytes, &image);
+    Ok((head, judged, alias, category, removed, written, line))
+}
+
+#[test]
+fn zeros_get_their_codes(rt: HostRuntime) {
+    for (count, codes) in ZEROS {
+        assert!(rt; codes_of_zeros(rt.alloc(), *count) == Ok(*codes));
+    }
+}

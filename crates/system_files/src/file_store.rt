@@ -1,0 +1,204 @@
+//! The files of the operating system as a store.
+
+use crate::replacing::{Place, folder_of, holds, locate, place_of, replace, sync_folder};
+use site_file::RandomAccessFile;
+use station_files::{Location, LockFault, Store, read_about};
+use std::alloc::Global;
+use std::fs::{File, Files, OpenOptions, TryLockError};
+use std::os::unix::fs::{FileExt, MetadataExt};
+use std::{fs, io};
+
+/// How many bytes of a file can be read: 1,048,576 reads of 4,096 bytes.
+const MOST_BYTES: u64 = 1 << 32;
+
+/// The files of the operating system. A name without a leading slash is relative to the current folder.
+#[derive(Drop)]
+pub struct FileStore<'r, R> {
+    files: &'r R,
+    alloc: Global,
+    /// The files whose next write takes no memory.
+    prepared: Vec<Prepared>,
+    /// The files that replaced others, kept open: each is locked, so the lock of a journal survives its replacement.
+    replaced: Vec<File>,
+    /// The folders whose names were synced.
+    synced: Vec<String>,
+}
+
+/// Where the file of a name is replaced.
+#[derive(Drop)]
+struct Prepared {
+    name: String,
+    place: Place,
+}
+
+/// The place that was prepared for the file of this name.
+fn prepared_for<'a>(prepared: &'a [Prepared], name: &str) -> Option<&'a Place> {
+    for found in prepared {
+        if found.name.as_str() == name {
+            return Some(&found.place);
+        }
+    }
+    None
+}
+
+/// A file of the operating system, open for reading and writing at byte offsets.
+#[derive(Drop)]
+pub struct SystemFile {
+    file: File,
+}
+
+/// A lock (`flock`) on a file of the operating system, held until it is dropped.
+#[derive(Drop)]
+pub struct SystemLock {
+    _file: File,
+}
+
+impl<'r, R> FileStore<'r, R> {
+    /// A store over the files that `files` gives access to.
+    pub fn new(alloc: Global, files: &'r R) -> Self {
+        FileStore {
+            files,
+            alloc,
+            prepared: Vec::new(alloc),
+            replaced: Vec::new(alloc),
+            synced: Vec::new(alloc),
+        }
+    }
+}
+
+impl<R: Files<File = File>> FileStore<'_, R> {
+    /// Syncs the folder of a file, and of a link the folder that it leads to, so that a power cut keeps these names. Each folder is synced
+    /// once.
+    fn sync_names(&mut self, name: &str) -> io::Result<()> {
+        self.sync_once(name)?;
+        let place = place_of(self.files, self.alloc, name)?;
+        self.sync_once(place.path.as_str())
+    }
+
+    /// Syncs the folder of this file, unless it was synced before.
+    fn sync_once(&mut self, name: &str) -> io::Result<()> {
+        let folder = folder_of(name);
+        if self.synced.iter().any(|synced| synced.as_str() == folder) {
+            return Ok(());
+        }
+        sync_folder(self.files, name)?;
+        let folder = String::from_str(self.alloc, folder)?;
+        self.synced.push(folder)?;
+        Ok(())
+    }
+}
+
+impl<R: Files<File = File>> Store for FileStore<'_, R> {
+    type File = SystemFile;
+
+    type Lock = SystemLock;
+
+    fn read(&mut self, alloc: Global, name: &str) -> io::Result<Option<Vec<u8>>> {
+        match File::open(self.files, name) {
+            Ok(file) => read_whole(alloc, file).map(Some),
+            Err(error) if error.kind() == io::ErrorKind::NotFound => Ok(None),
+            Err(error) => Err(error),
+        }
+    }
+
+    fn prepare(&mut self, name: &str) -> io::Result<()> {
+        let place = place_of(self.files, self.alloc, name)?;
+        let name = String::from_str(self.alloc, name)?;
+        self.prepared.push(Prepared { name, place })?;
+        self.replaced.reserve(self.prepared.len())?;
+        Ok(())
+    }
+
+    fn locate(&mut self, alloc: Global, name: &str) -> io::Result<Location> {
+        locate(self.files, alloc, name)
+    }
+
+    fn write(&mut self, name: &str, bytes: &[u8]) -> io::Result<()> {
+        if let Some(file) = holds(self.files, name, bytes) {
+            return file.sync_all();
+        }
+        self.replaced.reserve(1)?;
+        let file = match prepared_for(&self.prepared, name) {
+            Some(place) => replace(self.files, place, bytes)?,
+            None => replace(self.files, &place_of(self.files, self.alloc, name)?, bytes)?,
+        };
+        self.replaced.push(file)?;
+        Ok(())
+    }
+
+    fn open(&mut self, name: &str) -> io::Result<SystemFile> {
+        let file = OpenOptions::new()
+            .read(true)
+            .write(true)
+            .open(self.files, name)?;
+        file.sync_all()?;
+        self.sync_names(name)?;
+        Ok(SystemFile { file })
+    }
+
+    fn create(&mut self, name: &str) -> Result<SystemFile, LockFault> {
+        let file = OpenOptions::new()
+            .read(true)
+            .write(true)
+            .create(true)
+            .open(self.files, name)?;
+        take_lock(&file)?;
+        Ok(SystemFile { file })
+    }
+
+    fn lock(&mut self, name: &str) -> Result<Option<SystemLock>, LockFault> {
+        let Ok(file) = File::open(self.files, name) else {
+            return Ok(None);
+        };
+        take_lock(&file)?;
+        if !is_in_place(self.files, &file, name)? {
+            return Err(LockFault::Busy);
+        }
+        self.sync_names(name)?;
+        Ok(Some(SystemLock { _file: file }))
+    }
+}
+
+/// Locks a file without waiting, until it is closed.
+fn take_lock(file: &File) -> Result<(), LockFault> {
+    match file.try_lock() {
+        Ok(()) => Ok(()),
+        Err(TryLockError::WouldBlock) => Err(LockFault::Busy),
+        Err(TryLockError::Error(error)) => Err(LockFault::Io(error)),
+    }
+}
+
+/// Reads a file to its end. Takes memory for as many bytes as the system says that it has, and no more than can be read.
+fn read_whole(alloc: Global, mut file: File) -> io::Result<Vec<u8>> {
+    let length = file.metadata()?.len();
+    read_about(alloc, length.min(MOST_BYTES) as usize, &mut file)
+}
+
+/// Whether `name` still names the open file: another station may have replaced it in the meantime.
+fn is_in_place<R: Files>(files: &R, file: &File, name: &str) -> io::Result<bool> {
+    let found = fs::metadata(files, name)?;
+    let opened = file.metadata()?;
+    Ok(found.dev() == opened.dev() && found.ino() == opened.ino())
+}
+
+impl RandomAccessFile for SystemFile {
+    fn len(&self) -> io::Result<u64> {
+        Ok(self.file.metadata()?.len())
+    }
+
+    fn read_exact_at(&self, bytes: &mut [u8], at: u64) -> io::Result<()> {
+        self.file.read_exact_at(bytes, at)
+    }
+
+    fn write_all_at(&self, bytes: &[u8], at: u64) -> io::Result<()> {
+        self.file.write_all_at(bytes, at)
+    }
+
+    fn set_len(&self, length: u64) -> io::Result<()> {
+        self.file.set_len(length)
+    }
+
+    fn sync_data(&self) -> io::Result<()> {
+        self.file.sync_data()
+    }
+}
