@@ -1,15 +1,14 @@
 //! A line that is served on one thread, one part after the other.
 
-ghost use Rattle.std.specs.Prelude.{◌≤◌, length};
-ghost use Rattle.station_threads.specs.Sites.{OwnParts};
-ghost use Rattle.site_shadow.specs.Site.{SiteValue};
+ghost use Rattle.std.specs.Prelude.{◌≤◌, ◌+◌};
 
 use crate::memory::put;
-use crate::sites::number_of;
+use crate::session::Scenario;
+use crate::sites::{number_of, sites_of};
 use site_core::Site;
 use site_mem::MemSite;
 use station_jobs::{End, NoHook, SlaveLog, flush, work};
-use station_threads::{Desk, Ends, PerDevice, Refusals, Sites, Tickets};
+use station_threads::{Desk, Ends, PerDevice, Refusals, Tickets};
 use std::alloc::Global;
 use std::process::Abort;
 use std::sync::Wait;
@@ -36,16 +35,15 @@ pub(crate) fn serve_alone<T: Tickets + Send + Sync, R: Refusals + Send + Sync, W
     rt: &W,
     alloc: Global,
     desk: &Desk<T, R>,
-    sites: Sites<MemSite>,
+    scenario: &Scenario,
 ) -> Ends<MemSite>
-    requires owned { OwnParts (λ (site : SiteValue). site.line) sites.disk sites.slaves.items sites.cycle }
-    requires long { desk.now.limit ≤ length sites.disk.seen.state.disk.bytes }
+    requires { desk.now.limit ≤ 8 + scenario.now.plan.area }
 {
     let PerDevice {
         disk,
         slaves,
         cycle,
-    } = sites;
+    } = sites_of(rt, alloc, &scenario.plan, scenario.trouble);
     drop(cycle);
     let flusher = flush(rt, disk, desk.disk_side());
     Ends {

@@ -10,6 +10,8 @@ mod meeting;
 #[cfg(test)]
 mod memory;
 #[cfg(test)]
+mod recovery;
+#[cfg(test)]
 mod report;
 #[cfg(test)]
 mod served;
@@ -21,5 +23,3 @@ mod sites;
 mod stops;
 #[cfg(test)]
 mod submitter;
-#[cfg(test)]
-mod wakes;

@@ -1,12 +1,12 @@
 //! How a desk was closed, and what its line holds then.
 
-use crate::line::Plan;
 use crate::memory::put;
-use crate::sites::sizes_of;
+use crate::recovery::place_left;
+use crate::session::Scenario;
 use esc_model::{ProcessHalf, RomHalf};
 use sii_words::Plant;
 use site_mem::{MemSite, Parts};
-use station_jobs::{CycleLog, CycleNote, DiskLog, End, Leads, SlaveLog};
+use station_jobs::{CycleLog, CycleNote, End, Leads, SlaveLog};
 use station_threads::{
     CloseFault, Closed, Desk, Ends, NotClosed, Receipt, Refusals, Served, Share, Tickets, close,
 };
@@ -14,73 +14,22 @@ use std::alloc::Global;
 use std::process::Abort;
 
 /// How a desk was closed, and what its line holds then.
-#[derive(Drop)]
+#[derive(Clone, Copy)]
 pub(crate) struct Report {
+    /// Why the desk couldn't be closed.
     pub(crate) fault: Option<CloseFault>,
     /// How many commands were accepted, and how many receipts handed in.
     pub(crate) accepted: usize,
     pub(crate) receipts: usize,
     /// All commands below this number are acknowledged.
     pub(crate) acknowledged: u64,
-    /// The last turn of the cycle.
+    /// The last turn of the cycle, and slave 0's byte at 0x1100 then.
     pub(crate) last: Option<CycleNote>,
+    pub(crate) byte: Option<u8>,
     /// Whether each slave reads as the book's contents.
     pub(crate) reads: bool,
-    /// What a power cut leaves of the line, put together from what it leaves of each part.
-    pub(crate) line: Parts,
-}
-
-/// What the submitters hand in.
-#[derive(Drop)]
-pub(crate) struct Held<T: Tickets, R: Refusals> {
-    pub(crate) shares: Vec<Share<T, R>>,
-    pub(crate) receipts: Vec<Receipt>,
-}
-
-/// A book out of its lock, and the ends of its threads.
-#[derive(Drop)]
-struct Outcome<T: Tickets, R: Refusals> {
-    fault: Option<CloseFault>,
-    book: Served<T, R>,
-    ends: Ends<MemSite>,
-}
-
-impl<T: Tickets, R: Refusals> Outcome<T, R> {
-    fn closed(closed: Closed<T, R, MemSite>) -> Self {
-        let Closed { book, ends } = closed;
-        Outcome {
-            fault: None,
-            book,
-            ends,
-        }
-    }
-
-    fn not_closed(left: NotClosed<T, R, MemSite>) -> Self {
-        let NotClosed {
-            fault,
-            book,
-            ends,
-            ..
-        } = left;
-        Outcome {
-            fault: Some(fault),
-            book,
-            ends,
-        }
-    }
-}
-
-/// Closes the desk.
-fn close_with<T: Tickets, R: Refusals>(
-    desk: Desk<T, R>,
-    held: Held<T, R>,
-    ends: Ends<MemSite>,
-) -> Outcome<T, R> {
-    let Held { shares, receipts } = held;
-    match close(desk, shares, receipts, ends) {
-        Ok(closed) => Outcome::closed(closed),
-        Err(left) => Outcome::not_closed(left),
-    }
+    /// The prefix of commands after which a recovery leaves the line, if there is such a prefix and the line is recovered.
+    pub(crate) place: Option<u64>,
 }
 
 /// All commands below this number are acknowledged by the receipts.
@@ -112,11 +61,9 @@ fn left_of<L: Leads + Drop>(rt: &impl Abort, alloc: Global, end: End<MemSite, L>
 /// What a power cut leaves of a slave.
 fn half_left(rt: &impl Abort, alloc: Global, end: End<MemSite, SlaveLog>) -> Option<RomHalf> {
     let slave = usize::from(end.log().slave);
-    let mut left = left_of(rt, alloc, end);
-    assert!(rt; slave < left.halves.len());
-    let half = left.halves.swap_remove(slave);
-    drop(left);
-    half
+    let Parts { mut halves, .. } = left_of(rt, alloc, end);
+    assert!(rt; slave < halves.len());
+    halves.swap_remove(slave)
 }
 
 /// What a power cut leaves of the slaves.
@@ -132,20 +79,36 @@ fn halves_left(
     halves
 }
 
-/// What a power cut leaves of the disk.
-fn disk_left(rt: &impl Abort, alloc: Global, end: End<MemSite, DiskLog>) -> Option<Vec<u8>> {
-    let Parts { disk, .. } = left_of(rt, alloc, end);
-    disk
-}
-
-/// What a power cut leaves of the process data.
+/// What a power cut leaves of the process data, if it is exchanged.
 fn process_left(
     rt: &impl Abort,
     alloc: Global,
-    end: End<MemSite, CycleLog>,
+    cycle: Option<End<MemSite, CycleLog>>,
 ) -> Option<Vec<ProcessHalf>> {
-    let Parts { process, .. } = left_of(rt, alloc, end);
-    process
+    match cycle {
+        Some(end) => {
+            let Parts { process, .. } = left_of(rt, alloc, end);
+            process
+        }
+        None => None,
+    }
+}
+
+/// What a power cut leaves of the line, put together from what it leaves of each part.
+fn put_together(rt: &impl Abort, alloc: Global, ends: Ends<MemSite>) -> Parts {
+    let Ends {
+        flusher,
+        workers,
+        cycle,
+    } = ends;
+    let process = process_left(rt, alloc, cycle);
+    let Parts { sizes, disk, .. } = left_of(rt, alloc, flusher);
+    Parts {
+        sizes,
+        disk,
+        halves: halves_left(rt, alloc, workers),
+        process,
+    }
 }
 
 /// The last turn of the cycle.
@@ -156,22 +119,11 @@ fn last_turn(cycle: &Option<End<MemSite, CycleLog>>) -> Option<CycleNote> {
     }
 }
 
-/// What a power cut leaves of the line, put together from its parts.
-fn put_together(rt: &impl Abort, alloc: Global, plan: &Plan, ends: Ends<MemSite>) -> Parts {
-    let Ends {
-        flusher,
-        workers,
-        cycle,
-    } = ends;
-    let process = match cycle {
-        Some(end) => process_left(rt, alloc, end),
+/// Slave 0's byte at 0x1100.
+fn byte_of(line: &Parts) -> Option<u8> {
+    match &line.process {
+        Some(halves) => Some(halves.first()?.peek(0x1100)),
         None => None,
-    };
-    Parts {
-        sizes: sizes_of(rt, alloc, plan),
-        disk: disk_left(rt, alloc, flusher),
-        halves: halves_left(rt, alloc, workers),
-        process,
     }
 }
 
@@ -196,40 +148,72 @@ fn reads_as(line: &Parts, contents: &Plant) -> bool {
     true
 }
 
-/// How many commands the book has accepted.
-fn accepted_by<T: Tickets, R: Refusals>(book: &Served<T, R>) -> usize {
-    book.accepted().len()
-}
-
-/// Whether each slave of the line reads as the book's contents.
-fn reads_as_book<T: Tickets, R: Refusals>(line: &Parts, book: &Served<T, R>) -> bool {
-    reads_as(line, book.contents())
+/// The report with what the book and the ends add to it.
+fn completed<T: Tickets, R: Refusals>(
+    rt: &impl Abort,
+    alloc: Global,
+    is_recovered: bool,
+    begun: Report,
+    book: Served<T, R>,
+    ends: Ends<MemSite>,
+) -> Report {
+    let line = put_together(rt, alloc, ends);
+    let accepted = book.accepted().len();
+    let reads = reads_as(&line, book.contents());
+    drop(book);
+    let byte = byte_of(&line);
+    let place = place_left(rt, alloc, is_recovered, line);
+    Report {
+        accepted,
+        reads,
+        byte,
+        place,
+        ..begun
+    }
 }
 
 /// Closes the desk.
 pub(crate) fn report_of<T: Tickets, R: Refusals>(
     rt: &impl Abort,
     alloc: Global,
-    plan: &Plan,
+    scenario: &Scenario,
     desk: Desk<T, R>,
-    held: Held<T, R>,
+    held: (Vec<Share<T, R>>, Vec<Receipt>),
     ends: Ends<MemSite>,
 ) -> Report {
-    let receipts = held.receipts.len();
-    let acknowledged = acknowledged(&held.receipts);
-    let last = last_turn(&ends.cycle);
-    let Outcome { fault, book, ends } = close_with(desk, held, ends);
-    let line = put_together(rt, alloc, plan, ends);
-    let accepted = accepted_by(&book);
-    let reads = reads_as_book(&line, &book);
-    drop(book);
-    Report {
-        fault,
-        accepted,
-        receipts,
-        acknowledged,
-        last,
-        reads,
-        line,
+    let (shares, receipts) = held;
+    let begun = Report {
+        fault: None,
+        accepted: 0,
+        receipts: receipts.len(),
+        acknowledged: acknowledged(&receipts),
+        last: last_turn(&ends.cycle),
+        byte: None,
+        reads: false,
+        place: None,
+    };
+    let is_recovered = scenario.is_recovered;
+    match close(desk, shares, receipts, ends) {
+        Ok(closed) => {
+            let Closed { book, ends } = closed;
+            completed(rt, alloc, is_recovered, begun, book, ends)
+        }
+        Err(left) => {
+            let NotClosed {
+                fault,
+                book,
+                ends,
+                ..
+            } = left;
+            let fault = Some(fault);
+            completed(
+                rt,
+                alloc,
+                is_recovered,
+                Report { fault, ..begun },
+                book,
+                ends,
+            )
+        }
     }
 }

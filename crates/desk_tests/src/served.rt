@@ -2,18 +2,14 @@
 
 use crate::line::Plan;
 use crate::meeting::Meeting;
+use crate::report::Report;
 use crate::session::{LeftOut, Scenario, Way, session};
 use crate::sites::Trouble;
 use crate::submitter::Pace;
 use runner_cases::asks::Ask;
-use site_mem::Parts;
-use station_jobs::{CycleNote, Hook, NoHook};
+use station_jobs::{CycleNote, NoHook};
 use station_threads::CloseFault;
-use std::alloc::Global;
-use std::process::Abort;
-use std::sync::Wait;
 use std::test::*;
-use std::thread::Threads;
 
 /// Aliases for four slaves in turn.
 const FIRST: &[Ask] = &[
@@ -63,6 +59,7 @@ const HUNDRED: Scenario = Scenario {
     way: Way::Threads,
     trouble: Trouble::Nothing,
     left_out: LeftOut::Nothing,
+    is_recovered: false,
 };
 
 /// The scenario `HUNDRED` without process data.
@@ -70,65 +67,6 @@ const MEETING: Scenario = Scenario {
     plan: FOUR,
     ..HUNDRED
 };
-
-/// What came of a session.
-#[derive(Clone, Copy)]
-struct Account {
-    /// Why the desk couldn't be closed.
-    fault: Option<CloseFault>,
-    /// How many commands were accepted, and how many receipts there are.
-    accepted: usize,
-    receipts: usize,
-    /// Whether each slave reads as the book.
-    reads: bool,
-    /// The last process data cycle, and slave 0's byte at 0x1100 then.
-    last: Option<CycleNote>,
-    byte: Option<u8>,
-}
-
-/// Slave 0's byte at 0x1100.
-fn byte_of(line: &Parts) -> Option<u8> {
-    match &line.process {
-        Some(halves) => Some(halves.first()?.peek(0x1100)),
-        None => None,
-    }
-}
-
-/// Runs the scenario, and reports what came of it.
-fn came<G: Hook + Sync, W: Wait + Threads + Sync + Abort>(
-    rt: &W,
-    alloc: Global,
-    scenario: &Scenario,
-    hook: &G,
-) -> Account {
-    let report = session(rt, alloc, scenario, hook);
-    let came = Account {
-        fault: report.fault,
-        accepted: report.accepted,
-        receipts: report.receipts,
-        reads: report.reads,
-        last: report.last,
-        byte: byte_of(&report.line),
-    };
-    drop(report);
-    came
-}
-
-fn are_all_served(came: &Account) -> bool {
-    came.fault.is_none() && came.accepted == 100 && came.receipts == 100 && came.reads
-}
-
-#[test]
-fn two_submit(rt: HostRuntime) {
-    let came = came(&rt, rt.alloc(), &HUNDRED, &NoHook);
-    assert!(rt; are_all_served(&came));
-}
-
-#[test]
-fn two_meet(rt: HostRuntime) {
-    let came = came(&rt, rt.alloc(), &MEETING, &Meeting::new(&rt));
-    assert!(rt; are_all_served(&came));
-}
 
 /// A slave with a byte of outputs and four bytes of inputs: its SyncM, RXPDO and TXPDO categories.
 const BOTH: &[u8] = &[
@@ -160,41 +98,12 @@ const TURNING: Scenario = Scenario {
     ..HUNDRED
 };
 
-/// The prefix of the cycle's last turn is `prefix`, of seven bytes.
-fn is_turn(last: Option<CycleNote>, prefix: u64) -> bool {
-    last == Some(CycleNote { prefix, size: 7 })
-}
-
-#[test]
-fn the_cycle_goes_on(rt: HostRuntime) {
-    let came = came(&rt, rt.alloc(), &TURNING, &NoHook);
-    assert!(rt; came.fault.is_none() && is_turn(came.last, 1) && came.byte == Some(0));
-}
-
-/// The scenario `TURNING`, in which slave 0 is given up.
+/// The scenario `TURNING`, in which slave 0 is given up. The only command is never settled, so that each cycle is of none; the slave's
+/// fault ends the cycle.
 const DYING: Scenario = Scenario {
     trouble: Trouble::WordsFail(0, 3),
     ..TURNING
 };
-
-/// The only command is never settled, so that each cycle is of none; the slave's fault ends the cycle.
-#[test]
-fn the_cycle_ends_with_a_fault(rt: HostRuntime) {
-    let came = came(&rt, rt.alloc(), &DYING, &NoHook);
-    assert!(rt; came.fault == Some(CloseFault::Unserved));
-    assert!(rt; came.last.is_none() || is_turn(came.last, 0));
-}
-
-/// What goes wrong on the line, what isn't handed in, and why the desk can't be closed.
-const FAULTS: &[(Trouble, LeftOut, CloseFault)] = &[
-    (Trouble::Nothing, LeftOut::End, CloseFault::Mismatch),
-    (Trouble::Nothing, LeftOut::Share, CloseFault::Mismatch),
-    (
-        Trouble::WordsFail(0, 3),
-        LeftOut::Nothing,
-        CloseFault::Unserved,
-    ),
-];
 
 /// Two submitters with one alias each.
 const TWO: Scenario = Scenario {
@@ -204,24 +113,81 @@ const TWO: Scenario = Scenario {
     ..MEETING
 };
 
-/// Why the desk couldn't be closed with this trouble on its line, and this not handed in.
-fn fault_of<W: Wait + Threads + Sync + Abort>(
-    rt: &W,
-    alloc: Global,
-    trouble: Trouble,
-    left_out: LeftOut,
-) -> Option<CloseFault> {
-    let scenario = Scenario {
-        trouble,
-        left_out,
-        ..TWO
-    };
-    came(rt, alloc, &scenario, &NoHook).fault
+/// How a session has to end.
+#[derive(Clone, Copy)]
+enum End {
+    /// With a hundred commands accepted and acknowledged, and slaves that read as the book.
+    AllServed,
+    /// With a last cycle of one command and of seven bytes, and outputs of zero.
+    Turned,
+    /// With a last cycle of no command and of seven bytes, if there was one, and commands that aren't settled.
+    GivenUp,
+    /// With a desk that can't be closed for this reason.
+    NotClosed(CloseFault),
+}
+
+/// The prefix of the cycle's last turn is `prefix`, of seven bytes.
+fn is_turn(last: Option<CycleNote>, prefix: u64) -> bool {
+    last == Some(CycleNote { prefix, size: 7 })
+}
+
+/// Whether a session has ended so.
+fn has_ended(report: &Report, end: End) -> bool {
+    match end {
+        End::AllServed => {
+            report.fault.is_none()
+                && report.accepted == 100
+                && report.receipts == 100
+                && report.reads
+        }
+        End::Turned => {
+            report.fault.is_none() && is_turn(report.last, 1) && report.byte == Some(0)
+        }
+        End::GivenUp => {
+            report.fault == Some(CloseFault::Unserved)
+                && (report.last.is_none() || is_turn(report.last, 0))
+        }
+        End::NotClosed(fault) => report.fault == Some(fault),
+    }
+}
+
+const CASES: &[(Scenario, End)] = &[
+    (HUNDRED, End::AllServed),
+    (TURNING, End::Turned),
+    (DYING, End::GivenUp),
+    (
+        Scenario {
+            left_out: LeftOut::End,
+            ..TWO
+        },
+        End::NotClosed(CloseFault::Mismatch),
+    ),
+    (
+        Scenario {
+            left_out: LeftOut::Share,
+            ..TWO
+        },
+        End::NotClosed(CloseFault::Mismatch),
+    ),
+    (
+        Scenario {
+            trouble: Trouble::WordsFail(0, 3),
+            ..TWO
+        },
+        End::NotClosed(CloseFault::Unserved),
+    ),
+];
+
+#[test]
+fn lines_are_served(rt: HostRuntime) {
+    for (scenario, end) in CASES {
+        let report = session(&rt, rt.alloc(), scenario, &NoHook);
+        assert!(rt; has_ended(&report, *end));
+    }
 }
 
 #[test]
-fn desks_that_are_not_closed(rt: HostRuntime) {
-    for (trouble, left_out, fault) in FAULTS {
-        assert!(rt; fault_of(&rt, rt.alloc(), *trouble, *left_out) == Some(*fault));
-    }
+fn two_workers_meet(rt: HostRuntime) {
+    let report = session(&rt, rt.alloc(), &MEETING, &Meeting::new(&rt));
+    assert!(rt; has_ended(&report, End::AllServed));
 }

@@ -7,14 +7,16 @@ ghost use Rattle.site_shadow.specs.Site.{SiteValue};
 use crate::alone::serve_alone;
 use crate::line::{Plan, book_of};
 use crate::memory::{put, room};
-use crate::report::{Held, Report, report_of};
+use crate::report::{Report, report_of};
 use crate::sites::{Trouble, sites_of};
 use crate::submitter::{Driver, Pace, Submitter, ended, start_submitting};
 use book_core::Core;
 use runner_cases::asks::Ask;
 use site_mem::MemSite;
 use station_jobs::Hook;
-use station_threads::{BlankLedger, Desk, Ends, Receipt, Refusals, Sites, Tickets, serve_line};
+use station_threads::{
+    BlankLedger, Desk, Ends, Receipt, Refusals, Share, Sites, Tickets, serve_line,
+};
 use std::alloc::Global;
 use std::marker::Brand;
 use std::process::Abort;
@@ -52,6 +54,8 @@ pub(crate) struct Scenario {
     pub(crate) way: Way,
     pub(crate) trouble: Trouble,
     pub(crate) left_out: LeftOut,
+    /// Whether the line is recovered in the end. It has three slaves then.
+    pub(crate) is_recovered: bool,
 }
 
 /// A submitter of these commands.
@@ -97,26 +101,19 @@ fn serve<
     rt: &W,
     alloc: Global,
     desk: &Desk<T, R>,
-    sites: Sites<MemSite>,
+    scenario: &Scenario,
     hook: &G,
     driver: &mut Driver<T, R>,
 ) -> Ends<MemSite>
-    requires owned { OwnParts (λ (site : SiteValue). site.line) sites.disk sites.slaves.items sites.cycle }
-    requires long { desk.now.limit ≤ length sites.disk.seen.state.disk.bytes }
+    requires { desk.now.limit ≤ 8 + scenario.now.plan.area }
 {
+    let sites = sites_of(rt, alloc, &scenario.plan, scenario.trouble);
     match try_serve(rt, alloc, desk, sites, hook, driver) {
         Ok(ends) => ends,
         Err(sites) => try_serve(rt, alloc, desk, sites, hook, driver)
             .ok()
             .expect(rt, "memory"),
     }
-}
-
-/// The two submitters: one drives the desk, the other submits on its own thread.
-#[derive(Drop)]
-struct Both<T: Tickets, R: Refusals> {
-    driver: Driver<T, R>,
-    other: Submitter<T, R>,
 }
 
 /// Serves the line while both submit, the other on a thread of the scope.
@@ -132,16 +129,15 @@ fn serve_in<
     rt: &'s W,
     alloc: Global,
     desk: &'s Desk<T, R>,
-    sites: Sites<MemSite>,
+    scenario: &'s Scenario,
     hook: &'s G,
     driver: &mut Driver<T, R>,
     other: Submitter<T, R>,
 ) -> (Ends<MemSite>, Submitter<T, R>)
-    requires owned { OwnParts (λ (site : SiteValue). site.line) sites.disk sites.slaves.items sites.cycle }
-    requires long { desk.now.limit ≤ length sites.disk.seen.state.disk.bytes }
+    requires { desk.now.limit ≤ 8 + scenario.now.plan.area }
 {
     let started = start_submitting(scope, rt, desk, other);
-    let ends = serve(rt, alloc, desk, sites, hook, driver);
+    let ends = serve(rt, alloc, desk, scenario, hook, driver);
     (ends, ended(rt, started))
 }
 
@@ -156,21 +152,19 @@ fn serve_both<
     rt: &'e W,
     alloc: Global,
     desk: &'e Desk<T, R>,
-    sites: Sites<MemSite>,
+    scenario: &'e Scenario,
     hook: &'e G,
     driver: &'e mut Driver<T, R>,
     other: Submitter<T, R>,
 ) -> (Ends<MemSite>, Submitter<T, R>)
-    requires owned { OwnParts (λ (site : SiteValue). site.line) sites.disk sites.slaves.items sites.cycle }
-    requires long { desk.now.limit ≤ length sites.disk.seen.state.disk.bytes }
+    requires { desk.now.limit ≤ 8 + scenario.now.plan.area }
 {
     thread::scope(
         thread::scope_env(),
         rt,
         move |scope| -> (Ends<MemSite>, Submitter<T, R>)
-            requires owned { OwnParts (λ (site : SiteValue). site.line) sites.disk sites.slaves.items sites.cycle }
-            requires long { desk.now.limit ≤ length sites.disk.seen.state.disk.bytes }
-        { serve_in(scope, rt, alloc, desk, sites, hook, driver, other) },
+            requires { desk.now.limit ≤ 8 + scenario.now.plan.area }
+        { serve_in(scope, rt, alloc, desk, scenario, hook, driver, other) },
     )
 }
 
@@ -184,36 +178,34 @@ fn serve_so<
     rt: &W,
     alloc: Global,
     desk: &Desk<T, R>,
-    sites: Sites<MemSite>,
-    way: Way,
+    scenario: &Scenario,
     hook: &G,
     driver: &mut Driver<T, R>,
     other: Submitter<T, R>,
 ) -> (Ends<MemSite>, Submitter<T, R>)
-    requires owned { OwnParts (λ (site : SiteValue). site.line) sites.disk sites.slaves.items sites.cycle }
-    requires long { desk.now.limit ≤ length sites.disk.seen.state.disk.bytes }
+    requires { desk.now.limit ≤ 8 + scenario.now.plan.area }
 {
-    match way {
-        Way::Threads => serve_both(rt, alloc, desk, sites, hook, driver, other),
-        Way::Alone => (serve_alone(rt, alloc, desk, sites), other),
+    match scenario.way {
+        Way::Threads => serve_both(rt, alloc, desk, scenario, hook, driver, other),
+        Way::Alone => (serve_alone(rt, alloc, desk, scenario), other),
     }
 }
 
 /// How many commands the two submitters submit.
-fn count_of(scenario: &Scenario) -> u64 {
+fn count_of(scenario: &Scenario) -> usize {
     let asks = scenario.first.len().saturating_add(scenario.second.len());
-    asks.saturating_mul(scenario.rounds) as u64
+    asks.saturating_mul(scenario.rounds)
 }
 
-/// Everything that the two submitters hold, except what isn't to be handed in.
+/// The shares and receipts of the two submitters, except what isn't to be handed in.
 fn held<T: Tickets, R: Refusals>(
     rt: &impl Abort,
     alloc: Global,
-    both: Both<T, R>,
+    first: Submitter<T, R>,
+    other: Submitter<T, R>,
     left_out: LeftOut,
-) -> Held<T, R> {
-    let Both { driver, other } = both;
-    let (one, mut receipts) = driver.submitter.into_parts();
+) -> (Vec<Share<T, R>>, Vec<Receipt>) {
+    let (one, mut receipts) = first.into_parts();
     let (other, others) = other.into_parts();
     hand_in(rt, &mut receipts, others);
     let mut shares = room(rt, alloc, 2);
@@ -223,7 +215,7 @@ fn held<T: Tickets, R: Refusals>(
     } else {
         put(rt, &mut shares, other);
     }
-    Held { shares, receipts }
+    (shares, receipts)
 }
 
 /// Puts these receipts behind the others.
@@ -241,56 +233,42 @@ fn ends_but(mut ends: Ends<MemSite>, left_out: LeftOut) -> Ends<MemSite> {
     ends
 }
 
-/// The two submitters, with the only two shares of the desk.
+/// A driver and the other submitter, with the only two shares of the desk.
 fn both_of<T: Tickets, R: Refusals, W: Wait + Abort>(
     rt: &W,
     alloc: Global,
     desk: &Desk<T, R>,
     scenario: &Scenario,
-) -> Both<T, R> {
+) -> (Driver<T, R>, Submitter<T, R>) {
     let mut first = submitter(rt, alloc, desk, scenario, scenario.first);
     let mut other = submitter(rt, alloc, desk, scenario, scenario.second);
     assert!(rt; desk.share(rt).is_err());
-    first.begin(rt, desk);
-    other.begin(rt, desk);
+    first.submit_rounds(rt, desk, false);
+    other.submit_rounds(rt, desk, false);
     let driver = Driver {
         submitter: first,
-        accepted: count_of(scenario),
+        accepted: count_of(scenario) as u64,
     };
-    Both { driver, other }
+    (driver, other)
 }
 
-/// Serves the line from the desk. Answers what the submitters hold and the ends, except what isn't to be handed in.
+/// What the submitters hold, and the ends of the line's threads, except what isn't to be handed in.
+type Left<T, R> = ((Vec<Share<T, R>>, Vec<Receipt>), Ends<MemSite>);
+
+/// Serves the line from the desk.
 fn serve_at<
     T: Tickets + Send + Sync,
     R: Refusals + Send + Sync,
     G: Hook + Sync,
     W: Wait + Threads + Sync + Abort,
->(
-    rt: &W,
-    alloc: Global,
-    desk: &Desk<T, R>,
-    sites: Sites<MemSite>,
-    scenario: &Scenario,
-    hook: &G,
-) -> (Held<T, R>, Ends<MemSite>)
-    requires owned { OwnParts (λ (site : SiteValue). site.line) sites.disk sites.slaves.items sites.cycle }
-    requires long { desk.now.limit ≤ length sites.disk.seen.state.disk.bytes }
+>(rt: &W, alloc: Global, desk: &Desk<T, R>, scenario: &Scenario, hook: &G) -> Left<T, R>
+    requires { desk.now.limit ≤ 8 + scenario.now.plan.area }
 {
-    let Both { mut driver, other } = both_of(rt, alloc, desk, scenario);
-    let (ends, mut other) = serve_so(
-        rt,
-        alloc,
-        desk,
-        sites,
-        scenario.way,
-        hook,
-        &mut driver,
-        other,
-    );
+    let (mut driver, other) = both_of(rt, alloc, desk, scenario);
+    let (ends, mut other) = serve_so(rt, alloc, desk, scenario, hook, &mut driver, other);
     other.wait_all(rt, desk);
     (
-        held(rt, alloc, Both { driver, other }, scenario.left_out),
+        held(rt, alloc, driver.submitter, other, scenario.left_out),
         ends_but(ends, scenario.left_out),
     )
 }
@@ -307,7 +285,6 @@ fn serve_by<
     tickets: BlankLedger,
     refusals: BlankLedger,
     core: Core,
-    sites: Sites<MemSite>,
     scenario: &Scenario,
     hook: &G,
 ) -> Option<Report>
@@ -315,15 +292,13 @@ fn serve_by<
     requires none { core.accepted ≡ [] }
     requires tickets { (tickets.name ≡ T.name) × (tickets.count ≡ T.parts) }
     requires refusals { (refusals.name ≡ R.name) × (refusals.count ≡ R.parts) }
-    requires owned { OwnParts (λ (site : SiteValue). site.line) sites.disk sites.slaves.items sites.cycle }
-    requires long { 8 + core.capacity ≤ length sites.disk.seen.state.disk.bytes }
+    requires area { core.capacity ≡ scenario.now.plan.area }
 {
     let Ok(desk) = Desk::<T, R>::of(alloc, core, tickets, refusals) else {
-        drop(sites);
         return None;
     };
-    let (held, ends) = serve_at(rt, alloc, &desk, sites, scenario, hook);
-    Some(report_of(rt, alloc, &scenario.plan, desk, held, ends))
+    let (held, ends) = serve_at(rt, alloc, &desk, scenario, hook);
+    Some(report_of(rt, alloc, scenario, desk, held, ends))
 }
 
 /// Serves the line, and closes its desk. None: memory for the desk was refused.
@@ -335,14 +310,12 @@ fn try_session<G: Hook + Sync, W: Wait + Threads + Sync + Abort>(
 ) -> Option<Report> {
     assert!(rt; scenario.plan.area >= 4096);
     let core = book_of(rt, alloc, &scenario.plan);
-    let sites = sites_of(rt, alloc, &scenario.plan, scenario.trouble);
     serve_by::<Brand, Brand, G, W>(
         rt,
         alloc,
         BlankLedger::new(3),
         BlankLedger::new(3),
         core,
-        sites,
         scenario,
         hook,
     )

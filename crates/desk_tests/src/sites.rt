@@ -15,14 +15,19 @@ use station_threads::{PerDevice, Sites, own_parts};
 use std::alloc::Global;
 use std::process::Abort;
 
+/// A part of a line.
+#[derive(Clone, Copy, PartialEq, Eq)]
+pub(crate) enum Part {
+    Disk,
+    Slave(u16),
+}
+
 /// What goes wrong on a part of a line.
 #[derive(Clone, Copy)]
 pub(crate) enum Trouble {
     Nothing,
-    /// The disk stops after this many writes.
-    DiskStops(u64, Pattern),
-    /// This slave stops after this many words.
-    SlaveStops(u16, u64, Pattern),
+    /// This part stops after this many writes.
+    Stops(Part, u64, Pattern),
     /// The next writes of this slave, this many, end in error.
     WordsFail(u16, u32),
 }
@@ -41,7 +46,7 @@ fn station_of(slave: usize) -> u16 {
 }
 
 /// How many words each slave has.
-pub(crate) fn sizes_of(rt: &impl Abort, alloc: Global, plan: &Plan) -> Vec<u16> {
+fn sizes_of(rt: &impl Abort, alloc: Global, plan: &Plan) -> Vec<u16> {
     let mut sizes = Vec::new(alloc);
     for _slave in plan.slaves {
         put(rt, &mut sizes, plan.words);
@@ -49,11 +54,33 @@ pub(crate) fn sizes_of(rt: &impl Abort, alloc: Global, plan: &Plan) -> Vec<u16> 
     sizes
 }
 
-/// `count` slaves without an EEPROM half.
-fn leave_out(rt: &impl Abort, halves: &mut Vec<Option<RomHalf>>, count: usize) {
-    for _slave in 0..count {
-        put(rt, halves, None);
+/// The EEPROM half of the slave at this place, just switched on, if it is the wanted one.
+fn half_at(
+    rt: &impl Abort,
+    alloc: Global,
+    plan: &Plan,
+    place: usize,
+    wanted: Option<usize>,
+) -> Option<RomHalf> {
+    if wanted != Some(place) {
+        return None;
     }
+    let words = words_of(rt, alloc, plan, place);
+    Some(RomHalf::power_up(words, station_of(place), DELAY))
+}
+
+/// The EEPROM half of one slave, just switched on, and none of the others; or none at all.
+fn halves_with(
+    rt: &impl Abort,
+    alloc: Global,
+    plan: &Plan,
+    wanted: Option<usize>,
+) -> Vec<Option<RomHalf>> {
+    let mut halves = Vec::new(alloc);
+    for place in 0..plan.slaves.len() {
+        put(rt, &mut halves, half_at(rt, alloc, plan, place, wanted));
+    }
+    halves
 }
 
 /// The site of these parts.
@@ -62,26 +89,6 @@ pub(crate) fn site_of(rt: &impl Abort, alloc: Global, parts: Parts) -> MemSite
 {
     assert!(rt; parts.is_whole());
     MemSite::of_parts(alloc, parts)
-}
-
-/// A site without EEPROM halves.
-fn without_halves(
-    rt: &impl Abort,
-    alloc: Global,
-    plan: &Plan,
-    disk: Option<Vec<u8>>,
-    process: Option<Vec<ProcessHalf>>,
-) -> Parts
-    ensures { result.disk ≡ disk }
-{
-    let mut halves = Vec::new(alloc);
-    leave_out(rt, &mut halves, plan.slaves.len());
-    Parts {
-        sizes: sizes_of(rt, alloc, plan),
-        disk,
-        halves,
-        process,
-    }
 }
 
 /// The bytes of the disk, formatted.
@@ -97,49 +104,38 @@ fn disk_bytes(rt: &impl Abort, alloc: Global, plan: &Plan) -> Vec<u8>
     bytes
 }
 
+/// Plans the trouble on the site of a part, if it is about this part.
+fn befall(site: &mut MemSite, part: Part, trouble: Trouble)
+    ensures { site.new ≡ site.old }
+{
+    match trouble {
+        Trouble::Nothing => {}
+        Trouble::Stops(which, writes, pattern) => {
+            if which == part {
+                site.fuse(writes, pattern);
+            }
+        }
+        Trouble::WordsFail(slave, words) => {
+            if part == Part::Slave(slave) {
+                site.fail_writes(slave, words);
+            }
+        }
+    }
+}
+
 /// The disk of the line.
 fn disk_of(rt: &impl Abort, alloc: Global, plan: &Plan, trouble: Trouble) -> MemSite
     ensures { length result.seen.state.disk.bytes ≡ 8 + plan.now.area }
 {
-    let bytes = disk_bytes(rt, alloc, plan);
-    let parts = without_halves(rt, alloc, plan, Some(bytes), None);
+    let parts = Parts {
+        sizes: sizes_of(rt, alloc, plan),
+        disk: Some(disk_bytes(rt, alloc, plan)),
+        halves: halves_with(rt, alloc, plan, None),
+        process: None,
+    };
     let mut site = site_of(rt, alloc, parts);
-    if let Trouble::DiskStops(writes, pattern) = trouble {
-        site.fuse(writes, pattern);
-    }
+    befall(&mut site, Part::Disk, trouble);
     site
-}
-
-/// Plans the trouble on this slave's site, if it is about this slave.
-fn befall(site: &mut MemSite, slave: usize, trouble: Trouble) {
-    match trouble {
-        Trouble::SlaveStops(which, words, pattern) => {
-            if usize::from(which) == slave {
-                site.fuse(words, pattern);
-            }
-        }
-        Trouble::WordsFail(which, words) => {
-            if usize::from(which) == slave {
-                site.fail_writes(which, words);
-            }
-        }
-        Trouble::Nothing | Trouble::DiskStops(..) => {}
-    }
-}
-
-/// The EEPROM half of one slave, just switched on, and none of the others.
-fn half_alone(rt: &impl Abort, alloc: Global, plan: &Plan, slave: usize) -> Vec<Option<RomHalf>> {
-    let words = words_of(rt, alloc, plan, slave);
-    let half = RomHalf::power_up(words, station_of(slave), DELAY);
-    let mut halves = Vec::new(alloc);
-    leave_out(rt, &mut halves, slave);
-    put(rt, &mut halves, Some(half));
-    leave_out(
-        rt,
-        &mut halves,
-        plan.slaves.len().saturating_sub(slave).saturating_sub(1),
-    );
-    halves
 }
 
 /// A slave of the line.
@@ -153,11 +149,11 @@ fn slave_of(
     let parts = Parts {
         sizes: sizes_of(rt, alloc, plan),
         disk: None,
-        halves: half_alone(rt, alloc, plan, slave),
+        halves: halves_with(rt, alloc, plan, Some(slave)),
         process: None,
     };
     let mut site = site_of(rt, alloc, parts);
-    befall(&mut site, slave, trouble);
+    befall(&mut site, Part::Slave(number_of(slave)), trouble);
     site
 }
 
@@ -183,22 +179,26 @@ fn process_half(rt: &impl Abort, alloc: Global, plan: &Plan, slave: usize) -> Pr
 }
 
 /// The process halves of the line.
-fn process_of(rt: &impl Abort, alloc: Global, plan: &Plan) -> MemSite {
+fn process_of(rt: &impl Abort, alloc: Global, plan: &Plan) -> Vec<ProcessHalf> {
     let mut halves = Vec::new(alloc);
     for slave in 0..plan.slaves.len() {
         put(rt, &mut halves, process_half(rt, alloc, plan, slave));
     }
-    let parts = without_halves(rt, alloc, plan, None, Some(halves));
-    site_of(rt, alloc, parts)
+    halves
 }
 
-/// The process halves, if the line exchanges process data.
+/// The site of the process halves, if the line exchanges process data.
 fn cycle_of(rt: &impl Abort, alloc: Global, plan: &Plan) -> Option<MemSite> {
-    if plan.has_cycle {
-        Some(process_of(rt, alloc, plan))
-    } else {
-        None
+    if !plan.has_cycle {
+        return None;
     }
+    let parts = Parts {
+        sizes: sizes_of(rt, alloc, plan),
+        disk: None,
+        halves: halves_with(rt, alloc, plan, None),
+        process: Some(process_of(rt, alloc, plan)),
+    };
+    Some(site_of(rt, alloc, parts))
 }
 
 /// The sites of the line.

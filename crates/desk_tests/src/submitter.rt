@@ -5,7 +5,7 @@ ghost use denote.Param.Send.{IsSync};
 use crate::memory::room;
 use book_model::SubmitRefusal;
 use runner_cases::asks::{Ask, command};
-use sii_edit::{Cause, Command};
+use sii_edit::Cause;
 use station_threads::{Client, Desk, Receipt, Refusals, Refused, Share, Ticket, Tickets};
 use std::alloc::Global;
 use std::process::Abort;
@@ -35,7 +35,10 @@ pub(crate) struct Submitter<T: Tickets, R: Refusals> {
     receipts: Vec<Receipt>,
 }
 
-fn is_out_of_memory(refusal: SubmitRefusal) -> bool {
+/// Whether memory was refused.
+fn is_out_of_memory(refused: Refused) -> bool {
+    let Refused { refusal, command } = refused;
+    drop(command);
     match refusal {
         SubmitRefusal::Command(refusal) => refusal.cause == Cause::Memory,
         _ => false,
@@ -77,23 +80,14 @@ impl<T: Tickets, R: Refusals> Submitter<T, R> {
         }
     }
 
-    /// Submits a command. False, with nothing changed, if memory was refused.
-    fn is_taken<W: Wait>(&mut self, rt: &W, desk: &Desk<T, R>, command: Command) -> bool {
-        match desk.submit(rt, &mut self.share, command) {
-            Ok(ticket) => self.tickets.push(ticket).is_ok(),
-            Err(refused) => {
-                let Refused { refusal, command } = refused;
-                drop(command);
-                !is_out_of_memory(refusal)
-            }
-        }
-    }
-
     /// Submits the command that is asked for. False, with nothing changed, if memory was refused.
     fn is_submitted<W: Wait>(&mut self, rt: &W, desk: &Desk<T, R>, ask: &Ask) -> bool {
-        match command(self.alloc, ask) {
-            Some(command) => self.is_taken(rt, desk, command),
-            None => false,
+        let Some(asked) = command(self.alloc, ask) else {
+            return false;
+        };
+        match desk.submit(rt, &mut self.share, asked) {
+            Ok(ticket) => self.tickets.push(ticket).is_ok(),
+            Err(refused) => !is_out_of_memory(refused),
         }
     }
 
@@ -104,54 +98,26 @@ impl<T: Tickets, R: Refusals> Submitter<T, R> {
         }
     }
 
-    /// Submits the command that is asked for, with a second try if memory was refused.
-    fn submit<W: Wait>(&mut self, rt: &W, desk: &Desk<T, R>, ask: &Ask) {
-        if !self.is_submitted(rt, desk, ask) {
-            self.is_submitted(rt, desk, ask);
-        }
-    }
-
-    /// Submits all commands once, without waiting for them.
-    fn submit_each<W: Wait>(&mut self, rt: &W, desk: &Desk<T, R>) {
-        for ask in self.asks {
-            self.submit(rt, desk, ask);
-        }
-    }
-
-    /// Submits the commands that are for the time of serving, without waiting for them.
-    fn submit_rounds<W: Wait>(&mut self, rt: &W, desk: &Desk<T, R>) {
-        if self.pace != Pace::Queued {
-            for _round in 0..self.rounds {
-                self.submit_each(rt, desk);
-            }
-        }
-    }
-
-    /// Submits all commands once, and waits for each if the pace is `OneByOne`.
+    /// Submits all commands once, each with a second try if memory was refused, and waits for each if the pace is `OneByOne`.
     fn submit_all<W: Wait>(&mut self, rt: &W, desk: &Desk<T, R>) {
         for ask in self.asks {
-            self.submit(rt, desk, ask);
+            if !self.is_submitted(rt, desk, ask) {
+                self.is_submitted(rt, desk, ask);
+            }
             if self.pace == Pace::OneByOne {
                 self.wait_all(rt, desk);
             }
         }
     }
 
-    /// Submits the commands that are for the time before serving.
-    pub(crate) fn begin<W: Wait>(&mut self, rt: &W, desk: &Desk<T, R>) {
-        if self.pace == Pace::Queued {
+    /// Submits the commands that are for the time of serving, or for the time before.
+    pub(crate) fn submit_rounds<W: Wait>(&mut self, rt: &W, desk: &Desk<T, R>, is_served: bool) {
+        if is_served == (self.pace == Pace::Queued) {
+            return;
+        }
+        for _round in 0..self.rounds {
             self.submit_all(rt, desk);
         }
-    }
-
-    /// Submits the commands that are for the time of serving, and then waits for those without a receipt.
-    fn go_on<W: Wait>(&mut self, rt: &W, desk: &Desk<T, R>) {
-        if self.pace != Pace::Queued {
-            for _round in 0..self.rounds {
-                self.submit_all(rt, desk);
-            }
-        }
-        self.wait_all(rt, desk);
     }
 
     /// The submitter's share and receipts.
@@ -171,7 +137,7 @@ fn submitted<T: Tickets, R: Refusals, W: Wait>(
     desk: &Desk<T, R>,
     mut submitter: Submitter<T, R>,
 ) -> Submitter<T, R> {
-    submitter.submit_rounds(rt, desk);
+    submitter.submit_rounds(rt, desk, true);
     submitter
 }
 
@@ -230,7 +196,8 @@ pub(crate) struct Driver<T: Tickets, R: Refusals> {
 
 impl<T: Tickets, R: Refusals> Client<T, R> for Driver<T, R> {
     fn drive<W: Wait + Threads + Sync>(&mut self, rt: &W, desk: &Desk<T, R>) {
-        self.submitter.go_on(rt, desk);
+        self.submitter.submit_rounds(rt, desk, true);
+        self.submitter.wait_all(rt, desk);
         wait_for_others(rt, desk, self.accepted);
     }
 }

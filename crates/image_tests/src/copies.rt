@@ -28,7 +28,7 @@ fn image_is_copied(alloc: Global, bytes: &[u8; 256]) -> Result<bool, WordsFault>
     if copy.as_slice().len() == 128 {
         copy.as_bytes_into(&mut written);
     }
-    Ok(image.as_slice()[63] == 0xABCD && written == *bytes)
+    Ok(image.as_slice()[63] == 0xABCD && written.as_slice() == bytes.as_slice())
 }
 
 /// Whether a copy of a slave's EEPROM half has its words.

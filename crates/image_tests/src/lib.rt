@@ -1,7 +1,9 @@
-//! Tests of what no command line shows of an EEPROM and of a journal: copies, contents that are written again, layouts under changes,
-//! journals that are cut off, and the codes that the calls of the library for C answer at their limits.
+//! Tests of what no command line shows of an EEPROM and of a journal: copies, chains of categories, contents that are written again, layouts
+//! under changes, journals that are cut off, and the codes that the calls of the library for C answer at their limits.
 #![tactic(auto)]
 
+#[cfg(test)]
+mod chains;
 #[cfg(test)]
 mod contents;
 #[cfg(test)]

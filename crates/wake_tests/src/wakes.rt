@@ -6,7 +6,7 @@
 ghost use Rattle.std.specs.Prelude.{◌≡◌, []};
 ghost use denote.Param.Send.{IsSync};
 
-use crate::line::{Plan, book_of};
+use crate::book::book;
 use book_core::Core;
 use book_model::{RomNext, RomOutcome, Status};
 use runner_cases::asks::{Ask, command};
@@ -21,14 +21,6 @@ use std::test::*;
 use std::thread;
 use std::thread::{Scope, Threads, sleep};
 use std::time::{Clock, Duration};
-
-/// Two slaves of zeros, whose process image is empty.
-const TWO: Plan = Plan {
-    words: 64,
-    slaves: &[&[], &[]],
-    area: 4096,
-    has_cycle: true,
-};
 
 /// What is done at the desk.
 #[derive(Clone, Copy)]
@@ -489,7 +481,7 @@ fn wakes_at<
 
 /// Whether the sleep of the trial ended as it has to.
 fn wakes<W: Wait + Threads + Sync + Clock + Abort>(rt: &W, alloc: Global, trial: &Trial) -> bool {
-    let core = book_of(rt, alloc, &TWO);
+    let core = book(alloc).expect(rt, "memory");
     wakes_at::<Brand, Brand, W>(
         rt,
         alloc,
@@ -500,20 +492,9 @@ fn wakes<W: Wait + Threads + Sync + Clock + Abort>(rt: &W, alloc: Global, trial:
     )
 }
 
-fn all_wake<W: Wait + Threads + Sync + Clock + Abort>(
-    rt: &W,
-    alloc: Global,
-    trials: &[Trial],
-) -> bool {
-    for trial in trials {
-        if !wakes(rt, alloc, trial) {
-            return false;
-        }
-    }
-    true
-}
-
 #[test]
 fn each_change_wakes_those_who_wait_for_it(rt: HostRuntime) {
-    assert!(rt; all_wake(&rt, rt.alloc(), TRIALS));
+    for trial in TRIALS {
+        assert!(rt; wakes(&rt, rt.alloc(), trial));
+    }
 }

@@ -1,0 +1,7 @@
+//! Tests of a desk's wakeups.
+#![tactic(auto)]
+
+#[cfg(test)]
+mod book;
+#[cfg(test)]
+mod wakes;
