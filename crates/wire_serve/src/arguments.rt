@@ -16,7 +16,7 @@ use station_input::{TYPED_COMMANDS, script_of, typed_text};
 use station_json::Form;
 use std::alloc::{AllocError, Global};
 use wire_bringup::Sizes;
-use wire_session::Asked;
+use wire_scan::Asked;
 use wire_slaves::{PowerCut, Practice, QuirkList};
 
 /// A command line: what it asks for, and where its text and its frames go.

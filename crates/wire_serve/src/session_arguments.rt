@@ -3,7 +3,7 @@
 use clap::ArgMatches;
 use command_table::{Argument, Kind};
 use station_json::Form;
-use wire_session::Asked;
+use wire_scan::Asked;
 
 /// The help text on sizes.
 const WORDS_HELP: &str =
