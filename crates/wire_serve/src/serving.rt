@@ -23,8 +23,8 @@ use wire_bringup::Sizes;
 use wire_capture::{CapturedWire, WatchedWire};
 use wire_faults::WireFault;
 use wire_frames::{EthernetWire, NumberedWire, Wire};
-use wire_scan::{CaptureNames, Named, backup_line, keep_capture_apart, scan_line};
-use wire_session::{RunOrder, begin_journal, init_on_wire, plan_on_wire, recover_line, run_script};
+use wire_scan::{CaptureNames, backup_line, keep_capture_apart, scan_line};
+use wire_session::{begin_journal, init_on_wire, plan_on_wire, recover_line, run_script};
 use wire_slaves::serve_slaves;
 
 /// A connection to a line.
@@ -267,30 +267,8 @@ fn do_task<
         Task::Init { line, asked } => {
             all_done(init_on_wire(rt, &mut wire, line, asked, store, output))
         }
-        Task::Run {
-            line,
-            script,
-            asked,
-        } => {
-            let named = Named { line, script };
-            run_script(rt, wire, RunOrder { named, asked }, store, output)
-        }
-        Task::Plan {
-            line,
-            script,
-            asked,
-            form,
-        } => {
-            let named = Named { line, script };
-            plan_on_wire(
-                rt,
-                &mut wire,
-                RunOrder { named, asked },
-                form,
-                store,
-                output,
-            )
-        }
+        Task::Run(order) => run_script(rt, wire, order, store, output),
+        Task::Plan { order, form } => { plan_on_wire(rt, &mut wire, order, form, store, output) }
         Task::Recover { line, asked } => {
             all_done(recover_line(rt, wire, line, asked, store, output))
         }
