@@ -1,4 +1,3 @@
-use Rattle.std.specs.Prelude.{Unit}
 use Rattle.station_session.specs.Site.{switched_on}
 use Rattle.wire_session.specs.Recovery.{SavesRecovered}
 use Rattle.wire_session.proofs.Endings.{ends_unmade}
