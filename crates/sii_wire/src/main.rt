@@ -2,7 +2,6 @@
 //! library, and exits with the status that the library returns.
 #![tactic(auto)]
 
-use std::alloc::Global;
 use std::fs::{File, Files, OpenOptions};
 use std::io::{IsTerminal, Read, Write};
 use std::process::ExitCode;
@@ -13,19 +12,19 @@ use std::time::SystemTime;
 use std::{env, io};
 use system_files::FileStore;
 use wire_frames::EthernetWire;
-use wire_serve::{Arguments, Screen, read_arguments, refuse_text, refuse_words, serve, show_usage};
+use wire_serve::{
+    Arguments, Connection, Screen, read_arguments, refuse_text, refuse_words, serve, show_usage,
+};
 
 fn main(rt: HostRuntime) -> ExitCode {
     let status = match words(&rt) {
-        Ok(words) => serve_words(
-            &rt,
-            rt.alloc(),
-            &words,
-            EthernetWire::new(rt.stdin(), rt.stdout()),
-            first_number(&rt),
-            &mut rt.stderr(),
-            &mut rt.stderr(),
-        ),
+        Ok(words) => {
+            let connection = Connection {
+                wire: EthernetWire::new(rt.stdin(), rt.stdout()),
+                number: first_number(&rt),
+            };
+            serve_words(&rt, &words, connection, &mut rt.stderr(), &mut rt.stderr())
+        }
         Err(error) => refuse_words(&error, &mut rt.stderr()),
     };
     ExitCode::from(status)
@@ -37,31 +36,20 @@ fn words(rt: &HostRuntime) -> io::Result<Vec<String>> {
     Ok(words)
 }
 
-/// Carries out the arguments on this wire, whose frames are numbered from the one behind `number` on. The text goes to the file that they
-/// name, or to this stream.
+/// Carries out the arguments over this connection. The text goes to the file that they name, or to this stream.
 fn serve_words<
-    H: Files<File = File> + Wait + Threads + Clock + Sync,
+    H: Files<File = File> + Wait + Threads + Clock + AllocGlobal + Sync,
     R: Read + Send + Drop,
     W: Write + Send + Drop,
     E: Write + IsTerminal + Copy + Send + Drop,
->(
-    rt: &H,
-    alloc: Global,
-    words: &[String],
-    wire: EthernetWire<R, W>,
-    number: u32,
-    text: &mut E,
-    faults: &mut E,
-) -> u8 {
-    match read_arguments(alloc, words) {
+>(rt: &H, words: &[String], connection: Connection<R, W>, text: &mut E, faults: &mut E) -> u8 {
+    match read_arguments(rt.alloc(), words) {
         Ok(arguments) => match arguments.text {
             Some(name) => match open_text(rt, name) {
-                Ok(mut text) => {
-                    serve_task(rt, alloc, arguments, wire, number, &mut text, faults)
-                }
+                Ok(mut text) => serve_task(rt, arguments, connection, &mut text, faults),
                 Err(error) => refuse_text(error, faults),
             },
-            None => serve_task(rt, alloc, arguments, wire, number, text, faults),
+            None => serve_task(rt, arguments, connection, text, faults),
         },
         Err(error) => show_usage(&error, faults),
     }
@@ -74,29 +62,27 @@ fn open_text<H: Files<File = File>>(rt: &H, name: &str) -> io::Result<File> {
 
 /// Carries out what the arguments ask for, with its text in this stream.
 fn serve_task<
-    H: Files<File = File> + Wait + Threads + Clock + Sync,
+    H: Files<File = File> + Wait + Threads + Clock + AllocGlobal + Sync,
     R: Read + Send + Drop,
     W: Write + Send + Drop,
     O: Write,
     E: Write + IsTerminal + Copy + Send + Drop,
 >(
     rt: &H,
-    alloc: Global,
     arguments: Arguments<'_>,
-    wire: EthernetWire<R, W>,
-    number: u32,
+    connection: Connection<R, W>,
     text: &mut O,
     faults: &mut E,
 ) -> u8 {
-    let mut files = FileStore::new(alloc, rt);
+    let mut files = FileStore::new(rt.alloc(), rt);
     let is_terminal = faults.is_terminal();
+    let terminal = if is_terminal { Some(*faults) } else { None };
     let screen = Screen {
+        faults,
         is_told: arguments.is_verbose || is_terminal,
-        terminal: if is_terminal { Some(*faults) } else { None },
+        terminal,
     };
-    let status = serve(
-        rt, alloc, arguments, screen, wire, number, &mut files, text, faults,
-    );
+    let status = serve(rt, arguments, screen, connection, &mut files, text);
     status as u8
 }
 

@@ -4,19 +4,20 @@ use crate::capture_argument::{CAPTURE, capture_of};
 use crate::plan_arguments::{PLAN, plan_task};
 use crate::session_arguments::{
     BESIDE, EVENTS, FORCE, JSON, QUIET, REPORT, RESIZE, TAKE, TRUST, Tenure, WORDS,
-    asked_by_recover, asked_by_run, form_of, is_quiet, tenure_of, trust_of,
+    asked_by_recover, form_of, is_quiet, order_of, tenure_of, trust_of,
 };
 use crate::sizes::sizes_of;
 use clap::error::ErrorKind;
 use clap::{ArgMatches, Command, Error};
 use command_line::{
-    Argument, Kind, Subcommand, TYPED_COMMANDS, is_digits, refused, script_of, typed_text,
-    with_argument, with_subcommands, word_of,
+    Argument, Kind, Subcommand, TYPED_COMMANDS, is_digits, refused, typed_text, with_argument,
+    with_subcommands, word_of,
 };
 use station_json::Form;
 use std::alloc::{AllocError, Global};
 use wire_bringup::Sizes;
-use wire_session::Asked;
+use wire_scan::Asked;
+use wire_session::RunOrder;
 use wire_slaves::{PowerCut, Practice, QuirkList};
 
 /// A command line: what it asks for, and where its text and its frames go.
@@ -70,22 +71,11 @@ pub enum Task<'a> {
         asked: Asked,
     },
     /// Runs a script on the line.
-    Run {
-        /// The name of the line file.
-        line: &'a str,
-        /// The name of the script file.
-        script: &'a str,
-        /// What is asked for that isn't done where nothing is said.
-        asked: Asked,
-    },
+    Run(RunOrder<'a>),
     /// Says what a run would do, and does nothing.
     Plan {
-        /// The name of the line file.
-        line: &'a str,
-        /// The name of the script file.
-        script: &'a str,
-        /// What is asked for that isn't done where nothing is said.
-        asked: Asked,
+        /// The files, and what is asked for.
+        order: RunOrder<'a>,
         /// Text, or rows of JSON.
         form: Form,
     },
@@ -106,11 +96,10 @@ impl<'a> Task<'a> {
     /// The name of the line file, if the subcommand has one.
     pub fn line(self) -> Option<&'a str> {
         match self {
-            Task::Backup { line, .. }
-            | Task::Init { line, .. }
-            | Task::Run { line, .. }
-            | Task::Plan { line, .. }
-            | Task::Recover { line, .. } => Some(line),
+            Task::Backup { line, .. } | Task::Init { line, .. } | Task::Recover { line, .. } => {
+                Some(line)
+            }
+            Task::Run(order) | Task::Plan { order, .. } => Some(order.named.line),
             Task::Scan { .. } | Task::BackupTo { .. } | Task::Slaves(_) | Task::Explain => None,
         }
     }
@@ -118,7 +107,7 @@ impl<'a> Task<'a> {
     /// The name of the script, if the subcommand reads one.
     pub fn script(self) -> Option<&'a str> {
         match self {
-            Task::Run { script, .. } | Task::Plan { script, .. } => Some(script),
+            Task::Run(order) | Task::Plan { order, .. } => Some(order.named.script),
             _ => None,
         }
     }
@@ -559,11 +548,7 @@ fn plain_task<'a>(matches: &ArgMatches<'a>) -> Option<Task<'a>> {
         });
     }
     if let Some(run) = matches.subcommand_matches("run") {
-        return Some(Task::Run {
-            line: word_of(run, "LINE"),
-            script: script_of(run),
-            asked: asked_by_run(run),
-        });
+        return Some(Task::Run(order_of(run)));
     }
     if let Some(plan) = matches.subcommand_matches("plan") {
         return Some(plan_task(plan));

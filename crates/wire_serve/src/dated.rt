@@ -11,13 +11,9 @@ use std::rt::Clock;
 /// # Errors
 ///
 /// `File` where the system's clock can't be read; `Memory`.
-pub(crate) fn dated_name<C: Clock>(
-    alloc: Global,
-    clock: &C,
-    folder: &str,
-) -> Result<String, Fault> {
-    match Timestamp::now(clock) {
-        Ok(now) => name_at(alloc, folder, now),
+pub(crate) fn dated_name<R: Clock + AllocGlobal>(rt: &R, folder: &str) -> Result<String, Fault> {
+    match Timestamp::now(rt) {
+        Ok(now) => name_at(rt.alloc(), folder, now),
         Err(_) => Err(Fault::File),
     }
 }

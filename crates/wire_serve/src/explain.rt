@@ -5,7 +5,7 @@ use station_listing::{CODES, CodeEntry};
 use std::alloc::{AllocError, Global};
 use std::fmt::Display;
 use std::io::Write;
-use wire_session::WIRE_CODES;
+use wire_faults::WIRE_CODES;
 
 /// Prints what each code means, why it comes and what to do about it: first those of files and slaves, then those of a wire.
 ///

@@ -12,5 +12,5 @@ mod sizes;
 
 pub use arguments::{Arguments, Task, read_arguments};
 pub use dated::name_at;
-pub use serving::{Screen, refuse_text, refuse_words, serve, show_usage};
+pub use serving::{Connection, Screen, refuse_text, refuse_words, serve, show_usage};
 pub use session_arguments::Tenure;

@@ -3,9 +3,9 @@
 use crate::Task;
 use crate::arguments::{LINE, SCRIPT};
 use crate::capture_argument::CAPTURE;
-use crate::session_arguments::{BESIDE, FORCE, JSON, QUIET, RESIZE, TRUST, asked_by_run, form_of};
+use crate::session_arguments::{BESIDE, FORCE, JSON, QUIET, RESIZE, TRUST, form_of, order_of};
 use clap::ArgMatches;
-use command_line::{Subcommand, TYPED_COMMANDS, script_of, word_of};
+use command_line::{Subcommand, TYPED_COMMANDS};
 
 /// The help text on what `plan` prints.
 const PLAN_ANSWERS: &str = "Answers, which sii_station plan --help lists in full:
@@ -50,12 +50,10 @@ pub(crate) const PLAN: Subcommand = Subcommand {
     ],
 };
 
-/// The task of `plan`. The names are required, so they are there.
+/// The task of `plan`.
 pub(crate) fn plan_task<'a>(plan: &ArgMatches<'a>) -> Task<'a> {
     Task::Plan {
-        line: word_of(plan, "LINE"),
-        script: script_of(plan),
-        asked: asked_by_run(plan),
+        order: order_of(plan),
         form: form_of(plan),
     }
 }

@@ -21,23 +21,65 @@ use std::sync::Wait;
 use std::thread::Threads;
 use wire_bringup::Sizes;
 use wire_capture::{CapturedWire, WatchedWire};
+use wire_faults::WireFault;
 use wire_frames::{EthernetWire, NumberedWire, Wire};
-use wire_session::{
-    CaptureNames, Named, WireFault, backup_line, begin_journal, init_on_wire, keep_capture_apart,
-    plan_on_wire, recover_line, run_script, scan_line,
-};
+use wire_scan::{CaptureNames, backup_line, keep_capture_apart, scan_line};
+use wire_session::{begin_journal, init_on_wire, plan_on_wire, recover_line, run_script};
 use wire_slaves::serve_slaves;
 
-/// Carries out a command line on the wire that is read and written by these two, and returns the exit status: `Done`; `Refused` where a
-/// command was refused; `File` for a file or its form; `Device` for the line; or `Memory`. The frames are numbered from the one behind
-/// `number` on. Faults are printed to `faults`, those of the line with a second line behind if the screen says so. A line on its terminal, if it
-/// has one, tells how far the work is.
+/// A connection to a line.
+#[derive(Drop)]
+pub struct Connection<R, W> {
+    /// The wire, which is read and written by these two.
+    pub wire: EthernetWire<R, W>,
+    /// The number behind which the frames are numbered.
+    pub number: u32,
+}
+
+/// What a user sees beside the text.
+#[derive(Drop)]
+pub struct Screen<'a, E, T> {
+    /// The stream for faults.
+    pub faults: &'a mut E,
+    /// Whether a fault of the line has a second line.
+    pub is_told: bool,
+    /// The terminal for the line with the progress, if there is one.
+    pub terminal: Option<T>,
+}
+
+/// What is to be carried out, and how its wire is to be used.
+#[derive(Clone, Copy)]
+struct Job<'a> {
+    /// What is asked for.
+    task: Task<'a>,
+    /// The name of the capture, if there is one.
+    capture: Option<&'a str>,
+    /// Whose the wire is.
+    tenure: Tenure,
+    /// The number behind which the frames are numbered.
+    number: u32,
+}
+
+/// What a user sees of a job beside the text.
+#[derive(Drop)]
+struct Shown<'a, E, T> {
+    /// The stream for faults.
+    faults: &'a mut E,
+    /// Whether a fault of the line has a second line.
+    is_told: bool,
+    /// The line with the progress, if there is one.
+    progress: Option<&'a Progress<T>>,
+}
+
+/// Carries out a command line over this connection, and returns the exit status: `Done`; `Refused` where a command was refused; `File` for a
+/// file or its form; `Device` for the line; or `Memory`. Faults are printed to the screen's stream, those of the line with a second line behind
+/// if the screen says so. A line on its terminal, if it has one, tells how far the work is.
 ///
 /// Each frame is written down in the file of the capture, if one is named, once it is sent or received. Where the capture can't begin, no
 /// frame is sent and nothing is read or written. If it can't be written further, the work goes on as without it, and the fault is printed
 /// behind all others.
 pub fn serve<
-    H: Wait + Threads + Clock + Sync,
+    H: Wait + Threads + Clock + AllocGlobal + Sync,
     R: Read + Send + Drop,
     W: Write + Send + Drop,
     S: Store,
@@ -46,14 +88,11 @@ pub fn serve<
     T: Write + Send + Drop,
 >(
     rt: &H,
-    alloc: Global,
     arguments: Arguments<'_>,
-    screen: Screen<T>,
-    wire: EthernetWire<R, W>,
-    number: u32,
+    screen: Screen<'_, E, T>,
+    connection: Connection<R, W>,
     store: &mut S,
     output: &mut O,
-    faults: &mut E,
 ) -> ExitStatus {
     let Arguments {
         task,
@@ -63,31 +102,30 @@ pub fn serve<
         is_quiet,
         ..
     } = arguments;
-    let Screen { is_told, terminal } = screen;
+    let Screen {
+        faults,
+        is_told,
+        terminal,
+    } = screen;
+    let Connection { wire, number } = connection;
     let begun = begin_progress(rt, is_quiet, terminal);
-    let progress = begun.as_ref();
-    let on = Around {
+    let shown = Shown {
+        faults,
+        is_told,
+        progress: begun.as_ref(),
+    };
+    let job = Job {
+        task,
         capture,
         tenure,
-        is_told,
         number,
     };
     match typed {
         Some(text) => {
             let mut joined = InputScript::typed(text, store);
-            serve_task(
-                rt,
-                alloc,
-                task,
-                on,
-                progress,
-                wire,
-                &mut joined,
-                output,
-                faults,
-            )
+            serve_job(rt, job, shown, wire, &mut joined, output)
         }
-        None => serve_task(rt, alloc, task, on, progress, wire, store, output, faults),
+        None => serve_job(rt, job, shown, wire, store, output),
     }
 }
 
@@ -103,31 +141,9 @@ fn begin_progress<H: Clock, T: Write + Drop>(
     }
 }
 
-/// What a user sees beside the text.
-#[derive(Drop)]
-pub struct Screen<T> {
-    /// Whether a fault of the line has a second line.
-    pub is_told: bool,
-    /// The terminal for the line with the progress, if there is one.
-    pub terminal: Option<T>,
-}
-
-/// What a task is carried out with.
-#[derive(Clone, Copy)]
-struct Around<'a> {
-    /// The name of the capture, if there is one.
-    capture: Option<&'a str>,
-    /// Whose the wire is.
-    tenure: Tenure,
-    /// Whether a fault of the line has a second line.
-    is_told: bool,
-    /// The number behind which the frames are numbered.
-    number: u32,
-}
-
-/// Carries out a task on the wire that is read and written by these two.
-fn serve_task<
-    H: Wait + Threads + Clock + Sync,
+/// Carries out a job on this wire.
+fn serve_job<
+    H: Wait + Threads + Clock + AllocGlobal + Sync,
     R: Read + Send + Drop,
     W: Write + Send + Drop,
     S: Store,
@@ -136,56 +152,55 @@ fn serve_task<
     T: Write + Send,
 >(
     rt: &H,
-    alloc: Global,
-    task: Task<'_>,
-    on: Around<'_>,
-    progress: Option<&Progress<T>>,
+    job: Job<'_>,
+    shown: Shown<'_, E, T>,
     wire: EthernetWire<R, W>,
     store: &mut S,
     output: &mut O,
-    faults: &mut E,
 ) -> ExitStatus {
-    match begin_apart(alloc, on.capture, task, store) {
+    let Shown {
+        faults,
+        is_told,
+        progress,
+    } = shown;
+    match begin_apart(rt.alloc(), job.capture, job.task, store) {
         Ok(begun) => {
             let captured = CapturedWire::new(wire, begun.as_ref(), rt);
-            let ended = do_watched(rt, alloc, task, on, progress, captured, store, output);
-            let status = status_of(alloc, ended, on.is_told, task, store, faults);
+            let ended = do_watched(rt, job, progress, captured, store, output);
+            let status = status_of(rt.alloc(), ended, is_told, job.task, store, faults);
             end_capture(begun, status, faults)
         }
         Err(fault) => {
             drop(wire);
             let status = report_fault(fault, faults);
-            if on.is_told {
-                tell_names(alloc, fault, task, on.capture, store, faults);
+            if is_told {
+                tell_names(rt.alloc(), fault, job.task, job.capture, store, faults);
             }
             status
         }
     }
 }
 
-/// Carries out a task on this wire, whose frames count for the progress. The line of the progress gives way to the text.
+/// Carries out a job on this wire, whose frames count for the progress. The line of the progress gives way to the text.
 fn do_watched<
-    H: Wait + Threads + Clock + Sync,
+    H: Wait + Threads + Clock + AllocGlobal + Sync,
     W: Wire + Send + Drop,
     S: Store,
     O: Write,
     T: Write + Send,
 >(
     rt: &H,
-    alloc: Global,
-    task: Task<'_>,
-    on: Around<'_>,
+    job: Job<'_>,
     progress: Option<&Progress<T>>,
     wire: W,
     store: &mut S,
     output: &mut O,
 ) -> Result<ExitStatus, WireFault> {
     let watched = WatchedWire::new(wire, progress, rt);
-    let numbered = numbered_wire(watched, on.number, on.tenure);
+    let numbered = numbered_wire(watched, job.number, job.tenure);
     let ended = do_task(
         rt,
-        alloc,
-        task,
+        job.task,
         numbered,
         store,
         &mut Cleared::new(output, progress, rt),
@@ -228,68 +243,57 @@ fn numbered_wire<W: Wire>(wire: W, number: u32, tenure: Tenure) -> NumberedWire<
 }
 
 /// Carries out a task on this wire.
-fn do_task<H: Wait + Threads + Clock + Sync, W: Wire + Send + Drop, S: Store, O: Write>(
+fn do_task<
+    H: Wait + Threads + Clock + AllocGlobal + Sync,
+    W: Wire + Send + Drop,
+    S: Store,
+    O: Write,
+>(
     rt: &H,
-    alloc: Global,
     task: Task<'_>,
     mut wire: NumberedWire<W>,
     store: &mut S,
     output: &mut O,
 ) -> Result<ExitStatus, WireFault> {
     match task {
-        Task::Scan { sizes, form } => {
-            all_done(scan_line(alloc, &mut wire, rt, &sizes, form, output))
-        }
-        Task::Backup { line, sizes } => back_up(rt, alloc, line, &sizes, &mut wire, store, output),
+        Task::Scan { sizes, form } => all_done(scan_line(rt, &mut wire, &sizes, form, output)),
+        Task::Backup { line, sizes } => back_up(rt, line, &sizes, &mut wire, store, output),
         Task::BackupTo { folder, sizes } => {
-            let line = dated_name(alloc, rt, folder)?;
-            let ended = back_up(rt, alloc, &line, &sizes, &mut wire, store, output)?;
+            let line = dated_name(rt, folder)?;
+            let ended = back_up(rt, &line, &sizes, &mut wire, store, output)?;
             writeln!(output, "line {line}")?;
             Ok(ended)
         }
-        Task::Init { line, asked } => all_done(init_on_wire(
-            alloc, &mut wire, rt, line, asked, store, output,
-        )),
-        Task::Run {
-            line,
-            script,
-            asked,
-        } => run_script(rt, alloc, wire, line, script, asked, store, output),
-        Task::Plan {
-            line,
-            script,
-            asked,
-            form,
-        } => {
-            let named = Named { line, script };
-            plan_on_wire(alloc, &mut wire, rt, named, asked, form, store, output)
+        Task::Init { line, asked } => {
+            all_done(init_on_wire(rt, &mut wire, line, asked, store, output))
         }
+        Task::Run(order) => run_script(rt, wire, order, store, output),
+        Task::Plan { order, form } => { plan_on_wire(rt, &mut wire, order, form, store, output) }
         Task::Recover { line, asked } => {
-            all_done(recover_line(rt, alloc, wire, line, asked, store, output))
+            all_done(recover_line(rt, wire, line, asked, store, output))
         }
         Task::Slaves(practice) => {
-            serve_slaves(rt, alloc, practice, wire.wire(), store, output)?;
+            serve_slaves(rt, rt.alloc(), practice, wire.wire(), store, output)?;
             Ok(ExitStatus::Done)
         }
         Task::Explain => {
-            explain(alloc, output)?;
+            explain(rt.alloc(), output)?;
             Ok(ExitStatus::Done)
         }
     }
 }
 
 /// Backs up the line, and makes an empty journal for it if there is none.
-fn back_up<C: Clock, W: Wire, S: Store, O: Write>(
-    clock: &C,
-    alloc: Global,
+fn back_up<H: Clock + AllocGlobal, W: Wire, S: Store, O: Write>(
+    rt: &H,
     line: &str,
     sizes: &Sizes,
     wire: &mut NumberedWire<W>,
     store: &mut S,
     output: &mut O,
 ) -> Result<ExitStatus, WireFault> {
-    backup_line(alloc, wire, clock, sizes, line, store, output)?;
-    all_done(begin_journal(alloc, line, store, output))
+    backup_line(rt, wire, sizes, line, store, output)?;
+    all_done(begin_journal(rt.alloc(), line, store, output))
 }
 
 /// `Done` where no fault came.

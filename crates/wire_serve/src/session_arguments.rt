@@ -1,9 +1,10 @@
 //! The arguments that say how large EEPROMs are, and what is asked for on a line.
 
 use clap::ArgMatches;
-use command_line::{Argument, Kind};
+use command_line::{Argument, Kind, script_of, word_of};
 use station_json::Form;
-use wire_session::Asked;
+use wire_scan::{Asked, Named};
+use wire_session::RunOrder;
 
 /// The help text on sizes.
 const WORDS_HELP: &str =
@@ -151,8 +152,19 @@ pub(crate) const EVENTS: Argument = Argument {
                    prints it. It counts once the slaves start again",
 };
 
+/// What `run` or `plan` is given. The names are required, so they are there.
+pub(crate) fn order_of<'a>(matches: &ArgMatches<'a>) -> RunOrder<'a> {
+    RunOrder {
+        named: Named {
+            line: word_of(matches, "LINE"),
+            script: script_of(matches),
+        },
+        asked: asked_by_run(matches),
+    }
+}
+
 /// What the flags of `run` ask for.
-pub(crate) fn asked_by_run(matches: &ArgMatches<'_>) -> Asked {
+fn asked_by_run(matches: &ArgMatches<'_>) -> Asked {
     Asked {
         trusts_images: matches.get_flag("trust-images"),
         is_forced: matches.get_flag("force"),

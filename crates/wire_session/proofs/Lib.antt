@@ -1,4 +1,4 @@
 mod BehindDesk
-mod Kept
+mod Endings
 mod Recovering
 mod RunEnds

@@ -1,7 +1,6 @@
 -- What the files hold after a run on a wire.
-use Rattle.std.proofs.Common.{◌≡◌, ℕ, Bool, true, false, List, ◌∷◌, ◌++◌, length, None, Result, Ok, Err, IsErrAnd, refl, inl, inr, sym, subst}
+use Rattle.std.proofs.Common.{◌≡◌, ℕ, Bool, true, false, List, ◌∷◌, ◌++◌, length, None, Result, Ok, Err, inr, sym, subst}
 use Rattle.std.specs.Prelude.{IfErr, IfOk, OnOk, string_bytes}
-use Rattle.std.proofs.lemmas.Result.{IfOk-weaker}
 use Rattle.sii_edit.specs.declared.command.Command.{Command}
 use Rattle.site_core.specs.State.{State, Seen}
 use Rattle.site_shadow.specs.Site.{SiteValue}
@@ -23,24 +22,12 @@ use Rattle.station_session.specs.Site.{IsSiteOf, files_of, HoldsSite}
 use Rattle.station_session.specs.Judging.{IsRunApart}
 use Rattle.station_session.specs.Session.{is_old, HoldsBehind, SavesBehind, SavesLeft, SavesRun, SavesServed, Serves, StartsFrom}
 use Rattle.station_session.proofs.ThreadsEnd.{behind-unserved}
-use Rattle.wire_session.specs.declared.faults.WireFault.{WireFault}
-use Rattle.wire_session.specs.Backup.{IsOfStream}
-use Rattle.wire_session.specs.Opening.{IsFound}
-use Rattle.wire_session.specs.Reporting.{IsReported}
-use Rattle.wire_session.specs.Running.{Ends, EndsFound, EndsServing, EndsSite, RunsScript, SavesFound}
-use Rattle.wire_session.proofs.Recovering.{among_both, among_only, only_both, unsaved_by}
-
--- ---- a fault, and what follows from what
-
--- a fault came, and no file has changed
-pub ends_unsaved : (saves : ExitStatus → Type 0) (fault : WireFault) (files : Known) (line : LineFile) → Ends saves (Err fault) files files line
-ends_unsaved saves fault files line = record { others = λ other out. refl; unsaved = λ apart other out. refl; saved = tt }
-
--- what the files hold says more
-pub ends_weaker : (saves says : ExitStatus → Type 0) (result : Result ExitStatus WireFault) (old new : Known) (line : LineFile)
-    → ((status : ExitStatus) → saves status → says status) → Ends saves result old new line → Ends says result old new line
-ends_weaker saves says result old new line follows ends =
-    record { others = ends.others; unsaved = ends.unsaved; saved = IfOk-weaker result saves says follows ends.saved }
+use Rattle.wire_faults.specs.declared.faults.WireFault.{WireFault}
+use Rattle.wire_faults.specs.Faults.{IsOfStream}
+use Rattle.wire_scan.specs.Opening.{IsFound}
+use Rattle.wire_session.specs.Ending.{Ends}
+use Rattle.wire_session.specs.Running.{EndsFound, EndsServing, EndsSite, RunsScript, SavesFound}
+use Rattle.wire_session.proofs.Endings.{ends_behind_open, ends_weaker, unsaved_by}
 
 -- the line was saved
 ends_saved : (saves : ExitStatus → Type 0) (result : Result ExitStatus WireFault) (old new : Known) (line : LineFile) (status : ExitStatus)
@@ -167,69 +154,14 @@ ends_opened result old new line site was_old opened commands by_version starts e
     result old new line
     (λ status saves. record { opened = opened; starts = subst (λ (b : Bool). StartsFrom b site opened) by_version starts; serves = saves }) ends
 
--- ---- the reason is told
-
--- the files hold the same, whatever the fault is called, if one of a stream isn't told as another
-pub ends_told : (saves : ExitStatus → Type 0) (ended : Result ExitStatus WireFault) (old new : Known) (line : LineFile)
-    (fault told : WireFault) → ended ≡ Err fault → (IsOfStream fault → IsOfStream told) → Ends saves ended old new line
-    → Ends saves (Err told) old new line
-ends_told saves ended old new line fault told is stream ends =
-    let so : Ends saves (Err fault) old new line = subst (λ (x : Result ExitStatus WireFault). Ends saves x old new line) is ends in
-    record { others = so.others; unsaved = λ apart. so.unsaved (λ of_stream. apart (stream of_stream)); saved = tt }
-
-pub ends_well : (saves : ExitStatus → Type 0) (ended : Result ExitStatus WireFault) (old new : Known) (line : LineFile) (status : ExitStatus)
-    → ended ≡ Ok status → Ends saves ended old new line → Ends saves (Ok status) old new line
-ends_well saves ended old new line status is ends = subst (λ (x : Result ExitStatus WireFault). Ends saves x old new line) is ends
-
--- ---- what has changed is printed behind it
-
--- a stream failed behind it
-ends_unprinted : (saves says : ExitStatus → Type 0) (ended result : Result ExitStatus WireFault) (old new : Known) (line : LineFile)
-    → IsErrAnd result IsOfStream → Ends saves ended old new line → Ends says result old new line
-ends_unprinted saves says ended (Ok status) old new line failed ends = absurd failed
-ends_unprinted saves says ended (Err fault) old new line failed ends =
-    record { others = ends.others; unsaved = λ apart. absurd (apart failed); saved = tt }
-
-ends_either : (saves : ExitStatus → Type 0) (ended result : Result ExitStatus WireFault) (old new : Known) (line : LineFile)
-    → IsReported ended result → Ends saves ended old new line → Ends saves result old new line
-ends_either saves ended result old new line (inl is) ends =
-    subst (λ (x : Result ExitStatus WireFault). Ends saves x old new line) (sym is) ends
-ends_either saves ended result old new line (inr (was, failed)) ends = ends_unprinted saves saves ended result old new line failed ends
-
--- what is told behind the work, and then reported
-pub reported_twice : (ended told result : Result ExitStatus WireFault) → IsReported ended told → IsReported told result → IsReported ended result
-reported_twice ended told result (inl same) later = subst (λ (it : Result ExitStatus WireFault). IsReported it result) same later
-reported_twice ended told result (inr both) (inl same) = inr (both.0, subst (λ (it : Result ExitStatus WireFault). IsErrAnd it IsOfStream) (sym same) both.1)
-reported_twice ended told result (inr both) (inr later) = inr (both.0, later.1)
-
-pub ends_reported : (ended result : Result ExitStatus WireFault) (old mid new : Known) (line : LineFile) (plant : List (List ℕ))
-    (bytes : List ℕ) (commands : List Command) → new ≡ mid → IsReported ended result
-    → EndsFound ended old mid line plant bytes commands → EndsFound result old new line plant bytes commands
-ends_reported ended result old mid new line plant bytes commands same reported ends =
-    let so : EndsFound ended old new line plant bytes commands
-    = subst (λ (files : Known). EndsFound ended old files line plant bytes commands) (sym same) ends in
-    ends_either (λ status. SavesFound new line plant bytes commands status) ended result old new line reported so
-
 -- ---- the journal is opened
 
 pub ends_found : (result : Result ExitStatus WireFault) (old mid new : Known) (line : LineFile) (plant : List (List ℕ)) (bytes : List ℕ)
     (site : SiteValue) (commands : List Command) → ChangesOnly old mid (string_bytes line.journal) → IsSiteOf plant bytes site
     → EndsSite result mid new line site commands → EndsFound result old new line plant bytes commands
-ends_found result old mid new line plant bytes site commands only made ends = record {
-  others = among_both old mid new line only ends.others;
-  unsaved = only_both result old mid new line only ends.unsaved;
-  saved = IfOk-weaker result (λ status. SavesRun false new line site commands status)
-      (λ status. SavesFound new line plant bytes commands status)
-      (λ status saves. record { site = site; made = made; saves = saves }) ends.saved;
-}
-
--- memory was refused behind it
-pub ends_unmade : (result : Result ExitStatus WireFault) (old new : Known) (line : LineFile) (plant : List (List ℕ)) (bytes : List ℕ)
-    (commands : List Command) → ChangesOnly old new (string_bytes line.journal) → IsErrAnd result IsOfStream
-    → EndsFound result old new line plant bytes commands
-ends_unmade (Ok status) old new line plant bytes commands only failed = absurd failed
-ends_unmade (Err fault) old new line plant bytes commands only failed =
-    record { others = among_only old new line only; unsaved = λ apart. absurd (apart failed); saved = tt }
+ends_found result old mid new line plant bytes site commands only made ends =
+    ends_behind_open (λ status. SavesRun false new line site commands status) (λ status. SavesFound new line plant bytes commands status)
+    result old mid new line only (λ status saves. record { site = site; made = made; saves = saves }) ends
 
 -- ---- the whole
 

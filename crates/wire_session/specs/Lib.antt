@@ -1,6 +1,6 @@
-pub mod Backup
-pub mod Opening
+pub mod Ending
 pub mod Planning
+pub mod Recovery
 pub mod Redoing
 pub mod Reporting
 pub mod Running

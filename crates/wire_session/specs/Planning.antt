@@ -10,7 +10,7 @@ use Rattle.station_files.specs.declared.faults.ExitStatus.{ExitStatus}
 use Rattle.station_session.specs.Judging.{IsRunApart}
 use Rattle.station_session.specs.Site.{IsSiteOf}
 use Rattle.station_plan.specs.Plan.{PlansSite}
-use Rattle.wire_session.specs.Opening.{IsFound}
+use Rattle.wire_scan.specs.Opening.{IsFound}
 
 -- The commands were planned on a site of slaves with these words and a journal with these bytes.
 pub record PlansFound (plant : List (List ℕ)) (bytes : List ℕ) (commands : List Command) (status : ExitStatus) : Type 0 where

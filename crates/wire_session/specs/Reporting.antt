@@ -1,7 +1,11 @@
--- The report at the end of a run or a recovery.
-use Rattle.std.specs.Prelude.{◌≡◌, ◌⊎◌, Result, IsOk, IsErrAnd}
-use Rattle.wire_session.specs.declared.faults.WireFault.{WireFault}
-use Rattle.wire_session.specs.Backup.{IsOfStream}
+-- What is told at the end of a run or a recovery.
+use Rattle.std.specs.Prelude.{◌≡◌, ◌⊎◌, Result, IsErrAnd, IsOk}
+use Rattle.wire_faults.specs.declared.faults.WireFault.{WireFault}
+use Rattle.wire_faults.specs.Faults.{IsOfStream}
+
+-- the work ended so; or it ended with a fault that is told as another one, and as one of a file or of memory if it is one
+abbrev pub IsExplained : {T : Type 0} → Result T WireFault → Result T WireFault → Type 0
+IsExplained ended result = (result ≡ ended) ⊎ IsErrAnd ended (λ fault. IsErrAnd result (λ told. IsOfStream fault → IsOfStream told))
 
 -- the work ended so; or it ended without a fault, and a file, the output or memory failed behind it
 abbrev pub IsReported : {T : Type 0} → Result T WireFault → Result T WireFault → Type 0

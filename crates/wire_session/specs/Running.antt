@@ -1,25 +1,19 @@
 -- `run` on a wire: how the line that was found is served by threads, and what the files hold in the end.
-use Rattle.std.specs.Prelude.{◌≡◌, ◌⊎◌, ℕ, Bool, false, List, Result, None, IfOk, IsErr}
+use Rattle.std.specs.Prelude.{◌≡◌, ◌⊎◌, ℕ, Bool, false, List, Result, None, IsErr}
 use Rattle.sii_edit.specs.declared.command.Command.{Command}
 use Rattle.site_shadow.specs.Site.{SiteValue}
 use Rattle.station_text.specs.declared.line_file.LineFile.{LineFile}
-use Rattle.station_files.specs.Files.{Known, ChangesAmong}
+use Rattle.station_files.specs.Files.{Known}
 use Rattle.station_files.specs.ScriptFiles.{SpellsCommands}
 use Rattle.station_files.specs.declared.faults.ExitStatus.{ExitStatus}
 use Rattle.station_alone.specs.Station.{Station}
 use Rattle.station_files.specs.Locations.{Leads}
 use Rattle.station_session.specs.Judging.{IsRunApart}
-use Rattle.station_session.specs.Site.{IsSiteOf, files_of}
+use Rattle.station_session.specs.Site.{IsSiteOf}
 use Rattle.station_session.specs.Session.{SavesRun, Serves}
-use Rattle.wire_session.specs.declared.faults.WireFault.{WireFault}
-use Rattle.wire_session.specs.Opening.{IsFound, LeavesImages}
-
--- No other files than the line's changed. After a fault of the line or the journal no image file has changed. If the result is `Ok`, the
--- files hold what is said of its status.
-pub record Ends (saves : ExitStatus → Type 0) (result : Result ExitStatus WireFault) (old new : Known) (line : LineFile) : Type 0 where
-  pub others : ChangesAmong old new (files_of line)
-  pub unsaved : LeavesImages result old new line
-  pub saved : IfOk result saves
+use Rattle.wire_faults.specs.declared.faults.WireFault.{WireFault}
+use Rattle.wire_scan.specs.Opening.{IsFound}
+use Rattle.wire_session.specs.Ending.{Ends}
 
 -- If the result is `Ok`, the commands were served on this station, by threads or on one, and the files hold its state.
 abbrev pub EndsServing : (is_alone : Bool) → Result ExitStatus WireFault → Known → Known → LineFile → Station → List Command → Type 0

@@ -1,19 +1,17 @@
 //! The subcommand `init`.
 ghost use Rattle.std.specs.Prelude.{◌≡◌, IfErr, OnOk, ⊤};
 ghost use Rattle.station_session.specs.Init.{Formats};
-ghost use Rattle.wire_session.specs.Opening.{BeginsJournal, RefusesInit};
+ghost use Rattle.wire_session.specs.Recovery.{BeginsJournal, RefusesInit};
 
-use crate::asked::Asked;
-use crate::faults::WireFault;
-use crate::judging::judge_slaves;
-use crate::sizes::sizes_of_images;
 use station_files::{Fault, Store, load_line};
 use station_session::init_line;
 use std::alloc::Global;
 use std::io::Write;
 use std::rt::Clock;
 use wire_bringup::{bring_up, hand_back};
+use wire_faults::WireFault;
 use wire_frames::{NumberedWire, Wire};
+use wire_scan::{Asked, judge_slaves, sizes_of_images};
 
 /// Makes an empty journal for the line on this wire, whose line file is `name`, and prints the size of its area. The line file has to name
 /// as many image files as the line has slaves, and these have to be there, as a backup leaves them; they keep their words. The journal's file
@@ -24,10 +22,9 @@ use wire_frames::{NumberedWire, Wire};
 /// As for `load_line` and `sizes_of_images`; as for `bring_up` and `judge_slaves`. Nothing is written up to there.
 /// Then as for `station_session::init_line`.
 #[tactic(auto, using(crate::proofs::Recovering::formats_behind, crate::proofs::Recovering::refuses_behind, crate::proofs::Recovering::refuses_early))]
-pub fn init_on_wire<W: Wire, C: Clock, S: Store, O: Write>(
-    alloc: Global,
+pub fn init_on_wire<R: Clock + AllocGlobal, W: Wire, S: Store, O: Write>(
+    rt: &R,
     wire: &mut NumberedWire<W>,
-    clock: &C,
     name: &str,
     asked: Asked,
     store: &mut S,
@@ -36,8 +33,8 @@ pub fn init_on_wire<W: Wire, C: Clock, S: Store, O: Write>(
     ensures formatted { OnOk result (Formats ⊤ (S.files store.old) (S.files store.new) name.now) }
     ensures refused { IfErr result (RefusesInit (S.files store.old) (S.files store.new) S.leads name.now) }
 {
-    match judge_line(alloc, wire, clock, name, asked, store) {
-        Ok(()) => format_line(alloc, name, store, output),
+    match judge_line(rt, wire, name, asked, store) {
+        Ok(()) => format_line(rt.alloc(), name, store, output),
         Err(fault) => Err(fault),
     }
 }
@@ -65,21 +62,20 @@ pub fn begin_journal<S: Store, O: Write>(
 }
 
 /// Looks whether the line on this wire has as many slaves as the line file names. No file changes.
-fn judge_line<W: Wire, C: Clock, S: Store>(
-    alloc: Global,
+fn judge_line<R: Clock + AllocGlobal, W: Wire, S: Store>(
+    rt: &R,
     wire: &mut NumberedWire<W>,
-    clock: &C,
     name: &str,
     asked: Asked,
     store: &mut S,
 ) -> Result<(), WireFault>
     ensures { S.files store.new ≡ S.files store.old }
 {
-    let line = load_line(alloc, name, store)?;
-    let sizes = sizes_of_images(alloc, &line.images, asked.trusts_images, store)?;
-    let found = bring_up(alloc, wire, clock, &sizes)?;
+    let line = load_line(rt.alloc(), name, store)?;
+    let sizes = sizes_of_images(rt.alloc(), &line.images, asked.trusts_images, store)?;
+    let found = bring_up(rt.alloc(), wire, rt, &sizes)?;
     hand_back(wire, &found.states());
-    let _slaves = judge_slaves(alloc, found, line.images.len())?;
+    let _slaves = judge_slaves(rt.alloc(), found, line.images.len())?;
     Ok(())
 }
 

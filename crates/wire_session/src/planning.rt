@@ -2,11 +2,7 @@
 ghost use Rattle.std.specs.Prelude.{◌≡◌, ◌≤◌, length, IfOk};
 ghost use Rattle.wire_session.specs.Planning.{PlansFound, PlansOnWire};
 
-use crate::asked::Asked;
-use crate::faults::WireFault;
-use crate::naming::Named;
-use crate::opening::Found;
-use crate::running::{Given, find_all};
+use crate::running::{Given, RunOrder, find_all};
 use sii_edit::Command;
 use sii_words::Words;
 use site_mem::FaultPlan;
@@ -18,34 +14,33 @@ use std::alloc::Global;
 use std::io::Write;
 use std::rt::Clock;
 use wire_bringup::hand_back;
+use wire_faults::WireFault;
 use wire_frames::{NumberedWire, Wire};
+use wire_scan::Found;
 
-/// Prints what `run_script` would do with this script on the line on this wire: the line is found as for a run, the commands are served on a
+/// Prints what `run_script` would do with this order on the line on this wire: the line is found as for a run, the commands are served on a
 /// copy of it in memory, and the answers, the words that change and the rest are printed as `station_plan::plan_line` does. No word of a
 /// slave is written, and no file. The EEPROMs are handed back as they were found. Returns the exit status that such a run returns.
 ///
 /// # Errors
 ///
 /// As for `run_script`, up to where it would write the journal; then as for `plan_line`.
-pub fn plan_on_wire<W: Wire, C: Clock, S: Store, O: Write>(
-    alloc: Global,
+pub fn plan_on_wire<R: Clock + AllocGlobal, W: Wire, S: Store, O: Write>(
+    rt: &R,
     wire: &mut NumberedWire<W>,
-    clock: &C,
-    named: Named<'_>,
-    asked: Asked,
+    order: RunOrder<'_>,
     form: Form,
     store: &mut S,
     output: &mut O,
 ) -> Result<ExitStatus, WireFault>
-    ensures plans { IfOk result (PlansOnWire S.leads (S.files store.old) named.entry.line.now named.entry.script.now) }
+    ensures plans { IfOk result (PlansOnWire S.leads (S.files store.old) order.entry.named.line.now order.entry.named.script.now) }
     ensures same { S.files store.new ≡ S.files store.old }
 {
-    let Named { line, script } = named;
-    match find_all(alloc, wire, clock, line, script, asked, store) {
+    match find_all(rt, wire, order, store) {
         Ok(given) => {
             let Given { found, commands } = given;
             hand_back(wire, &found.states);
-            plan_found(alloc, found, commands, form, output)
+            plan_found(rt.alloc(), found, commands, form, output)
         }
         Err(fault) => Err(fault),
     }

@@ -3,16 +3,14 @@ ghost use Rattle.std.specs.Prelude.{◌≡◌, ◌≤◌, length, IfErr, IsTrue,
 ghost use Rattle.esc_rom.specs.Owned.{OwnsAll};
 ghost use Rattle.station_files.specs.Files.{ChangesAmong};
 ghost use Rattle.station_session.specs.Site.{files_of, switched_on, HoldsSite};
-ghost use Rattle.wire_session.specs.Backup.{IsOfStream};
-ghost use Rattle.wire_session.specs.Opening.{EndsRecovery, Recovers};
+ghost use Rattle.wire_faults.specs.Faults.{IsOfStream};
+ghost use Rattle.wire_session.specs.Recovery.{EndsRecovery, Recovers};
 
-use crate::asked::Asked;
-use crate::faults::{WireFault, why_ended};
-use crate::opening::{Found, find_line, open_journal};
+use crate::as_found::AsFound;
 use crate::redoing::recover_by_threads;
-use crate::reporting::report_end;
+use crate::reporting::{report_end, tell_why};
 use line_report::Before;
-use sii_words::{Plant, Words};
+use sii_words::Plant;
 use site_file::FileDevice;
 use site_shadow::{Device, ShadowSite};
 use site_wire::{LiveLine, LockedLine, WireDevice};
@@ -26,7 +24,9 @@ use std::rt::Clock;
 use std::sync::Wait;
 use std::thread::Threads;
 use wire_bringup::hand_back;
+use wire_faults::WireFault;
 use wire_frames::{NumberedWire, Wire};
+use wire_scan::{Asked, Found, find_line, open_journal};
 
 /// Recovers the line on this wire, whose line file is `name`, with its journal: what is live in the journal is done, and the slaves then
 /// hold the contents after a prefix of the commands accepted before, with every acknowledged one in it. Threads do it, one for each slave,
@@ -39,9 +39,13 @@ use wire_frames::{NumberedWire, Wire};
 /// `BadJournal` where the journal is refused, with no word written; `SlaveDead` for a slave that is given up; or why the site on the wire has
 /// stopped. No image file is written up to there, and another recovery completes what was begun. Then `File` or `Memory`, as the store or
 /// the output answers.
-pub fn recover_line<R: Wait + Threads + Clock + Sync, W: Wire + Send + Drop, S: Store, O: Write>(
+pub fn recover_line<
+    R: Wait + Threads + Clock + AllocGlobal + Sync,
+    W: Wire + Send + Drop,
+    S: Store,
+    O: Write,
+>(
     rt: &R,
-    alloc: Global,
     wire: NumberedWire<W>,
     name: &str,
     asked: Asked,
@@ -55,8 +59,8 @@ pub fn recover_line<R: Wait + Threads + Clock + Sync, W: Wire + Send + Drop, S: 
         is_forced: true,
         ..asked
     };
-    match find_line(alloc, &mut wire, rt, name, asked, store) {
-        Ok(found) => recover_found(rt, alloc, found, wire, store, output),
+    match find_line(rt, &mut wire, name, asked, store) {
+        Ok(found) => recover_found(rt, found, wire, store, output),
         Err(fault) => {
             drop(wire);
             Err(fault)
@@ -65,9 +69,13 @@ pub fn recover_line<R: Wait + Threads + Clock + Sync, W: Wire + Send + Drop, S: 
 }
 
 /// Recovers a line that was found, hands the EEPROMs back, and prints what has changed if that is asked for.
-fn recover_found<R: Wait + Threads + Clock + Sync, W: Wire + Send + Drop, S: Store, O: Write>(
+fn recover_found<
+    R: Wait + Threads + Clock + AllocGlobal + Sync,
+    W: Wire + Send + Drop,
+    S: Store,
+    O: Write,
+>(
     rt: &R,
-    alloc: Global,
     found: Found<S::Lock>,
     wire: NumberedWire<W>,
     store: &mut S,
@@ -88,61 +96,59 @@ fn recover_found<R: Wait + Threads + Clock + Sync, W: Wire + Send + Drop, S: Sto
         tells,
     } = found;
     let locked = LockedLine::new(LiveLine::new(wire));
-    let ended = recover_on(rt, alloc, &line, &slaves, journal, &locked, store, output);
+    let as_found = AsFound {
+        line: &line,
+        slaves: &slaves,
+        journal,
+    };
+    let ended = recover_opened(rt, as_found, &locked, store, output);
+    let explained = tell_why(rt, &locked, ended);
     let mut wire = locked.into_line().into_wire();
     hand_back(&mut wire, &states);
     drop(wire);
     let words = Plant::of(slaves);
     let before = Before { line, words };
-    report_end(alloc, tells, &before, ended, store, output)
+    report_end(rt.alloc(), tells, &before, explained, store, output)
 }
 
 /// Opens the journal of a line, and recovers the line.
-fn recover_on<R: Wait + Threads + Clock + Sync, W: Wire + Send + Drop, S: Store, O: Write>(
+fn recover_opened<
+    R: Wait + Threads + Clock + AllocGlobal + Sync,
+    W: Wire + Send + Drop,
+    S: Store,
+    O: Write,
+>(
     rt: &R,
-    alloc: Global,
-    line: &LineFile,
-    slaves: &[Words],
-    journal: Vec<u8>,
+    found: AsFound<'_>,
     locked: &LockedLine<W>,
     store: &mut S,
     output: &mut O,
 ) -> Result<(), WireFault>
-    requires some { 1 ≤ length slaves.now }
-    requires most { length slaves.now ≤ 64 }
-    requires count { length slaves.now ≡ length line.now.images.items }
-    ensures { EndsRecovery result (S.files store.old) (S.files store.new) line.now (switched_on slaves.now journal.items) }
+    requires some { 1 ≤ length found.slaves.now }
+    requires most { length found.slaves.now ≤ 64 }
+    requires count { length found.slaves.now ≡ length found.line.now.images.items }
+    ensures { EndsRecovery result (S.files store.old) (S.files store.new) found.entry.line.now
+        (switched_on found.entry.slaves.now found.entry.journal.items) }
 {
-    let files = open_journal(alloc, line, store)?;
+    let AsFound {
+        line,
+        slaves,
+        journal,
+    } = found;
+    let files = open_journal(rt.alloc(), line, store)?;
     let device = WireDevice::shared(locked.shared(rt), rt, FileDevice::new(&files));
-    let site = site_of(alloc, slaves, journal, device)?;
-    recover_told(rt, alloc, line, site, locked, store, output)
-}
-
-/// Recovers a line, and tells of a fault why the line on the wire has stopped, if it has.
-fn recover_told<D: Device + Copy + Send, R: Wait + Threads + Sync, W: Wire, S: Store, O: Write>(
-    rt: &R,
-    alloc: Global,
-    line: &LineFile,
-    site: ShadowSite<D>,
-    locked: &LockedLine<W>,
-    store: &mut S,
-    output: &mut O,
-) -> Result<(), WireFault>
-    requires disk { IsTrue site.line.has_disk }
-    requires owned { OwnsAll site.line }
-    ensures { EndsRecovery result (S.files store.old) (S.files store.new) line.now site.seen }
-{
-    match recover_site(rt, alloc, line, site, store, output) {
-        Ok(()) => Ok(()),
-        Err(fault) => Err(why_ended(locked.reason(rt), locked.seen(rt), fault)),
-    }
+    let site = site_of(rt.alloc(), slaves, journal, device)?;
+    recover_site(rt, line, site, store, output)
 }
 
 /// Recovers a line, and saves what its slaves hold to their image files.
-fn recover_site<D: Device + Copy + Send, R: Wait + Threads + Sync, S: Store, O: Write>(
+fn recover_site<
+    R: Wait + Threads + AllocGlobal + Sync,
+    D: Device + Copy + Send,
+    S: Store,
+    O: Write,
+>(
     rt: &R,
-    alloc: Global,
     line: &LineFile,
     site: ShadowSite<D>,
     store: &mut S,
@@ -152,11 +158,11 @@ fn recover_site<D: Device + Copy + Send, R: Wait + Threads + Sync, S: Store, O: 
     requires owned { OwnsAll site.line }
     ensures { EndsRecovery result (S.files store.old) (S.files store.new) line.now site.seen }
 {
-    match recover_by_threads(rt, alloc, site, line.images.len()) {
+    match recover_by_threads(rt, site, line.images.len()) {
         Ok((alone, recovered)) => {
             let (core, left) = alone.into_parts();
             drop(core);
-            save_recovered(alloc, line, left, recovered, store, output)
+            save_recovered(rt.alloc(), line, left, recovered, store, output)
         }
         Err(fault) => Err(WireFault::Station(fault)),
     }

@@ -23,9 +23,8 @@ use std::thread::Threads;
 /// # Errors
 ///
 /// As for `Alone::open_counted`, `redo_by_threads` and `recover`. The site is dropped.
-pub(crate) fn recover_by_threads<D: Device + Copy + Send, R: Wait + Threads + Sync>(
+pub(crate) fn recover_by_threads<R: Wait + Threads + AllocGlobal + Sync, D: Device + Copy + Send>(
     rt: &R,
-    alloc: Global,
     site: ShadowSite<D>,
     slaves: usize,
 ) -> Result<(Alone<ShadowSite<D>>, Recovered), Fault>
@@ -36,8 +35,8 @@ pub(crate) fn recover_by_threads<D: Device + Copy + Send, R: Wait + Threads + Sy
     ensures begins { IfOk result (λ r. BeginsRecovered site.seen r.0) }
     ensures counts { IfOk result (λ r. RecoversByThreads site r.1 r.0) }
 {
-    match Alone::open_counted(alloc, site) {
-        Ok((alone, found)) => redo_opened(rt, alloc, alone, found, slaves),
+    match Alone::open_counted(rt.alloc(), site) {
+        Ok((alone, found)) => redo_opened(rt, alone, found, slaves),
         Err((left, fault)) => {
             drop(left);
             Err(of_open(fault))
@@ -46,9 +45,8 @@ pub(crate) fn recover_by_threads<D: Device + Copy + Send, R: Wait + Threads + Sy
 }
 
 /// Has threads redo what is live in the journal of this station, in which the open found this much, and recovers the line behind them.
-fn redo_opened<D: Device + Copy + Send, R: Wait + Threads + Sync>(
+fn redo_opened<R: Wait + Threads + AllocGlobal + Sync, D: Device + Copy + Send>(
     rt: &R,
-    alloc: Global,
     alone: Alone<ShadowSite<D>>,
     found: Found,
     slaves: usize,
@@ -59,9 +57,9 @@ fn redo_opened<D: Device + Copy + Send, R: Wait + Threads + Sync>(
     ensures begins { IfOk result (λ r. BeginsAgain alone r.0) }
     ensures counts { IfOk result (λ r. RedoesOpened alone found r.1 r.0) }
 {
-    let redone = redo_by_threads(rt, alloc, alone, slaves)?;
+    let redone = redo_by_threads(rt, rt.alloc(), alone, slaves)?;
     let Redone { site, words } = redone;
-    recover_behind(alloc, site, found, words)
+    recover_behind(rt.alloc(), site, found, words)
 }
 
 /// Recovers a line on which threads have issued `sent` words.

@@ -1,15 +1,31 @@
-//! The report at the end of a run or a recovery.
+//! What is told at the end of a run or a recovery: why the line has stopped, and what has changed.
 ghost use Rattle.std.specs.Prelude.{◌≡◌, IfErr};
 ghost use Rattle.station_files.specs.Faults.{IsOfStream};
-ghost use Rattle.wire_session.specs.Reporting.{IsReported};
+ghost use Rattle.wire_session.specs.Reporting.{IsExplained, IsReported};
 
-use crate::asked::Tells;
-use crate::faults::WireFault;
 use line_report::{Before, print_image, print_report};
+use site_wire::LockedLine;
 use station_files::{Fault, Store};
 use std::alloc::Global;
 use std::io::Write;
-use wire_frames::Handed;
+use std::sync::Wait;
+use wire_faults::{WireFault, why_ended};
+use wire_frames::{Handed, Wire};
+use wire_scan::Tells;
+
+/// Tells of a fault that ended the work why the line on the wire has stopped, if it has.
+pub(crate) fn tell_why<T: Copy, R: Wait, W: Wire>(
+    rt: &R,
+    locked: &LockedLine<W>,
+    ended: Result<T, WireFault>,
+) -> Result<T, WireFault>
+    ensures { IsExplained ended result }
+{
+    match ended {
+        Ok(value) => Ok(value),
+        Err(fault) => Err(why_ended(locked.reason(rt), locked.seen(rt), fault)),
+    }
+}
 
 /// Prints whether the process image of a line is another one than `before`, and what has changed on it, as far as that is asked for, if the work
 /// on it has ended without a fault. No file changes.

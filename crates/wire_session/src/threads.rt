@@ -5,10 +5,10 @@ ghost use Rattle.station_files.specs.declared.faults.ExitStatus.TheVariants.{Don
 ghost use Rattle.script_session.specs.Parts.{IsLineOf};
 ghost use Rattle.station_session.specs.Session.{HoldsBehind, SavesBehind, SavesLeft};
 ghost use Rattle.station_session.specs.Site.{files_of, HoldsSite};
-ghost use Rattle.wire_session.specs.Backup.{IsOfStream};
-ghost use Rattle.wire_session.specs.Running.{Ends, EndsServing};
+ghost use Rattle.wire_faults.specs.Faults.{IsOfStream};
+ghost use Rattle.wire_session.specs.Ending.{Ends};
+ghost use Rattle.wire_session.specs.Running.{EndsServing};
 
-use crate::faults::WireFault;
 use script_session::{Ending, Left, Work, serve_by_threads, serve_commands};
 use sii_edit::Command;
 use site_shadow::{Device, ShadowSite};
@@ -20,12 +20,28 @@ use std::alloc::Global;
 use std::io::Write;
 use std::sync::Wait;
 use std::thread::Threads;
+use wire_faults::WireFault;
+
+/// What a desk has left of its commands.
+#[derive(Drop)]
+struct DeskLeft {
+    /// Whether they were submitted.
+    is_driven: bool,
+    /// The status of the answers so far.
+    status: ExitStatus,
+    /// The commands where they were not submitted, and otherwise none.
+    commands: Vec<Command>,
+}
 
 /// Serves the commands by threads, recovers the line so that nothing is live, and saves what its slaves hold. Where no thread can be made,
 /// the commands are served on this one. The station must not have accepted a command yet.
-pub(crate) fn run_threads<D: Device + Copy + Send, S: Store, O: Write, R: Wait + Threads + Sync>(
+pub(crate) fn run_threads<
+    R: Wait + Threads + AllocGlobal + Sync,
+    D: Device + Copy + Send,
+    S: Store,
+    O: Write,
+>(
     rt: &R,
-    alloc: Global,
     line: &LineFile,
     alone: Alone<ShadowSite<D>>,
     work: Work,
@@ -35,8 +51,8 @@ pub(crate) fn run_threads<D: Device + Copy + Send, S: Store, O: Write, R: Wait +
     requires none { alone.book.accepted ≡ [] }
     ensures { EndsServing false result (S.files store.old) (S.files store.new) line.now alone work.commands.items }
 {
-    match serve_by_threads(rt, alloc, alone, line.images.len(), work, output) {
-        Ok(left) => end_threads(alloc, line, left, store, output),
+    match serve_by_threads(rt, rt.alloc(), alone, line.images.len(), work, output) {
+        Ok(left) => end_threads(rt.alloc(), line, left, store, output),
         Err(fault) => Err(WireFault::Station(fault)),
     }
 }
@@ -66,9 +82,14 @@ fn end_threads<D: Device + Copy, S: Store, O: Write>(
         told,
     } = ending;
     match told {
-        Ok(()) => save_behind(
-            alloc, line, site, is_driven, status, unserved, store, output,
-        ),
+        Ok(()) => {
+            let behind = DeskLeft {
+                is_driven,
+                status,
+                commands: unserved,
+            };
+            save_behind(alloc, line, site, behind, store, output)
+        }
         Err(fault) => {
             drop(site);
             drop(unserved);
@@ -78,28 +99,25 @@ fn end_threads<D: Device + Copy, S: Store, O: Write>(
 }
 
 /// Recovers the line, and saves what its slaves hold. If the commands were not submitted yet, they are served between the two. Gives the
-/// status of the answers, of which `status` is the one so far.
+/// status of all answers.
 fn save_behind<D: Device + Copy, S: Store, O: Write>(
     alloc: Global,
     line: &LineFile,
     site: ShadowSite<D>,
-    is_driven: bool,
-    status: ExitStatus,
-    commands: Vec<Command>,
+    behind: DeskLeft,
     store: &mut S,
     output: &mut O,
 ) -> Result<ExitStatus, WireFault>
     requires line { IsLineOf (length line.now.images.items) site.line }
-    ensures { Ends (λ ended. SavesBehind (S.files store.new) line.now site.seen is_driven commands.items ended × (ended ≡ Done → status ≡ Done))
+    ensures { Ends (λ ended. SavesBehind (S.files store.new) line.now site.seen behind.is_driven behind.commands.items ended
+        × (ended ≡ Done → behind.status ≡ Done))
         result (S.files store.old) (S.files store.new) line.now }
 {
     match recover(alloc, site) {
-        Ok((alone, _recovered)) => save_recovered(
-            alloc, line, alone, is_driven, status, commands, store, output,
-        ),
+        Ok((alone, _recovered)) => save_recovered(alloc, line, alone, behind, store, output),
         Err((left, fault)) => {
             drop(left);
-            drop(commands);
+            drop(behind);
             Err(WireFault::Station(of_open(fault)))
         }
     }
@@ -110,17 +128,21 @@ fn save_recovered<D: Device + Copy, S: Store, O: Write>(
     alloc: Global,
     line: &LineFile,
     alone: Alone<ShadowSite<D>>,
-    is_driven: bool,
-    status: ExitStatus,
-    commands: Vec<Command>,
+    behind: DeskLeft,
     store: &mut S,
     output: &mut O,
 ) -> Result<ExitStatus, WireFault>
     requires disk { IsTrue alone.line.has_disk }
     requires slaves { length alone.line.sizes ≡ length line.now.images.items }
-    ensures { Ends (λ ended. HoldsBehind is_driven (S.files store.new) line.now alone commands.items ended × (ended ≡ Done → status ≡ Done))
+    ensures { Ends (λ ended. HoldsBehind behind.is_driven (S.files store.new) line.now alone behind.commands.items ended
+        × (ended ≡ Done → behind.status ≡ Done))
         result (S.files store.old) (S.files store.new) line.now }
 {
+    let DeskLeft {
+        is_driven,
+        status,
+        commands,
+    } = behind;
     if !is_driven {
         return match run_alone(alloc, line, alone, commands, store, output) {
             Ok(ended) => Ok(worse(status, ended)),

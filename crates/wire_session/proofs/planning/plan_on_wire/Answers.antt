@@ -6,7 +6,7 @@ pub returns-in-Ok-clause-plans : goal.returns-in-Ok-clause-plans
 returns-in-Ok-clause-plans g c =
     let given = c.in-Ok.given in
     IfOk-weaker c.plan_found.result (PlansFound given.found.slaves.items given.found.journal.items given.commands.items)
-    (PlansOnWire g.S.Store.leads (g.S.Store.files c.args.store.now) c.args.named.line.now c.args.named.script.now)
+    (PlansOnWire g.S.Store.leads (g.S.Store.files c.args.store.now) c.args.order.named.line.now c.args.order.named.script.now)
     (λ status plans. record {
       line = given.found.line;
       plant = given.found.slaves.items;

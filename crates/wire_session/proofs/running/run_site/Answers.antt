@@ -3,9 +3,9 @@ use Rattle.wire_session.proofs.RunEnds.{ends_opened}
 use Rattle.wire_session.proofs.running.run_site.Goals as goal
 
 pub run_threads-requires-clause-none : goal.run_threads-requires-clause-none
-run_threads-requires-clause-none g c κs lives = starts-none c.args.was_old c.args.site c.in-Ok.alone c.in-Ok.ensures.starts
+run_threads-requires-clause-none g c κs lives = starts-none c.args.start.was_old c.args.start.site c.in-Ok.alone c.in-Ok.ensures.starts
 
 pub returns-in-Ok : goal.returns-in-Ok
 returns-in-Ok g c =
-    ends_opened c.run_threads.result (g.S.Store.files c.args.store.now) (g.S.Store.files c.run_threads.new.store) c.args.line.now c.args.site
-    c.args.was_old c.in-Ok.alone c.args.work.commands.items c.requires.old c.in-Ok.ensures.starts c.run_threads.ensures
+    ends_opened c.run_threads.result (g.S.Store.files c.args.store.now) (g.S.Store.files c.run_threads.new.store) c.args.line.now c.args.start.site
+    c.args.start.was_old c.in-Ok.alone c.args.work.commands.items c.requires.old c.in-Ok.ensures.starts c.run_threads.ensures

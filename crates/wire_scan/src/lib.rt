@@ -1,0 +1,21 @@
+//! A line on a wire is found, read and judged: its slaves are listed or backed up, or handed to the work on them.
+#![tactic(auto)]
+
+mod asked;
+mod backup;
+mod judging;
+mod measures;
+mod naming;
+mod opening;
+mod plan;
+mod scan;
+mod scan_rows;
+mod sizes;
+
+pub use asked::{Asked, Tells};
+pub use backup::backup_line;
+pub use judging::{judge_commands, judge_slaves};
+pub use naming::{CaptureNames, Named, keep_capture_apart, keep_script_apart};
+pub use opening::{Found, find_line, open_journal};
+pub use scan::scan_line;
+pub use sizes::sizes_of_images;

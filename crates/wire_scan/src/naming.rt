@@ -1,0 +1,108 @@
+//! Keeps the files of a call apart: none may be lost where another one is written.
+ghost use Rattle.std.specs.Prelude.{◌≡◌, ◌∷◌, ◌++◌, length, None, OnOk};
+ghost use Rattle.station_files.specs.FileNames.{files_with, spelt, written_of};
+ghost use Rattle.station_files.specs.Locations.{AreApart};
+
+use crate::plan::{is_there, new_line};
+use station_files::{Fault, FileNames, Store, keep_apart, load_line};
+use station_text::LineFile;
+use std::alloc::{AllocError, Global};
+
+/// The most slaves of a line.
+const MOST_SLAVES: usize = 64;
+
+/// The names of the line file and of the script of a run, as it is given them.
+#[derive(Clone, Copy)]
+pub struct Named<'a> {
+    /// The line file.
+    pub line: &'a str,
+    /// The script.
+    pub script: &'a str,
+}
+
+/// Refuses a script that is a file of the line, as `keep_apart` does, or that names an image that is one. Nothing is written.
+///
+/// # Errors
+///
+/// `SameFile`; `File` where a name can't be followed; `Memory`.
+pub fn keep_script_apart<S: Store>(
+    alloc: Global,
+    line: &LineFile,
+    named: Named<'_>,
+    images: &[String],
+    store: &mut S,
+) -> Result<(), Fault>
+    ensures apart { OnOk result (AreApart S.leads (length (written_of None line.now))
+        (files_with None line.now named.entry.line.now ++ named.entry.script.now ∷ spelt images.now)) }
+    ensures same { S.files store.new ≡ S.files store.old }
+{
+    let files = FileNames::of_line(alloc, line, named.line, None)?;
+    let all = files.with_script(alloc, named.script, images)?;
+    keep_apart(alloc, &all, store)
+}
+
+/// The names that a call on a line is given, where it is to be captured.
+#[derive(Clone, Copy)]
+pub struct CaptureNames<'a> {
+    /// The capture.
+    pub capture: &'a str,
+    /// The line file.
+    pub line: &'a str,
+    /// The script, if one is read.
+    pub script: Option<&'a str>,
+}
+
+/// Refuses a capture that is a file of the line or the script, as `keep_apart` does. Where the line file isn't there, its files are those that
+/// a backup would write. Of a line file that describes no line nothing is said here. Nothing is written.
+///
+/// # Errors
+///
+/// `Exists` where the capture is one of these files; `SameFile` where two others are one; `File` where a name can't be followed or the line file
+/// can't be read; `Memory`.
+pub fn keep_capture_apart<S: Store>(
+    alloc: Global,
+    names: CaptureNames<'_>,
+    store: &mut S,
+) -> Result<(), Fault>
+    ensures { S.files store.new ≡ S.files store.old }
+{
+    match line_named(alloc, names.line, store)? {
+        Some(line) => {
+            let files = files_around(alloc, names, &line)?;
+            keep_apart(alloc, &files, store)
+        }
+        None => Ok(()),
+    }
+}
+
+/// The files of a call that is captured.
+fn files_around(
+    alloc: Global,
+    names: CaptureNames<'_>,
+    line: &LineFile,
+) -> Result<FileNames, AllocError> {
+    let files = FileNames::of_line(alloc, line, names.line, Some(names.capture))?;
+    match names.script {
+        Some(script) => files.with_script(alloc, script, &[]),
+        None => Ok(files),
+    }
+}
+
+/// The line that the line file describes, or, where there is none, that of the largest backup. `None` where it describes no line.
+fn line_named<S: Store>(alloc: Global, name: &str, store: &mut S) -> Result<Option<LineFile>, Fault>
+    ensures { S.files store.new ≡ S.files store.old }
+{
+    if !is_there(alloc, name, store)? {
+        return described(new_line(alloc, name, MOST_SLAVES));
+    }
+    described(load_line(alloc, name, store))
+}
+
+/// The line, unless it is none.
+fn described(line: Result<LineFile, Fault>) -> Result<Option<LineFile>, Fault> {
+    match line {
+        Ok(line) => Ok(Some(line)),
+        Err(Fault::Memory) => Err(Fault::Memory),
+        Err(_) => Ok(None),
+    }
+}

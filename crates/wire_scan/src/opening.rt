@@ -1,0 +1,147 @@
+//! Finds a line on a wire and its journal in a file, and makes the site of both.
+ghost use Rattle.std.specs.Prelude.{◌≡◌, ◌≤◌, length, string_bytes, IfErr, IfOk, OnOk};
+ghost use Rattle.station_files.specs.Files.{ChangesOnly, HasBytes};
+ghost use Rattle.station_files.specs.FileNames.{IsLineApart};
+ghost use Rattle.station_files.specs.LineFiles.{SpellsLine};
+ghost use Rattle.station_files.specs.Faults as station;
+ghost use Rattle.wire_scan.specs.Opening.{IsFound};
+
+use crate::asked::{Asked, Tells};
+use crate::judging::{judge_slaves, judge_states};
+use crate::sizes::sizes_of_images;
+use sii_words::Words;
+use site_file::OpenFiles;
+use station_files::{Fault, Store, keep_line_apart, load_line, read_file};
+use station_text::LineFile;
+use std::alloc::Global;
+use std::rt::Clock;
+use wire_bringup::{FoundLine, SlaveState, bring_up, hand_back, look_along};
+use wire_faults::WireFault;
+use wire_frames::{NumberedWire, Wire};
+
+/// A line that was found on a wire, and its journal.
+#[derive(Drop)]
+pub struct Found<L> {
+    /// The line file.
+    pub line: LineFile,
+    /// The words of the slaves, in the order of the line.
+    pub slaves: Vec<Words>,
+    /// What the slaves were in as they were found.
+    pub states: [SlaveState; 64],
+    /// The bytes of the journal's file.
+    pub journal: Vec<u8>,
+    /// The lock of the journal, which keeps other stations away.
+    pub lock: L,
+    /// What is to be told of the work.
+    pub tells: Tells,
+}
+
+/// Reads the line file `name`, locks the journal, brings up the line on this wire, and reads the journal. No file changes, and no word of
+/// a slave is written. Each slave has the size of its image file, where there is one. After a fault the EEPROMs are handed back.
+///
+/// # Errors
+///
+/// As for `load_line`; `Busy` where another station has locked the journal, `File` where it is absent or the system can't lock it; as for
+/// `keep_line_apart`; as for `sizes_of_images`; unless slaves in any state are allowed or the wire is lent, as for `judge_states`, before an
+/// EEPROM is taken; as for `bring_up`; as for `judge_slaves`; `File` where the journal can't be read. `Memory` may come at any point.
+pub fn find_line<R: Clock + AllocGlobal, W: Wire, S: Store>(
+    rt: &R,
+    wire: &mut NumberedWire<W>,
+    name: &str,
+    asked: Asked,
+    store: &mut S,
+) -> Result<Found<S::Lock>, WireFault>
+    ensures found { IfOk result (λ found. IsFound (S.files store.old) name.now found.line found.slaves.items found.journal.items) }
+    ensures apart { IfOk result (λ found. IsLineApart S.leads found.line name.now) }
+    ensures some { IfOk result (λ found. 1 ≤ length found.slaves.items) }
+    ensures most { IfOk result (λ found. length found.slaves.items ≤ 64) }
+    ensures same { S.files store.new ≡ S.files store.old }
+{
+    // On a wire that is lent slaves may be in any state, and who has their EEPROMs is judged as they are opened.
+    let asked = Asked {
+        is_forced: asked.is_forced || wire.is_lent(),
+        ..asked
+    };
+    let line = load_line(rt.alloc(), name, store)?;
+    let lock = lock_journal(rt.alloc(), name, &line, store)?;
+    let sizes = sizes_of_images(rt.alloc(), &line.images, asked.trusts_images, store)?;
+    if !asked.is_forced {
+        let seen = look_along(wire)?;
+        judge_states(&seen.states, usize::from(seen.slaves))?;
+    }
+    let found = bring_up(rt.alloc(), wire, rt, &sizes)?;
+    let states = found.states();
+    match read_found(rt.alloc(), &line, found, store) {
+        Ok((slaves, journal)) => Ok(Found {
+            line,
+            slaves,
+            states,
+            journal,
+            lock,
+            tells: asked.tells(),
+        }),
+        Err(fault) => {
+            hand_back(wire, &states);
+            Err(fault)
+        }
+    }
+}
+
+/// The words of the slaves of a line that was brought up, and the bytes of its journal.
+fn read_found<S: Store>(
+    alloc: Global,
+    line: &LineFile,
+    found: FoundLine,
+    store: &mut S,
+) -> Result<(Vec<Words>, Vec<u8>), WireFault>
+    ensures count { IfOk result (λ read. length read.0.items ≡ length line.now.images.items) }
+    ensures found { IfOk result (λ read. length read.0.items ≡ length found.slaves.items) }
+    ensures journal { IfOk result (λ read. HasBytes (S.files store.old) (string_bytes line.now.journal) read.1.items) }
+    ensures same { S.files store.new ≡ S.files store.old }
+{
+    let slaves = judge_slaves(alloc, found, line.images.len())?;
+    let journal = read_file(alloc, line.journal.as_str(), store)?;
+    Ok((slaves, journal))
+}
+
+/// Locks the journal's file, and refuses a line of which two files are the same.
+fn lock_journal<S: Store>(
+    alloc: Global,
+    name: &str,
+    line: &LineFile,
+    store: &mut S,
+) -> Result<S::Lock, Fault>
+    ensures apart { OnOk result (IsLineApart S.leads line.now name.now) }
+    ensures same { S.files store.new ≡ S.files store.old }
+{
+    let Some(lock) = store.lock(line.journal.as_str())? else {
+        return Err(Fault::File);
+    };
+    match keep_line_apart(alloc, line, name, store) {
+        Ok(()) => Ok(lock),
+        Err(fault) => {
+            drop(lock);
+            Err(fault)
+        }
+    }
+}
+
+/// Opens the journal's file alone, for work on it in place.
+///
+/// # Errors
+///
+/// `File` where it is absent, or can't be opened for reading and writing, or can't be synced; `Memory`.
+pub fn open_journal<S: Store>(
+    alloc: Global,
+    line: &LineFile,
+    store: &mut S,
+) -> Result<OpenFiles<S::File>, Fault>
+    ensures others { ChangesOnly (S.files store.old) (S.files store.new) (string_bytes line.now.journal) }
+    ensures failed { IfErr result station.IsOfStream }
+{
+    let journal = store.open(line.journal.as_str())?;
+    Ok(OpenFiles {
+        journal,
+        images: Vec::new(alloc),
+    })
+}

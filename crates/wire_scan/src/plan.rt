@@ -1,0 +1,133 @@
+//! Which files a backup writes.
+ghost use Rattle.std.specs.Prelude.{◌≡◌, vec_len, None, IfOk, IfSome, false};
+ghost use Rattle.station_files.specs.Files.{IsAbsent};
+
+use station_files::{Fault, Store, keep_line_apart, load_line};
+use station_text::{LineFile, read_line};
+use std::alloc::{AllocError, Global};
+use std::io;
+use wire_faults::WireFault;
+
+/// The files of a backup.
+#[derive(Drop)]
+pub(crate) struct Plan {
+    /// The line whose image files are to be written.
+    pub(crate) line: LineFile,
+    /// The text of the line file, where there is none yet.
+    pub(crate) text: Option<String>,
+}
+
+/// Plans the backup of a line of so many slaves: by the line file `name`, or by a new one where there is none. No file is written.
+///
+/// # Errors
+///
+/// As for `load_line` and `keep_line_apart`; `OtherCount` where the line file names another number of slaves; `BadLine` where a line file can't spell
+/// names beside `name`; `Memory`.
+pub(crate) fn plan_backup<S: Store>(
+    alloc: Global,
+    name: &str,
+    slaves: usize,
+    store: &mut S,
+) -> Result<Plan, WireFault>
+    ensures count { IfOk result (λ plan. vec_len plan.line.images ≡ slaves) }
+    ensures absent { IfOk result (λ plan. IfSome plan.text (λ _. IsAbsent (S.files store.old) name.now)) }
+    ensures same { S.files store.new ≡ S.files store.old }
+{
+    if is_there(alloc, name, store)? {
+        old_line(alloc, name, slaves, store)
+    } else {
+        let text = line_text(alloc, name, slaves)?;
+        let line = line_of_text(alloc, text.as_str(), slaves)?;
+        Ok(Plan {
+            line,
+            text: Some(text),
+        })
+    }
+}
+
+/// Whether the file is there.
+///
+/// # Errors
+///
+/// `File` where it can't be read; `Memory`.
+pub(crate) fn is_there<S: Store>(alloc: Global, name: &str, store: &mut S) -> io::Result<bool>
+    ensures absent { IfOk result (λ there. there ≡ false → IsAbsent (S.files store.old) name.now) }
+    ensures same { S.files store.new ≡ S.files store.old }
+{
+    match store.read(alloc, name)? {
+        Some(_) => Ok(true),
+        None => Ok(false),
+    }
+}
+
+/// The plan by a line file that is there.
+fn old_line<S: Store>(
+    alloc: Global,
+    name: &str,
+    slaves: usize,
+    store: &mut S,
+) -> Result<Plan, WireFault>
+    ensures count { IfOk result (λ plan. vec_len plan.line.images ≡ slaves) }
+    ensures old { IfOk result (λ plan. plan.text ≡ None) }
+    ensures same { S.files store.new ≡ S.files store.old }
+{
+    let line = load_line(alloc, name, store)?;
+    keep_line_apart(alloc, &line, name, store)?;
+    if line.images.len() == slaves {
+        Ok(Plan { line, text: None })
+    } else {
+        Err(WireFault::OtherCount { slaves })
+    }
+}
+
+/// The line that a backup of so many slaves makes, where the line file `name` isn't there.
+///
+/// # Errors
+///
+/// `BadLine` where a line file can't spell names beside `name`; `Memory`.
+pub(crate) fn new_line(alloc: Global, name: &str, slaves: usize) -> Result<LineFile, Fault> {
+    let text = line_text(alloc, name, slaves)?;
+    line_of_text(alloc, text.as_str(), slaves)
+}
+
+/// The line that the text describes, which has so many slaves.
+fn line_of_text(alloc: Global, text: &str, slaves: usize) -> Result<LineFile, Fault>
+    ensures { IfOk result (λ line. vec_len line.images ≡ slaves) }
+{
+    let line = read_line(alloc, text)?;
+    if line.images.len() == slaves {
+        Ok(line)
+    } else {
+        Err(Fault::BadLine)
+    }
+}
+
+/// The name of a line file without its ending `.toml`.
+fn stem_of(name: &str) -> &str {
+    match name.strip_suffix(".toml") {
+        Some(stem) => stem,
+        None => name,
+    }
+}
+
+/// The text of a line file, which names the journal and the image file of each slave beside it.
+fn line_text(alloc: Global, name: &str, slaves: usize) -> Result<String, AllocError> {
+    let stem = stem_of(name);
+    let mut text = format!(in alloc; "journal = '{stem}-journal.bin'\n")?;
+    for slave in 0..slaves {
+        push_slave(alloc, stem, slave, &mut text)?;
+    }
+    Ok(text)
+}
+
+/// Adds the table of a slave.
+fn push_slave(
+    alloc: Global,
+    stem: &str,
+    slave: usize,
+    text: &mut String,
+) -> Result<(), AllocError> {
+    let table = format!(in alloc; "[[slave]]\nimage = '{stem}-s{slave}.bin'\n")?;
+    text.push_str(table.as_str())?;
+    Ok(())
+}

@@ -1,0 +1,47 @@
+//! The sizes of the slaves' EEPROMs, as their image files have them.
+ghost use Rattle.std.specs.Prelude.{◌≡◌};
+
+use sii_words::Words;
+use station_files::{Fault, Store};
+use std::alloc::Global;
+use wire_bringup::Sizes;
+
+/// The sizes of the slaves with these image files. Of one whose file isn't there nothing is known.
+///
+/// # Errors
+///
+/// `File` where a file can't be read; `OddLength` and `BadSize` where one is no EEPROM image of 64 to 4,096 words, a multiple of 64;
+/// `Memory`.
+pub fn sizes_of_images<S: Store>(
+    alloc: Global,
+    names: &[String],
+    is_trusted: bool,
+    store: &mut S,
+) -> Result<Sizes, Fault>
+    ensures { S.files store.new ≡ S.files store.old }
+{
+    let mut sizes = Sizes {
+        is_trusted,
+        ..Sizes::unknown()
+    };
+    for slave in 0..names.len() {
+        let given = size_of_image(alloc, names[slave].as_str(), store)?;
+        if let Some(slot) = sizes.given.get_mut(slave) {
+            *slot = given;
+        }
+    }
+    Ok(sizes)
+}
+
+/// The number of words of an image file. None where it isn't there.
+fn size_of_image<S: Store>(alloc: Global, name: &str, store: &mut S) -> Result<Option<u16>, Fault>
+    ensures { S.files store.new ≡ S.files store.old }
+{
+    match store.read(alloc, name)? {
+        Some(bytes) => {
+            let words = Words::from_bytes(alloc, &bytes)?;
+            Ok(u16::try_from(words.len()).ok())
+        }
+        None => Ok(None),
+    }
+}

@@ -1,0 +1,50 @@
+-- `init` and `recover` on a wire: what the files hold in the end.
+use Rattle.std.specs.Prelude.{◌≡◌, ◌⊎◌, ℕ, List, Result, IsErr, ⊤}
+use Rattle.site_core.specs.State.{Seen}
+use Rattle.station_text.specs.declared.line_file.LineFile.{LineFile}
+use Rattle.station_files.specs.Files.{Known}
+use Rattle.station_files.specs.FileNames.{IsLineApart}
+use Rattle.station_files.specs.Locations.{Leads}
+use Rattle.station_files.specs.declared.faults.Fault.TheVariants.{Exists}
+use Rattle.station_alone.specs.Station.{Station}
+use Rattle.station_alone.specs.Recovery.{HasRecovered, BeginsRecovered}
+use Rattle.station_session.specs.Init as bench
+use Rattle.station_session.specs.Site.{switched_on, HoldsSite}
+use Rattle.wire_faults.specs.declared.faults.WireFault.{WireFault}
+use Rattle.wire_faults.specs.declared.faults.WireFault.TheVariants as wire
+use Rattle.wire_scan.specs.Opening.{IsFound}
+use Rattle.wire_session.specs.Ending.{Ends}
+
+-- The files hold the state of a complete recovery of this site.
+pub record SavesRecovered (files : Known) (line : LineFile) (before : Seen) : Type 0 where
+  pub s : Station
+  pub recovered : HasRecovered s
+  pub begins : BeginsRecovered before s
+  pub held : HoldsSite files line s.seen.state
+
+-- If the result is `Ok`, the files hold the state of a complete recovery of this site.
+abbrev pub EndsRecovery : Result (Unit {0}) WireFault → Known → Known → LineFile → Seen → Type 0
+EndsRecovery result old new line before = Ends (λ done. SavesRecovered new line before) result old new line
+
+-- The line was found, its files stand apart, and the site of the words on the wire and the journal's bytes was recovered as far as the result
+-- says.
+pub record RecoversFound (result : Result (Unit {0}) WireFault) (leads : Leads) (old new : Known) (name : List ℕ) : Type 0 where
+  pub line : LineFile
+  pub plant : List (List ℕ)
+  pub bytes : List ℕ
+  pub found : IsFound old name line plant bytes
+  pub apart : IsLineApart leads line name
+  pub ends : EndsRecovery result old new line (switched_on plant bytes)
+
+-- what `recover` does: it stops before it writes, or it recovers the line
+abbrev pub Recovers : Result (Unit {0}) WireFault → Leads → Known → Known → List ℕ → Type 0
+Recovers result leads old new name = (IsErr result × (new ≡ old)) ⊎ RecoversFound result leads old new name
+
+-- `init` is refused as by the station, or before: then nothing was written.
+abbrev pub RefusesInit : Known → Known → Leads → List ℕ → WireFault → Type 0
+RefusesInit old new leads name (wire.Station fault) = (new ≡ old) ⊎ bench.RefusesInit old new leads name fault
+RefusesInit old new leads name fault = new ≡ old
+
+-- the journal is made, or it was there and no file has changed
+abbrev pub BeginsJournal : Known → Known → Leads → List ℕ → Type 0
+BeginsJournal old new leads name = bench.Formats ⊤ old new name ⊎ ((new ≡ old) × bench.RefusesUnformatted old leads name Exists)
