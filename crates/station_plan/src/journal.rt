@@ -74,8 +74,7 @@ fn list_site<W: Write>(
     requires owned { OwnsAll site.line }
     ensures { OnOk result (ListsSite site) }
 {
-    let reading = print_journal(alloc, &site, form, output)?;
-    if let Some(fault) = reading.fault {
+    if let Some(fault) = print_journal(alloc, &site, form, output)? {
         drop(site);
         return Err(fault_of(fault));
     }
@@ -83,24 +82,37 @@ fn list_site<W: Write>(
     print_restored(alloc, &restored, form, output)
 }
 
-/// Reads and prints what the journal's file holds.
+/// Reads and prints what the journal's file holds. Returns the fault with which a recovery refuses it, if it does.
 fn print_journal<W: Write>(
     alloc: Global,
     site: &ShadowSite<FaultPlan>,
     form: Form,
     output: &mut W,
-) -> Result<Reading, Fault>
+) -> Result<Option<JournalFault>, Fault>
     requires { IsTrue site.now.line.has_disk }
 {
     let parts = site.snapshot(alloc, Pattern::Old)?;
     let mut file = parts.disk.unwrap();
     let reading = read_readable(alloc, &mut file, &parts.sizes)?;
+    let fault = reading.fault;
+    print_reading(alloc, &file, &reading, form, output)?;
+    Ok(fault)
+}
+
+/// Prints what was read of a journal's file.
+fn print_reading<W: Write>(
+    alloc: Global,
+    file: &[u8],
+    reading: &Reading,
+    form: Form,
+    output: &mut W,
+) -> Result<(), Fault> {
     match form {
-        Form::Text => write_journal(&file, &reading, output)?,
-        Form::Json => write_journal_rows(alloc, &file, &reading, output)?,
+        Form::Text => write_journal(file, reading, output)?,
+        Form::Json => write_journal_rows(alloc, file, reading, output)?,
     }
     output.flush()?;
-    Ok(reading)
+    Ok(())
 }
 
 /// The program's fault for a journal that is refused.
