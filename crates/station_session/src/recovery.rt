@@ -72,7 +72,8 @@ fn recover_session<S: Store, W: Write, E: Write, T: Write, R: Wait + Clock + All
     requires slaves { length session.site.line.sizes ≡ length session.line.images.items }
     ensures { EndsRecovery (S.files store.old) (S.files store.new) session.line session.site.seen result }
 {
-    let Watch { rt, progress } = watch;
+    let rt = &*watch.rt;
+    let progress = watch.progress;
     let Session {
         line,
         site,
@@ -90,8 +91,8 @@ fn recover_session<S: Store, W: Write, E: Write, T: Write, R: Wait + Clock + All
                 site,
                 store,
                 Streams {
-                    output: &mut Cleared::new(streams.output, progress, rt),
-                    faults: &mut Cleared::new(streams.faults, progress, rt),
+                    output: &mut Cleared::new(&mut *streams.output, progress, rt),
+                    faults: &mut Cleared::new(&mut *streams.faults, progress, rt),
                 },
             );
             watch.erase();

@@ -65,7 +65,7 @@ pub struct Given<L> {
 
 /// A line to be opened, and the commands for it.
 #[derive(Drop)]
-struct Ready<D> {
+struct Ready<D: Device> {
     site: ShadowSite<D>,
     /// Whether the journal's version byte is other than 2.
     is_old: bool,
@@ -243,7 +243,8 @@ fn run_on_files<
     requires old { given.session.is_old ≡ is_old given.session.site.seen.state.disk.bytes }
     ensures { EndsRun false (S.files store.old) (S.files store.new) given.session.line given.session.site given.commands.items result }
 {
-    let Watch { rt, progress } = watch;
+    let rt = &*watch.rt;
+    let progress = watch.progress;
     let Given { session, commands } = given;
     let Session {
         line,
@@ -268,8 +269,8 @@ fn run_on_files<
                 ready,
                 store,
                 Streams {
-                    output: &mut Cleared::new(streams.output, progress, rt),
-                    faults: &mut Cleared::new(streams.faults, progress, rt),
+                    output: &mut Cleared::new(&mut *streams.output, progress, rt),
+                    faults: &mut Cleared::new(&mut *streams.faults, progress, rt),
                 },
             );
             watch.erase();
