@@ -72,8 +72,8 @@ fn recover_session<S: Store, W: Write, E: Write, T: Write, R: Wait + Clock + All
     requires slaves { length session.site.line.sizes ≡ length session.line.images.items }
     ensures { EndsRecovery (S.files store.old) (S.files store.new) session.line session.site.seen result }
 {
-    let rt = &*watch.rt;
-    let progress = watch.progress;
+    let Watch { rt, progress } = watch;
+    let Streams { output, faults } = streams;
     let Session {
         line,
         site,
@@ -90,17 +90,15 @@ fn recover_session<S: Store, W: Write, E: Write, T: Write, R: Wait + Clock + All
                 &line,
                 site,
                 store,
-                Streams {
-                    output: &mut Cleared::new(&mut *streams.output, progress, rt),
-                    faults: &mut Cleared::new(&mut *streams.faults, progress, rt),
-                },
+                &mut Cleared::new(output, progress, rt),
+                &mut Cleared::new(faults, progress, rt),
             );
             watch.erase();
             status
         }
         Err(fault) => {
             drop(site);
-            report_fault(fault, streams.faults)
+            report_fault(fault, faults)
         }
     }
 }
@@ -111,7 +109,8 @@ fn recover_site<S: Store, W: Write, E: Write, T: Write, R: Clock>(
     line: &LineFile,
     site: WatchedSite<'_, '_, S::File, T, R>,
     store: &mut S,
-    streams: Streams<'_, W, E>,
+    output: &mut W,
+    faults: &mut E,
 ) -> ExitStatus
     requires disk { IsTrue site.line.has_disk }
     requires owned { OwnsAll site.line }
@@ -119,7 +118,6 @@ fn recover_site<S: Store, W: Write, E: Write, T: Write, R: Clock>(
     requires slaves { length site.line.sizes ≡ length line.now.images.items }
     ensures { EndsRecovery (S.files store.old) (S.files store.new) line.now site.entry.seen result }
 {
-    let Streams { output, faults } = streams;
     match recover(alloc, site) {
         Ok((alone, recovered)) => {
             let (core, left) = alone.into_parts();

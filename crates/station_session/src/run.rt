@@ -225,15 +225,16 @@ fn run_fused<S: Store, W: Write, E: Write, R: Wait + Clock + AllocGlobal>(
 /// Opens the files of a line that was read, and serves the commands on them by threads. The line of the progress gives way to what is
 /// printed.
 fn run_on_files<
+    'a,
     S: Store,
     W: Write,
     E: Write,
     T: Write + Send,
     R: Wait + Threads + Clock + AllocGlobal + Sync,
 >(
-    watch: Watch<'_, T, R>,
+    watch: Watch<'a, T, R>,
     given: Given<S::Lock>,
-    capture: Option<&Capture<S::File>>,
+    capture: Option<&'a Capture<S::File>>,
     store: &mut S,
     streams: Streams<'_, W, E>,
 ) -> ExitStatus
@@ -243,8 +244,8 @@ fn run_on_files<
     requires old { given.session.is_old ≡ is_old given.session.site.seen.state.disk.bytes }
     ensures { EndsRun false (S.files store.old) (S.files store.new) given.session.line given.session.site given.commands.items result }
 {
-    let rt = &*watch.rt;
-    let progress = watch.progress;
+    let Watch { rt, progress } = watch;
+    let Streams { output, faults } = streams;
     let Given { session, commands } = given;
     let Session {
         line,
@@ -268,10 +269,8 @@ fn run_on_files<
                 &line,
                 ready,
                 store,
-                Streams {
-                    output: &mut Cleared::new(&mut *streams.output, progress, rt),
-                    faults: &mut Cleared::new(&mut *streams.faults, progress, rt),
-                },
+                &mut Cleared::new(output, progress, rt),
+                &mut Cleared::new(faults, progress, rt),
             );
             watch.erase();
             status
@@ -279,7 +278,7 @@ fn run_on_files<
         Err(fault) => {
             drop(site);
             drop(commands);
-            report_fault(fault, streams.faults)
+            report_fault(fault, faults)
         }
     }
 }
@@ -291,7 +290,14 @@ fn run_site<
     W: Write,
     E: Write,
     R: Wait + Threads + AllocGlobal + Sync,
->(rt: &R, line: &LineFile, ready: Ready<D>, store: &mut S, streams: Streams<'_, W, E>) -> ExitStatus
+>(
+    rt: &R,
+    line: &LineFile,
+    ready: Ready<D>,
+    store: &mut S,
+    output: &mut W,
+    faults: &mut E,
+) -> ExitStatus
     requires disk { IsTrue ready.site.line.has_disk }
     requires owned { OwnsAll ready.site.line }
     requires old { ready.is_old ≡ is_old ready.site.seen.state.disk.bytes }
@@ -303,11 +309,14 @@ fn run_site<
         commands,
     } = ready;
     match open_station(rt.alloc(), site, is_old, None) {
-        Ok(alone) => run_threads(rt, line, alone, commands, store, streams),
+        Ok(alone) => {
+            let streams = Streams { output, faults };
+            run_threads(rt, line, alone, commands, store, streams)
+        },
         Err((left, fault)) => {
             drop(left);
             drop(commands);
-            report_fault(of_open(fault), streams.faults)
+            report_fault(of_open(fault), faults)
         }
     }
 }
