@@ -1,8 +1,7 @@
 //! The program `sii_station`: passes its arguments and streams to the library, and exits with the status that the library returns.
 #![tactic(auto)]
 
-use station_serve::{refuse_words, serve_on};
-use std::alloc::Global;
+use station_serve::{Streams, refuse_words, serve};
 use std::fs::{File, Files};
 use std::io::{BufWriter, Input, IsTerminal, Print, Write};
 use std::process::ExitCode;
@@ -14,7 +13,7 @@ use system_files::FileStore;
 
 fn main(rt: HostRuntime) -> ExitCode {
     let status = match words(&rt) {
-        Ok(words) => serve_words(&rt, rt.alloc(), &words, &mut rt.stderr()),
+        Ok(words) => serve_words(&rt, &words, &mut rt.stderr()),
         Err(error) => refuse_words(&error, &mut rt.stderr()),
     };
     ExitCode::from(status)
@@ -28,26 +27,23 @@ fn words(rt: &HostRuntime) -> io::Result<Vec<String>> {
 
 /// Carries out the arguments, with the output buffered.
 fn serve_words<
-    H: Files<File = File> + Input + Print + Wait + Threads + Clock + Sync,
+    H: Files<File = File> + Input + Print + Wait + Threads + Clock + AllocGlobal + Sync,
     E: Write + IsTerminal + Copy + Send + Drop,
->(rt: &H, alloc: Global, words: &[String], faults: &mut E) -> u8 {
-    let mut files = FileStore::new(alloc, rt);
+>(rt: &H, words: &[String], faults: &mut E) -> u8 {
+    let mut files = FileStore::new(rt.alloc(), rt);
     let terminal = if faults.is_terminal() {
         Some(*faults)
     } else {
         None
     };
-    match BufWriter::new(alloc, io::writer(rt)) {
-        Ok(mut output) => serve_on(
-            rt,
-            alloc,
-            words,
-            &mut rt.reader(),
-            &mut files,
-            &mut output,
-            faults,
-            terminal,
-        ),
+    match BufWriter::new(rt.alloc(), io::writer(rt)) {
+        Ok(mut output) => {
+            let streams = Streams {
+                output: &mut output,
+                faults,
+            };
+            serve(rt, words, &mut rt.reader(), &mut files, streams, terminal)
+        }
         Err(error) => refuse_words(&error, faults),
     }
 }

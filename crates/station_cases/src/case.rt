@@ -2,7 +2,7 @@
 
 use crate::shelf::Shelf;
 use crate::streams::{Full, Pen, Room, Screen, Source};
-use station_serve::serve_on;
+use station_serve::serve;
 use std::alloc::Global;
 use std::io;
 use std::rt::Clock;
@@ -35,6 +35,7 @@ pub struct Printed {
 #[derive(Drop)]
 struct Stepping<'r, H> {
     _handle: &'r H,
+    alloc: Global,
     step: u64,
     read: AtomicU64,
 }
@@ -42,6 +43,14 @@ struct Stepping<'r, H> {
 impl<H: Wait> Wait for Stepping<'_, H> {}
 
 impl<H: Threads> Threads for Stepping<'_, H> {}
+
+impl<H> Alloc for Stepping<'_, H> {
+    type A = Global;
+
+    fn alloc(&self) -> Global {
+        self.alloc
+    }
+}
 
 impl<H> Clock for Stepping<'_, H> {
     fn monotonic(&self) -> io::Result<Duration> {
@@ -89,6 +98,7 @@ fn served(
 ) -> u8 {
     let stepping = Stepping {
         _handle: rt,
+        alloc,
         step: streams.terminal.unwrap_or(0),
         read: AtomicU64::new(0),
     };
@@ -98,7 +108,9 @@ fn served(
         Some(_) => (pen, Some(pen)),
         None => (Pen { screen: faults }, None),
     };
-    serve_on(
-        &stepping, alloc, args, &mut input, shelf, &mut pen, &mut other, terminal,
-    )
+    let streams = station_serve::Streams {
+        output: &mut pen,
+        faults: &mut other,
+    };
+    serve(&stepping, args, &mut input, shelf, streams, terminal)
 }

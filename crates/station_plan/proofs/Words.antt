@@ -1,7 +1,7 @@
 -- The words of slaves that are copied one by one.
 use Rattle.std.proofs.Common.{◌≡◌, ℕ, zero, suc, ◌+◌, ◌<◌, ◌≤◌, List, [], ◌∷◌, ◌++◌, Option, length, take, get_or, add-one, slice_get, unwrap_or, sym, ap, ◌∙◌, subst, arith}
 use Rattle.std.specs.Option.{option_map}
-use Rattle.std.proofs.lemmas.List.{take_all, length-map}
+use Rattle.std.proofs.lemmas.List.{length-map}
 use Rattle.esc_model.specs.SlaveHalf.{SlaveHalf}
 use Rattle.book_laws.specs.Opening.{words_in}
 use Rattle.site_shadow.specs.Line.{half_of, halves_of}
@@ -30,6 +30,3 @@ words_more halves all slave count half words items same is below many before her
     ap (λ (xs : List (List ℕ)). xs ++ words ∷ []) before ∙ ap (λ (w : List ℕ). words_in (take slave all) ++ w ∷ []) here
     ∙ subst (λ (hs : List SlaveHalf). words_in (take slave hs) ++ (half_of half).words ∷ [] ≡ words_in (take (suc slave) hs)) same (sym (more halves slave half is inside))
     ∙ ap (λ (n : ℕ). words_in (take n all)) (sym (add-one slave))
-
-pub words_of_all : (all : List SlaveHalf) (count : ℕ) (items : List (List ℕ)) → items ≡ words_in (take count all) → count ≡ length all → items ≡ words_in all
-words_of_all all count items is many = is ∙ ap words_in (take_all count all (omega (arith, many)))

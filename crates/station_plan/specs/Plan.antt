@@ -4,7 +4,6 @@ use Rattle.sii_edit.specs.declared.command.Command.{Command}
 use Rattle.site_shadow.specs.Site.{SiteValue}
 use Rattle.station_alone.specs.Station.{Station}
 use Rattle.station_text.specs.declared.line_file.LineFile.{LineFile}
-use Rattle.station_files.specs.Faults.{IsFaultless}
 use Rattle.station_files.specs.Files.{Known}
 use Rattle.station_files.specs.ScriptFiles.{SpellsCommands}
 use Rattle.station_files.specs.declared.faults.ExitStatus.{ExitStatus}
@@ -47,7 +46,3 @@ pub record PlansFiles (files : Known) (name script : List ℕ) (status : ExitSta
   pub commands : List Command
   pub spelt : SpellsCommands files script commands
   pub plans : PlansSite site commands status
-
--- what `plan` does, unless a fault ends it
-abbrev pub PlansScript : Known → List ℕ → List ℕ → ExitStatus → Type 0
-PlansScript files name script status = IsFaultless status → PlansFiles files name script status

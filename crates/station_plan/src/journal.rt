@@ -1,18 +1,19 @@
 //! The subcommand `journal`.
 ghost use Rattle.std.specs.Prelude.{◌≡◌, IfOk, IsTrue, OnOk};
 ghost use Rattle.esc_rom.specs.Owned.{OwnsAll};
-ghost use Rattle.station_files.specs.Faults.{IsFaultless};
 ghost use Rattle.station_plan.specs.Journal.{ListsJournal, ListsSite, Restores};
 
 use crate::contents::contents_of;
-use journal_listing::{Reading, read_readable, write_journal, write_journal_rows};
+use crate::journal_listing::write_journal;
+use crate::journal_rows::write_journal_rows;
+use crate::reading::{Reading, read_readable};
 use jrn_format::JournalFault;
 use line_changes::{ChangedWord, changed_words, write_changes};
 use site_journal::ReadFault;
 use site_mem::{FaultPlan, Pattern};
 use site_shadow::ShadowSite;
 use station_alone::{OpenFault, Recovered, recover};
-use station_files::{ExitStatus, Fault, Store, report_fault, status_of};
+use station_files::{Fault, Store};
 use station_json::{Form, write_cells, write_change_rows};
 use station_session::{Session, load_session, of_open};
 use std::alloc::Global;
@@ -28,48 +29,38 @@ pub struct Restored {
     pub changes: Vec<ChangedWord>,
 }
 
-/// Prints what the journal of the line whose line file is `name` holds, and what a recovery would do. Returns the exit status. No file is
-/// written.
+/// Prints what the journal of the line whose line file is `name` holds, and what a recovery would do. No file is written.
 ///
-/// The files are read in this order: line file, images of the slaves, journal. The journal is locked before the images are read. Of a
-/// damaged journal it prints what can be read, and then the fault with which a recovery refuses it. With `Form::Json` the same is printed as
-/// rows of JSON.
-pub fn show_journal<S: Store, W: Write, E: Write>(
+/// The files are read in this order: line file, images of the slaves, journal. The journal is locked before the images are read. With
+/// `Form::Json` the same is printed as rows of JSON.
+///
+/// # Errors
+///
+/// As for `load_session`; the fault with which a recovery refuses the journal, once what can be read of it is printed; then as for `recover`;
+/// `File` as the output answers; `Memory` at any point.
+pub fn show_journal<S: Store, W: Write>(
     alloc: Global,
     name: &str,
     form: Form,
     store: &mut S,
     output: &mut W,
-    faults: &mut E,
-) -> ExitStatus
-    ensures lists { IsFaultless result → ListsJournal (S.files store.old) name.now }
+) -> Result<(), Fault>
+    ensures lists { OnOk result (ListsJournal (S.files store.old) name.now) }
     ensures same { S.files store.new ≡ S.files store.old }
 {
     match load_session(alloc, name, store) {
-        Ok(session) => list_session(alloc, session, form, output, faults),
-        Err(fault) => report_fault(fault, faults),
+        Ok(session) => {
+            let Session {
+                line: _,
+                site,
+                is_old: _,
+                refusal: _,
+                lock: _lock,
+            } = session;
+            list_site(alloc, site, form, output)
+        }
+        Err(fault) => Err(fault),
     }
-}
-
-fn list_session<L: Drop, W: Write, E: Write>(
-    alloc: Global,
-    session: Session<L>,
-    form: Form,
-    output: &mut W,
-    faults: &mut E,
-) -> ExitStatus
-    requires disk { IsTrue session.site.line.has_disk }
-    requires owned { OwnsAll session.site.line }
-    ensures { IsFaultless result → ListsSite session.site }
-{
-    let Session {
-        line: _,
-        site,
-        is_old: _,
-        refusal: _,
-        lock: _lock,
-    } = session;
-    status_of(list_site(alloc, site, form, output), faults)
 }
 
 /// Prints what the journal of a line in memory holds, and what a recovery would do.
@@ -83,8 +74,7 @@ fn list_site<W: Write>(
     requires owned { OwnsAll site.line }
     ensures { OnOk result (ListsSite site) }
 {
-    let reading = print_journal(alloc, &site, form, output)?;
-    if let Some(fault) = reading.fault {
+    if let Some(fault) = print_journal(alloc, &site, form, output)? {
         drop(site);
         return Err(fault_of(fault));
     }
@@ -92,24 +82,37 @@ fn list_site<W: Write>(
     print_restored(alloc, &restored, form, output)
 }
 
-/// Reads and prints what the journal's file holds.
+/// Reads and prints what the journal's file holds. Returns the fault with which a recovery refuses it, if it does.
 fn print_journal<W: Write>(
     alloc: Global,
     site: &ShadowSite<FaultPlan>,
     form: Form,
     output: &mut W,
-) -> Result<Reading, Fault>
+) -> Result<Option<JournalFault>, Fault>
     requires { IsTrue site.now.line.has_disk }
 {
     let parts = site.snapshot(alloc, Pattern::Old)?;
     let mut file = parts.disk.unwrap();
     let reading = read_readable(alloc, &mut file, &parts.sizes)?;
+    let fault = reading.fault;
+    print_reading(alloc, &file, &reading, form, output)?;
+    Ok(fault)
+}
+
+/// Prints what was read of a journal's file.
+fn print_reading<W: Write>(
+    alloc: Global,
+    file: &[u8],
+    reading: &Reading,
+    form: Form,
+    output: &mut W,
+) -> Result<(), Fault> {
     match form {
-        Form::Text => write_journal(&file, &reading, output)?,
-        Form::Json => write_journal_rows(alloc, &file, &reading, output)?,
+        Form::Text => write_journal(file, reading, output)?,
+        Form::Json => write_journal_rows(alloc, file, reading, output)?,
     }
     output.flush()?;
-    Ok(reading)
+    Ok(())
 }
 
 /// The program's fault for a journal that is refused.

@@ -1,9 +1,8 @@
 //! The subcommand `plan`.
 ghost use Rattle.std.specs.Prelude.{◌≡◌, IfOk, IsTrue};
 ghost use Rattle.esc_rom.specs.Owned.{OwnsAll};
-ghost use Rattle.station_files.specs.Faults.{IsFaultless};
 ghost use Rattle.station_session.specs.Session.{is_old};
-ghost use Rattle.station_plan.specs.Plan.{IsPlanOf, PlansScript, PlansSite, ServesPlan};
+ghost use Rattle.station_plan.specs.Plan.{IsPlanOf, PlansFiles, PlansSite, ServesPlan};
 
 use crate::contents::contents_of;
 use crate::plan_listing::print_plan;
@@ -17,7 +16,7 @@ use sii_words::Plant;
 use site_mem::FaultPlan;
 use site_shadow::ShadowSite;
 use station_alone::Alone;
-use station_files::{ExitStatus, Fault, Store, report_fault};
+use station_files::{ExitStatus, Fault, Store};
 use station_json::{Form, write_answers};
 use station_session::{Given, Session, load, of_open, open_station};
 use std::alloc::{AllocError, Global};
@@ -42,50 +41,35 @@ pub struct Planned {
 /// the totals as it prints them, the words that change, the commands that make word 0x3E say another size than the slave has, and the process
 /// image before and after if it changes. Returns the exit status that it would return. No file is written.
 ///
-/// The files are read as `run_script` reads them, with the journal locked, and the first fault is printed and ends the plan. With
-/// `Form::Json` the same is printed as rows of JSON.
-pub fn plan_script<S: Store, W: Write, E: Write>(
+/// The files are read as `run_script` reads them, with the journal locked. With `Form::Json` the same is printed as rows of JSON.
+///
+/// # Errors
+///
+/// As for `load`, then as for `plan_line`. The first fault ends the plan.
+pub fn plan_script<S: Store, W: Write>(
     alloc: Global,
     name: &str,
     script: &str,
     form: Form,
     store: &mut S,
     output: &mut W,
-    faults: &mut E,
-) -> ExitStatus
-    ensures plans { PlansScript (S.files store.old) name.now script.now result }
+) -> Result<ExitStatus, Fault>
+    ensures plans { IfOk result (PlansFiles (S.files store.old) name.now script.now) }
     ensures same { S.files store.new ≡ S.files store.old }
 {
     match load(alloc, name, script, None, store) {
-        Ok(given) => plan_given(alloc, given, form, output, faults),
-        Err(fault) => report_fault(fault, faults),
-    }
-}
-
-/// Plans a run of the commands on the line in memory, and prints the plan.
-fn plan_given<L: Drop, W: Write, E: Write>(
-    alloc: Global,
-    given: Given<L>,
-    form: Form,
-    output: &mut W,
-    faults: &mut E,
-) -> ExitStatus
-    requires disk { IsTrue given.session.site.line.has_disk }
-    requires owned { OwnsAll given.session.site.line }
-    requires old { given.session.is_old ≡ is_old given.session.site.seen.state.disk.bytes }
-    ensures { IsFaultless result → PlansSite given.session.site given.commands.items result }
-{
-    let Given { session, commands } = given;
-    let Session {
-        line: _,
-        site,
-        is_old,
-        refusal: _,
-        lock: _lock,
-    } = session;
-    match plan_line(alloc, site, is_old, commands, form, output) {
-        Ok(status) => status,
-        Err(fault) => report_fault(fault, faults),
+        Ok(given) => {
+            let Given { session, commands } = given;
+            let Session {
+                line: _,
+                site,
+                is_old,
+                refusal: _,
+                lock: _lock,
+            } = session;
+            plan_line(alloc, site, is_old, commands, form, output)
+        }
+        Err(fault) => Err(fault),
     }
 }
 

@@ -13,7 +13,7 @@ use station_arguments::{
 use station_files::{ExitStatus, Fault, Store, report_fault, show_layout, status_of};
 use station_json::{Form, layout_as_json};
 use station_plan::{plan_script, show_journal};
-use station_session::{Fuse, init_line, recover_line, run_script};
+use station_session::{Fuse, RunNames, Streams, Watch, init_line, recover_line, run_script};
 use station_troubles::{Files, Heard, Journal, LineNames, tell_more};
 use std::alloc::Global;
 use std::io;
@@ -23,24 +23,12 @@ use std::sync::Wait;
 use std::thread::Threads;
 
 /// Carries out a command line and returns the exit status: 0 done, 1 a command was refused or two images differ, 2 wrong
-/// usage, 3 a file or its form, 4 a device or a power cut, 5 out of memory. The first argument is the program's name. Faults are printed to `faults`.
-pub fn serve<H: Wait + Threads + Clock + Sync, R: Read, S: Store, W: Write, E: Write>(
-    rt: &H,
-    alloc: Global,
-    args: &[String],
-    input: &mut R,
-    store: &mut S,
-    output: &mut W,
-    faults: &mut E,
-) -> u8 {
-    let no_terminal: Option<io::Sink> = None;
-    serve_on(rt, alloc, args, input, store, output, faults, no_terminal)
-}
-
-/// Does what `serve` does. Where `faults` is a terminal, `terminal` writes to it too. Then a second line follows the line of a fault, as with
-/// `--verbose`, and without `--quiet` a line is drawn with the progress of `run` and `recover`.
-pub fn serve_on<
-    H: Wait + Threads + Clock + Sync,
+/// usage, 3 a file or its form, 4 a device or a power cut, 5 out of memory. The first argument is the program's name.
+///
+/// Where faults are printed to a terminal, `terminal` writes to it too. Then a second line follows the line of a fault, as with `--verbose`,
+/// and without `--quiet` a line is drawn with the progress of `run` and `recover`.
+pub fn serve<
+    H: Wait + Threads + Clock + AllocGlobal + Sync,
     R: Read,
     S: Store,
     W: Write,
@@ -48,24 +36,22 @@ pub fn serve_on<
     T: Write + Send + Drop,
 >(
     rt: &H,
-    alloc: Global,
     args: &[String],
     input: &mut R,
     store: &mut S,
-    output: &mut W,
-    faults: &mut E,
+    streams: Streams<'_, W, E>,
     terminal: Option<T>,
 ) -> u8 {
-    let status = match read_arguments(alloc, args) {
-        Ok(request) => serve_request(rt, alloc, request, input, store, output, faults, terminal),
-        Err(error) => show_usage(&error, output, faults),
+    let status = match read_arguments(rt.alloc(), args) {
+        Ok(request) => serve_request(rt, request, input, store, streams, terminal),
+        Err(error) => show_usage(&error, streams.output, streams.faults),
     };
     status as u8
 }
 
-/// Carries out a command line that was read.
+/// Carries out a command line that was read. A script that is typed or comes from standard input is handed on as a file.
 fn serve_request<
-    H: Wait + Threads + Clock + Sync,
+    H: Wait + Threads + Clock + AllocGlobal + Sync,
     R: Read,
     S: Store,
     W: Write,
@@ -73,12 +59,10 @@ fn serve_request<
     T: Write + Send + Drop,
 >(
     rt: &H,
-    alloc: Global,
     request: Request<'_>,
     input: &mut R,
     store: &mut S,
-    output: &mut W,
-    faults: &mut E,
+    streams: Streams<'_, W, E>,
     terminal: Option<T>,
 ) -> ExitStatus {
     let Request {
@@ -89,67 +73,20 @@ fn serve_request<
     } = request;
     let is_told = terminal.is_some() || is_verbose;
     let begun = begin_progress(rt, is_quiet, terminal);
-    let progress = begun.as_ref();
-    match typed {
-        Some(text) => {
-            let mut joined = InputScript::typed(text, store);
-            let rest = &mut io::empty();
-            serve_and_tell(
-                rt,
-                alloc,
-                task,
-                is_told,
-                progress,
-                rest,
-                &mut joined,
-                output,
-                faults,
-            )
-        }
-        None => serve_read(
-            rt, alloc, task, is_told, progress, input, store, output, faults,
-        ),
+    let watch = Watch {
+        rt,
+        progress: begun.as_ref(),
+    };
+    if let Some(text) = typed {
+        let mut joined = InputScript::typed(text, store);
+        return serve_and_tell(watch, task, is_told, &mut io::empty(), &mut joined, streams);
     }
-}
-
-/// Carries out a task whose script, if it has one, is a file or standard input.
-fn serve_read<
-    H: Wait + Threads + Clock + Sync,
-    R: Read,
-    S: Store,
-    W: Write,
-    E: Write,
-    T: Write + Send,
->(
-    rt: &H,
-    alloc: Global,
-    task: Task<'_>,
-    is_told: bool,
-    progress: Option<&Progress<T>>,
-    input: &mut R,
-    store: &mut S,
-    output: &mut W,
-    faults: &mut E,
-) -> ExitStatus {
     match task.with_script(INPUT) {
-        None => serve_and_tell(
-            rt, alloc, task, is_told, progress, input, store, output, faults,
-        ),
         Some(task) => {
-            let mut joined = InputScript::new(alloc, input, store);
-            let rest = &mut io::empty();
-            serve_and_tell(
-                rt,
-                alloc,
-                task,
-                is_told,
-                progress,
-                rest,
-                &mut joined,
-                output,
-                faults,
-            )
+            let mut joined = InputScript::new(rt.alloc(), input, store);
+            serve_and_tell(watch, task, is_told, &mut io::empty(), &mut joined, streams)
         }
+        None => serve_and_tell(watch, task, is_told, input, store, streams),
     }
 }
 
@@ -167,29 +104,32 @@ fn begin_progress<H: Clock, T: Write + Drop>(
 
 /// Carries out a task. Where `is_told` and it ends with a fault or a refusal of its own, a line more says what that was about.
 fn serve_and_tell<
-    H: Wait + Threads + Clock + Sync,
+    H: Wait + Threads + Clock + AllocGlobal + Sync,
     R: Read,
     S: Store,
     W: Write,
     E: Write,
     T: Write + Send,
 >(
-    rt: &H,
-    alloc: Global,
+    watch: Watch<'_, T, H>,
     task: Task<'_>,
     is_told: bool,
-    progress: Option<&Progress<T>>,
     input: &mut R,
     store: &mut S,
-    output: &mut W,
-    faults: &mut E,
+    streams: Streams<'_, W, E>,
 ) -> ExitStatus {
     if !is_told {
-        return serve_task(rt, alloc, task, progress, input, store, output, faults);
+        return serve_task(watch, task, input, store, streams);
     }
+    let Streams { output, faults } = streams;
     let mut heard = Heard::new(&mut *faults);
-    let status = serve_task(rt, alloc, task, progress, input, store, output, &mut heard);
+    let streams = Streams {
+        output,
+        faults: &mut heard,
+    };
+    let status = serve_task(watch, task, input, store, streams);
     if let Some(code) = heard.code() {
+        let alloc = watch.rt.alloc();
         tell_more(alloc, "sii_station", code, files_of(task), store, faults);
     }
     status
@@ -226,22 +166,21 @@ fn line_files<'a>(line: &'a str, journal: Journal, script: Option<&'a str>) -> F
 
 /// Carries out a task.
 fn serve_task<
-    H: Wait + Threads + Clock + Sync,
+    H: Wait + Threads + Clock + AllocGlobal + Sync,
     R: Read,
     S: Store,
     W: Write,
     E: Write,
     T: Write + Send,
 >(
-    rt: &H,
-    alloc: Global,
+    watch: Watch<'_, T, H>,
     task: Task<'_>,
-    progress: Option<&Progress<T>>,
     input: &mut R,
     store: &mut S,
-    output: &mut W,
-    faults: &mut E,
+    streams: Streams<'_, W, E>,
 ) -> ExitStatus {
+    let alloc = watch.rt.alloc();
+    let Streams { output, faults } = streams;
     match task {
         Task::Image(image) => serve_image(alloc, image, input, store, output, faults),
         Task::Layout { line, form } => {
@@ -252,14 +191,15 @@ fn serve_task<
         Task::Man => status_of(print_manual(alloc, output), faults),
         Task::Init { line } => status_of(init_line(alloc, line, store, output), faults),
         Task::Plan { line, script, form } => {
-            plan_script(alloc, line, script, form, store, output, faults)
+            let planned = plan_script(alloc, line, script, form, store, output);
+            told(planned, faults)
         }
-        Task::Journal { line, form } => show_journal(alloc, line, form, store, output, faults),
-        Task::Run(run) => serve_run(rt, alloc, run, progress, store, output, faults),
+        Task::Journal { line, form } => {
+            status_of(show_journal(alloc, line, form, store, output), faults)
+        }
+        Task::Run(run) => serve_run(watch, run, store, Streams { output, faults }),
         Task::Recover { line, reports } => {
-            let looked = look_before(alloc, reports, line, store);
-            let ended = recover_line(rt, alloc, line, progress, store, output, faults);
-            end_report(alloc, looked, ended, store, output, faults)
+            serve_recovery(watch, line, reports, store, Streams { output, faults })
         }
     }
 }
@@ -279,26 +219,56 @@ fn list_layout<S: Store, W: Write>(
 }
 
 /// Runs a script, and prints what has changed if that is asked for.
-fn serve_run<H: Wait + Threads + Clock + Sync, S: Store, W: Write, E: Write, T: Write + Send>(
-    rt: &H,
-    alloc: Global,
+fn serve_run<
+    H: Wait + Threads + Clock + AllocGlobal + Sync,
+    S: Store,
+    W: Write,
+    E: Write,
+    T: Write + Send,
+>(
+    watch: Watch<'_, T, H>,
     run: RunTask<'_>,
-    progress: Option<&Progress<T>>,
     store: &mut S,
-    output: &mut W,
-    faults: &mut E,
+    streams: Streams<'_, W, E>,
 ) -> ExitStatus {
+    let alloc = watch.rt.alloc();
+    let Streams { output, faults } = streams;
     let RunTask {
         line,
         script,
         capture,
         ..
     } = run;
+    let names = RunNames {
+        line,
+        script,
+        capture,
+    };
     let looked = look_before(alloc, run.reports, line, store);
-    let fuse = fuse_of(run.cut);
-    let ended = run_script(
-        rt, alloc, line, script, fuse, capture, progress, store, output, faults,
-    );
+    let streams = Streams {
+        output: &mut *output,
+        faults: &mut *faults,
+    };
+    let ended = run_script(watch, names, fuse_of(run.cut), store, streams);
+    end_report(alloc, looked, ended, store, output, faults)
+}
+
+/// Recovers a line, and prints what has changed if that is asked for.
+fn serve_recovery<H: Wait + Clock + AllocGlobal, S: Store, W: Write, E: Write, T: Write>(
+    watch: Watch<'_, T, H>,
+    line: &str,
+    reports: bool,
+    store: &mut S,
+    streams: Streams<'_, W, E>,
+) -> ExitStatus {
+    let alloc = watch.rt.alloc();
+    let Streams { output, faults } = streams;
+    let looked = look_before(alloc, reports, line, store);
+    let streams = Streams {
+        output: &mut *output,
+        faults: &mut *faults,
+    };
+    let ended = recover_line(watch, line, store, streams);
     end_report(alloc, looked, ended, store, output, faults)
 }
 

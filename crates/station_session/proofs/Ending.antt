@@ -1,11 +1,10 @@
 -- What the files of a line hold after a run or a recovery.
 use Rattle.std.proofs.Common.{◌≡◌, ℕ, Bool, true, false, List, [], length, refl, sym, ◌∙◌, ap, subst, inl, inr, Result, Ok, Err}
-use Rattle.std.specs.Prelude.{◌⊎◌, IfErr, IfOk, IsTrue, MatchResult, OnErr, OnOk, Option, string_bytes}
+use Rattle.std.specs.Prelude.{◌⊎◌, IsTrue, OnErr, OnOk, Option, string_bytes}
 use Rattle.std.proofs.lemmas.List.{length-map}
 use Rattle.sii_edit.specs.declared.command.Command.{Command}
 use Rattle.site_core.specs.Line.{Line}
 use Rattle.site_core.specs.State.{State, Seen}
-use Rattle.esc_rom.specs.Owned.{OwnsAll}
 use Rattle.site_core.specs.Times.{Follows}
 use Rattle.site_shadow.specs.Site.{SiteValue}
 use Rattle.site_file.specs.Calls.{Asked}
@@ -52,16 +51,8 @@ loads files first second name line plant bytes site described same slaves still 
 pub has-disk : (old new : Line) → new ≡ old → IsTrue old.has_disk → IsTrue new.has_disk
 has-disk old new same disk = subst (λ (l : Line). IsTrue l.has_disk) (sym same) disk
 
-pub owns : (old new : Line) → new ≡ old → OwnsAll old → OwnsAll new
-owns old new same owned = subst OwnsAll (sym same) owned
-
 pub as-many : (old new : Line) (count : ℕ) → new ≡ old → length old.sizes ≡ count → length new.sizes ≡ count
 as-many old new count same is = ap (λ (l : Line). length l.sizes) same ∙ is
-
--- for either result of a call
-pub came-line : {T E : Type 0} (result : Result T E) (one : T → Line) (other : E → Line) (line : Line) → IfOk result (λ value. one value ≡ line) → IfErr result (λ error. other error ≡ line) → MatchResult result (λ value. one value ≡ line) (λ error. other error ≡ line)
-came-line (Ok value) one other line ok err = ok
-came-line (Err error) one other line ok err = err
 
 -- ---- a station that was opened
 
@@ -147,10 +138,6 @@ ends-recovery-opened old mid new line site on_files status opened same ends = re
   keeps = subst (λ (s : SiteValue). KeepsFiles s.seen.state ends.calls) same ends.keeps;
   saved = λ done. subst (λ (s : SiteValue). SavesRecovered new line s.seen ends.calls) same (ends.saved done);
 }
-
--- what holds for a site holds for an equal one with another device
-pub of-site : (P : SiteValue → Type 0) (site on_files : SiteValue) → on_files ≡ site → P site → P on_files
-of-site P site on_files same holds = subst P (sym same) holds
 
 -- the other way of running isn't taken
 pub run-cut : (is_cut way : Bool) (old new : Known) (line : LineFile) (site : SiteValue) (commands : List Command) (status : ExitStatus) → is_cut ≡ way → EndsRun way old new line site commands status → EndsRun is_cut old new line site commands status

@@ -1,5 +1,5 @@
 -- What the files of a line hold after a run by threads.
-use Rattle.std.proofs.Common.{◌≡◌, ℕ, Bool, true, false, List, refl, sym, subst, Result, Ok, Err}
+use Rattle.std.proofs.Common.{◌≡◌, ℕ, Bool, true, false, List, refl, sym, ◌∙◌, subst, Result, Ok, Err}
 use Rattle.std.specs.Prelude.{OnErr, OnOk}
 use Rattle.sii_edit.specs.declared.command.Command.{Command}
 use Rattle.site_core.specs.Line.{Line}
@@ -68,22 +68,23 @@ well-told : (told : Result (Unit {0}) Fault) (one : ExitStatus) → OnErr told (
 well-told (Ok done) one bad good = refl
 well-told (Err fault) one bad good = absurd (bad good)
 
--- the desk was closed, so the line was saved
-saved-closed : {F : Type 0} (closed : Result (Unit {0}) F) (told : Result (Unit {0}) Fault) (P : Type 0) → told ≡ Ok tt → OnOk told (closed ≡ Ok tt) → OnOk closed P → P
-saved-closed (Ok done) told P good closes saved = saved
-saved-closed (Err why) told P good closes saved = let is : Err why ≡ Ok tt = subst (λ (r : Result (Unit {0}) Fault). OnOk r (Err why ≡ Ok tt)) good closes in absurd cc
+-- Of a desk that isn't closed a fault is told.
+pub not-closed : {F : Type 0} (closed : Result (Unit {0}) F) (why : F) (told : Result (Unit {0}) Fault) (one : ExitStatus) → closed ≡ Err why → OnOk told (closed ≡ Ok tt) → OnErr told (¬ IsFaultless one) → ¬ IsFaultless one
+not-closed closed why told one failed closes bad good =
+    let is : closed ≡ Ok tt = subst (λ (r : Result (Unit {0}) Fault). OnOk r (closed ≡ Ok tt)) (well-told told one bad good) closes in
+    let never : Err why ≡ Ok tt = sym failed ∙ is in
+    absurd cc
 
 -- The status of the answers, that of what is told and that of saving are at most that of the run.
-pub saves-left : (files : Known) (line : LineFile) (left : Left SiteValue) (one saved both final : ExitStatus) → OnOk left.ending.told (left.ending.closed ≡ Ok tt) → OnErr left.ending.told (¬ IsFaultless one)
-    → (IsFaultless saved → OnOk left.ending.closed (SavesBehind files line left.site.seen left.ending.is_driven left.unserved.items saved)) → (both ≡ Done → (one ≡ Done) × (saved ≡ Done)) → (IsFaultless both → IsFaultless one × IsFaultless saved)
+pub saves-left : (files : Known) (line : LineFile) (left : Left SiteValue) (one saved both final : ExitStatus) → OnErr left.ending.told (¬ IsFaultless one)
+    → (IsFaultless saved → SavesBehind files line left.site.seen left.ending.is_driven left.unserved.items saved) → (both ≡ Done → (one ≡ Done) × (saved ≡ Done)) → (IsFaultless both → IsFaultless one × IsFaultless saved)
     → (final ≡ Done → (left.ending.status ≡ Done) × (both ≡ Done)) → (IsFaultless final → IsFaultless left.ending.status × IsFaultless both) → IsFaultless final → SavesLeft files line left final
-saves-left files line left one saved both final closes bad keeps both_done both_good final_done final_good good =
+saves-left files line left one saved both final bad keeps both_done both_good final_done final_good good =
     let each = both_good (final_good good).1 in
-    let told = well-told left.ending.told one bad each.0 in
-    let behind = saved-closed left.ending.closed left.ending.told (SavesBehind files line left.site.seen left.ending.is_driven left.unserved.items saved) told closes (keeps each.1) in
+    let behind = keeps each.1 in
     record {
       worst = λ done. (final_done done).0;
-      told = told;
+      told = well-told left.ending.told one bad each.0;
       behind = record { r = behind.r; recovered = behind.recovered; begins = behind.begins; holds = holds-worse left.ending.is_driven files line behind.r left.unserved.items saved final (λ done. (both_done (final_done done).1).1) behind.holds };
     }
 

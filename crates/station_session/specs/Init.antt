@@ -32,7 +32,8 @@ pub record Formats (done : Type 0) (old new : Known) (name : List ℕ) : Type 0 
 
 -- the fault for a line that isn't formatted: its files are refused, two of them are one, or the journal's file exists or can't be read
 abbrev pub RefusesUnformatted : Known → Leads → List ℕ → Fault → Type 0
-RefusesUnformatted files leads name Exists = (line : LineFile) × SpellsLine files name line × Holds files (string_bytes line.journal) (λ bytes. ⊤)
+RefusesUnformatted files leads name Exists =
+    (line : LineFile) × SpellsLine files name line × Holds files (string_bytes line.journal) (λ bytes. ⊤)
 RefusesUnformatted files leads name File = ⊤
 RefusesUnformatted files leads name SameFile = (line : LineFile) × SpellsLine files name line × RefusesLineNames leads line name SameFile
 RefusesUnformatted files leads name fault = RefusesPlant files name fault
@@ -47,4 +48,5 @@ IsOfFormatting _ = ⊥
 
 -- The line is refused and nothing was written, or a fault ended its formatting.
 abbrev pub RefusesInit : Known → Known → Leads → List ℕ → Fault → Type 0
-RefusesInit old new leads name fault = ((new ≡ old) × RefusesUnformatted old leads name fault) ⊎ (Formats ⊥ old new name × IsOfFormatting fault)
+RefusesInit old new leads name fault =
+    ((new ≡ old) × RefusesUnformatted old leads name fault) ⊎ (Formats ⊥ old new name × IsOfFormatting fault)

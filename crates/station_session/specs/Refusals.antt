@@ -50,7 +50,7 @@ pub record RefusesApart (files : Known) (leads : Leads) (has_capture : Bool) (co
   pub refused : RefusesNames leads has_capture count (names ++ script ∷ images) fault
 
 -- the fault for a script on a line of these files: that of the script or of an image that it names, or two of all these files clash
-abbrev pub RefusesCommandFiles : Known → Leads → (has_capture : Bool) → (count : ℕ) → List (List ℕ) → (script : List ℕ) → Fault → Type 0
+abbrev pub RefusesCommandFiles : Known → Leads → Bool → ℕ → List (List ℕ) → List ℕ → Fault → Type 0
 RefusesCommandFiles files leads has_capture count names script fault =
     RefusesScript files script fault ⊎ RefusesApart files leads has_capture count names script fault
 

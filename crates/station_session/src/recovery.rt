@@ -13,8 +13,10 @@ use crate::faults::{of_journal, of_open};
 use crate::on_files::{WatchedSite, save_sound, take_apart};
 use crate::opening::open_files;
 use crate::session::{Session, load_session};
+use crate::streams::Streams;
+use crate::watch::Watch;
 use site_file::FileDevice;
-use site_progress::{Cleared, Progress, Watched};
+use site_progress::{Cleared, Watched};
 use station_alone::{Recovered, recover};
 use station_files::{ExitStatus, Fault, Store, report_fault, status_of, worse};
 use station_text::LineFile;
@@ -30,29 +32,26 @@ use std::sync::Wait;
 /// was written so far, and another recovery completes it. What a power cut leaves in the open files at any moment, all of them together, is kept
 /// for each machine for which what was read is kept; behind `Done` each image has the contents, synced.
 ///
-/// `progress` counts what is done, if there is one. Its line is erased before anything is printed, and at the end.
+/// The progress of `watch` counts what is done, if there is one. Its line is erased before anything is printed, and at the end.
 ///
 /// # Errors
 ///
 /// As for `load_session`; then `NotAJournal`, `BadVersion`, `WrongLine` or `BadJournal` where the journal is refused. No file was written,
 /// and none was opened for writing.
-pub fn recover_line<S: Store, W: Write, E: Write, T: Write, R: Wait + Clock>(
-    rt: &R,
-    alloc: Global,
+pub fn recover_line<S: Store, W: Write, E: Write, T: Write, R: Wait + Clock + AllocGlobal>(
+    watch: Watch<'_, T, R>,
     name: &str,
-    progress: Option<&Progress<T>>,
     store: &mut S,
-    output: &mut W,
-    faults: &mut E,
+    streams: Streams<'_, W, E>,
 ) -> Result<ExitStatus, Fault>
     ensures recovered { IfOk result (RecoversFiles S.leads (S.files store.old) (S.files store.new) name.now) }
     ensures refused { IfErr result (RefusesRecovery (S.files store.old) S.leads name.now) }
     ensures same { OnErr result (S.files store.new ≡ S.files store.old) }
 {
-    let session = load_session(alloc, name, store)?;
+    let session = load_session(watch.rt.alloc(), name, store)?;
     let refusal = session.refusal;
     match refusal {
-        None => Ok(recover_session(rt, alloc, session, progress, store, output, faults)),
+        None => Ok(recover_session(watch, session, store, streams)),
         Some(fault) => {
             drop(session);
             Err(of_journal(fault))
@@ -60,15 +59,12 @@ pub fn recover_line<S: Store, W: Write, E: Write, T: Write, R: Wait + Clock>(
     }
 }
 
-/// Opens the files of a line that was read, and recovers the line on them.
-fn recover_session<S: Store, W: Write, E: Write, T: Write, R: Wait + Clock>(
-    rt: &R,
-    alloc: Global,
+/// Opens the files of a line that was read, and recovers the line on them. The line of the progress gives way to what is printed.
+fn recover_session<S: Store, W: Write, E: Write, T: Write, R: Wait + Clock + AllocGlobal>(
+    watch: Watch<'_, T, R>,
     session: Session<S::Lock>,
-    progress: Option<&Progress<T>>,
     store: &mut S,
-    output: &mut W,
-    faults: &mut E,
+    streams: Streams<'_, W, E>,
 ) -> ExitStatus
     requires disk { IsTrue session.site.line.has_disk }
     requires owned { OwnsAll session.site.line }
@@ -76,6 +72,8 @@ fn recover_session<S: Store, W: Write, E: Write, T: Write, R: Wait + Clock>(
     requires slaves { length session.site.line.sizes ≡ length session.line.images.items }
     ensures { EndsRecovery (S.files store.old) (S.files store.new) session.line session.site.seen result }
 {
+    let Watch { rt, progress } = watch;
+    let Streams { output, faults } = streams;
     let Session {
         line,
         site,
@@ -83,48 +81,26 @@ fn recover_session<S: Store, W: Write, E: Write, T: Write, R: Wait + Clock>(
         refusal: _,
         lock: _lock,
     } = session;
-    match open_files(alloc, &line, store) {
+    match open_files(rt.alloc(), &line, store) {
         Ok(files) => {
             let device = Watched::new(FileDevice::new(&files), progress, rt);
             let site = site.with_device(device);
-            recover_watched(rt, alloc, &line, site, progress, store, output, faults)
+            let status = recover_site(
+                rt.alloc(),
+                &line,
+                site,
+                store,
+                &mut Cleared::new(output, progress, rt),
+                &mut Cleared::new(faults, progress, rt),
+            );
+            watch.erase();
+            status
         }
         Err(fault) => {
             drop(site);
             report_fault(fault, faults)
         }
     }
-}
-
-/// Recovers a line on its files, and saves what it holds. The line of `progress` gives way to what is printed.
-fn recover_watched<S: Store, W: Write, E: Write, T: Write, R: Wait + Clock>(
-    rt: &R,
-    alloc: Global,
-    line: &LineFile,
-    site: WatchedSite<'_, '_, S::File, T, R>,
-    progress: Option<&Progress<T>>,
-    store: &mut S,
-    output: &mut W,
-    faults: &mut E,
-) -> ExitStatus
-    requires disk { IsTrue site.line.has_disk }
-    requires owned { OwnsAll site.line }
-    requires new { site.seen.past ≡ [] }
-    requires slaves { length site.line.sizes ≡ length line.now.images.items }
-    ensures { EndsRecovery (S.files store.old) (S.files store.new) line.now site.entry.seen result }
-{
-    let status = recover_site(
-        alloc,
-        line,
-        site,
-        store,
-        &mut Cleared::new(output, progress, rt),
-        &mut Cleared::new(faults, progress, rt),
-    );
-    if let Some(progress) = progress {
-        progress.erase(rt);
-    }
-    status
 }
 
 /// Recovers a line on its files, and saves what it holds.

@@ -12,13 +12,15 @@ use crate::faults::{of_journal, of_open};
 use crate::opening::open_files;
 use crate::session::{Session, give_up, load_session};
 use crate::site::save_site;
+use crate::streams::Streams;
 use crate::threads::run_threads;
+use crate::watch::Watch;
 use script_session::serve_commands;
 use sii_edit::Command;
 use site_capture::{Capture, Captured};
 use site_file::FileDevice;
 use site_mem::{FaultPlan, Pattern};
-use site_progress::{Cleared, Progress, Watched};
+use site_progress::{Cleared, Watched};
 use site_shadow::{Device, ShadowSite};
 use station_alone::{Alone, OpenFault, recover};
 use station_files::{
@@ -41,6 +43,17 @@ pub struct Fuse {
     pub left: u16,
 }
 
+/// The names of the files that a run is given.
+#[derive(Clone, Copy)]
+pub struct RunNames<'a> {
+    /// The line file.
+    pub line: &'a str,
+    /// The script.
+    pub script: &'a str,
+    /// The capture, if one is written.
+    pub capture: Option<&'a str>,
+}
+
 /// What was read for a run.
 #[derive(Drop)]
 pub struct Given<L> {
@@ -50,59 +63,77 @@ pub struct Given<L> {
     pub commands: Vec<Command>,
 }
 
-/// Runs the script file `script` on the line whose line file is `name`: submits its commands in order, serves them by threads on the line's
-/// files, and prints the answer to each command and the totals. Returns the exit status.
+/// A line to be opened, and the commands for it.
+#[derive(Drop)]
+struct Ready<D: Device> {
+    site: ShadowSite<D>,
+    /// Whether the journal's version byte is other than 2.
+    is_old: bool,
+    commands: Vec<Command>,
+}
+
+/// Runs a script on a line: submits its commands in order, serves them by threads on the line's files, and prints the answer to each command
+/// and the totals. Returns the exit status.
 ///
 /// The files are read in this order: line file, images of the slaves, journal, script, images that the script names. After any later fault,
 /// which is printed, the files hold what was written so far, and a recovery completes it.
 ///
 /// With a fuse, the commands are served on one thread on a copy of the line in memory, and what the power cut leaves is saved.
 ///
-/// Each frame is written down in the file `capture`, if one is named. The capture begins once all files are read and the journal is judged.
-/// Where it can't, the fault is printed, and no file of the line is written. If it can't be written further, the run goes on as without it,
-/// and the fault is printed behind all others.
+/// Each frame is written down in the capture, if one is named. It begins once all files are read and the journal is judged. Where it can't,
+/// the fault is printed, and no file of the line is written. If it can't be written further, the run goes on as without it, and the fault is
+/// printed behind all others.
 ///
-/// Without a fuse, `progress` counts what is done, if there is one. Its line is erased before anything is printed, and at the end.
+/// Without a fuse, the progress of `watch` counts what is done, if there is one. Its line is erased before anything is printed, and at the
+/// end.
 ///
 /// # Errors
 ///
 /// As for `load`. No file was written, and none was opened for writing.
-pub fn run_script<S: Store, W: Write, E: Write, T: Write + Send, R: Wait + Threads + Clock + Sync>(
-    rt: &R,
-    alloc: Global,
-    name: &str,
-    script: &str,
+pub fn run_script<
+    S: Store,
+    W: Write,
+    E: Write,
+    T: Write + Send,
+    R: Wait + Threads + Clock + AllocGlobal + Sync,
+>(
+    watch: Watch<'_, T, R>,
+    names: RunNames<'_>,
     fuse: Option<Fuse>,
-    capture: Option<&str>,
-    progress: Option<&Progress<T>>,
     store: &mut S,
-    output: &mut W,
-    faults: &mut E,
+    streams: Streams<'_, W, E>,
 ) -> Result<ExitStatus, Fault>
-    ensures ran { IfOk result (RunsFiles S.leads (is_some fuse) (option_map (λ given. given.now) capture.entry)
-        (S.files store.old) (S.files store.new) name.now script.now) }
-    ensures refused { IfErr result (RefusesRun (S.files store.old) S.leads (option_map (λ given. given.now) capture.entry) name.now script.now) }
+    ensures ran { IfOk result (RunsFiles S.leads (is_some fuse) (option_map (λ given. given.now) names.entry.capture)
+        (S.files store.old) (S.files store.new) names.entry.line.now names.entry.script.now) }
+    ensures refused { IfErr result (RefusesRun (S.files store.old) S.leads (option_map (λ given. given.now) names.entry.capture)
+        names.entry.line.now names.entry.script.now) }
     ensures same { OnErr result (S.files store.new ≡ S.files store.old) }
 {
-    match load(alloc, name, script, capture, store) {
-        Ok(given) => Ok(run_captured(
-            rt, alloc, given, fuse, capture, progress, store, output, faults,
-        )),
+    let RunNames {
+        line,
+        script,
+        capture,
+    } = names;
+    match load(watch.rt.alloc(), line, script, capture, store) {
+        Ok(given) => Ok(run_captured(watch, given, fuse, capture, store, streams)),
         Err(fault) => Err(fault),
     }
 }
 
 /// Begins the capture, if a file is named for it, serves the commands, and ends the capture.
-fn run_captured<S: Store, W: Write, E: Write, T: Write + Send, R: Wait + Threads + Clock + Sync>(
-    rt: &R,
-    alloc: Global,
+fn run_captured<
+    S: Store,
+    W: Write,
+    E: Write,
+    T: Write + Send,
+    R: Wait + Threads + Clock + AllocGlobal + Sync,
+>(
+    watch: Watch<'_, T, R>,
     given: Given<S::Lock>,
     fuse: Option<Fuse>,
     capture: Option<&str>,
-    progress: Option<&Progress<T>>,
     store: &mut S,
-    output: &mut W,
-    faults: &mut E,
+    streams: Streams<'_, W, E>,
 ) -> ExitStatus
     requires disk { IsTrue given.session.site.line.has_disk }
     requires owned { OwnsAll given.session.site.line }
@@ -111,19 +142,14 @@ fn run_captured<S: Store, W: Write, E: Write, T: Write + Send, R: Wait + Threads
     ensures { EndsCaptured (is_some fuse) (option_map (λ given. given.now) capture.entry) (S.files store.old) (S.files store.new)
         given.session.line given.session.site given.commands.items result }
 {
+    let Streams { output, faults } = streams;
     match begin_capture(capture, store) {
         Ok(begun) => {
-            let status = run_given(
-                rt,
-                alloc,
-                given,
-                fuse,
-                begun.as_ref(),
-                progress,
-                store,
+            let streams = Streams {
                 output,
-                faults,
-            );
+                faults: &mut *faults,
+            };
+            let status = run_given(watch, given, fuse, begun.as_ref(), store, streams);
             end_capture(begun, status, faults)
         }
         Err(fault) => {
@@ -134,16 +160,19 @@ fn run_captured<S: Store, W: Write, E: Write, T: Write + Send, R: Wait + Threads
 }
 
 /// Serves the commands on the line's files, or with a fuse in memory.
-fn run_given<S: Store, W: Write, E: Write, T: Write + Send, R: Wait + Threads + Clock + Sync>(
-    rt: &R,
-    alloc: Global,
+fn run_given<
+    S: Store,
+    W: Write,
+    E: Write,
+    T: Write + Send,
+    R: Wait + Threads + Clock + AllocGlobal + Sync,
+>(
+    watch: Watch<'_, T, R>,
     given: Given<S::Lock>,
     fuse: Option<Fuse>,
     capture: Option<&Capture<S::File>>,
-    progress: Option<&Progress<T>>,
     store: &mut S,
-    output: &mut W,
-    faults: &mut E,
+    streams: Streams<'_, W, E>,
 ) -> ExitStatus
     requires disk { IsTrue given.session.site.line.has_disk }
     requires owned { OwnsAll given.session.site.line }
@@ -151,35 +180,28 @@ fn run_given<S: Store, W: Write, E: Write, T: Write + Send, R: Wait + Threads + 
     requires old { given.session.is_old ≡ is_old given.session.site.seen.state.disk.bytes }
     ensures { EndsRun (is_some fuse) (S.files store.old) (S.files store.new) given.session.line given.session.site given.commands.items result }
 {
-    let Given { session, commands } = given;
     match fuse {
-        Some(fuse) => run_fused(
-            rt, alloc, session, fuse, capture, commands, store, output, faults,
-        ),
-        None => run_on_files(
-            rt, alloc, session, capture, progress, commands, store, output, faults,
-        ),
+        Some(fuse) => run_fused(watch.rt, given, fuse, capture, store, streams),
+        None => run_on_files(watch, given, capture, store, streams),
     }
 }
 
 /// Opens the station on the line in memory, serves the commands up to the power cut, and saves what the line holds.
-fn run_fused<S: Store, W: Write, E: Write, R: Wait + Clock>(
+fn run_fused<S: Store, W: Write, E: Write, R: Wait + Clock + AllocGlobal>(
     rt: &R,
-    alloc: Global,
-    session: Session<S::Lock>,
+    given: Given<S::Lock>,
     fuse: Fuse,
     capture: Option<&Capture<S::File>>,
-    commands: Vec<Command>,
     store: &mut S,
-    output: &mut W,
-    faults: &mut E,
+    streams: Streams<'_, W, E>,
 ) -> ExitStatus
-    requires disk { IsTrue session.site.line.has_disk }
-    requires owned { OwnsAll session.site.line }
-    requires slaves { length session.site.line.sizes ≡ length session.line.images.items }
-    requires old { session.is_old ≡ is_old session.site.seen.state.disk.bytes }
-    ensures { EndsRun true (S.files store.old) (S.files store.new) session.line session.site commands.items result }
+    requires disk { IsTrue given.session.site.line.has_disk }
+    requires owned { OwnsAll given.session.site.line }
+    requires slaves { length given.session.site.line.sizes ≡ length given.session.line.images.items }
+    requires old { given.session.is_old ≡ is_old given.session.site.seen.state.disk.bytes }
+    ensures { EndsRun true (S.files store.old) (S.files store.new) given.session.line given.session.site given.commands.items result }
 {
+    let Given { session, commands } = given;
     let Session {
         line,
         site,
@@ -191,33 +213,40 @@ fn run_fused<S: Store, W: Write, E: Write, R: Wait + Clock>(
     // The sync at the opening of the station counts as a write too.
     let plan = FaultPlan::fused(u64::from(fuse.writes) + 1, Pattern::Fill(fuse.left));
     let device = Captured::new(plan, capture, rt);
-    match open_station(alloc, site, is_old, Some(device)) {
-        Ok(alone) => run_station(alloc, &line, alone, commands, store, output, faults),
+    match open_station(rt.alloc(), site, is_old, Some(device)) {
+        Ok(alone) => run_station(rt.alloc(), &line, alone, commands, store, streams),
         Err((left, fault)) => {
             drop(commands);
-            give_up(alloc, &line, left, fault, store, faults)
+            give_up(rt.alloc(), &line, left, fault, store, streams.faults)
         }
     }
 }
 
-/// Opens the files of a line that was read, and serves the commands on them by threads.
-fn run_on_files<S: Store, W: Write, E: Write, T: Write + Send, R: Wait + Threads + Clock + Sync>(
-    rt: &R,
-    alloc: Global,
-    session: Session<S::Lock>,
-    capture: Option<&Capture<S::File>>,
-    progress: Option<&Progress<T>>,
-    commands: Vec<Command>,
+/// Opens the files of a line that was read, and serves the commands on them by threads. The line of the progress gives way to what is
+/// printed.
+fn run_on_files<
+    'a,
+    S: Store,
+    W: Write,
+    E: Write,
+    T: Write + Send,
+    R: Wait + Threads + Clock + AllocGlobal + Sync,
+>(
+    watch: Watch<'a, T, R>,
+    given: Given<S::Lock>,
+    capture: Option<&'a Capture<S::File>>,
     store: &mut S,
-    output: &mut W,
-    faults: &mut E,
+    streams: Streams<'_, W, E>,
 ) -> ExitStatus
-    requires disk { IsTrue session.site.line.has_disk }
-    requires owned { OwnsAll session.site.line }
-    requires slaves { length session.site.line.sizes ≡ length session.line.images.items }
-    requires old { session.is_old ≡ is_old session.site.seen.state.disk.bytes }
-    ensures { EndsRun false (S.files store.old) (S.files store.new) session.line session.site commands.items result }
+    requires disk { IsTrue given.session.site.line.has_disk }
+    requires owned { OwnsAll given.session.site.line }
+    requires slaves { length given.session.site.line.sizes ≡ length given.session.line.images.items }
+    requires old { given.session.is_old ≡ is_old given.session.site.seen.state.disk.bytes }
+    ensures { EndsRun false (S.files store.old) (S.files store.new) given.session.line given.session.site given.commands.items result }
 {
+    let Watch { rt, progress } = watch;
+    let Streams { output, faults } = streams;
+    let Given { session, commands } = given;
     let Session {
         line,
         site,
@@ -225,13 +254,26 @@ fn run_on_files<S: Store, W: Write, E: Write, T: Write + Send, R: Wait + Threads
         refusal: _,
         lock: _lock,
     } = session;
-    match open_files(alloc, &line, store) {
+    match open_files(rt.alloc(), &line, store) {
         Ok(files) => {
+            watch.expect(commands.len());
             let device = Watched::new(FileDevice::new(&files), progress, rt);
             let site = site.with_device(Captured::new(device, capture, rt));
-            run_watched(
-                rt, alloc, &line, site, is_old, commands, progress, store, output, faults,
-            )
+            let ready = Ready {
+                site,
+                is_old,
+                commands,
+            };
+            let status = run_site(
+                rt,
+                &line,
+                ready,
+                store,
+                &mut Cleared::new(output, progress, rt),
+                &mut Cleared::new(faults, progress, rt),
+            );
+            watch.erase();
+            status
         }
         Err(fault) => {
             drop(site);
@@ -241,70 +283,36 @@ fn run_on_files<S: Store, W: Write, E: Write, T: Write + Send, R: Wait + Threads
     }
 }
 
-/// Opens the station on this line, and serves the commands by threads. The line of `progress` gives way to what is printed.
-fn run_watched<
+/// Opens the station on this line, and serves the commands by threads.
+fn run_site<
     D: Device + Copy + Send,
     S: Store,
     W: Write,
     E: Write,
-    T: Write,
-    R: Wait + Threads + Clock + Sync,
+    R: Wait + Threads + AllocGlobal + Sync,
 >(
     rt: &R,
-    alloc: Global,
     line: &LineFile,
-    site: ShadowSite<D>,
-    was_old: bool,
-    commands: Vec<Command>,
-    progress: Option<&Progress<T>>,
+    ready: Ready<D>,
     store: &mut S,
     output: &mut W,
     faults: &mut E,
 ) -> ExitStatus
-    requires disk { IsTrue site.line.has_disk }
-    requires owned { OwnsAll site.line }
-    requires old { was_old ≡ is_old site.seen.state.disk.bytes }
-    ensures { EndsRun false (S.files store.old) (S.files store.new) line.now site commands.items result }
+    requires disk { IsTrue ready.site.line.has_disk }
+    requires owned { OwnsAll ready.site.line }
+    requires old { ready.is_old ≡ is_old ready.site.seen.state.disk.bytes }
+    ensures { EndsRun false (S.files store.old) (S.files store.new) line.now ready.site ready.commands.items result }
 {
-    if let Some(progress) = progress {
-        progress.expect(commands.len());
-    }
-    let status = run_site(
-        rt,
-        alloc,
-        line,
+    let Ready {
         site,
-        was_old,
+        is_old,
         commands,
-        store,
-        &mut Cleared::new(output, progress, rt),
-        &mut Cleared::new(faults, progress, rt),
-    );
-    if let Some(progress) = progress {
-        progress.erase(rt);
-    }
-    status
-}
-
-/// Opens the station on this line, and serves the commands by threads.
-fn run_site<D: Device + Copy + Send, S: Store, W: Write, E: Write, R: Wait + Threads + Sync>(
-    rt: &R,
-    alloc: Global,
-    line: &LineFile,
-    site: ShadowSite<D>,
-    was_old: bool,
-    commands: Vec<Command>,
-    store: &mut S,
-    output: &mut W,
-    faults: &mut E,
-) -> ExitStatus
-    requires disk { IsTrue site.line.has_disk }
-    requires owned { OwnsAll site.line }
-    requires old { was_old ≡ is_old site.seen.state.disk.bytes }
-    ensures { EndsRun false (S.files store.old) (S.files store.new) line.now site commands.items result }
-{
-    match open_station(alloc, site, was_old, None) {
-        Ok(alone) => run_threads(rt, alloc, line, alone, commands, store, output, faults),
+    } = ready;
+    match open_station(rt.alloc(), site, is_old, None) {
+        Ok(alone) => {
+            let streams = Streams { output, faults };
+            run_threads(rt, line, alone, commands, store, streams)
+        },
         Err((left, fault)) => {
             drop(left);
             drop(commands);
@@ -433,13 +441,13 @@ fn run_station<D: Device + Drop, S: Store, W: Write, E: Write>(
     mut alone: Alone<ShadowSite<D>>,
     commands: Vec<Command>,
     store: &mut S,
-    output: &mut W,
-    faults: &mut E,
+    streams: Streams<'_, W, E>,
 ) -> ExitStatus
     requires disk { IsTrue alone.line.has_disk }
     requires slaves { length alone.line.sizes ≡ length line.now.images.items }
     ensures { EndsStation true (S.files store.old) (S.files store.new) line.now alone commands.items result }
 {
+    let Streams { output, faults } = streams;
     let mut status = ExitStatus::Done;
     let slaves = line.images.len() as u16;
     let served = serve_commands(&mut alone, slaves, commands, output, &mut status);

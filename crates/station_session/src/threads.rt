@@ -1,5 +1,5 @@
 //! Runs commands by threads, on the files of a line.
-ghost use Rattle.std.specs.Prelude.{◌≡◌, [], false, true, length, IfErr, IsTrue, Ok, OnOk};
+ghost use Rattle.std.specs.Prelude.{◌≡◌, [], false, true, length, IsTrue, Ok, OnOk};
 ghost use Rattle.station_files.specs.Faults.{IsFaultless};
 ghost use Rattle.station_files.specs.Files.{ChangesAmong};
 ghost use Rattle.station_session.specs.Site.{files_of};
@@ -8,7 +8,8 @@ ghost use Rattle.station_session.specs.Session.{EndsStation, HoldsBehind, SavesB
 
 use crate::faults::of_open;
 use crate::site::save_site;
-use script_session::{CloseFault, Ending, Left, Work, serve_by_threads, serve_commands};
+use crate::streams::Streams;
+use script_session::{Ending, Left, Work, serve_by_threads, serve_commands};
 use sii_edit::Command;
 use site_shadow::{Device, ShadowSite};
 use station_alone::{Alone, recover};
@@ -19,6 +20,15 @@ use std::io::Write;
 use std::sync::Wait;
 use std::thread::Threads;
 
+/// The commands of a run behind its desk.
+#[derive(Drop)]
+struct Unserved {
+    /// Whether they were submitted there.
+    is_driven: bool,
+    /// The commands, where they were not.
+    commands: Vec<Command>,
+}
+
 /// Serves the commands by threads, recovers the line so that nothing is live, and saves what it holds. The station must not have accepted
 /// a command yet.
 pub(crate) fn run_threads<
@@ -26,38 +36,37 @@ pub(crate) fn run_threads<
     S: Store,
     W: Write,
     E: Write,
-    R: Wait + Threads + Sync,
+    R: Wait + Threads + AllocGlobal + Sync,
 >(
     rt: &R,
-    alloc: Global,
     line: &LineFile,
     alone: Alone<ShadowSite<D>>,
     commands: Vec<Command>,
     store: &mut S,
-    output: &mut W,
-    faults: &mut E,
+    streams: Streams<'_, W, E>,
 ) -> ExitStatus
     requires none { alone.book.accepted ≡ [] }
     ensures { EndsStation false (S.files store.old) (S.files store.new) line.now alone commands.items result }
 {
+    let Streams { output, faults } = streams;
     let work = Work {
         commands,
         tells_events: false,
     };
-    match serve_by_threads(rt, alloc, alone, line.images.len(), work, output) {
-        Ok(left) => end_threads(alloc, line, left, store, output, faults),
+    match serve_by_threads(rt, rt.alloc(), alone, line.images.len(), work, output) {
+        Ok(left) => end_threads(rt.alloc(), line, left, store, Streams { output, faults }),
         Err(fault) => report_fault(fault, faults),
     }
 }
 
-/// Tells how the line was served, and recovers and saves it.
+/// Tells how the line was served. If the desk was closed, recovers the line and saves what it holds, also where an answer couldn't be
+/// printed. Otherwise nothing more is written.
 fn end_threads<D: Device + Copy, S: Store, W: Write, E: Write>(
     alloc: Global,
     line: &LineFile,
     left: Left<ShadowSite<D>>,
     store: &mut S,
-    output: &mut W,
-    faults: &mut E,
+    streams: Streams<'_, W, E>,
 ) -> ExitStatus
     requires line { IsLineOf (length line.now.images.items) left.site.line }
     requires told { OnOk left.ending.told (left.ending.closed ≡ Ok tt) }
@@ -66,7 +75,7 @@ fn end_threads<D: Device + Copy, S: Store, W: Write, E: Write>(
 {
     let Left {
         site,
-        unserved,
+        unserved: commands,
         ending,
     } = left;
     let Ending {
@@ -75,39 +84,20 @@ fn end_threads<D: Device + Copy, S: Store, W: Write, E: Write>(
         closed,
         told,
     } = ending;
-    let told = status_of(told, faults);
-    let saved = save_closed(
-        alloc, line, site, closed, is_driven, unserved, store, output, faults,
-    );
-    worse(status, worse(told, saved))
-}
-
-/// If the desk was closed, recovers the line and saves what it holds, also where an answer couldn't be printed. Otherwise nothing more is
-/// written.
-fn save_closed<D: Device + Copy, S: Store, W: Write, E: Write>(
-    alloc: Global,
-    line: &LineFile,
-    site: ShadowSite<D>,
-    closed: Result<(), CloseFault>,
-    is_driven: bool,
-    commands: Vec<Command>,
-    store: &mut S,
-    output: &mut W,
-    faults: &mut E,
-) -> ExitStatus
-    requires line { IsLineOf (length line.now.images.items) site.line }
-    ensures others { ChangesAmong (S.files store.old) (S.files store.new) (files_of line.now) }
-    ensures saved { IsFaultless result → OnOk closed (SavesBehind (S.files store.new) line.now site.seen is_driven commands.items result) }
-    ensures open { IfErr closed (λ why. S.files store.new ≡ S.files store.old) }
-{
+    let told = status_of(told, streams.faults);
     match closed {
-        Ok(()) => save_behind(
-            alloc, line, site, is_driven, commands, store, output, faults,
-        ),
+        Ok(()) => {
+            let unserved = Unserved {
+                is_driven,
+                commands,
+            };
+            let saved = save_behind(alloc, line, site, unserved, store, streams);
+            worse(status, worse(told, saved))
+        }
         Err(_) => {
             drop(site);
             drop(commands);
-            ExitStatus::Done
+            worse(status, told)
         }
     }
 }
@@ -117,26 +107,20 @@ fn save_behind<D: Device + Copy, S: Store, W: Write, E: Write>(
     alloc: Global,
     line: &LineFile,
     site: ShadowSite<D>,
-    is_driven: bool,
-    commands: Vec<Command>,
+    unserved: Unserved,
     store: &mut S,
-    output: &mut W,
-    faults: &mut E,
+    streams: Streams<'_, W, E>,
 ) -> ExitStatus
     requires line { IsLineOf (length line.now.images.items) site.line }
     ensures others { ChangesAmong (S.files store.old) (S.files store.new) (files_of line.now) }
-    ensures saved { IsFaultless result → SavesBehind (S.files store.new) line.now site.seen is_driven commands.items result }
+    ensures saved { IsFaultless result → SavesBehind (S.files store.new) line.now site.seen unserved.is_driven unserved.commands.items result }
 {
     match recover(alloc, site) {
-        Ok((alone, _recovered)) => {
-            save_recovered(
-                alloc, line, alone, is_driven, commands, store, output, faults,
-            )
-        }
+        Ok((alone, _recovered)) => save_recovered(alloc, line, alone, unserved, store, streams),
         Err((left, fault)) => {
             drop(left);
-            drop(commands);
-            report_fault(of_open(fault), faults)
+            drop(unserved);
+            report_fault(of_open(fault), streams.faults)
         }
     }
 }
@@ -146,25 +130,27 @@ fn save_recovered<D: Device + Copy, S: Store, W: Write, E: Write>(
     alloc: Global,
     line: &LineFile,
     alone: Alone<ShadowSite<D>>,
-    is_driven: bool,
-    commands: Vec<Command>,
+    unserved: Unserved,
     store: &mut S,
-    output: &mut W,
-    faults: &mut E,
+    streams: Streams<'_, W, E>,
 ) -> ExitStatus
     requires disk { IsTrue alone.line.has_disk }
     requires slaves { length alone.line.sizes ≡ length line.now.images.items }
     ensures others { ChangesAmong (S.files store.old) (S.files store.new) (files_of line.now) }
-    ensures saved { IsFaultless result → HoldsBehind is_driven (S.files store.new) line.now alone commands.items result }
+    ensures saved { IsFaultless result → HoldsBehind unserved.is_driven (S.files store.new) line.now alone unserved.commands.items result }
 {
+    let Unserved {
+        is_driven,
+        commands,
+    } = unserved;
     if !is_driven {
-        return run_alone(alloc, line, alone, commands, store, output, faults);
+        return run_alone(alloc, line, alone, commands, store, streams);
     }
     drop(commands);
     let (core, site) = alone.into_parts();
     drop(core);
     let saved = save_site(alloc, line, site, store);
-    status_of(saved, faults)
+    status_of(saved, streams.faults)
 }
 
 /// Serves the commands on an open station on this thread, and saves what its line holds. After a fault nothing more is written.
@@ -174,13 +160,13 @@ fn run_alone<D: Device + Copy, S: Store, W: Write, E: Write>(
     mut alone: Alone<ShadowSite<D>>,
     commands: Vec<Command>,
     store: &mut S,
-    output: &mut W,
-    faults: &mut E,
+    streams: Streams<'_, W, E>,
 ) -> ExitStatus
     requires disk { IsTrue alone.line.has_disk }
     requires slaves { length alone.line.sizes ≡ length line.now.images.items }
     ensures { EndsStation true (S.files store.old) (S.files store.new) line.now alone commands.items result }
 {
+    let Streams { output, faults } = streams;
     let mut status = ExitStatus::Done;
     let slaves = line.images.len() as u16;
     match serve_commands(&mut alone, slaves, commands, output, &mut status) {

@@ -5,8 +5,8 @@ use Rattle.station_session.proofs.recovery.recover_session.Goals as goal
 
 pub returns-in-Ok : goal.returns-in-Ok
 returns-in-Ok g c =
-    ends-recovery-opened (g.S.Store.files c.args.store.now) (g.S.Store.files c.open_files.new.store) (g.S.Store.files c.recover_watched.new.store) c.args.session.line c.args.session.site c.with_device-site.result c.recover_watched.result
-    c.open_files.ensures.others c.with_device-site.ensures c.recover_watched.ensures
+    ends-recovery-opened (g.S.Store.files c.args.store.now) (g.S.Store.files c.open_files.new.store) (g.S.Store.files c.recover_site-status.new.store) c.args.session.line c.args.session.site c.with_device-site.result c.recover_site-status.result
+    c.open_files.ensures.others c.with_device-site.ensures c.recover_site-status.ensures
 
 pub returns : goal.returns
 returns g c =

@@ -1,7 +1,11 @@
-use Rattle.station_session.proofs.ThreadsEnd.{saves-left}
+use Rattle.station_session.proofs.ThreadsEnd.{not-closed, saves-left}
 use Rattle.station_session.proofs.threads.end_threads.Goals as goal
 
-pub returns-clause-saved : goal.returns-clause-saved
-returns-clause-saved g c =
-    saves-left (g.S.Store.files c.save_closed-saved.new.store) c.args.line.now c.args.left c.status_of-told.result c.save_closed-saved.result c.worse.result c.worse-2.result c.requires.told c.status_of-told.ensures.fault c.save_closed-saved.ensures.saved
+pub returns-in-Ok-clause-saved : goal.returns-in-Ok-clause-saved
+returns-in-Ok-clause-saved g c =
+    saves-left (g.S.Store.files c.save_behind-saved.new.store) c.args.line.now c.args.left c.status_of-told.result c.save_behind-saved.result c.worse.result c.worse-2.result c.status_of-told.ensures.fault c.save_behind-saved.ensures.saved
     c.worse.ensures.done c.worse.ensures.faultless c.worse-2.ensures.done c.worse-2.ensures.faultless
+
+pub returns-in-Err-clause-saved : goal.returns-in-Err-clause-saved
+returns-in-Err-clause-saved g c good =
+    absurd (not-closed c.args.left.ending.closed c.in-Err.field-0 c.args.left.ending.told c.status_of-told.result c.in-Err.is c.requires.told c.status_of-told.ensures.fault (c.worse-in-Err.ensures.faultless good).1)

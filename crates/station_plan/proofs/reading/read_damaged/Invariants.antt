@@ -1,7 +1,7 @@
 use Rattle.std.proofs.Common.{◌≡◌, IfOk}
 use Rattle.jrn_format.specs.Journal.{IsJournal}
-use Rattle.journal_listing.specs.Reading.{with_closed}
-use Rattle.journal_listing.proofs.reading.read_damaged.Given as goal
+use Rattle.station_plan.specs.Reading.{with_closed}
+use Rattle.station_plan.proofs.reading.read_damaged.Given as goal
 
 abbrev pub invariant-loop-gate : goal.invariant-loop-gate
 invariant-loop-gate l = record {

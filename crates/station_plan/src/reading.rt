@@ -1,6 +1,6 @@
 //! Reads what can be read of a journal's file, also of a damaged one.
 ghost use Rattle.std.specs.Prelude.{◌≡◌, slice_set, IfOk, IsTrue};
-ghost use Rattle.journal_listing.specs.Reading.{FindsRest, ReadsFile};
+ghost use Rattle.station_plan.specs.Reading.{FindsRest, ReadsFile};
 
 use jrn_format::{CLOSED, Journal, JournalFault, OPEN, scan};
 use station_files::Fault;

@@ -1,6 +1,6 @@
 //! What a journal's file holds, as rows of JSON.
 
-use crate::listing::{batch_bytes, usage_of};
+use crate::journal_listing::{batch_bytes, usage_of};
 use crate::reading::Reading;
 use jrn_format::{
     AREA_START, Batch, Entry, Form, Journal, OPEN, capacity, gate, slave_count, version,
@@ -16,7 +16,7 @@ use std::io::Write;
 /// # Errors
 ///
 /// As for `write_cells`.
-pub fn write_journal_rows<W: Write>(
+pub(crate) fn write_journal_rows<W: Write>(
     alloc: Global,
     file: &[u8],
     reading: &Reading,

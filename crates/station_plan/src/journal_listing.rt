@@ -14,7 +14,11 @@ use std::io::Write;
 /// # Errors
 ///
 /// As the output answers.
-pub fn write_journal<W: Write>(file: &[u8], reading: &Reading, output: &mut W) -> io::Result<()> {
+pub(crate) fn write_journal<W: Write>(
+    file: &[u8],
+    reading: &Reading,
+    output: &mut W,
+) -> io::Result<()> {
     if file.len() < AREA_START || gate(file) != OPEN {
         return Ok(());
     }

@@ -4,7 +4,7 @@ use Rattle.jrn_format.specs.Fault.{IsFaultOf}
 use Rattle.jrn_format.specs.Journal.{IsJournal}
 use Rattle.jrn_format.specs.declared.fault.JournalFault.{JournalFault}
 use Rattle.jrn_format.specs.declared.fault.JournalFault.TheVariants.{Memory}
-use Rattle.journal_listing.specs.declared.reading.Reading.{Reading}
+use Rattle.station_plan.specs.declared.reading.Reading.{Reading}
 
 -- the file with the gates at these offsets closed
 abbrev pub with_closed : List ℕ → List ℕ → List ℕ

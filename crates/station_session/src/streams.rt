@@ -1,0 +1,10 @@
+//! Where a call prints.
+
+/// Where a call prints.
+#[derive(Drop)]
+pub struct Streams<'a, W, E> {
+    /// What was asked for.
+    pub output: &'a mut W,
+    /// Its faults.
+    pub faults: &'a mut E,
+}
