@@ -142,21 +142,43 @@ fn run_captured<
     ensures { EndsCaptured (is_some fuse) (option_map (λ given. given.now) capture.entry) (S.files store.old) (S.files store.new)
         given.session.line given.session.site given.commands.items result }
 {
-    let Streams { output, faults } = streams;
     match begin_capture(capture, store) {
-        Ok(begun) => {
-            let streams = Streams {
-                output,
-                faults: &mut *faults,
-            };
-            let status = run_given(watch, given, fuse, begun.as_ref(), store, streams);
-            end_capture(begun, status, faults)
-        }
+        Ok(begun) => run_begun(watch, given, fuse, begun, store, streams),
         Err(fault) => {
             drop(given);
-            report_fault(fault, faults)
+            report_fault(fault, streams.faults)
         }
     }
+}
+
+/// Serves the commands, and ends the capture, if there is one.
+fn run_begun<
+    S: Store,
+    W: Write,
+    E: Write,
+    T: Write + Send,
+    R: Wait + Threads + Clock + AllocGlobal + Sync,
+>(
+    watch: Watch<'_, T, R>,
+    given: Given<S::Lock>,
+    fuse: Option<Fuse>,
+    capture: Option<Capture<S::File>>,
+    store: &mut S,
+    streams: Streams<'_, W, E>,
+) -> ExitStatus
+    requires disk { IsTrue given.session.site.line.has_disk }
+    requires owned { OwnsAll given.session.site.line }
+    requires slaves { length given.session.site.line.sizes ≡ length given.session.line.images.items }
+    requires old { given.session.is_old ≡ is_old given.session.site.seen.state.disk.bytes }
+    ensures { EndsRun (is_some fuse) (S.files store.old) (S.files store.new) given.session.line given.session.site given.commands.items result }
+{
+    let Streams { output, faults } = streams;
+    let lent = Streams {
+        output,
+        faults: &mut *faults,
+    };
+    let status = run_given(watch, given, fuse, capture.as_ref(), store, lent);
+    end_capture(capture, status, faults)
 }
 
 /// Serves the commands on the line's files, or with a fuse in memory.

@@ -48,14 +48,20 @@ pub(crate) fn run_threads<
     requires none { alone.book.accepted ≡ [] }
     ensures { EndsStation false (S.files store.old) (S.files store.new) line.now alone commands.items result }
 {
-    let Streams { output, faults } = streams;
     let work = Work {
         commands,
         tells_events: false,
     };
-    match serve_by_threads(rt, rt.alloc(), alone, line.images.len(), work, output) {
-        Ok(left) => end_threads(rt.alloc(), line, left, store, Streams { output, faults }),
-        Err(fault) => report_fault(fault, faults),
+    match serve_by_threads(
+        rt,
+        rt.alloc(),
+        alone,
+        line.images.len(),
+        work,
+        streams.output,
+    ) {
+        Ok(left) => end_threads(rt.alloc(), line, left, store, streams),
+        Err(fault) => report_fault(fault, streams.faults),
     }
 }
 
@@ -166,19 +172,18 @@ fn run_alone<D: Device + Copy, S: Store, W: Write, E: Write>(
     requires slaves { length alone.line.sizes ≡ length line.now.images.items }
     ensures { EndsStation true (S.files store.old) (S.files store.new) line.now alone commands.items result }
 {
-    let Streams { output, faults } = streams;
     let mut status = ExitStatus::Done;
     let slaves = line.images.len() as u16;
-    match serve_commands(&mut alone, slaves, commands, output, &mut status) {
+    match serve_commands(&mut alone, slaves, commands, streams.output, &mut status) {
         Ok(()) => {
             let (core, site) = alone.into_parts();
             drop(core);
             let saved = save_site(alloc, line, site, store);
-            worse(status, status_of(saved, faults))
+            worse(status, status_of(saved, streams.faults))
         }
         Err(fault) => {
             drop(alone);
-            worse(status, report_fault(fault, faults))
+            worse(status, report_fault(fault, streams.faults))
         }
     }
 }

@@ -1,4 +1,4 @@
-use Rattle.std.proofs.Common.{Bor, List, ℕ}
+use Rattle.std.proofs.Common.{Bor, List, ℕ, inl, refl}
 use Rattle.std.specs.Prelude.{is_some, option_map}
 use Rattle.station_session.proofs.Ending.{ends-captured, ends-uncaptured}
 use Rattle.station_session.proofs.run.run_captured.Goals as goal
@@ -6,8 +6,8 @@ use Rattle.station_session.proofs.run.run_captured.Goals as goal
 pub returns-in-Ok : goal.returns-in-Ok
 returns-in-Ok g c =
     let given = c.args.given in
-    ends-captured (is_some c.args.fuse) (option_map (λ (name : Bor (List ℕ)). name.now) c.args.capture) (g.S.Store.files c.args.store.now) (g.S.Store.files c.begin_capture.new.store) (g.S.Store.files c.run_given-status.new.store) given.session.line given.session.site given.commands.items
-    c.run_given-status.result c.end_capture.result c.begin_capture.ensures c.run_given-status.ensures c.end_capture.ensures
+    ends-captured (is_some c.args.fuse) (option_map (λ (name : Bor (List ℕ)). name.now) c.args.capture) (g.S.Store.files c.args.store.now) (g.S.Store.files c.begin_capture.new.store) (g.S.Store.files c.run_begun.new.store) given.session.line given.session.site given.commands.items
+    c.run_begun.result c.run_begun.result c.begin_capture.ensures c.run_begun.ensures (inl refl)
 
 pub returns-in-Err : goal.returns-in-Err
 returns-in-Err g c =

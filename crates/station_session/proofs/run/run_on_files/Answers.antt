@@ -6,8 +6,8 @@ use Rattle.site_progress.proofs.Sent.{watched-send}
 use Rattle.station_session.proofs.Ending.{ends-run-opened, ends-unopened}
 use Rattle.station_session.proofs.run.run_on_files.Goals as goal
 
-pub run_site-requires-send-D : goal.run_site-requires-send-D
-run_site-requires-send-D g c κs lives = search (captured-send, watched-send, device-send, sendable) depth 40
+pub run_site-status-requires-send-D : goal.run_site-status-requires-send-D
+run_site-status-requires-send-D g c κs lives = search (captured-send, watched-send, device-send, sendable) depth 40
 
 pub returns-in-Ok : goal.returns-in-Ok
 returns-in-Ok g c =

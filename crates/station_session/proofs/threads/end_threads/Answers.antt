@@ -3,8 +3,8 @@ use Rattle.station_session.proofs.threads.end_threads.Goals as goal
 
 pub returns-in-Ok-clause-saved : goal.returns-in-Ok-clause-saved
 returns-in-Ok-clause-saved g c =
-    saves-left (g.S.Store.files c.save_behind-saved.new.store) c.args.line.now c.args.left c.status_of-told.result c.save_behind-saved.result c.worse.result c.worse-2.result c.status_of-told.ensures.fault c.save_behind-saved.ensures.saved
-    c.worse.ensures.done c.worse.ensures.faultless c.worse-2.ensures.done c.worse-2.ensures.faultless
+    saves-left (g.S.Store.files c.save_behind-saved.new.store) c.args.line.now c.args.left c.status_of-told.result c.save_behind-saved.result c.worse.result c.worse-in-Ok.result c.status_of-told.ensures.fault c.save_behind-saved.ensures.saved
+    c.worse.ensures.done c.worse.ensures.faultless c.worse-in-Ok.ensures.done c.worse-in-Ok.ensures.faultless
 
 pub returns-in-Err-clause-saved : goal.returns-in-Err-clause-saved
 returns-in-Err-clause-saved g c good =
