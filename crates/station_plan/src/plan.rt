@@ -196,7 +196,7 @@ fn serve_plan<W: Write>(
     let base = alone.core().contents().try_copy();
     serve_commands(&mut alone, slaves, commands, output, status)?;
     let (core, site) = alone.into_parts();
-    let found = resizes_since(alloc, base, &core);
+    let found = resizes_since(alloc, base, core.accepted());
     drop(core);
     let resizes = found?;
     let after = contents_of(alloc, &site)?;
@@ -211,12 +211,12 @@ fn serve_plan<W: Write>(
     })
 }
 
-/// Where a command that this book has accepted makes word 0x3E say another size than the slave has. `base` is the contents before them.
+/// Where one of these commands makes word 0x3E say another size than the slave has. `base` is the contents before them.
 fn resizes_since(
     alloc: Global,
     base: Result<Plant, AllocError>,
-    core: &Core,
+    commands: &[Command],
 ) -> Result<Vec<Resize>, AllocError> {
     let base = base?;
-    resizes(alloc, &base, core.accepted())
+    resizes(alloc, &base, commands)
 }
