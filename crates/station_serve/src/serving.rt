@@ -44,7 +44,10 @@ pub fn serve<
 ) -> u8 {
     let status = match read_arguments(rt.alloc(), args) {
         Ok(request) => serve_request(rt, request, input, store, streams, terminal),
-        Err(error) => show_usage(&error, streams.output, streams.faults),
+        Err(error) => {
+            let Streams { output, faults } = streams;
+            show_usage(&error, output, faults)
+        }
     };
     status as u8
 }
@@ -73,10 +76,7 @@ fn serve_request<
     } = request;
     let is_told = terminal.is_some() || is_verbose;
     let begun = begin_progress(rt, is_quiet, terminal);
-    let watch = Watch {
-        rt,
-        progress: begun.as_ref(),
-    };
+    let watch = watch_of(rt, begun.as_ref());
     if let Some(text) = typed {
         let mut joined = InputScript::typed(text, store);
         return serve_and_tell(watch, task, is_told, &mut io::empty(), &mut joined, streams);
@@ -88,6 +88,11 @@ fn serve_request<
         }
         None => serve_and_tell(watch, task, is_told, input, store, streams),
     }
+}
+
+/// The runtime, and the progress that counts what a task does.
+fn watch_of<'a, T, H>(rt: &'a H, progress: Option<&'a Progress<T>>) -> Watch<'a, T, H> {
+    Watch { rt, progress }
 }
 
 /// Begins to count the progress, if there is a terminal for its line and it is to be drawn.
