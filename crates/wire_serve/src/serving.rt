@@ -58,17 +58,8 @@ struct Job<'a> {
     tenure: Tenure,
     /// The number behind which the frames are numbered.
     number: u32,
-}
-
-/// What a user sees of a job beside the text.
-#[derive(Drop)]
-struct Shown<'a, E, T> {
-    /// The stream for faults.
-    faults: &'a mut E,
-    /// Whether a fault of the line has a second line.
-    is_told: bool,
-    /// The line with the progress, if there is one.
-    progress: Option<&'a Progress<T>>,
+    /// Whether no line tells how far the work is.
+    is_quiet: bool,
 }
 
 /// Carries out a command line over this connection, and returns the exit status: `Done`; `Refused` where a command was refused; `File` for a
@@ -102,30 +93,20 @@ pub fn serve<
         is_quiet,
         ..
     } = arguments;
-    let Screen {
-        faults,
-        is_told,
-        terminal,
-    } = screen;
     let Connection { wire, number } = connection;
-    let begun = begin_progress(rt, is_quiet, terminal);
-    let shown = Shown {
-        faults,
-        is_told,
-        progress: begun.as_ref(),
-    };
     let job = Job {
         task,
         capture,
         tenure,
         number,
+        is_quiet,
     };
     match typed {
         Some(text) => {
             let mut joined = InputScript::typed(text, store);
-            serve_job(rt, job, shown, wire, &mut joined, output)
+            serve_job(rt, job, screen, wire, &mut joined, output)
         }
-        None => serve_job(rt, job, shown, wire, store, output),
+        None => serve_job(rt, job, screen, wire, store, output),
     }
 }
 
@@ -149,29 +130,30 @@ fn serve_job<
     S: Store,
     O: Write,
     E: Write,
-    T: Write + Send,
+    T: Write + Send + Drop,
 >(
     rt: &H,
     job: Job<'_>,
-    shown: Shown<'_, E, T>,
+    screen: Screen<'_, E, T>,
     wire: EthernetWire<R, W>,
     store: &mut S,
     output: &mut O,
 ) -> ExitStatus {
-    let Shown {
+    let Screen {
         faults,
         is_told,
-        progress,
-    } = shown;
+        terminal,
+    } = screen;
     match begin_apart(rt.alloc(), job.capture, job.task, store) {
         Ok(begun) => {
             let captured = CapturedWire::new(wire, begun.as_ref(), rt);
-            let ended = do_watched(rt, job, progress, captured, store, output);
+            let ended = do_counted(rt, job, terminal, captured, store, output);
             let status = status_of(rt.alloc(), ended, is_told, job.task, store, faults);
             end_capture(begun, status, faults)
         }
         Err(fault) => {
             drop(wire);
+            drop(terminal);
             let status = report_fault(fault, faults);
             if is_told {
                 tell_names(rt.alloc(), fault, job.task, job.capture, store, faults);
@@ -179,6 +161,25 @@ fn serve_job<
             status
         }
     }
+}
+
+/// Carries out a job on this wire, and counts its progress, if there is a terminal for the line.
+fn do_counted<
+    H: Wait + Threads + Clock + AllocGlobal + Sync,
+    W: Wire + Send + Drop,
+    S: Store,
+    O: Write,
+    T: Write + Send + Drop,
+>(
+    rt: &H,
+    job: Job<'_>,
+    terminal: Option<T>,
+    wire: W,
+    store: &mut S,
+    output: &mut O,
+) -> Result<ExitStatus, WireFault> {
+    let begun = begin_progress(rt, job.is_quiet, terminal);
+    do_watched(rt, job, begun.as_ref(), wire, store, output)
 }
 
 /// Carries out a job on this wire, whose frames count for the progress. The line of the progress gives way to the text.
