@@ -76,7 +76,7 @@ pub fn serve<
     S: Store,
     O: Write,
     E: Write,
-    T: Write + Send + Drop,
+    T: Write + Send + Copy + Drop,
 >(
     rt: &H,
     arguments: Arguments<'_>,
@@ -130,7 +130,7 @@ fn serve_job<
     S: Store,
     O: Write,
     E: Write,
-    T: Write + Send + Drop,
+    T: Write + Send + Copy + Drop,
 >(
     rt: &H,
     job: Job<'_>,
@@ -153,7 +153,6 @@ fn serve_job<
         }
         Err(fault) => {
             drop(wire);
-            drop(terminal);
             let status = report_fault(fault, faults);
             if is_told {
                 tell_names(rt.alloc(), fault, job.task, job.capture, store, faults);
