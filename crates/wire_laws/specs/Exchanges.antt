@@ -85,7 +85,8 @@ pub data Exchange (shadow real shadow_after real_after : SlaveHalf) : Type 0 whe
   unsent : (d : Pdu) → IsTrue (is_busy shadow.activity) → WritesControl d
       → shadow_after ≡ (served_datagram shadow d).half → real_after ≡ real → Exchange shadow real shadow_after real_after
   reads_alone : (d : Pdu) → BeginsToRead shadow d
-      → shadow_after ≡ record (served_datagram shadow d).half { activity = Idle } → real_after ≡ real → Exchange shadow real shadow_after real_after
+      → shadow_after ≡ record (served_datagram shadow d).half { activity = Idle } → real_after ≡ real
+      → Exchange shadow real shadow_after real_after
   shows_alone : (d : Pdu) → d.command ≡ 4
       → shadow_after ≡ (served_datagram shadow d).half → real_after ≡ real → Exchange shadow real shadow_after real_after
   answered : (d found : Pdu) → IsSent shadow d → (IsTrue (is_busy shadow.activity) → ¬ WritesControl d)

@@ -40,7 +40,8 @@ AgreedIsPossible = (shadow real shadow_after real_after : SlaveHalf) → MayBe s
 
 -- While a shadow reads words by itself, the real slave, which is sent nothing, is one that it may be.
 abbrev pub ReadAloneIsPossible : Type 0
-ReadAloneIsPossible = (shadow real : SlaveHalf) (d : Pdu) → MayBe shadow real → BeginsToRead shadow d → MayBe (served_datagram shadow d).half real
+ReadAloneIsPossible = (shadow real : SlaveHalf) (d : Pdu) → MayBe shadow real → BeginsToRead shadow d
+    → MayBe (served_datagram shadow d).half real
 
 -- Where the site stops, a power cut leaves of the real slave what it may leave of the shadow.
 abbrev pub StopLeavesNoMore : Type 0
