@@ -57,7 +57,8 @@ WordsAreDurable = (file : LineFile) (words laters : List ℕ) (calls : List Aske
 
 -- A write that succeeds does to the file what it does to the shadow.
 abbrev pub WriteFollows : Type 0
-WriteFollows = (shadow : Disk) (at : ℕ) (bytes : List ℕ) (later : File) → BecomesBy (asked Journal (writes at bytes) true ∷ []) (sound shadow) later
+WriteFollows = (shadow : Disk) (at : ℕ) (bytes : List ℕ) (later : File)
+    → BecomesBy (asked Journal (writes at bytes) true ∷ []) (sound shadow) later
     → later ≡ sound (written (write_begun shadow at (length bytes)) at bytes)
 
 -- Before, in and behind a write, a power cut leaves of the file what it may leave of the shadow in the middle of the write.
@@ -67,7 +68,8 @@ WriteMayHoldAnything = (shadow : Disk) (at : ℕ) (bytes : List ℕ) (done : Boo
 
 -- Behind a write that failed it leaves of the file what it may leave of the shadow, whatever that holds in the range then.
 abbrev pub FailedWriteLeavesNoMore : Type 0
-FailedWriteLeavesNoMore = (shadow after : Disk) (at : ℕ) (bytes : List ℕ) (later : File) (image : List ℕ) → shadow.synced_length ≤ length shadow.bytes
+FailedWriteLeavesNoMore = (shadow after : Disk) (at : ℕ) (bytes : List ℕ) (later : File) (image : List ℕ)
+    → shadow.synced_length ≤ length shadow.bytes
     → WriteFailed (write_begun shadow at (length bytes)) at (length bytes) after
     → BecomesBy (asked Journal (writes at bytes) false ∷ []) (sound shadow) later → StopImage later.disk image → StopImage after image
 
