@@ -49,7 +49,8 @@ pub record IsFrom (asked : Pdu) (address : ℕ) (frame : List Pdu) (place : ℕ)
 
 -- No answer that one slave has counted stands at this place of the frame.
 abbrev pub IsUncounted : (asked : Pdu) → (address : ℕ) → (frame : List Pdu) → (place : ℕ) → Type 0
-IsUncounted asked address frame place = (answer : Pdu) → slice_get frame place ≡ Some answer → IsReplyTo asked address answer → answer.counter ≢ 1
+IsUncounted asked address frame place = (answer : Pdu) → slice_get frame place ≡ Some answer → IsReplyTo asked address answer
+    → answer.counter ≢ 1
 
 -- A frame came back for this datagram, and no slave, or several, have counted it.
 pub record Unanswered (Gives : List ℕ → Type 0) (stations : List ℕ) (asked : Pdu) : Type 0 where
