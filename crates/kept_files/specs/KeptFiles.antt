@@ -44,7 +44,8 @@ LeaveOnly Q state calls = (images : LineFile → List ℕ) → ((name : LineFile
 
 -- By these calls, made since the files held this state, each of the files can only have become one with `Q`.
 abbrev pub BecomeOnly : (LineFile → File → Type 0) → State → List Asked → Type 0
-BecomeOnly Q state calls = (name : LineFile) (later : File) → IsTrue (has_file state name) → BecomesBy (of_file name calls) (holding state name) later
+BecomeOnly Q state calls = (name : LineFile) (later : File) → IsTrue (has_file state name)
+    → BecomesBy (of_file name calls) (holding state name) later
     → Q name later
 
 -- A site stands on files. These calls, the log of its device, are all that was asked of them since they held the state in which the site began. A
