@@ -28,7 +28,8 @@ views ps = map view ps
 -- the entries that words spell, four words each; fewer than four words at the end are ignored
 abbrev pub entries_in : List ℕ → List PdoEntry
 entries_in (index ∷ named ∷ typed ∷ flags ∷ words) =
-    record { index = index; subindex = named % 256; name = named / 256; data_type = typed % 256; bit_length = typed / 256; flags = flags } ∷ entries_in words
+    record { index = index; subindex = named % 256; name = named / 256; data_type = typed % 256; bit_length = typed / 256; flags = flags }
+        ∷ entries_in words
 entries_in short = []
 
 -- the value in contracts of a PDO where it lies: its head, and the words of its entries

@@ -59,7 +59,8 @@ pub data Follows {F : Type 0} (device : FileDevice F) (seen : Seen) : Type 0 whe
   refuses : HasLog device.asking.calls [] → IsTrue device.has_failed → Follows device seen
 
 -- one step more
-pub one_step : {F : Type 0} (old new : Seen) (before after : FileDevice F) → Step old before new after → HasFollowed before old → HasFollowed after new
+pub one_step : {F : Type 0} (old new : Seen) (before after : FileDevice F) → Step old before new after → HasFollowed before old
+    → HasFollowed after new
 one_step old new before after step so_far = record {
   first = so_far.first;
   new = so_far.new;

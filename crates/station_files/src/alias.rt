@@ -29,7 +29,8 @@ pub fn set_alias<R: Read, S: Store, W: Write>(
     ensures renamed { OnOk result (Renames hex value (text_of (option_map (λ name. name.now) file.entry) (R.remaining input.old) (S.files store.old))
         (W.contents output.old) (W.contents output.new)) }
     ensures refused { IfErr result (λ failure.
-        IfSome (text_of (option_map (λ name. name.now) file.entry) (R.remaining input.old) (S.files store.old)) (λ text. RefusesAlias hex text failure)) }
+        IfSome (text_of (option_map (λ name. name.now) file.entry) (R.remaining input.old) (S.files store.old))
+            (λ text. RefusesAlias hex text failure)) }
     ensures same { S.files store.new ≡ S.files store.old }
 {
     let mut image = read_image(alloc, hex, file, input, store)?;
