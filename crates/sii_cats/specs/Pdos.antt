@@ -29,7 +29,7 @@ views ps = map view ps
 abbrev pub entries_in : List ℕ → List PdoEntry
 entries_in (index ∷ named ∷ typed ∷ flags ∷ words) =
     record { index = index; subindex = named % 256; name = named / 256; data_type = typed % 256; bit_length = typed / 256; flags = flags }
-        ∷ entries_in words
+    ∷ entries_in words
 entries_in short = []
 
 -- the value in contracts of a PDO where it lies: its head, and the words of its entries

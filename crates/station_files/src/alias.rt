@@ -30,7 +30,7 @@ pub fn set_alias<R: Read, S: Store, W: Write>(
         (W.contents output.old) (W.contents output.new)) }
     ensures refused { IfErr result (λ failure.
         IfSome (text_of (option_map (λ name. name.now) file.entry) (R.remaining input.old) (S.files store.old))
-            (λ text. RefusesAlias hex text failure)) }
+        (λ text. RefusesAlias hex text failure)) }
     ensures same { S.files store.new ≡ S.files store.old }
 {
     let mut image = read_image(alloc, hex, file, input, store)?;
