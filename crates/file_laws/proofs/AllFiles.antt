@@ -6,7 +6,7 @@ use Rattle.site_file.specs.declared.asking.LineFile.{LineFile}
 use Rattle.site_file.specs.Calls.{Call, Asked, tells_length, reads, writes, syncs}
 use Rattle.file_laws.specs.Files.{File, Becomes, BecomesBy, MayBeLeft, under_way}
 use Rattle.file_laws.specs.Held.{is_same, of_file, with_file}
-use Rattle.file_laws.specs.Following.{AreLeft}
+use Rattle.file_laws.specs.Following.{AreLeft, LeadTo}
 use Rattle.file_laws.proofs.OneFile.{is_same-true}
 
 -- what is left of a file before a call may be left of it in the call
@@ -28,19 +28,15 @@ becomes_one call calls files mid later name true same becomes rest =
     (mid, subst (λ (n : LineFile). Becomes call.call call.succeeded (files n) mid) (sym (is_same-true name call.file same)) becomes, rest)
 becomes_one call calls files mid later name false other becomes rest = rest
 
--- the files that these calls lead to
-pub record LeadTo (calls : List Asked) (files laters : LineFile → File) : Type 0 where
-  pub each : (name : LineFile) → BecomesBy (of_file name calls) (files name) (laters name)
-
 -- what is left at a moment of calls and of others behind them is left at one of the former, or of the latter
 pub earlier_or_later : (calls others : List Asked) (files : LineFile → File) (images : LineFile → List ℕ) → AreLeft (calls ++ others) files images
     → AreLeft calls files images ⊎ ((laters : LineFile → File) × LeadTo calls files laters × AreLeft others laters images)
-earlier_or_later [] others files images left = inr (files, record { each = λ name. refl }, left)
+earlier_or_later [] others files images left = inr (files, (λ name. refl), left)
 earlier_or_later (call ∷ calls) others files images (inl now) = inl (inl now)
 earlier_or_later (call ∷ calls) others files images (inr (mid, becomes, left)) =
     elim (earlier_or_later calls others (with_file files call.file mid) images left) [
       | inl early ↦ inl (inr (mid, becomes, early))
-      | inr late ↦ inr (late.0, record { each = λ name. becomes_one call calls files mid (late.0 name) name (is_same name call.file) refl becomes (late.1.each name) }, late.2)
+      | inr late ↦ inr (late.0, (λ name. becomes_one call calls files mid (late.0 name) name (is_same name call.file) refl becomes (late.1 name)), late.2)
     ]
 
 behind_one : (call : Asked) (calls : List Asked) (files : LineFile → File) (mid : File) (image : List ℕ) (name : LineFile) (b : Bool) → is_same name call.file ≡ b

@@ -1,5 +1,5 @@
 -- The files behind a site follow it as a half becomes idle, and over any number of steps.
-use Rattle.std.proofs.Common.{◌≡◌, ◌⊎◌, Any, ℕ, zero, suc, Bool, true, false, List, [], ◌∷◌, ◌++◌, ◌==◌, ◌<◌, ◌^◌, length, Some, None, slice_get, slice_set, IsTrue, if◌then◌else◌, refl, sym, ap, subst, ◌∙◌, inl, inr, append_assoc}
+use Rattle.std.proofs.Common.{◌≡◌, ◌⊎◌, Any, ℕ, zero, suc, Bool, true, false, List, [], ◌∷◌, ◌++◌, ◌==◌, ◌+◌, ◌<◌, ◌^◌, length, take, Some, None, slice_get, slice_set, IsTrue, if◌then◌else◌, refl, sym, ap, subst, ◌∙◌, inl, inr, arith, append_assoc}
 use Rattle.std.proofs.lemmas.List.{append-nil}
 use Rattle.std.specs.List.{AllByRecursion}
 use Rattle.std.proofs.lemmas.Bool.{eqb-true, eq-eqb}
@@ -7,8 +7,7 @@ use Rattle.esc_model.specs.declared.rest.WordWrite.{WordWrite}
 use Rattle.esc_model.specs.declared.rest.Rest.TheVariants as rests
 use Rattle.esc_model.specs.SlaveHalf.{SlaveHalf, Activity, Idle, Reading, Writing, in_flight}
 use Rattle.site_core.specs.Disk.{StopImage}
-use Rattle.site_core.specs.State.{State, Seen, Moment, Pair, Leaves, LeftAt, with_half}
-use Rattle.site_core.proofs.Moments.{Any-first}
+use Rattle.site_core.specs.State.{State, Seen, Moment, LeftSince, with_half, clock}
 use Rattle.site_shadow.specs.declared.device.Resting.{Resting}
 use Rattle.site_shadow.specs.Resting.{Ends, RestsAs}
 use Rattle.site_file.specs.declared.asking.LineFile.{LineFile}
@@ -24,12 +23,13 @@ use Rattle.site_file.specs.Following as following
 use Rattle.site_file.specs.Following.{ChangesNoFile, FitsWords, Step, Run, Follows}
 use Rattle.site_shadow.specs.Following.{Extends, KeepsContents, begin_of, first_of}
 use Rattle.site_shadow.proofs.Keeping.{Extends-by}
-use Rattle.file_laws.specs.Following.{AreLeft, Shows, HoldsDisk, HoldsWords, Holds, FilesFollow, BeginsToFollow, FollowsOn, SiteIsFollowed}
-use Rattle.file_laws.proofs.AllFiles.{left_of_each}
+use Rattle.site_shadow.proofs.Towards.{now_left, Extends-now, Extends-first, towards_since}
+use Rattle.file_laws.specs.Following.{AreLeft, AreLeftBehind, LeadTo, calls_of, ShowOne, HoldsDisk, HoldsWords, Holds, FilesFollow, BeginsToFollow, FollowsOn, SiteIsFollowed}
+use Rattle.file_laws.proofs.AllFiles.{earlier_or_later, left_of_each}
 use Rattle.file_laws.proofs.PairsLeft.{IsLeftOfSlave, IsLeftOfPart, ShownPair, shown_pair}
 use Rattle.file_laws.proofs.OneFile.{AllOf, is_same-true, of_file-append, of_file-same, of_file-other}
 use Rattle.file_laws.proofs.Words.{one_file, word_is_durable, word_may_hold_anything, split}
-use Rattle.file_laws.proofs.Following.{within, whole_words, goes_on, over, asks_more, write_step, sync_step}
+use Rattle.file_laws.proofs.Following.{within, whole_words, left_at_first, lead_on, goes_on, over, asks_more, write_step, sync_step}
 use Rattle.site_shadow.proofs.GoingThrough.{get-set}
 
 -- A HALF AT REST
@@ -154,20 +154,20 @@ module _ (state : State) (slave : ℕ) (half later : SlaveHalf) (write : WordWri
             file_is = same ∙ holds.file_is;
           }
 
-module _ {F : Type 0} (owned : LineFile → Bool) (begun : LineFile → File) where
+module _ {F : Type 0} (since : ℕ) (owned : LineFile → Bool) (begun : LineFile → File) where
   word_asked : (old new : Seen) (d after : FileDevice F) (slave : ℕ) (half later : SlaveHalf) (write : WordWrite) (done : Bool) (calls : List Asked)
       → old.is_stopped ≡ false → slice_get old.state.halves slave ≡ Some half → IsFlying half write
       → (done ≡ true → later.words ≡ slice_set half.words write.word write.value) → (done ≡ false → after.has_failed ≡ true)
       → new.state ≡ with_half old.state slave later → Extends old new → d.has_failed ≡ false
       → Asks d.asking.calls after.asking.calls calls → WordCalls (Image slave) write.word write.value calls done
-      → FilesFollow owned begun d old → FilesFollow owned begun after new
+      → FilesFollow since owned begun d old → FilesFollow since owned begun after new
   word_asked old new d after slave half later write done calls running here flying words failed is extends going asks are follows =
-      asks_more owned begun old new d after calls going running asks extends
+      asks_more since owned begun old new d after calls going running asks extends
       (λ files images bytes holds left.
       let each = left_of_each calls files images left in
       let shown : ShownPair old.state owned images = shown_pair old.state owned images
       (λ name is_owned. word_part old.state slave half write done calls here flying are name (files name) (images name) (bytes name) (holds name is_owned) (each name)) in
-      (shown.pair, extends.left shown.pair (inl shown.leaves), shown.shows))
+      (shown.pair, Extends-now old new shown.pair extends shown.leaves, shown.shows))
       (behind done words failed are) follows
     where
       behind : (b : Bool) → (b ≡ true → later.words ≡ slice_set half.words write.word write.value) → (b ≡ false → after.has_failed ≡ true)
@@ -185,17 +185,17 @@ module _ {F : Type 0} (owned : LineFile → Bool) (begun : LineFile → File) wh
       → new.state ≡ with_half old.state slave later → Extends old new
       → FitsWords half
       → device.Rests slave (in_flight half.activity) d resting after
-      → FilesFollow owned begun d old → FilesFollow owned begun after new
+      → FilesFollow since owned begun d old → FilesFollow since owned begun after new
   rest_step old new d after slave half rested later resting running here said words is extends fits (device.idle none well same) follows =
       let said_well : Ends half.activity rests.Well half rested = subst (λ (r : Resting). RestsAs r half rested) well said in
       let kept : later.words ≡ half.words = words ∙ ends_words half.activity half rested none said_well in
-      subst (λ (x : FileDevice F). FilesFollow owned begun x new) (sym same)
-      (goes_on owned begun old new d (record { extends = extends; kept = λ going. kept_by old.state new.state slave half later here kept is }) follows)
+      subst (λ (x : FileDevice F). FilesFollow since owned begun x new) (sym same)
+      (goes_on since owned begun old new d (record { extends = extends; kept = λ going. kept_by old.state new.state slave half later here kept is }) follows)
   rest_step old new d after slave half rested later resting running here said words is extends fits (device.over failed stays same) follows =
-      over owned begun old new d after (ap (λ (x : FileDevice F). x.asking.calls) same)
+      over since owned begun old new d after (ap (λ (x : FileDevice F). x.asking.calls) same)
       (subst (λ (x : FileDevice F). IsTrue x.has_failed) (sym same) failed) extends follows
   rest_step old new d after slave half rested later resting running here said words is extends fits (device.absent none stays same) follows =
-      over owned begun old new d after (ap (λ (x : FileDevice F). x.asking.calls) same)
+      over since owned begun old new d after (ap (λ (x : FileDevice F). x.asking.calls) same)
       (subst (λ (x : FileDevice F). IsTrue x.has_failed) (sym same) refl) extends follows
   rest_step old new d after slave half rested later resting running here said words is extends fits (device.writes write flying going wrote well going_on) follows =
       let said_well : Ends half.activity rests.Well half rested = subst (λ (r : Resting). RestsAs r half rested) well said in
@@ -293,27 +293,36 @@ reads_quietly file old new (piece mid later at count done so_far once) =
       quiet = both_quiet before.calls one before.quiet (tt, tt);
     }
 
-module _ {F : Type 0} (owned : LineFile → Bool) (begun : LineFile → File) where
+module _ {F : Type 0} (since : ℕ) (owned : LineFile → Bool) (begun : LineFile → File) where
   asks_quietly : (seen : Seen) (d after : FileDevice F) (calls : List Asked) → Asks d.asking.calls after.asking.calls calls → AreQuiet calls
-      → d.has_failed ≡ false → FilesFollow owned begun d seen → FilesFollow owned begun after seen
-  asks_quietly seen d after calls asks quiet going follows = record {
-    calls = follows.calls ++ calls;
-    has = asks.goes_on follows.calls follows.has;
-    leaves = λ images bytes left. follows.leaves images bytes (quiet_behind follows.calls calls begun images quiet left);
-    holds = λ going_on goes name file is_owned becomes.
-        let apart : BecomesBy (of_file name follows.calls ++ of_file name calls) (begun name) file =
-        subst (λ (l : List Asked). BecomesBy l (begun name) file) (of_file-append name follows.calls calls) becomes in
-        let parts : (mid : File) × BecomesBy (of_file name follows.calls) (begun name) mid × BecomesBy (of_file name calls) mid file =
-        split (of_file name follows.calls) (of_file name calls) (begun name) file apart in
-        subst (λ (f : File). Holds seen.state name f) (sym (quiet_becomes name calls parts.0 file quiet parts.2))
-        (follows.holds going goes name parts.0 is_owned parts.1);
-  }
+      → d.has_failed ≡ false → FilesFollow since owned begun d seen → FilesFollow since owned begun after seen
+  asks_quietly seen d after calls asks quiet going follows =
+      let before : List Asked = calls_of follows.pieces ++ follows.last in
+      let joined : before ++ calls ≡ calls_of follows.pieces ++ (follows.last ++ calls) = append_assoc (calls_of follows.pieces) follows.last calls in
+      record {
+        pieces = follows.pieces;
+        last = follows.last ++ calls;
+        has = subst (λ (l : List Asked). HasLog after.asking.calls l) joined (asks.goes_on before follows.has);
+        few = follows.few;
+        all = λ going_on goes. follows.all going goes;
+        leaves = follows.leaves;
+        leaves_last = λ images bytes left.
+            follows.leaves_last images bytes
+            (record { mid = left.mid; lead = left.lead; left = quiet_behind follows.last calls left.mid images quiet left.left });
+        holds = λ going_on goes name file is_owned becomes.
+            let apart : BecomesBy (of_file name before ++ of_file name calls) (begun name) file =
+            subst (λ (l : List Asked). BecomesBy l (begun name) file) (ap (of_file name) (sym joined) ∙ of_file-append name before calls) becomes in
+            let parts : (mid : File) × BecomesBy (of_file name before) (begun name) mid × BecomesBy (of_file name calls) mid file =
+            split (of_file name before) (of_file name calls) (begun name) file apart in
+            subst (λ (f : File). Holds seen.state name f) (sym (quiet_becomes name calls parts.0 file quiet parts.2))
+            (follows.holds going goes name parts.0 is_owned parts.1);
+      }
 
-  same_device : (seen : Seen) (d after : FileDevice F) → after ≡ d → FilesFollow owned begun d seen → FilesFollow owned begun after seen
-  same_device seen d after same follows = subst (λ (x : FileDevice F). FilesFollow owned begun x seen) (sym same) follows
+  same_device : (seen : Seen) (d after : FileDevice F) → after ≡ d → FilesFollow since owned begun d seen → FilesFollow since owned begun after seen
+  same_device seen d after same follows = subst (λ (x : FileDevice F). FilesFollow since owned begun x seen) (sym same) follows
 
-  changes_no_file : (seen : Seen) (d after : FileDevice F) → ChangesNoFile d after → FilesFollow owned begun d seen
-      → FilesFollow owned begun after seen
+  changes_no_file : (seen : Seen) (d after : FileDevice F) → ChangesNoFile d after → FilesFollow since owned begun d seen
+      → FilesFollow since owned begun after seen
   changes_no_file seen d after (following.unasked same) follows = same_device seen d after same follows
   changes_no_file seen d after (following.asks_length result (device.calls (device.over failed stops same))) follows = same_device seen d after same follows
   changes_no_file seen d after (following.asks_length result (device.calls (device.passes going asks passed going_on))) follows =
@@ -332,57 +341,52 @@ module _ {F : Type 0} (owned : LineFile → Bool) (begun : LineFile → File) wh
 
   -- ANY STEPS
 
-  step : (old new : Seen) (d after : FileDevice F) → Step old d new after → FilesFollow owned begun d old
-      → FilesFollow owned begun after new
+  step : (old new : Seen) (d after : FileDevice F) → Step old d new after → FilesFollow since owned begun d old
+      → FilesFollow since owned begun after new
   step old new d after (following.goes_on goes quiet) follows =
-      goes_on owned begun old new after goes (changes_no_file old d after quiet follows)
+      changes_no_file new d after quiet (goes_on since owned begun old new d goes follows)
   step old new d after (following.write at bytes passing given running inside wrote passes calls) follows =
-      write_step owned begun old new d after at bytes passing given inside running wrote passes calls follows
+      write_step since owned begun old new d after at bytes passing given inside running wrote passes calls follows
   step old new d after (following.sync passing given running syncs_it passes calls) follows =
-      sync_step owned begun old new d after passing given running syncs_it passes calls follows
+      sync_step since owned begun old new d after passing given running syncs_it passes calls follows
   step old new d after (following.rest slave half rested later resting running here said words is extends fits rests_so) follows =
-      rest_step owned begun old new d after slave half rested later resting running here said words is extends fits rests_so follows
+      rest_step since owned begun old new d after slave half rested later resting running here said words is extends fits rests_so follows
 
-  run : (old : Seen) (d : FileDevice F) (new : Seen) (after : FileDevice F) → Run old d new after → FilesFollow owned begun d old
-      → FilesFollow owned begun after new
+  run : (old : Seen) (d : FileDevice F) (new : Seen) (after : FileDevice F) → Run old d new after → FilesFollow since owned begun d old
+      → FilesFollow since owned begun after new
   run old d new after following.none follows = follows
   run old d new after (following.more mid last half_way end so_far one) follows =
       step mid last half_way end one (run old d mid half_way so_far follows)
 
-begun_part : (state : State) (name : LineFile) (file : File) (image : List ℕ) → Holds state name file → StopImage file.disk image
-    → IsLeftOfPart state name image
-begun_part state Journal file image holds stop = within file.disk state.disk image holds.bytes holds.synced_length holds.synced stop
-begun_part state (Image slave) file image holds stop = whole_words state.halves slave file image holds stop
-
--- a power cut while the files hold the state
-pub left_at_first : (state : State) (owned : LineFile → Bool) (begun : LineFile → File)
-    → ((name : LineFile) → IsTrue (owned name) → Holds state name (begun name)) → (images : LineFile → List ℕ)
-    → ((name : LineFile) → StopImage (begun name).disk (images name))
-    → (pair : Pair) × Leaves state pair × ((name : LineFile) → IsTrue (owned name) → Shows pair name (images name))
-left_at_first state owned begun holds images left =
-    let shown : ShownPair state owned images = shown_pair state owned images
-    (λ name is_owned. begun_part state name (begun name) (images name) (holds name is_owned) (left name)) in
-    (shown.pair, shown.leaves, shown.shows)
-
 pub begins_to_follow : (F : Type 0) → BeginsToFollow F
 begins_to_follow F owned begun d seen none holds = record {
-  calls = [];
+  pieces = [];
+  last = [];
   has = none;
-  leaves = λ images bytes left. let shown = left_at_first seen.state owned begun holds images left in (shown.0, inl shown.1, shown.2);
+  few = omega arith;
+  all = λ going_on going. omega arith;
+  leaves = λ place piece images bytes is left. absurd cc;
+  leaves_last = λ images bytes left.
+      let shown = left_at_first seen.state owned begun holds images (at_first begun images left) in
+      (shown.0, now_left seen (clock seen + 0) shown.0 (omega arith) shown.1, shown.2);
   holds = λ going_on going name file is_owned becomes. subst (λ (f : File). Holds seen.state name f) (sym becomes) (holds name is_owned);
 }
+  where
+    at_first : (begun : LineFile → File) (images : LineFile → List ℕ) → AreLeftBehind [] [] begun images → (name : LineFile)
+        → StopImage (begun name).disk (images name)
+    at_first begun images left name = subst (λ (f : File). StopImage f.disk (images name)) (left.lead name) (left.left name)
 
 pub follows_on : (F : Type 0) → FollowsOn F
-follows_on F owned begun old new d after follows steps = run owned begun old d new after steps follows
+follows_on F since owned begun old new d after follows steps = run since owned begun old d new after steps follows
 
 -- A SITE ON FILES
 
 step_first : {F : Type 0} (old new : Seen) (d after : FileDevice F) → Step old d new after → first_of new ≡ first_of old
-step_first old new d after (following.goes_on goes quiet) = goes.extends.first
+step_first old new d after (following.goes_on goes quiet) = Extends-first old new goes.extends
 step_first old new d after (following.write at bytes passing given running inside wrote passes calls) =
-    (Extends-by old new wrote.middle given wrote.call).first
-step_first old new d after (following.sync passing given running syncs_it passes calls) = (Extends-by old new [] given syncs_it.call).first
-step_first old new d after (following.rest slave half rested later resting running here said words is extends fits rests_so) = extends.first
+    Extends-first old new (Extends-by old new wrote.middle given wrote.call)
+step_first old new d after (following.sync passing given running syncs_it passes calls) = Extends-first old new (Extends-by old new [] given syncs_it.call)
+step_first old new d after (following.rest slave half rested later resting running here said words is extends fits rests_so) = Extends-first old new extends
 
 run_first : {F : Type 0} (old : Seen) (d : FileDevice F) (new : Seen) (after : FileDevice F) → Run old d new after → first_of new ≡ first_of old
 run_first old d new after following.none = refl
@@ -392,19 +396,18 @@ run_first old d new after (following.more mid last half_way end so_far one) =
 begun_first : (seen : Seen) → seen.past ≡ [] → first_of seen ≡ seen.state
 begun_first seen none = ap (λ (p : List Moment). begin_of p seen.state) none
 
--- the pair was left as the site began
-first_left : (state : State) (past : List Moment) (pair : Pair) → Leaves (begin_of past state) pair → Leaves state pair ⊎ Any (LeftAt pair) past
-first_left state [] pair leaves = inl leaves
-first_left state (moment ∷ past) pair leaves = inr (Any-first (LeftAt pair) moment past (inl leaves))
-
 -- a device that was put behind its site later has asked nothing
 refused : {F : Type 0} (d : FileDevice F) (seen : Seen) (owned : LineFile → Bool) (begun : LineFile → File) → HasLog d.asking.calls []
-    → IsTrue d.has_failed → ((name : LineFile) → IsTrue (owned name) → Holds (first_of seen) name (begun name)) → FilesFollow owned begun d seen
+    → IsTrue d.has_failed → ((name : LineFile) → IsTrue (owned name) → Holds (first_of seen) name (begun name)) → FilesFollow 0 owned begun d seen
 refused d seen owned begun none failed holds = record {
-  calls = [];
+  pieces = [];
+  last = [];
   has = none;
-  leaves = λ images bytes left.
-      let shown = left_at_first (first_of seen) owned begun holds images left in (shown.0, first_left seen.state seen.past shown.0 shown.1, shown.2);
+  few = omega arith;
+  all = λ going_on going. absurd (let e : true ≡ false = sym failed ∙ going_on in cc);
+  leaves = λ place piece images bytes is left. absurd cc;
+  leaves_last = λ images bytes left. left_at_first (first_of seen) owned begun holds images
+      (λ name. subst (λ (f : File). StopImage f.disk (images name)) (left.lead name) (left.left name));
   holds = λ going_on going name file is_owned becomes. absurd (let e : true ≡ false = sym failed ∙ going_on in cc);
 }
 
@@ -412,6 +415,48 @@ pub site_is_followed : (F : Type 0) → SiteIsFollowed F
 site_is_followed F d seen (following.refuses none failed) owned begun holds = refused d seen owned begun none failed holds
 site_is_followed F d seen (following.has_followed so_far) owned begun holds =
     let same : first_of seen ≡ so_far.first.state = run_first so_far.first so_far.began seen d so_far.run ∙ begun_first so_far.first so_far.new in
-    run owned begun so_far.first so_far.began seen d so_far.run
-    (begins_to_follow F owned begun so_far.began so_far.first so_far.log
-    (λ name is_owned. subst (λ (s : State). Holds s name (begun name)) same (holds name is_owned)))
+    let starts : clock so_far.first ≡ 0 = ap length so_far.new in
+    run 0 owned begun so_far.first so_far.began seen d so_far.run
+    (subst (λ (t : ℕ). FilesFollow t owned begun so_far.began so_far.first) starts (begins_to_follow F owned begun so_far.began so_far.first so_far.log
+    (λ name is_owned. subst (λ (s : State). Holds s name (begun name)) same (holds name is_owned))))
+
+-- ANY MOMENT
+
+-- a power cut in a log is one in some piece of it
+in_some : (pieces : List (List Asked)) (last : List Asked) (files : LineFile → File) (images : LineFile → List ℕ)
+    → AreLeft (calls_of pieces ++ last) files images
+    → ((place : ℕ) × (piece : List Asked) × (slice_get pieces place ≡ Some piece) × AreLeftBehind (calls_of (take place pieces)) piece files images)
+    ⊎ AreLeftBehind (calls_of pieces) last files images
+in_some [] last files images left = inr (record { mid = files; lead = λ name. refl; left = left })
+in_some (first ∷ pieces) last files images left =
+    let apart : AreLeft (first ++ (calls_of pieces ++ last)) files images =
+    subst (λ (l : List Asked). AreLeft l files images) (append_assoc first (calls_of pieces) last) left in
+    elim (earlier_or_later first (calls_of pieces ++ last) files images apart) [
+      | inl here ↦ inl (0, first, refl, record { mid = files; lead = λ name. refl; left = here })
+      | inr late ↦ elim (in_some pieces last late.0 images late.2) [
+        | inl one ↦ inl (
+          suc one.0,
+          one.1,
+          one.2,
+          record {
+            mid = one.3.mid;
+            lead = lead_on first (calls_of (take one.0 pieces)) files late.0 one.3.mid late.1 one.3.lead;
+            left = one.3.left;
+          },
+        )
+        | inr behind ↦ inr (record {
+          mid = behind.mid;
+          lead = lead_on first (calls_of pieces) files late.0 behind.mid late.1 behind.lead;
+          left = behind.left;
+        })
+      ]
+    ]
+
+-- what a power cut has left since the site began
+pub left_since : {F : Type 0} (owned : LineFile → Bool) (begun : LineFile → File) (d : FileDevice F) (seen : Seen) (follows : FilesFollow 0 owned begun d seen)
+    (images : LineFile → List ℕ) → ((name : LineFile) → IsBytes (images name)) → AreLeft (calls_of follows.pieces ++ follows.last) begun images
+    → ShowOne owned (LeftSince seen 0) images
+left_since owned begun d seen follows images bytes left = elim (in_some follows.pieces follows.last begun images left) [
+  | inl one ↦ (let shown = follows.leaves one.0 one.1 images bytes one.2 one.3 in (shown.0, towards_since seen (0 + one.0) shown.0 shown.1, shown.2))
+  | inr behind ↦ (let shown = follows.leaves_last images bytes behind in (shown.0, towards_since seen (0 + length follows.pieces) shown.0 shown.1, shown.2))
+]

@@ -8,5 +8,5 @@ mod Holding
 mod Leaving
 mod AllFiles
 mod PairsLeft
-mod Following
+pub mod Following
 pub mod FollowingWords

@@ -50,9 +50,10 @@ pub fn device_leaves_no_more<F>()
     ensures sync { SyncOfLeavesNoMore F }
 {}
 
-/// Files that hold the parts of a site, as its device is put behind it before its first call, follow the site from then on: at each moment a
-/// power cut leaves of them, all at once, a pair that it may have left of the site. As long as no call on a file fails and the site goes on, they
-/// hold its bytes and words, and what is synced of the site is synced in them. Of a part of a line this holds for the files that it owns.
+/// Files that hold the parts of a site, as its device is put behind it before its first call, follow the site from then on, call by call: what the
+/// device asks in a call of the site is a piece of its log, and a power cut in this piece leaves of the files, all at once, a pair that it may
+/// have left of the site in this call or right behind it. As long as no call on a file fails and the site goes on, they hold its bytes and words,
+/// and what is synced of the site is synced in them. Of a part of a line this holds for the files that it owns.
 pub fn files_follow<F>()
     ensures begins { BeginsToFollow F }
     ensures goes_on { FollowsOn F }

@@ -1,5 +1,5 @@
 -- The laws of a station on files, from those of the files and of the station.
-use Rattle.std.proofs.Common.{◌≡◌, ◌∙◌, ℕ, List, [], length, Option, Some, None, slice_get, is_some, IsTrue, refl, sym, ap, subst}
+use Rattle.std.proofs.Common.{◌≡◌, ◌∙◌, ℕ, List, [], ◌++◌, length, Option, Some, None, slice_get, is_some, IsTrue, refl, sym, ap, subst}
 use Rattle.std.proofs.lemmas.Option.{slice_get-map}
 use Rattle.std.specs.Option.{option_map}
 use Rattle.esc_model.specs.SlaveHalf.{SlaveHalf}
@@ -9,8 +9,9 @@ use Rattle.site_file.specs.declared.asking.LineFile.{LineFile}
 use Rattle.site_file.specs.declared.asking.LineFile.TheVariants.{Journal, Image}
 use Rattle.site_file.specs.Asking.{nothing_asked}
 use Rattle.file_laws.specs.Files.{File, image_of}
-use Rattle.file_laws.specs.Following.{AreLeft, FilesFollow, Holds, HoldsWords}
-use Rattle.file_laws.proofs.FollowingWords.{left_at_first, site_is_followed}
+use Rattle.file_laws.specs.Following.{AreLeft, FilesFollow, Holds, HoldsWords, calls_of}
+use Rattle.file_laws.proofs.Following.{left_at_first}
+use Rattle.file_laws.proofs.FollowingWords.{left_since, site_is_followed}
 use Rattle.book_model.specs.Book.{Book, base_of}
 use Rattle.book_laws.specs.Opening.{words_in}
 use Rattle.kept_files.specs.KeptFiles.{has_file, holding, words_or_none, KeepsFiles, SiteHasFiles, CutLeavesKept, RecoveryLeavesContents, HasContents}
@@ -39,13 +40,13 @@ keeps_unasked before = record {
 
 pub site_has_files : (F : Type 0) → SiteHasFiles F
 site_has_files F device seen is_sound follows sound =
-    let files : FilesFollow (has_file (first_of seen)) (holding (first_of seen)) device seen =
+    let files : FilesFollow 0 (has_file (first_of seen)) (holding (first_of seen)) device seen =
     site_is_followed F device seen follows (has_file (first_of seen)) (holding (first_of seen)) (holds_state (first_of seen)) in
     record {
-      calls = files.calls;
+      calls = calls_of files.pieces ++ files.last;
       moment = device.asking.calls;
       log = files.has;
-      leave = files.leaves;
+      leave = left_since (has_file (first_of seen)) (holding (first_of seen)) device seen files;
       hold = λ is name later there becomes. files.holds (sound is).0 (sound is).1 name later there becomes;
     }
 

@@ -13,7 +13,7 @@ pub slice_get-seam : {A : Type 0} (xs ys : List A) → slice_get (xs ++ ys) (len
 slice_get-seam [] ys = refl
 slice_get-seam (x ∷ xs) ys = slice_get-seam xs ys
 
-slice_get-early : {A : Type 0} (xs ys : List A) (k : ℕ) → k < length xs → slice_get (xs ++ ys) k ≡ slice_get xs k
+pub slice_get-early : {A : Type 0} (xs ys : List A) (k : ℕ) → k < length xs → slice_get (xs ++ ys) k ≡ slice_get xs k
 slice_get-early [] ys k early = absurd (omega arith)
 slice_get-early (x ∷ xs) ys zero early = refl
 slice_get-early (x ∷ xs) ys (suc k) early = slice_get-early xs ys k (omega arith)

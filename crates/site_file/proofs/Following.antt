@@ -5,6 +5,7 @@ use Rattle.esc_model.specs.SlaveHalf.{SlaveHalf, in_flight}
 use Rattle.site_core.specs.State.{Seen}
 use Rattle.site_shadow.specs.declared.device.Passing.{Passing}
 use Rattle.site_shadow.specs.declared.device.Resting.{Resting}
+use Rattle.site_shadow.specs.Following as shadow
 use Rattle.site_shadow.specs.Following.{GoesOn, Keeps, WriteKeeps, SyncKeeps, RestKeeps}
 use Rattle.site_file.specs.declared.files.FileDevice.{FileDevice}
 use Rattle.site_file.specs.Calls.{Call, tells_length, writes, syncs}
@@ -16,7 +17,7 @@ use Rattle.site_file.specs.Following.{ChangesNoFile, FitsWords, Step, Follows, o
 
 GoesOn-same : (seen : Seen) → GoesOn seen seen
 GoesOn-same seen = record {
-  extends = record { first = refl; left = λ pair left. left; stopped = λ is. is };
+  extends = record { goes = shadow.rests refl refl; stopped = λ is. is };
   kept = λ going. record { bytes = refl; synced_length = refl; synced = λ at is. is; words = λ slave half here. (half, here, refl) };
 }
 

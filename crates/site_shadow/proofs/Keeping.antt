@@ -12,26 +12,16 @@ use Rattle.site_shadow.specs.declared.device.Resting.{Resting}
 use Rattle.site_shadow.specs.Line.{halves_of}
 use Rattle.site_shadow.specs.Going.{HalfTakes}
 use Rattle.site_shadow.specs.Stopping.{noted, begun, HasStopped, CountsFault, counted, stops}
-use Rattle.site_shadow.specs.Following.{begin_of, Extends, KeepsContents, GoesOn, Keeps, RestKeeps, TakeKeeps}
+use Rattle.site_shadow.specs.Following as steps
+use Rattle.site_shadow.specs.Following.{Extends, KeepsContents, GoesOn, Keeps, RestKeeps, TakeKeeps}
 use Rattle.site_shadow.proofs.Calling.{Calls-fails, WritesDisk-fails}
 use Rattle.site_shadow.proofs.LineHalves.{halves_of-get, halves_of-set}
 use Rattle.site_core.proofs.Unions.{Any-left, Any-right}
 
-begins_alike : (past : List Moment) (moment : Moment) (state : State) → begin_of (past ++ moment ∷ []) state ≡ begin_of past moment.before
-begins_alike [] moment state = refl
-begins_alike (m ∷ past) moment state = refl
-
 -- a moment is added to the past
 extends_with : (old new : Seen) (moment : Moment) → new.past ≡ old.past ++ moment ∷ [] → moment.before ≡ old.state
     → (IsTrue old.is_stopped → IsTrue new.is_stopped) → Extends old new
-extends_with old new moment past before stopped = record {
-  first = ap (λ (p : List Moment). begin_of p new.state) past ∙ begins_alike old.past moment new.state ∙ ap (λ (s : State). begin_of old.past s) before;
-  left = λ pair left. inr (subst (λ (ms : List Moment). Any (LeftAt pair) ms) (sym past) (elim left [
-    | inl leaves ↦ Any-right (LeftAt pair) old.past (moment ∷ []) (Any-first (LeftAt pair) moment [] (inl (subst (λ (s : State). Leaves s pair) (sym before) leaves)))
-    | inr was ↦ Any-left (LeftAt pair) old.past (moment ∷ []) was
-  ]));
-  stopped = stopped;
-}
+extends_with old new moment past before stopped = record { goes = steps.begins moment before past; stopped = stopped }
 
 pub Extends-by : {T : Type 0} (old new : Seen) (middle : List State) (result : Result T DeviceFault) → Calls old middle result new → Extends old new
 Extends-by old new middle result call =
@@ -78,33 +68,17 @@ longer : (states others : List State) (first : State) (pair : Pair) → Leaves f
 longer states others first pair (inl here) = inl here
 longer states others first pair (inr there) = inr (Any-left (λ state. Leaves state pair) states others there)
 
-last_longer : (past : List Moment) (old : Seen) (states others : List State) (pair : Pair)
-    → Any (LeftAt pair) (past ++ record { before = old.state; faults = old.faults; middle = states } ∷ [])
-    → Any (LeftAt pair) (past ++ record { before = old.state; faults = old.faults; middle = states ++ others } ∷ [])
-last_longer past old states others pair any =
-    let later : Moment = record { before = old.state; faults = old.faults; middle = states ++ others } in
-    elim (Any-append (LeftAt pair) past (record { before = old.state; faults = old.faults; middle = states } ∷ []) any) [
-      | inl before ↦ Any-left (LeftAt pair) past (later ∷ []) before
-      | inr here ↦ elim (Any-split (LeftAt pair) (record { before = old.state; faults = old.faults; middle = states }) [] here) [
-        | inl at ↦ Any-right (LeftAt pair) past (later ∷ []) (Any-first (LeftAt pair) later [] (longer states others old.state pair at))
-        | inr none ↦ absurd (Any-nil (LeftAt pair) none)
-      ]
-    ]
-
 -- one state more
 pub Extends-middle : (old : Seen) (middle : List State) (state later : State) → last_of old.state middle ≡ state
     → Extends (noted old middle state) (noted old (middle ++ later ∷ []) later)
-Extends-middle old middle state later last =
-    let moment : Moment = record { before = old.state; faults = old.faults; middle = middle ++ later ∷ [] } in
-    record {
-      first = begins_alike old.past moment later ∙ sym (begins_alike old.past (record { before = old.state; faults = old.faults; middle = middle }) state);
-      left = λ pair left. inr (elim left [
-        | inl leaves ↦ Any-right (LeftAt pair) old.past (moment ∷ []) (Any-first (LeftAt pair) moment []
-            (longer middle (later ∷ []) old.state pair (at_last old.state middle pair (subst (λ (s : State). Leaves s pair) (sym last) leaves))))
-        | inr was ↦ last_longer old.past old middle (later ∷ []) pair was
+Extends-middle old middle state later last = record {
+  goes = steps.goes_on old.past (record { before = old.state; faults = old.faults; middle = middle })
+      (record { before = old.state; faults = old.faults; middle = middle ++ later ∷ [] }) refl refl refl (λ pair left. elim left [
+        | inl leaves ↦ longer middle (later ∷ []) old.state pair (at_last old.state middle pair (subst (λ (s : State). Leaves s pair) (sym last) leaves))
+        | inr was ↦ longer middle (later ∷ []) old.state pair was
       ]);
-      stopped = λ stopped. stopped;
-    }
+  stopped = λ stopped. stopped;
+}
 
 -- the site stops at the end of a call
 pub GoesOn-torn : (old : Seen) (middle : List State) (state : State) (new : Seen) → last_of old.state middle ≡ state
@@ -115,12 +89,10 @@ GoesOn-torn old middle state new last has =
     let is_over : new.is_stopped ≡ true = ap (λ (s : Seen). s.is_stopped) has.rest in
     record {
       extends = record {
-        first = ap (λ (p : List Moment). begin_of p new.state) past ∙ begins_alike old.past moment new.state ∙ sym (begins_alike old.past moment state);
-        left = λ pair left. inr (subst (λ (ms : List Moment). Any (LeftAt pair) ms) (sym past) (elim left [
-          | inl leaves ↦ Any-right (LeftAt pair) old.past (moment ∷ []) (Any-first (LeftAt pair) moment []
-              (at_last old.state middle pair (subst (λ (s : State). Leaves s pair) (sym last) leaves)))
+        goes = steps.goes_on old.past moment moment refl refl past (λ pair left. elim left [
+          | inl leaves ↦ at_last old.state middle pair (subst (λ (s : State). Leaves s pair) (sym last) leaves)
           | inr was ↦ was
-        ]));
+        ]);
         stopped = λ stopped. is_over;
       };
       kept = λ going. absurd (going is_over);
@@ -166,14 +138,7 @@ GoesOn-unbegun old at over given new going fails =
 -- a frame that is added to those of the process halves
 pub GoesOn-turn : (old new : Seen) → new.state ≡ old.state → new.past ≡ old.past → new.is_stopped ≡ old.is_stopped → GoesOn old new
 GoesOn-turn old new state past stopped = record {
-  extends = record {
-    first = ap (λ (p : List Moment). begin_of p new.state) past ∙ ap (λ (s : State). begin_of old.past s) state;
-    left = λ pair left. elim left [
-      | inl leaves ↦ inl (subst (λ (s : State). Leaves s pair) (sym state) leaves)
-      | inr was ↦ inr (subst (λ (ms : List Moment). Any (LeftAt pair) ms) (sym past) was)
-    ];
-    stopped = λ is. stopped ∙ is;
-  };
+  extends = record { goes = steps.rests past state; stopped = λ is. stopped ∙ is };
   kept = λ going. KeepsContents-same old.state new.state state;
 }
 

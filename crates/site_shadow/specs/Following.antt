@@ -1,10 +1,10 @@
 -- What a device keeps of the shadow before it, through the calls of both.
-use Rattle.std.specs.Prelude.{◌≡◌, ℕ, ◌≤◌, Bool, false, List, [], ◌∷◌, ◌++◌, length, Some, slice_get, Result, IsTrue, IsErrOf}
+use Rattle.std.specs.Prelude.{◌≡◌, ◌⊎◌, ℕ, zero, suc, ◌≤◌, Bool, false, List, [], ◌∷◌, ◌++◌, length, drop, Some, slice_get, Result, IsTrue, IsErrOf}
 use Rattle.esc_model.specs.SlaveHalf.{SlaveHalf}
 use Rattle.site_core.specs.declared.fault.DeviceFault.{DeviceFault}
 use Rattle.site_core.specs.declared.fault.DeviceFault.TheVariants as faults
 use Rattle.site_core.specs.Disk.{IsSynced}
-use Rattle.site_core.specs.State.{State, Seen, Pair, Moment, LeftSince, with_half, last_of}
+use Rattle.site_core.specs.State.{State, Seen, Pair, Moment, Leaves, LeftAt, with_half, last_of}
 use Rattle.site_core.specs.Calls.{WritesDisk, SyncsDisk}
 use Rattle.site_shadow.specs.declared.device.Passing.{Passing}
 use Rattle.site_shadow.specs.declared.device.Passing.TheVariants.{Passes}
@@ -21,10 +21,28 @@ begin_of (moment ∷ moments) state = moment.before
 abbrev pub first_of : Seen → State
 first_of seen = begin_of seen.past seen.state
 
--- The site began in the same state. What could have been left until then, still could have. If it has stopped, it has so for good.
+-- the state at a time of the clock: before the call of this number, or now
+abbrev pub state_at : Seen → ℕ → State
+state_at seen time = begin_of (drop time seen.past) seen.state
+
+-- A power cut could have left the pair in the call that ends at this time, or at this time.
+abbrev pub LeftTowards : Seen → ℕ → Pair → Type 0
+LeftTowards seen zero pair = Leaves (state_at seen 0) pair
+LeftTowards seen (suc time) pair =
+    ((moment : Moment) × (slice_get seen.past time ≡ Some moment) × LeftAt pair moment) ⊎ Leaves (state_at seen (suc time)) pair
+
+-- The site is in one call more than before, still in the same one, or between the same calls.
+pub data Continues (old new : Seen) : Type 0 where
+  -- a call began in the state in which the site was
+  begins : (moment : Moment) → moment.before ≡ old.state → new.past ≡ old.past ++ moment ∷ [] → Continues old new
+  -- the last call goes on: what a power cut could have left in it until now, it still could have left in it
+  goes_on : (past : List Moment) (was is : Moment) → is.before ≡ was.before → old.past ≡ past ++ was ∷ [] → new.past ≡ past ++ is ∷ []
+      → ((pair : Pair) → Leaves old.state pair ⊎ LeftAt pair was → LeftAt pair is) → Continues old new
+  rests : new.past ≡ old.past → new.state ≡ old.state → Continues old new
+
+-- The site continues, and if it has stopped, it has so for good.
 pub record Extends (old new : Seen) : Type 0 where
-  pub first : first_of new ≡ first_of old
-  pub left : (pair : Pair) → LeftSince old 0 pair → LeftSince new 0 pair
+  pub goes : Continues old new
   pub stopped : IsTrue old.is_stopped → IsTrue new.is_stopped
 
 -- The disk has the same bytes, of which no more are synced, and each half has the same words.

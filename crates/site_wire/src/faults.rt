@@ -20,9 +20,6 @@ pub enum Difference {
     /// Bits 13 and 14 of control and status.
     #[error("the error bits differ")]
     Errors,
-    /// The two words that were read.
-    #[error("the words differ")]
-    Words,
 }
 
 /// Why a site on a wire has stopped.

@@ -2,7 +2,7 @@
 
 use crate::faults::WireFault;
 use esc_rom::TRIES;
-use site_wire::{Difference, StopReason};
+use site_wire::StopReason;
 use station_files::Fault;
 use std::fmt;
 use wire_frames::{Cause, LineFault, Sighting, SlaveFault};
@@ -165,16 +165,6 @@ fn write_stop<W: fmt::Write>(
     seen: Option<Sighting>,
 ) -> fmt::Result {
     match (reason, seen) {
-        (
-            StopReason::Differs {
-                slave,
-                what: Difference::Words,
-            },
-            _,
-        ) => write!(
-            f,
-            "slave {slave}: other words came back than it had: its EEPROM is smaller than its image file, or somebody else writes it: scan the line"
-        ),
         (StopReason::Differs { slave, .. }, Some(seen))
         | (StopReason::WordFailed { slave }, Some(seen)) => {
             write_seen(f, u16::try_from(slave).unwrap_or(u16::MAX), seen)
