@@ -1,5 +1,5 @@
 -- A desk that was closed with what one submitter handed in.
-use Rattle.std.proofs.Common.{◌≡◌, ℕ, Bool, ◌+◌, ◌≤◌, true, false, List, [], ◌∷◌, length, refl, sym, ◌∙◌, ap, subst, arith, inl, inr, Option, Some, None, Result, Ok, Err}
+use Rattle.std.proofs.Common.{◌≡◌, ℕ, Bool, ◌+◌, ◌≤◌, true, false, List, [], ◌∷◌, ◌++◌, length, refl, sym, ◌∙◌, ap, subst, arith, inl, inr, Option, Some, None, Result, Ok, Err}
 use Rattle.std.specs.Prelude.{◌⊎◌, is_some, IfErr, IfOk, IfSome, IsSomeAnd, MatchResult, OnOk}
 use Rattle.std.specs.Global.{Vec}
 use Rattle.sii_edit.specs.declared.command.Command.{Command}
@@ -121,6 +121,10 @@ of-stream (Err why) fault printed is = let same : why ≡ fault = cc in subst Is
 of-desk : (book : Book) (ended : Result (Unit {0}) Fault) (fault : Fault) → IfErr ended (TellsWhy book) → ended ≡ Err fault → TellsWhy book fault
 of-desk book (Ok done) fault tells is = absurd cc
 of-desk book (Err why) fault tells is = let same : why ≡ fault = cc in subst (TellsWhy book) same tells
+
+-- the submitter's share is the only one
+pub one-share : (shares room : List ShareCounts) (counts : ShareCounts) → shares ≡ room ++ counts ∷ [] → room ≡ [] → shares ≡ counts ∷ []
+one-share shares room counts is empty = subst (λ (l : List ShareCounts). shares ≡ l ++ counts ∷ []) empty is
 
 -- what the user is told, from the results of the submitter and of the desk
 abbrev pub IsToldOf : (asked ended : Result (Unit {0}) Fault) → Fault → Type 0

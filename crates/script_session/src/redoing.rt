@@ -18,9 +18,8 @@ ghost use Rattle.script_session.specs.Redoing.{
 };
 
 use crate::closing::why_open;
-use crate::threads::{Opened, open_desk, prepare, serve_sites};
+use crate::threads::{Opened, Opening, open_desk, prepare, serve_sites};
 use crate::together::put_together;
-use book_core::Core;
 use book_model::RomNext;
 use site_core::Site;
 use site_shadow::{Device, ShadowSite};
@@ -28,7 +27,7 @@ use station_alone::Alone;
 use station_files::Fault;
 use station_jobs::{End, NoHook, RomEntry, SlaveLog};
 use station_threads::{
-    BlankLedger, Client, Closed, Desk, Ends, NotClosed, Refusals, Share, Sites, Tickets, close,
+    Client, Closed, Desk, Ends, NotClosed, Refusals, Share, Sites, Tickets, close,
 };
 use std::alloc::{AllocError, Global};
 use std::marker::Brand;
@@ -80,14 +79,7 @@ pub fn redo_by_threads<D: Device + Copy + Send, W: Wait + Threads + Sync>(
             return Err(fault);
         }
     };
-    let ends = redo_at_desk::<Brand, Brand, D, W>(
-        rt,
-        alloc,
-        core,
-        BlankLedger::new(2),
-        BlankLedger::new(2),
-        sites,
-    )?;
+    let ends = redo_at_desk::<Brand, Brand, D, W>(rt, alloc, Opening::of(core), sites)?;
     let words = issues_of(ends.workers.as_slice());
     let site = put_together(alloc, room, slaves, ends)?;
     Ok(Redone { site, words })
@@ -102,23 +94,21 @@ fn redo_at_desk<
 >(
     rt: &W,
     alloc: Global,
-    core: Core,
-    tickets: BlankLedger,
-    refusals: BlankLedger,
+    opening: Opening,
     sites: Sites<ShadowSite<D>>,
 ) -> Result<Ends<ShadowSite<D>>, Fault>
-    requires core { core ≡ T.opened }
-    requires none { core.accepted ≡ [] }
-    requires tickets { (tickets.name ≡ T.name) × (tickets.count ≡ T.parts) }
-    requires refusals { (refusals.name ≡ R.name) × (refusals.count ≡ R.parts) }
-    requires parts { (1 < tickets.count) × (1 < refusals.count) }
+    requires core { opening.core ≡ T.opened }
+    requires none { opening.core.accepted ≡ [] }
+    requires tickets { (opening.tickets.name ≡ T.name) × (opening.tickets.count ≡ T.parts) }
+    requires refusals { (opening.refusals.name ≡ R.name) × (opening.refusals.count ≡ R.parts) }
+    requires parts { (1 < opening.tickets.count) × (1 < opening.refusals.count) }
     requires owned { OwnParts (λ (s : SiteValue). s.line) sites.disk sites.slaves.items sites.cycle }
-    requires long { 8 + core.capacity ≤ length sites.disk.seen.state.disk.bytes }
+    requires long { 8 + opening.core.capacity ≤ length sites.disk.seen.state.disk.bytes }
     ensures of_sites { IfOk result (λ ends. AreEndsOfParts sites ends) }
     ensures closes { IfOk result (λ ends. Closes T.opened (no_counts ∷ []) [] ends) }
     ensures stopped { IfErr result (StopsRedoing T.opened) }
 {
-    match open_desk::<T, R>(alloc, core, tickets, refusals) {
+    match open_desk::<T, R>(alloc, opening) {
         Ok(opened) => redo_opened(rt, alloc, opened, sites),
         Err(AllocError) => {
             drop(sites);

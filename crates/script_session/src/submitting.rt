@@ -44,6 +44,7 @@ fn ask<T: Tickets, R: Refusals, W: Wait>(
             Err(refused) => {
                 let Refused { refusal, command } = refused;
                 if refusal != SubmitRefusal::Full {
+                    drop(command);
                     return Err(refusal);
                 }
                 seen = Some(status_behind(rt, desk, seen));

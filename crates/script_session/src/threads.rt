@@ -71,15 +71,9 @@ pub fn serve_by_threads<D: Device + Copy + Send, O: Write, W: Wait + Threads + S
             return Err(fault);
         }
     };
+    let opening = Opening::of(core);
     let at = serve_at_desk::<Brand, Brand, Brand, D, O, W>(
-        rt,
-        alloc,
-        core,
-        BlankLedger::new(2),
-        BlankLedger::new(2),
-        sites,
-        work,
-        output,
+        rt, alloc, opening, sites, work, output,
     )?;
     put_back(alloc, room, slaves, at)
 }
@@ -146,26 +140,24 @@ fn serve_at_desk<
 >(
     rt: &W,
     alloc: Global,
-    core: Core,
-    tickets: BlankLedger,
-    refusals: BlankLedger,
+    opening: Opening,
     sites: Sites<ShadowSite<D>>,
     work: Work,
     output: &'o mut O,
 ) -> Result<AtDesk<ShadowSite<D>>, AllocError>
-    requires core { core ≡ T.opened }
-    requires none { core.accepted ≡ [] }
-    requires tickets { (tickets.name ≡ T.name) × (tickets.count ≡ T.parts) }
-    requires refusals { (refusals.name ≡ R.name) × (refusals.count ≡ R.parts) }
-    requires parts { (1 < tickets.count) × (1 < refusals.count) }
+    requires core { opening.core ≡ T.opened }
+    requires none { opening.core.accepted ≡ [] }
+    requires tickets { (opening.tickets.name ≡ T.name) × (opening.tickets.count ≡ T.parts) }
+    requires refusals { (opening.refusals.name ≡ R.name) × (opening.refusals.count ≡ R.parts) }
+    requires parts { (1 < opening.tickets.count) × (1 < opening.refusals.count) }
     requires commands { work.commands.items ≡ C.commands }
     requires owned { OwnParts (λ (s : SiteValue). s.line) sites.disk sites.slaves.items sites.cycle }
-    requires long { 8 + core.capacity ≤ length sites.disk.seen.state.disk.bytes }
+    requires long { 8 + opening.core.capacity ≤ length sites.disk.seen.state.disk.bytes }
     ensures of_sites { IfOk result (λ at. AreEndsOfParts sites at.ends) }
     ensures ending { IfOk result (λ at. EndsSo T.opened C.commands at.ends at.ending) }
     ensures unserved { IfOk result (λ at. at.ending.is_driven ≡ false → at.unserved.items ≡ C.commands) }
 {
-    match open_desk::<T, R>(alloc, core, tickets, refusals) {
+    match open_desk::<T, R>(alloc, opening) {
         Ok(opened) => serve_opened::<T, R, C, D, O, W>(rt, alloc, opened, sites, work, output),
         Err(AllocError) => {
             drop(sites);
@@ -255,6 +247,28 @@ fn serve_submitter<
     }
 }
 
+/// What a desk is made of: the book, and a ledger for the tickets and one for the refusals, both blank.
+#[derive(Drop)]
+pub(crate) struct Opening {
+    pub(crate) core: Core,
+    pub(crate) tickets: BlankLedger,
+    pub(crate) refusals: BlankLedger,
+}
+
+impl Opening {
+    /// The book, with ledgers of two parts each.
+    pub(crate) fn of(core: Core) -> Self
+        ensures core { result.core ≡ core }
+        ensures parts { (result.tickets.count ≡ 2) × (result.refusals.count ≡ 2) }
+    {
+        Opening {
+            core,
+            tickets: BlankLedger::new(2),
+            refusals: BlankLedger::new(2),
+        }
+    }
+}
+
 /// A new desk, a share for the submitter, and an empty list with room for that share.
 #[derive(Drop)]
 pub(crate) struct Opened<T: Tickets, R: Refusals> {
@@ -263,24 +277,30 @@ pub(crate) struct Opened<T: Tickets, R: Refusals> {
     pub(crate) room: Vec<Share<T, R>>,
 }
 
-/// A new desk of this book, with its first share for the submitter and room for that share.
+/// A new desk, with its first share for the submitter and room for that share.
 pub(crate) fn open_desk<T: Tickets, R: Refusals>(
     alloc: Global,
-    core: Core,
-    tickets: BlankLedger,
-    refusals: BlankLedger,
+    opening: Opening,
 ) -> Result<Opened<T, R>, AllocError>
-    requires core { core ≡ T.opened }
-    requires none { core.accepted ≡ [] }
-    requires tickets { (tickets.name ≡ T.name) × (tickets.count ≡ T.parts) }
-    requires refusals { (refusals.name ≡ R.name) × (refusals.count ≡ R.parts) }
-    requires parts { (1 < tickets.count) × (1 < refusals.count) }
-    ensures limit { IfOk result (λ opened. opened.desk.limit ≡ 8 + core.capacity) }
+    requires core { opening.core ≡ T.opened }
+    requires none { opening.core.accepted ≡ [] }
+    requires tickets { (opening.tickets.name ≡ T.name) × (opening.tickets.count ≡ T.parts) }
+    requires refusals { (opening.refusals.name ≡ R.name) × (opening.refusals.count ≡ R.parts) }
+    requires parts { (1 < opening.tickets.count) × (1 < opening.refusals.count) }
+    ensures limit { IfOk result (λ opened. opened.desk.limit ≡ 8 + opening.core.capacity) }
     ensures share { IfOk result (λ opened. opened.share ≡ no_counts) }
     ensures room { IfOk result (λ opened. (opened.room.items ≡ []) × (1 ≤ vec_capacity opened.room)) }
 {
+    let Ok(room) = Vec::with_capacity(alloc, 1) else {
+        drop(opening);
+        return Err(AllocError);
+    };
+    let Opening {
+        core,
+        tickets,
+        refusals,
+    } = opening;
     let (desk, share) = Desk::with_share(alloc, core, tickets, refusals)?;
-    let room = Vec::with_capacity(alloc, 1)?;
     Ok(Opened { desk, share, room })
 }
 

@@ -11,9 +11,18 @@ use esc_rom::owns_all;
 use site_core::Site;
 use site_shadow::{Device, Parts, ShadowSite};
 use station_files::Fault;
-use station_jobs::{End, SlaveLog};
+use station_jobs::{End, Leads, SlaveLog};
 use station_threads::Ends;
 use std::alloc::Global;
+
+/// The parts and the device of the site with which a thread ended.
+fn parts_of<D: Device + Copy, L: Leads + Drop>(end: End<ShadowSite<D>, L>) -> (Parts, D)
+    ensures disk { IfSome result.0.disk (λ bytes. bytes.items ≡ end.site.seen.state.disk.bytes) }
+    ensures halves { halves_of result.0.halves.items ≡ end.site.seen.state.halves }
+{
+    let (site, _log) = end.into_parts();
+    site.into_parts()
+}
 
 /// The EEPROM half of this slave, as its worker left it.
 fn half_at<D: Device + Copy>(
@@ -22,13 +31,14 @@ fn half_at<D: Device + Copy>(
 ) -> Result<Option<RomHalf>, Fault>
     ensures { IfOk result (λ half. EndsWith slave end (half_of half)) }
 {
-    let (site, _log) = end.into_parts();
-    let (parts, _device) = site.into_parts();
-    let Parts { mut halves, .. } = parts;
-    if slave >= halves.len() {
+    let (mut parts, _device) = parts_of(end);
+    if slave >= parts.halves.len() {
+        drop(parts);
         return Err(Fault::Unserved);
     }
-    Ok(halves.swap_remove(slave))
+    let half = parts.halves.swap_remove(slave);
+    drop(parts);
+    Ok(half)
 }
 
 /// The EEPROM halves of all slaves, in order, as their workers left them.
@@ -65,10 +75,10 @@ fn split<D: Device + Copy>(
     let Ends {
         flusher,
         workers,
-        ..
+        cycle,
     } = ends;
-    let (site, _log) = flusher.into_parts();
-    (site.into_parts(), workers)
+    drop(cycle);
+    (parts_of(flusher), workers)
 }
 
 /// The line with the disk of these parts and these EEPROM halves.
@@ -98,6 +108,7 @@ fn whole_line<D: Device + Copy>(site: ShadowSite<D>, slaves: usize) -> Result<Sh
     if is_line_of(&site, slaves) {
         Ok(site)
     } else {
+        drop(site);
         Err(Fault::Unserved)
     }
 }

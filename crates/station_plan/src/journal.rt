@@ -1,6 +1,8 @@
 //! The subcommand `journal`.
 ghost use Rattle.std.specs.Prelude.{◌≡◌, IfOk, IsTrue, OnOk};
+ghost use Rattle.book_laws.specs.Opening.{words_in};
 ghost use Rattle.esc_rom.specs.Owned.{OwnsAll};
+ghost use Rattle.line_changes.specs.Changes.{changes_between};
 ghost use Rattle.station_plan.specs.Journal.{ListsJournal, ListsSite, Restores};
 
 use crate::contents::contents_of;
@@ -9,6 +11,7 @@ use crate::journal_rows::write_journal_rows;
 use crate::reading::{Reading, read_readable};
 use jrn_format::JournalFault;
 use line_changes::{ChangedWord, changed_words, write_changes};
+use sii_words::Plant;
 use site_journal::ReadFault;
 use site_mem::{FaultPlan, Pattern};
 use site_shadow::ShadowSite;
@@ -16,7 +19,7 @@ use station_alone::{OpenFault, Recovered, recover};
 use station_files::{Fault, Store};
 use station_json::{Form, write_cells, write_change_rows};
 use station_session::{Session, load_session, of_open};
-use std::alloc::Global;
+use std::alloc::{AllocError, Global};
 use std::io;
 use std::io::Write;
 
@@ -131,8 +134,9 @@ fn restore(alloc: Global, site: ShadowSite<FaultPlan>) -> Result<Restored, Fault
         Ok((alone, recovered)) => {
             let (core, left) = alone.into_parts();
             drop(core);
-            let after = contents_of(alloc, &left)?;
-            let changes = changed_words(alloc, &before, &after)?;
+            let changes = changes_since(alloc, &before, &left);
+            drop(left);
+            let changes = changes?;
             Ok(Restored { recovered, changes })
         }
         Err((left, fault)) => {
@@ -140,6 +144,19 @@ fn restore(alloc: Global, site: ShadowSite<FaultPlan>) -> Result<Restored, Fault
             Err(of_open(fault))
         }
     }
+}
+
+/// The words in which the slaves of this site differ from `before`.
+fn changes_since(
+    alloc: Global,
+    before: &Plant,
+    site: &ShadowSite<FaultPlan>,
+) -> Result<Vec<ChangedWord>, AllocError>
+    requires { OwnsAll site.now.line }
+    ensures { IfOk result (λ changes. changes.items ≡ changes_between before.now (words_in site.now.seen.state.halves)) }
+{
+    let after = contents_of(alloc, site)?;
+    changed_words(alloc, before, &after)
 }
 
 /// Prints what a recovery would do.

@@ -1,8 +1,10 @@
 //! The subcommand `plan`.
-ghost use Rattle.std.specs.Prelude.{◌≡◌, IfOk, IsTrue};
+ghost use Rattle.std.specs.Prelude.{◌≡◌, IfOk, IsTrue, Ok};
 ghost use Rattle.esc_rom.specs.Owned.{OwnsAll};
+ghost use Rattle.script_session.specs.Rounds.{ServesSo};
+ghost use Rattle.station_files.specs.declared.faults.Fault.{Fault};
 ghost use Rattle.station_session.specs.Session.{is_old};
-ghost use Rattle.station_plan.specs.Plan.{IsPlanOf, PlansFiles, PlansSite, ServesPlan};
+ghost use Rattle.station_plan.specs.Plan.{IsComparison, IsPlanOf, IsServedStation, PlansFiles, PlansSite, ServesPlan};
 
 use crate::contents::contents_of;
 use crate::plan_listing::print_plan;
@@ -13,6 +15,7 @@ use line_changes::{ChangedWord, Resize, changed_words, resizes};
 use script_session::serve_commands;
 use sii_edit::Command;
 use sii_words::Plant;
+use site_core::Site;
 use site_mem::FaultPlan;
 use site_shadow::ShadowSite;
 use station_alone::Alone;
@@ -184,7 +187,7 @@ fn plan_site<W: Write>(
 fn serve_plan<W: Write>(
     alloc: Global,
     before: Plant,
-    mut alone: Alone<ShadowSite<Tally>>,
+    alone: Alone<ShadowSite<Tally>>,
     commands: Vec<Command>,
     output: &mut W,
     status: &mut ExitStatus,
@@ -193,30 +196,85 @@ fn serve_plan<W: Write>(
     ensures { IfOk result (ServesPlan alone commands.items status.old status.new before) }
 {
     let slaves = before.len() as u16;
+    let (site, resizes) = serve_station(alloc, alone, slaves, commands, output, status)?;
+    let planned = compare(alloc, before, &site, resizes);
+    drop(site);
+    planned
+}
+
+/// Serves the commands on an open station of `slaves` slaves. Returns its site, and where a command that it accepted makes word 0x3E say
+/// another size than the slave has.
+fn serve_station<S: Site + Drop, W: Write>(
+    alloc: Global,
+    mut alone: Alone<S>,
+    slaves: u16,
+    commands: Vec<Command>,
+    output: &mut W,
+    status: &mut ExitStatus,
+) -> Result<(S, Vec<Resize>), Fault>
+    requires { OwnsAll alone.line }
+    ensures served { IfOk result (λ served. IsServedStation alone commands.items status.old status.new (S.line served.0) (S.seen served.0)) }
+    ensures owned { IfOk result (λ served. OwnsAll (S.line served.0)) }
+{
+    match serve_resizes(alloc, &mut alone, slaves, commands, output, status) {
+        Ok(resizes) => {
+            let (core, site) = alone.into_parts();
+            drop(core);
+            Ok((site, resizes))
+        }
+        Err(fault) => {
+            drop(alone);
+            Err(fault)
+        }
+    }
+}
+
+/// Serves the commands on an open station of `slaves` slaves. Returns where one that it accepted makes word 0x3E say another size than the
+/// slave has.
+fn serve_resizes<S: Site, W: Write>(
+    alloc: Global,
+    alone: &mut Alone<S>,
+    slaves: u16,
+    commands: Vec<Command>,
+    output: &mut W,
+    status: &mut ExitStatus,
+) -> Result<Vec<Resize>, Fault>
+    ensures { IfOk result (λ _. ServesSo {E = Fault} commands.items (Ok tt) status.old status.new alone.old alone.new) }
+{
     let base = alone.core().contents().try_copy();
-    serve_commands(&mut alone, slaves, commands, output, status)?;
-    let (core, site) = alone.into_parts();
-    let found = resizes_since(alloc, base, core.accepted());
-    drop(core);
-    let resizes = found?;
-    let after = contents_of(alloc, &site)?;
+    serve_commands(alone, slaves, commands, output, status)?;
+    let resizes = resizes_since(alloc, base, alone.core())?;
+    Ok(resizes)
+}
+
+/// Where one of the commands that the book has accepted makes word 0x3E say another size than the slave has. `base` is the contents before
+/// them.
+fn resizes_since(
+    alloc: Global,
+    base: Result<Plant, AllocError>,
+    core: &Core,
+) -> Result<Vec<Resize>, AllocError> {
+    let base = base?;
+    resizes(alloc, &base, core.accepted())
+}
+
+/// Compares the words that the slaves of this site hold with `before`.
+fn compare(
+    alloc: Global,
+    before: Plant,
+    site: &ShadowSite<Tally>,
+    resizes: Vec<Resize>,
+) -> Result<Planned, Fault>
+    requires { OwnsAll site.now.line }
+    ensures { IfOk result (IsComparison before site.now.seen.state.halves) }
+{
+    let after = contents_of(alloc, site)?;
     let changes = changed_words(alloc, &before, &after)?;
-    let tally = *site.device();
     Ok(Planned {
         before,
         after,
         changes,
         resizes,
-        tally,
+        tally: *site.device(),
     })
-}
-
-/// Where one of these commands makes word 0x3E say another size than the slave has. `base` is the contents before them.
-fn resizes_since(
-    alloc: Global,
-    base: Result<Plant, AllocError>,
-    commands: &[Command],
-) -> Result<Vec<Resize>, AllocError> {
-    let base = base?;
-    resizes(alloc, &base, commands)
 }

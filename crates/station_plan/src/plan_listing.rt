@@ -2,8 +2,10 @@
 ghost use Rattle.std.specs.Prelude.{IfErr};
 
 use crate::plan::Planned;
+use crate::tally::Tally;
 use line_changes::{Resize, write_changes};
 use line_report::spell_layout;
+use sii_words::Plant;
 use station_files::Fault;
 use std::alloc::Global;
 use std::io;
@@ -22,18 +24,33 @@ pub(crate) fn print_plan<W: Write>(
 ) -> Result<(), Fault> {
     write_changes(&planned.changes, output)?;
     write_resizes(&planned.resizes, output)?;
-    let tally = planned.tally;
+    write_writes(planned.tally, output)?;
+    write_images(alloc, &planned.before, &planned.after, output)?;
+    output.flush()?;
+    Ok(())
+}
+
+/// Writes how much is written on the way.
+fn write_writes<W: Write>(tally: Tally, output: &mut W) -> io::Result<()> {
     let (words, bytes, syncs) = (tally.words, tally.bytes, tally.syncs);
-    writeln!(output, "writes words {words} bytes {bytes} syncs {syncs}")?;
-    let before = spell_layout(alloc, &planned.before)?;
-    let after = spell_layout(alloc, &planned.after)?;
+    writeln!(output, "writes words {words} bytes {bytes} syncs {syncs}")
+}
+
+/// Writes the process image before and after, if it changes.
+fn write_images<W: Write>(
+    alloc: Global,
+    before: &Plant,
+    after: &Plant,
+    output: &mut W,
+) -> Result<(), Fault> {
+    let before = spell_layout(alloc, before)?;
+    let after = spell_layout(alloc, after)?;
     if before.as_str() != after.as_str() {
         write!(
             output,
             "process image before\n{before}process image after\n{after}"
         )?;
     }
-    output.flush()?;
     Ok(())
 }
 

@@ -15,10 +15,11 @@ use Rattle.station_session.specs.Site.{files_of, switched_on, HoldsSite}
 use Rattle.station_session.proofs.SwitchedOn.{with_words}
 
 -- the saved files are an empty journal, and the words as they were
-pub saves_empty : {T E : Type 0} (result : Result T E) (files : Known) (line : LineFile) (slaves : List (List ℕ)) (old new : Seen) (sizes : List ℕ) → sizes ≡ map length slaves → old ≡ switched_on slaves []
+pub saves_empty : {T E : Type 0} (result : Result T E) (files : Known) (line : LineFile) (slaves : List (List ℕ)) (disk : List ℕ) (old new : Seen) (sizes : List ℕ) → sizes ≡ map length slaves → old ≡ switched_on slaves disk → disk ≡ []
     → new.state.disk.bytes ≡ formatted (length sizes) line.area old.state.disk.bytes → new.state.halves ≡ old.state.halves → OnOk result (HoldsSite files line new.state) → OnOk result (HoldsEmpty files line slaves)
-saves_empty (Err fault) files line slaves old new sizes sized on bytes same held = tt
-saves_empty (Ok done) files line slaves old new sizes sized on bytes same held =
+saves_empty (Err fault) files line slaves disk old new sizes sized made none bytes same held = tt
+saves_empty (Ok done) files line slaves disk old new sizes sized made none bytes same held =
+    let on : old ≡ switched_on slaves [] = subst (λ (d : List ℕ). old ≡ switched_on slaves d) none made in
     let spell : SlaveHalf → List ℕ = λ half. bytes_of half.words in
     let many : length sizes ≡ length slaves = ap length sized ∙ length-map slaves length in
     let written : new.state.disk.bytes ≡ formatted (length slaves) line.area [] =

@@ -54,6 +54,7 @@ pub(crate) fn save_sound<S: Store, T: Write, R: Clock>(
     let _count = site.slaves();
     let (parts, is_sound) = take_apart(site);
     if !is_sound {
+        drop(parts);
         return Err(Fault::Stopped);
     }
     let Parts {

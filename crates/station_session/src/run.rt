@@ -368,7 +368,10 @@ pub fn load<S: Store>(
 {
     let session = load_session(alloc, name, store)?;
     let refusal = session.refusal;
-    let files = FileNames::of_line(alloc, &session.line, name, capture)?;
+    let Ok(files) = FileNames::of_line(alloc, &session.line, name, capture) else {
+        drop(session);
+        return Err(Fault::Memory);
+    };
     match load_commands(alloc, script, files, store) {
         Ok(commands) => match refusal {
             None => Ok(Given { session, commands }),
