@@ -154,20 +154,16 @@ fn event_of(act: Act) -> Option<Event> {
     }
 }
 
-/// Lets the event of the act happen.
-fn does(world: &mut World, act: Act) -> bool {
-    match event_of(act) {
-        Some(event) => return happens(world, event),
-        None => return false,
-    }
-}
-
 /// Whether the act succeeds: its event finds memory, or what must be seen is seen.
 fn comes(alloc: Global, world: &mut World, act: Act) -> bool {
     match act {
         Act::Stop(bytes, words) => return stops(alloc, world, bytes, words),
         Act::Sees(seen) => return sees(world, seen),
-        _ => return does(world, act),
+        _ => {}
+    }
+    match event_of(act) {
+        Some(event) => return happens(world, event),
+        None => return false,
     }
 }
 
@@ -206,13 +202,12 @@ fn is_told(alloc: Global, start: Start, parts: &[&[Act]]) -> bool {
     }
 }
 
-/// How many cases succeed, before the first that doesn't.
-pub(crate) fn count_told(alloc: Global, cases: &[Case]) -> usize {
-    for count in 0..cases.len() {
-        let (start, parts) = cases[count];
-        if !is_told(alloc, start, parts) {
-            return count;
+/// Whether all cases succeed.
+pub(crate) fn are_told(alloc: Global, cases: &[Case]) -> bool {
+    for (start, parts) in cases {
+        if !is_told(alloc, *start, parts) {
+            return false;
         }
     }
-    cases.len()
+    true
 }

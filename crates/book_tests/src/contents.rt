@@ -9,11 +9,11 @@ pub(crate) type Contents = [[u16; 64]; 2];
 
 /// The words of a slave from this one on get these values.
 pub(crate) fn put(contents: &mut Contents, slave: usize, first: usize, values: &[u16]) {
-    let Some(words) = contents.get_mut(slave) else {
-        return;
-    };
-    for (word, value) in words.iter_mut().skip(first).zip(values) {
-        *word = *value;
+    for place in 0..values.len() {
+        let word = first.saturating_add(place);
+        if slave < 2 && word < 64 {
+            contents[slave][word] = values[place];
+        }
     }
 }
 
@@ -28,8 +28,8 @@ pub(crate) fn zeros() -> Contents {
 /// The contents of these slaves.
 fn contents_of(slaves: &[Words]) -> Contents {
     let mut contents = [[0; 64]; 2];
-    for (slave, words) in slaves.iter().enumerate() {
-        put(&mut contents, slave, 0, words.as_slice());
+    for slave in 0..slaves.len() {
+        put(&mut contents, slave, 0, slaves[slave].as_slice());
     }
     contents
 }

@@ -71,7 +71,7 @@ fn fill(alloc: Global, core: &mut Core, ask: &Ask) -> Option<u64> {
 }
 
 /// Whether the call gives what it must. None: memory was refused.
-pub(crate) fn comes(alloc: Global, core: &mut Core, event: &Event) -> Option<bool> {
+fn comes(alloc: Global, core: &mut Core, event: &Event) -> Option<bool> {
     match event {
         Event::Submit(ask, wanted) => Some(submit(alloc, core, ask)? == *wanted),
         Event::Fill(ask, wanted) => Some(fill(alloc, core, ask)? == *wanted),
@@ -81,10 +81,22 @@ pub(crate) fn comes(alloc: Global, core: &mut Core, event: &Event) -> Option<boo
     }
 }
 
+/// Whether the call gives what it must, at the second try if the first is refused memory, which must change nothing.
+fn comes_at_last(alloc: Global, core: &mut Core, event: &Event) -> Option<bool> {
+    let before = core.status();
+    if let Some(is_told) = comes(alloc, core, event) {
+        return Some(is_told);
+    }
+    if core.status() != before {
+        return Some(false);
+    }
+    comes(alloc, core, event)
+}
+
 /// How many of the calls give what they must, before the first that doesn't.
 pub(crate) fn told(alloc: Global, core: &mut Core, events: &[Event]) -> Option<usize> {
     for count in 0..events.len() {
-        if !comes(alloc, core, &events[count])? {
+        if !comes_at_last(alloc, core, &events[count])? {
             return Some(count);
         }
     }

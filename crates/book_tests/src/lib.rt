@@ -14,8 +14,6 @@ mod disk;
 #[cfg(test)]
 mod events;
 #[cfg(test)]
-mod growths;
-#[cfg(test)]
 mod kept;
 #[cfg(test)]
 mod line;

@@ -24,8 +24,11 @@ pub(crate) struct Line {
 }
 
 fn patch(bytes: &mut [u8], from: usize, new: &[u8]) {
-    for (byte, value) in bytes.iter_mut().skip(from).zip(new) {
-        *byte = *value;
+    for place in 0..new.len() {
+        let at = from.saturating_add(place);
+        if at < bytes.len() {
+            bytes[at] = new[place];
+        }
     }
 }
 
@@ -85,7 +88,15 @@ fn open(
 }
 
 /// The book of such a line. None: memory was refused, or the line has no book.
-pub(crate) fn book(rt: &impl Abort, alloc: Global, line: &Line) -> Option<Core> {
+fn book(rt: &impl Abort, alloc: Global, line: &Line) -> Option<Core> {
     let file = file(alloc, line).ok()?;
     open(rt, alloc, slaves(alloc, line)?, &file).ok()
+}
+
+/// The book of such a line, at the second try if the first is refused memory.
+pub(crate) fn book_at_last(rt: &impl Abort, alloc: Global, line: &Line) -> Option<Core> {
+    match book(rt, alloc, line) {
+        Some(core) => Some(core),
+        None => book(rt, alloc, line),
+    }
 }

@@ -1,4 +1,8 @@
 //! What books answer from their opening on, call by call.
+//!
+//! A call that is refused memory leaves the book as it was, and when it is made again it is answered as ever. The gate runs this with
+//! memory; `rt try --test --fail-alloc N` refuses the Nth allocation, and for each N all calls do so, but for those of
+//! `the_queue_holds_1024_commands`.
 
 use crate::asks::Ask::{Alias, Group, Image, Inputs, Swap};
 use crate::disk::Disk::{Append, Did, Done, Retire, Waits};
@@ -6,7 +10,7 @@ use crate::disk::Step::{Close, Idle, Open, Stop, Sync, Write};
 use crate::events::Call::{Fault, Finish, Migrate, Plan, Status};
 use crate::events::Event::{Call, Disk, Fill, Rom, Submit};
 use crate::events::{Event, told};
-use crate::line::{Line, Slave, book};
+use crate::line::{Line, Slave, book_at_last};
 use crate::rom::Rom::{Next, Outcome, Serves, Writes};
 use book_model::{Fault as Faults, RomNext, RomOutcome, SubmitRefusal};
 use sii_edit::{Cause, Refusal};
@@ -15,11 +19,11 @@ use std::alloc::Global;
 use std::process::Abort;
 
 /// A line, and the calls of its book.
-pub(crate) type Case = (Line, &'static [Event]);
+type Case = (Line, &'static [Event]);
 
 /// How many of the calls give what they must, before the first that doesn't.
 fn told_of(rt: &impl Abort, alloc: Global, line: &Line, events: &[Event]) -> Option<usize> {
-    let mut core = book(rt, alloc, line)?;
+    let mut core = book_at_last(rt, alloc, line)?;
     let count = told(alloc, &mut core, events);
     drop(core);
     count
@@ -28,8 +32,7 @@ fn told_of(rt: &impl Abort, alloc: Global, line: &Line, events: &[Event]) -> Opt
 /// Checks that in each case all calls give what they must.
 fn all_come(rt: &impl Abort, alloc: Global, cases: &[Case]) {
     for (line, events) in cases {
-        let count = told_of(rt, alloc, line, events);
-        assert_eq!(rt; count, Some(events.len()));
+        assert!(rt; told_of(rt, alloc, line, events) == Some(events.len()));
     }
 }
 
@@ -195,7 +198,7 @@ const ONCE: &[Event] = &[
 ];
 
 /// Lines with an empty journal, and the calls of their books.
-pub(crate) const SERVED: &[Case] = &[
+const SERVED: &[Case] = &[
     (
         Line {
             slaves: &[ONE, ZERO],
@@ -327,7 +330,7 @@ const COME_TO: &[Event] = &[
 ];
 
 /// Journals with something live in them, or with a large area to fill, and the calls of their books.
-pub(crate) const HALVES: &[Case] = &[
+const HALVES: &[Case] = &[
     (LONG_ALONE, FILLED),
     (LONG_ALONE, FILLING),
     (LONG_ALONE, BEHIND),
@@ -414,7 +417,7 @@ const MIGRATED_ON: &[Event] = &[
 ];
 
 /// Old journals, and the calls of their books.
-pub(crate) const OLD: &[Case] = &[
+const OLD: &[Case] = &[
     (
         Line {
             header: [0xa5, 1, 1, 0, 0, 0x10, 0, 0],
@@ -497,7 +500,7 @@ const CELL: Line = Line {
     ..ALONE
 };
 
-pub(crate) const IMAGES: &[Case] = &[(CELL, PLANNED)];
+const IMAGES: &[Case] = &[(CELL, PLANNED)];
 
 #[test]
 fn the_process_image_follows(rt: HostRuntime) {

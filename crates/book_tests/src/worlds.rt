@@ -3,7 +3,7 @@
 use crate::acts::Act::{Alias, Back, Begin, Done, Migrate, Open, Rest, Rom, Sees, Stop};
 use crate::acts::Seen::{Book, Byte, Down, Slave};
 use crate::acts::Start::{Bytes, Formatted};
-use crate::acts::{Act, Case, count_told};
+use crate::acts::{Act, Case, are_told};
 use crate::random::count_well;
 use book_model::RomOutcome;
 use site_core::{Issued, Settled};
@@ -111,7 +111,7 @@ const TORN_GATES: &[Case] = &[
 
 #[test]
 fn gates_are_torn(rt: HostRuntime) {
-    assert_eq!(rt; count_told(rt.alloc(), TORN_GATES), TORN_GATES.len());
+    assert!(rt; are_told(rt.alloc(), TORN_GATES));
 }
 
 /// A batch is in place, and its gate is torn while it is closed, or before the sync. If the batch is found again, nothing is left to
@@ -166,7 +166,7 @@ const TORN_RETIRES: &[Case] = &[
 
 #[test]
 fn retires_are_torn(rt: HostRuntime) {
-    assert_eq!(rt; count_told(rt.alloc(), TORN_RETIRES), TORN_RETIRES.len());
+    assert!(rt; are_told(rt.alloc(), TORN_RETIRES));
 }
 
 const FIRST: &[LeftWord] = &[LeftWord {
@@ -237,7 +237,7 @@ const TORN_WORDS: &[Case] = &[
 
 #[test]
 fn words_are_torn(rt: HostRuntime) {
-    assert_eq!(rt; count_told(rt.alloc(), TORN_WORDS), TORN_WORDS.len());
+    assert!(rt; are_told(rt.alloc(), TORN_WORDS));
 }
 
 /// A header of version 1, and one with a batch that gives the slave alias 1.
@@ -391,13 +391,10 @@ const TORN_MIGRATIONS: &[Case] = &[
 
 #[test]
 fn migrations_are_torn(rt: HostRuntime) {
-    assert_eq!(rt;
-        count_told(rt.alloc(), TORN_MIGRATIONS),
-        TORN_MIGRATIONS.len()
-    );
+    assert!(rt; are_told(rt.alloc(), TORN_MIGRATIONS));
 }
 
 #[test]
 fn random_lists_are_kept(rt: HostRuntime) {
-    assert_eq!(rt; count_well(rt.alloc(), 10_000), 10_000);
+    assert!(rt; count_well(rt.alloc(), 10_000) == 10_000);
 }

@@ -58,7 +58,15 @@ pub(crate) struct Scenario {
     pub(crate) is_recovered: bool,
 }
 
-/// A submitter of these commands.
+/// A desk, the scenario in which it is served, and the hook of its workers.
+#[derive(Drop)]
+struct Service<'a, T: Tickets, R: Refusals, G> {
+    desk: &'a Desk<T, R>,
+    scenario: &'a Scenario,
+    hook: &'a G,
+}
+
+/// A submitter of these commands, which has submitted those that are for the time before serving.
 fn submitter<T: Tickets, R: Refusals, W: Wait + Abort>(
     rt: &W,
     alloc: Global,
@@ -67,7 +75,9 @@ fn submitter<T: Tickets, R: Refusals, W: Wait + Abort>(
     asks: &'static [Ask],
 ) -> Submitter<T, R> {
     let share = desk.share(rt).ok().expect(rt, "a share");
-    Submitter::new(rt, alloc, share, asks, scenario.rounds, scenario.pace)
+    let mut submitter = Submitter::new(rt, alloc, share, asks, scenario.rounds, scenario.pace);
+    submitter.submit_rounds(rt, desk, false);
+    submitter
 }
 
 /// Serves the line while the driver submits. Hands the sites back if memory was refused.
@@ -97,16 +107,14 @@ fn serve<
     R: Refusals + Send + Sync,
     G: Hook + Sync,
     W: Wait + Threads + Sync + Abort,
->(
-    rt: &W,
-    alloc: Global,
-    desk: &Desk<T, R>,
-    scenario: &Scenario,
-    hook: &G,
-    driver: &mut Driver<T, R>,
-) -> Ends<MemSite>
-    requires { desk.now.limit ≤ 8 + scenario.now.plan.area }
+>(rt: &W, alloc: Global, service: Service<T, R, G>, driver: &mut Driver<T, R>) -> Ends<MemSite>
+    requires { service.desk.now.limit ≤ 8 + service.scenario.now.plan.area }
 {
+    let Service {
+        desk,
+        scenario,
+        hook,
+    } = service;
     let sites = sites_of(rt, alloc, &scenario.plan, scenario.trouble);
     match try_serve(rt, alloc, desk, sites, hook, driver) {
         Ok(ends) => ends,
@@ -128,16 +136,14 @@ fn serve_in<
     scope: &'s Scope<'s, E>,
     rt: &'s W,
     alloc: Global,
-    desk: &'s Desk<T, R>,
-    scenario: &'s Scenario,
-    hook: &'s G,
+    service: Service<'s, T, R, G>,
     driver: &mut Driver<T, R>,
     other: Submitter<T, R>,
 ) -> (Ends<MemSite>, Submitter<T, R>)
-    requires { desk.now.limit ≤ 8 + scenario.now.plan.area }
+    requires { service.desk.now.limit ≤ 8 + service.scenario.now.plan.area }
 {
-    let started = start_submitting(scope, rt, desk, other);
-    let ends = serve(rt, alloc, desk, scenario, hook, driver);
+    let started = start_submitting(scope, rt, service.desk, other);
+    let ends = serve(rt, alloc, service, driver);
     (ends, ended(rt, started))
 }
 
@@ -151,20 +157,18 @@ fn serve_both<
 >(
     rt: &'e W,
     alloc: Global,
-    desk: &'e Desk<T, R>,
-    scenario: &'e Scenario,
-    hook: &'e G,
+    service: Service<'e, T, R, G>,
     driver: &'e mut Driver<T, R>,
     other: Submitter<T, R>,
 ) -> (Ends<MemSite>, Submitter<T, R>)
-    requires { desk.now.limit ≤ 8 + scenario.now.plan.area }
+    requires { service.desk.now.limit ≤ 8 + service.scenario.now.plan.area }
 {
     thread::scope(
         thread::scope_env(),
         rt,
         move |scope| -> (Ends<MemSite>, Submitter<T, R>)
-            requires { desk.now.limit ≤ 8 + scenario.now.plan.area }
-        { serve_in(scope, rt, alloc, desk, scenario, hook, driver, other) },
+            requires { service.desk.now.limit ≤ 8 + service.scenario.now.plan.area }
+        { serve_in(scope, rt, alloc, service, driver, other) },
     )
 }
 
@@ -177,17 +181,18 @@ fn serve_so<
 >(
     rt: &W,
     alloc: Global,
-    desk: &Desk<T, R>,
-    scenario: &Scenario,
-    hook: &G,
+    service: Service<T, R, G>,
     driver: &mut Driver<T, R>,
     other: Submitter<T, R>,
 ) -> (Ends<MemSite>, Submitter<T, R>)
-    requires { desk.now.limit ≤ 8 + scenario.now.plan.area }
+    requires { service.desk.now.limit ≤ 8 + service.scenario.now.plan.area }
 {
-    match scenario.way {
-        Way::Threads => serve_both(rt, alloc, desk, scenario, hook, driver, other),
-        Way::Alone => (serve_alone(rt, alloc, desk, scenario), other),
+    match service.scenario.way {
+        Way::Threads => serve_both(rt, alloc, service, driver, other),
+        Way::Alone => (
+            serve_alone(rt, alloc, service.desk, service.scenario),
+            other,
+        ),
     }
 }
 
@@ -240,11 +245,9 @@ fn both_of<T: Tickets, R: Refusals, W: Wait + Abort>(
     desk: &Desk<T, R>,
     scenario: &Scenario,
 ) -> (Driver<T, R>, Submitter<T, R>) {
-    let mut first = submitter(rt, alloc, desk, scenario, scenario.first);
-    let mut other = submitter(rt, alloc, desk, scenario, scenario.second);
+    let first = submitter(rt, alloc, desk, scenario, scenario.first);
+    let other = submitter(rt, alloc, desk, scenario, scenario.second);
     assert!(rt; desk.share(rt).is_err());
-    first.submit_rounds(rt, desk, false);
-    other.submit_rounds(rt, desk, false);
     let driver = Driver {
         submitter: first,
         accepted: count_of(scenario) as u64,
@@ -265,7 +268,12 @@ fn serve_at<
     requires { desk.now.limit ≤ 8 + scenario.now.plan.area }
 {
     let (mut driver, other) = both_of(rt, alloc, desk, scenario);
-    let (ends, mut other) = serve_so(rt, alloc, desk, scenario, hook, &mut driver, other);
+    let service = Service {
+        desk,
+        scenario,
+        hook,
+    };
+    let (ends, mut other) = serve_so(rt, alloc, service, &mut driver, other);
     other.wait_all(rt, desk);
     (
         held(rt, alloc, driver.submitter, other, scenario.left_out),

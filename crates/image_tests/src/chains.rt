@@ -1,21 +1,30 @@
 //! Chains of categories, and edits that would leave a malformed one.
 
-use crate::devices::{BOTH, INPUTS, device};
+use crate::devices::{BOTH, Device, INPUTS, NAMED, line_of, words_of};
 use sii_cats::kind::{END, RXPDOS, STRINGS, SYNC_MANAGERS, TXPDOS};
 use sii_cats::{Category, chain};
-use sii_edit::{Cause, Command, Edit, EditList, WordList, changes};
+use sii_edit::{Cause, Command, Edit, EditList, Refusal, WordList, changes};
 use sii_image::Layout;
-use sii_words::{Plant, Words, WordsFault};
+use sii_words::Plant;
 use std::alloc::Global;
 
 /// A category that fills 128 words, and leaves no end mark.
-const FILLING: &[u8] = &[51, 0, 62, 0];
+const FILLING: Device = Device {
+    front: NAMED,
+    categories: &[51, 0, 62, 0],
+};
 
-/// The categories of a slave, each with its type, the number of its type word and the length of its content in words.
-const CHAINS: &[(&[u8], &[Category])] = &[
-    (
-        BOTH,
-        &[
+/// The categories of a device, each with its type, the number of its type word and the length of its content in words.
+#[derive(Clone, Copy)]
+struct Chain {
+    device: Device,
+    categories: &'static [Category],
+}
+
+const CHAINS: &[Chain] = &[
+    Chain {
+        device: BOTH,
+        categories: &[
             Category {
                 kind: SYNC_MANAGERS,
                 at: 64,
@@ -32,10 +41,10 @@ const CHAINS: &[(&[u8], &[Category])] = &[
                 count: 12,
             },
         ],
-    ),
-    (
-        INPUTS,
-        &[
+    },
+    Chain {
+        device: INPUTS,
+        categories: &[
             Category {
                 kind: SYNC_MANAGERS,
                 at: 64,
@@ -47,109 +56,133 @@ const CHAINS: &[(&[u8], &[Category])] = &[
                 count: 8,
             },
         ],
-    ),
-    (
-        FILLING,
-        &[Category {
+    },
+    Chain {
+        device: FILLING,
+        categories: &[Category {
             kind: RXPDOS,
             at: 64,
             count: 62,
         }],
-    ),
+    },
 ];
 
-/// Whether the categories of a device are these.
-fn is_chain(alloc: Global, categories: &[u8], wanted: &[Category]) -> bool {
-    let Ok(words) = device(alloc, categories) else {
+/// Whether the categories of the device are these.
+fn is_read(alloc: Global, row: &Chain) -> bool {
+    let Some(words) = words_of(alloc, &row.device) else {
         return false;
     };
     match chain(alloc, words.as_slice()) {
-        Ok(read) => read.as_slice() == wanted,
+        Ok(read) => read.as_slice() == row.categories,
         Err(_fault) => false,
     }
 }
 
 #[test]
 fn chains_are_read(rt: HostRuntime) {
-    for (categories, wanted) in CHAINS {
-        assert!(rt; is_chain(rt.alloc(), categories, wanted));
+    for row in CHAINS {
+        assert!(rt; is_read(rt.alloc(), row));
     }
 }
 
-/// Slave and alias of edits, and behind them a category that is malformed, or whose type none may have: slave, type, content, and which
-/// edit of the group it is.
-type Case = (&'static [(u16, u16)], (u16, u16, &'static [u16], u8));
+/// Aliases for slaves, and behind them a category that is malformed, or whose type none may have, in one group of edits.
+#[derive(Clone, Copy)]
+struct Case {
+    aliases: &'static [(u16, u16)],
+    slave: u16,
+    kind: u16,
+    content: &'static [u16],
+    /// Which edit of the group the category is.
+    position: u8,
+}
+
+/// A slave of zeros, but for the check byte and the end mark.
+const ZERO: Device = Device {
+    front: &[0, 0, 0, 0, 0, 0, 0, 0, 0, 0, 0, 0, 0, 0, 0x30],
+    categories: &[0xFF, 0xFF],
+};
+
+const ZEROS: &[Device] = &[ZERO, ZERO, ZERO];
 
 const MALFORMED: &[Case] = &[
     // A text that is cut off.
-    (&[(0, 5)], (0, STRINGS, &[0x0202, 0x4C45], 1)),
-    (&[], (2, END, &[1], 0)),
+    Case {
+        aliases: &[(0, 5)],
+        slave: 0,
+        kind: STRINGS,
+        content: &[0x0202, 0x4C45],
+        position: 1,
+    },
+    Case {
+        aliases: &[],
+        slave: 2,
+        kind: END,
+        content: &[1],
+        position: 0,
+    },
 ];
 
-/// 128 words of zeros, but for the check byte and the end mark.
-fn zero(alloc: Global) -> Result<Words, WordsFault> {
-    let mut bytes = [0u8; 256];
-    bytes[14] = 0x30;
-    bytes[128] = 0xFF;
-    bytes[129] = 0xFF;
-    Words::from_bytes(alloc, &bytes)
+/// These aliases, as edits.
+fn alias_edits(alloc: Global, aliases: &[(u16, u16)]) -> Option<Vec<Edit>> {
+    let mut edits = Vec::new(alloc);
+    for (slave, value) in aliases {
+        let (slave, value) = (*slave, *value);
+        edits.push(Edit::Alias { slave, value }).ok()?;
+    }
+    Some(edits)
 }
 
-/// A line of three slaves of zeros.
-fn zeros(alloc: Global) -> Result<Plant, WordsFault> {
-    let mut slaves = Vec::new(alloc);
-    for _slave in 0..3usize {
-        slaves.push(zero(alloc)?)?;
-    }
-    if slaves.is_empty() || slaves.len() > 64 {
-        return Err(WordsFault::BadSize);
-    }
-    Ok(Plant::of(slaves))
+/// The category, as an edit.
+fn category_edit(alloc: Global, case: &Case) -> Option<Edit> {
+    Some(Edit::Category {
+        slave: case.slave,
+        kind: case.kind,
+        words: WordList::from_vec(case.content.to_vec(alloc).ok()?),
+    })
 }
 
 /// The aliases, and then the category, as a group of edits.
-fn group(alloc: Global, case: &Case) -> Result<Command, WordsFault> {
-    let (aliases, (slave, kind, content, _)) = *case;
-    let mut edits = Vec::new(alloc);
-    for (slave, value) in aliases {
-        edits.push(Edit::Alias {
-            slave: *slave,
-            value: *value,
-        })?;
-    }
-    let words = WordList::from_vec(content.to_vec(alloc)?);
-    edits.push(Edit::Category { slave, kind, words })?;
-    Ok(Command::Group(EditList::from_vec(edits)))
+fn group(alloc: Global, case: &Case) -> Option<Command> {
+    let mut edits = alias_edits(alloc, case.aliases)?;
+    edits.push(category_edit(alloc, case)?).ok()?;
+    Some(Command::Group(EditList::from_vec(edits)))
 }
 
-/// Why the command is refused, and which edit of it.
-fn refused(
-    alloc: Global,
-    plant: &Plant,
-    command: &Command,
-) -> Result<Option<(Cause, Option<u8>)>, WordsFault> {
-    let layout = Layout::of(alloc, plant)?;
+/// Why the command is refused.
+fn refusal(alloc: Global, plant: &Plant, command: &Command) -> Option<Refusal> {
+    let layout = Layout::of(alloc, plant).ok()?;
     match changes(alloc, plant, &layout, command) {
         Ok(change) => {
             drop(change);
-            Ok(None)
+            None
         }
-        Err(refusal) => Ok(Some((refusal.cause, refusal.position))),
+        Err(refusal) => Some(refusal),
     }
 }
 
-/// Whether the category of the case is refused, with its type.
-fn is_refused(alloc: Global, case: &Case) -> Result<bool, WordsFault> {
-    let (_, (_, kind, _, position)) = *case;
-    let plant = zeros(alloc)?;
+/// Why the group is refused on a line of zeros.
+fn refusal_of(alloc: Global, case: &Case) -> Option<Refusal> {
+    let plant = line_of(alloc, ZEROS)?;
     let command = group(alloc, case)?;
-    let wanted = (Cause::BadCategory { kind }, Some(position));
-    Ok(refused(alloc, &plant, &command)? == Some(wanted))
+    refusal(alloc, &plant, &command)
+}
+
+/// Whether the category of the case is refused, with its type.
+fn is_refused(alloc: Global, case: &Case) -> bool {
+    match refusal_of(alloc, case) {
+        Some(
+            Refusal {
+                cause: Cause::BadCategory { kind },
+                position: Some(position),
+            },
+        ) => kind == case.kind && position == case.position,
+        _ => false,
+    }
 }
 
 #[test]
 fn malformed_categories_are_refused(rt: HostRuntime) {
     for case in MALFORMED {
-        assert!(rt; is_refused(rt.alloc(), case) == Ok(true));
+        assert!(rt; is_refused(rt.alloc(), case));
     }
 }

@@ -72,15 +72,11 @@ fn comes(alloc: Global, case: &Case) -> bool {
     let (kind, words, wanted) = *case;
     match (rewritten(alloc, kind, words), wanted) {
         (Ok(written), Ok(wanted)) => written.as_slice() == wanted,
-        (Err(fault), Err(wanted)) => fault == wanted,
+        (
+            Err(CatFault::BadCategory { kind: refused }),
+            Err(CatFault::BadCategory { kind: wanted }),
+        ) => refused == wanted,
         _ => false,
-    }
-}
-
-#[test]
-fn contents_are_read_and_written(rt: HostRuntime) {
-    for case in CASES {
-        assert!(rt; comes(rt.alloc(), case));
     }
 }
 
@@ -93,6 +89,9 @@ fn is_padded(alloc: Global) -> bool {
 }
 
 #[test]
-fn one_unit_is_padded(rt: HostRuntime) {
+fn contents_are_read_and_written(rt: HostRuntime) {
+    for case in CASES {
+        assert!(rt; comes(rt.alloc(), case));
+    }
     assert!(rt; is_padded(rt.alloc()));
 }

@@ -1,52 +1,69 @@
-//! Devices of 128 words, and lines of two.
+//! Devices of 128 words, and lines of them.
 
-use sii_words::{Plant, Words, WordsFault};
-use std::alloc::Global;
+use sii_words::{Plant, Words};
+use std::alloc::{AllocError, Global};
+
+/// A device of 128 words: its first bytes, and those of its categories. The others are 0.
+#[derive(Clone, Copy)]
+pub(crate) struct Device {
+    pub(crate) front: &'static [u8],
+    pub(crate) categories: &'static [u8],
+}
+
+/// Alias 0x0908.
+pub(crate) const NAMED: &[u8] = &[0, 0, 0, 0, 0, 0, 0, 0, 0x08, 0x09];
 
 /// A slave with a byte of outputs and four bytes of inputs: its SyncM, RXPDO and TXPDO categories.
-pub(crate) const BOTH: &[u8] = &[
-    41, 0, 16, 0, 0x00, 0x10, 0x80, 0x00, 0x26, 0x00, 0x01, 0x01, 0x80, 0x10, 0x80, 0x00, 0x22,
-    0x00, 0x01, 0x02, 0x00, 0x11, 0x01, 0x00, 0x24, 0x00, 0x01, 0x03, 0x80, 0x11, 0x04, 0x00, 0x20,
-    0x00, 0x01, 0x04, 51, 0, 8, 0, 0x00, 0x16, 0x01, 0x02, 0x00, 0x00, 0x00, 0x00, 0x00, 0x70,
-    0x01, 0x00, 0x05, 0x08, 0x00, 0x00, 50, 0, 12, 0, 0x00, 0x1a, 0x02, 0x03, 0x00, 0x00, 0x00,
-    0x00, 0x00, 0x60, 0x01, 0x00, 0x06, 0x10, 0x00, 0x00, 0x00, 0x60, 0x02, 0x00, 0x06, 0x10, 0x00,
-    0x00, 0xff, 0xff,
-];
+pub(crate) const BOTH: Device = Device {
+    front: NAMED,
+    categories: &[
+        41, 0, 16, 0, 0x00, 0x10, 0x80, 0x00, 0x26, 0x00, 0x01, 0x01, 0x80, 0x10, 0x80, 0x00, 0x22,
+        0x00, 0x01, 0x02, 0x00, 0x11, 0x01, 0x00, 0x24, 0x00, 0x01, 0x03, 0x80, 0x11, 0x04, 0x00,
+        0x20, 0x00, 0x01, 0x04, 51, 0, 8, 0, 0x00, 0x16, 0x01, 0x02, 0x00, 0x00, 0x00, 0x00, 0x00,
+        0x70, 0x01, 0x00, 0x05, 0x08, 0x00, 0x00, 50, 0, 12, 0, 0x00, 0x1a, 0x02, 0x03, 0x00, 0x00,
+        0x00, 0x00, 0x00, 0x60, 0x01, 0x00, 0x06, 0x10, 0x00, 0x00, 0x00, 0x60, 0x02, 0x00, 0x06,
+        0x10, 0x00, 0x00, 0xff, 0xff,
+    ],
+};
 
 /// A slave with twelve bits of inputs.
-pub(crate) const INPUTS: &[u8] = &[
-    41, 0, 4, 0, 0x00, 0x10, 0x02, 0x00, 0x20, 0x00, 0x01, 0x04, 50, 0, 8, 0, 0x00, 0x1a, 0x01,
-    0x00, 0x00, 0x00, 0x00, 0x00, 0x00, 0x60, 0x01, 0x00, 0x00, 0x0c, 0x00, 0x00, 0xff, 0xff,
-];
+pub(crate) const INPUTS: Device = Device {
+    front: NAMED,
+    categories: &[
+        41, 0, 4, 0, 0x00, 0x10, 0x02, 0x00, 0x20, 0x00, 0x01, 0x04, 50, 0, 8, 0, 0x00, 0x1a, 0x01,
+        0x00, 0x00, 0x00, 0x00, 0x00, 0x00, 0x60, 0x01, 0x00, 0x00, 0x0c, 0x00, 0x00, 0xff, 0xff,
+    ],
+};
 
 /// A slave without categories.
-pub(crate) const NOTHING: &[u8] = &[0xff, 0xff];
+pub(crate) const NOTHING: Device = Device {
+    front: NAMED,
+    categories: &[0xff, 0xff],
+};
 
-/// The bytes of 128 words: alias 0x0908, and these categories.
-pub(crate) fn bytes_of(categories: &[u8]) -> [u8; 256] {
-    let mut bytes = [0u8; 256];
-    bytes[8] = 0x08;
-    bytes[9] = 0x09;
-    for (place, byte) in categories.iter().enumerate() {
-        if place < 128 {
-            bytes[128 + place] = *byte;
-        }
-    }
-    bytes
+/// The bytes of a device.
+pub(crate) fn bytes_of(alloc: Global, device: &Device) -> Result<Vec<u8>, AllocError> {
+    let mut bytes = Vec::from_slice(alloc, device.front)?;
+    bytes.resize(128, 0)?;
+    bytes.extend_from_slice(device.categories)?;
+    bytes.resize(256, 0)?;
+    Ok(bytes)
 }
 
-/// A device of these words.
-pub(crate) fn device(alloc: Global, categories: &[u8]) -> Result<Words, WordsFault> {
-    Words::from_bytes(alloc, &bytes_of(categories))
+/// The words of a device.
+pub(crate) fn words_of(alloc: Global, device: &Device) -> Option<Words> {
+    let bytes = bytes_of(alloc, device).ok()?;
+    Words::from_bytes(alloc, &bytes).ok()
 }
 
-/// A line of two devices.
-pub(crate) fn line_of(alloc: Global, first: &[u8], second: &[u8]) -> Result<Plant, WordsFault> {
+/// A line of these devices.
+pub(crate) fn line_of(alloc: Global, devices: &[Device]) -> Option<Plant> {
     let mut slaves = Vec::new(alloc);
-    slaves.push(device(alloc, first)?)?;
-    slaves.push(device(alloc, second)?)?;
-    if slaves.is_empty() || slaves.len() > 64 {
-        return Err(WordsFault::BadSize);
+    for device in devices {
+        slaves.push(words_of(alloc, device)?).ok()?;
     }
-    Ok(Plant::of(slaves))
+    if slaves.len() < 1 || slaves.len() > 64 {
+        return None;
+    }
+    Some(Plant::of(slaves))
 }

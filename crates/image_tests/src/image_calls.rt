@@ -4,14 +4,16 @@ use sii_bytes::{
     CategoryPlace, Head, ImageSizes, PlacedSegment, edit_category, edit_image, find_category,
     judge_image, place_line, read_head, set_alias,
 };
-use std::alloc::{AllocError, Global};
+use std::alloc::Global;
 
 /// The codes that zeros get: from their head, their judgement, a new alias, category 0, the removal of a category, an image, and as a
 /// line.
 type Codes = (u32, u32, u32, u32, u32, u32, u32);
 
-/// Numbers of bytes, and the codes of so many zeros.
-const ZEROS: &[(usize, Codes)] = &[
+/// A number of bytes, and the codes of so many zeros.
+type Zeros = (usize, Codes);
+
+const ZEROS: &[Zeros] = &[
     (126, (2, 2, 2, 2, 2, 2, 2)),
     (127, (1, 1, 1, 1, 1, 1, 1)),
     (128, (0, 15, 15, 16, 16, 15, 0)),
@@ -72,18 +74,25 @@ fn line_code(alloc: Global, bytes: &[u8]) -> u32 {
     place_line(alloc, bytes, &[bytes.len()], &mut segments, &mut sizes)
 }
 
-fn codes_of_zeros(alloc: Global, count: usize) -> Result<Codes, AllocError> {
-    let mut bytes = vec![in alloc; 0u8; count]?;
-    let image = vec![in alloc; 0u8; count]?;
-    let (head, judged, category) = read_codes(alloc, &bytes);
-    let line = line_code(alloc, &bytes);
-    let (alias, removed, written) = change_codes(alloc, &mut bytes, &image);
-    Ok((head, judged, alias, category, removed, written, line))
+/// The codes of these zeros.
+fn codes_of(alloc: Global, bytes: &mut [u8], image: &[u8]) -> Codes {
+    let (head, judged, category) = read_codes(alloc, bytes);
+    let line = line_code(alloc, bytes);
+    let (alias, removed, written) = change_codes(alloc, bytes, image);
+    (head, judged, alias, category, removed, written, line)
+}
+
+/// Whether so many zeros get their codes.
+fn get_codes(alloc: Global, zeros: &Zeros) -> Option<bool> {
+    let (count, codes) = *zeros;
+    let mut bytes = vec![in alloc; 0u8; count].ok()?;
+    let image = vec![in alloc; 0u8; count].ok()?;
+    Some(codes_of(alloc, &mut bytes, &image) == codes)
 }
 
 #[test]
 fn zeros_get_their_codes(rt: HostRuntime) {
-    for (count, codes) in ZEROS {
-        assert!(rt; codes_of_zeros(rt.alloc(), *count) == Ok(*codes));
+    for zeros in ZEROS {
+        assert!(rt; matches!(get_codes(rt.alloc(), zeros), Some(true)));
     }
 }

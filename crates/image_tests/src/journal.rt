@@ -4,35 +4,45 @@ use jrn_format::{JournalFault, scan};
 use std::alloc::Global;
 
 /// The header of a journal of two slaves, with an area of 4,096 bytes, and a batch that exchanges two aliases.
-const SWAPPED: [u8; 59] = [
+const SWAPPED: &[u8] = &[
     0xa5, 0x02, 0x02, 0x00, 0x00, 0x10, 0x00, 0x00, 0xa5, 0x00, 0x2c, 0x00, 0x00, 0x00, 0x01, 0x00,
     0, 0, 0, 0, 0, 0, 0, 0, 0x04, 0x00, 0x00, 0x00, 0x04, 0x00, 0x01, 0x00, 0x00, 0x00, 0x00, 0x00,
     0x07, 0x00, 0x01, 0x00, 0x30, 0x00, 0x01, 0x00, 0x04, 0x00, 0x01, 0x00, 0x01, 0x00, 0x01, 0x00,
     0x07, 0x00, 0x01, 0x00, 0x19, 0x00, 0x00,
 ];
 
-/// The fault of a journal that is cut off after this many bytes.
-fn cut_fault(size: usize) -> JournalFault {
-    if size < 8 {
-        return JournalFault::NotAJournal;
-    }
-    JournalFault::BadJournal { at: size }
-}
-
 /// Whether a journal is refused with the fault of one that is cut off.
 fn is_cut(alloc: Global, file: &[u8]) -> bool {
     match scan(alloc, file, &[64, 64]) {
-        Ok(_journal) => false,
-        Err(fault) => fault == cut_fault(file.len()),
+        Err(JournalFault::NotAJournal) => file.len() < 8,
+        Err(JournalFault::BadJournal { at }) => file.len() >= 8 && at == file.len(),
+        _ => false,
     }
+}
+
+/// The journal with its whole area.
+fn whole(alloc: Global) -> Option<Vec<u8>> {
+    let mut file = Vec::from_slice(alloc, SWAPPED).ok()?;
+    file.resize(4104, 0).ok()?;
+    Some(file)
+}
+
+/// Whether the whole journal is read, and refused with each number of bytes below.
+fn is_whole(alloc: Global, file: &[u8]) -> bool {
+    for size in 0..file.len() {
+        if !is_cut(alloc, &file[..size]) {
+            return false;
+        }
+    }
+    file.len() == 4104 && scan(alloc, file, &[64, 64]).is_ok()
 }
 
 #[test]
 fn files_cut_short(rt: HostRuntime) {
-    let mut file = [0u8; 4104];
-    file[..59].copy_from_slice(&SWAPPED);
-    for size in 0..4104usize {
-        assert!(rt; is_cut(rt.alloc(), &file[..size]));
-    }
-    assert!(rt; scan(rt.alloc(), &file, &[64, 64]).is_ok());
+    assert!(rt;
+        match whole(rt.alloc()) {
+            Some(file) => is_whole(rt.alloc(), &file),
+            None => false,
+        }
+    );
 }

@@ -1,8 +1,8 @@
 //! Layouts that are changed, slave by slave, to those of a line worked out by hand.
 
-use crate::devices::{BOTH, INPUTS, NOTHING, device, line_of};
+use crate::devices::{BOTH, Device, INPUTS, NOTHING, line_of, words_of};
 use sii_image::{Layout, NewLayout, NewLayouts, ProcessImage, Segment, SlaveLayout};
-use sii_words::{Plant, WordsFault};
+use sii_words::Words;
 use std::alloc::Global;
 
 const SEGMENTS: &[Segment] = &[
@@ -40,54 +40,57 @@ const SEGMENTS: &[Segment] = &[
 
 fn is_whole(image: &ProcessImage) -> bool {
     image.segments() == SEGMENTS
-        && (image.outputs(), image.inputs(), image.expected_counter()) == (1, 6, 4)
+        && image.outputs() == 1
+        && image.inputs() == 6
+        && image.expected_counter() == 4
 }
 
-/// The layout of a slave with these categories.
-fn slave_layout(alloc: Global, categories: &[u8]) -> Result<SlaveLayout, WordsFault> {
-    let words = device(alloc, categories)?;
-    Ok(SlaveLayout::of(alloc, &words)?)
+/// The layout of a device.
+fn slave_layout(alloc: Global, device: &Device) -> Option<SlaveLayout> {
+    let words = words_of(alloc, device)?;
+    SlaveLayout::of(alloc, &words).ok()
 }
 
 /// The layouts of both slaves of the line.
-fn both_layouts(alloc: Global) -> Result<NewLayouts, WordsFault> {
+fn both_layouts(alloc: Global) -> Option<NewLayouts> {
     let first = NewLayout {
         slave: 0,
-        layout: slave_layout(alloc, BOTH)?,
+        layout: slave_layout(alloc, &BOTH)?,
     };
     let second = NewLayout {
         slave: 1,
-        layout: slave_layout(alloc, INPUTS)?,
+        layout: slave_layout(alloc, &INPUTS)?,
     };
-    Ok(NewLayouts::of(Vec::from_array(alloc, [first, second])?))
+    Some(NewLayouts::of(Vec::from_array(alloc, [first, second]).ok()?))
 }
 
-/// A layout whose first slave is changed to `INPUTS`. There is no third one, so that nothing else is changed.
-fn changed_layout(alloc: Global, plant: &Plant) -> Result<Layout, WordsFault> {
-    let inputs = device(alloc, INPUTS)?;
-    let mut layout = Layout::of(alloc, plant)?;
-    layout.change(0, &inputs)?;
-    layout.change(2, &inputs)?;
-    Ok(layout)
+/// Changes the first slave of a layout to `INPUTS`. There is no third one, so that nothing else is changed.
+fn change(layout: &mut Layout, inputs: &Words) -> bool {
+    layout.change(0, inputs).is_ok() && layout.change(2, inputs).is_ok()
 }
 
 /// Whether this layout has the process image of the line once both slaves are changed.
-fn becomes_whole(alloc: Global, mut layout: Layout) -> Result<bool, WordsFault> {
-    let new = both_layouts(alloc)?;
+fn becomes_whole(layout: &mut Layout, new: NewLayouts) -> bool {
     let is_within = layout.has_process_image_with(&new);
     layout.put_all(new);
     match layout.image() {
-        Ok(image) => Ok(is_within && is_whole(&image)),
-        Err(_fault) => Ok(false),
+        Ok(image) => is_within && is_whole(&image),
+        Err(_fault) => false,
     }
 }
 
-fn is_changed(alloc: Global) -> Result<bool, WordsFault> {
-    let plant = line_of(alloc, BOTH, NOTHING)?;
-    becomes_whole(alloc, changed_layout(alloc, &plant)?)
+/// The line before the change of its slaves.
+const BEFORE: &[Device] = &[BOTH, NOTHING];
+
+fn is_changed(alloc: Global) -> Option<bool> {
+    let plant = line_of(alloc, BEFORE)?;
+    let inputs = words_of(alloc, &INPUTS)?;
+    let mut layout = Layout::of(alloc, &plant).ok()?;
+    let new = both_layouts(alloc)?;
+    Some(change(&mut layout, &inputs) && becomes_whole(&mut layout, new))
 }
 
 #[test]
 fn layouts_are_changed(rt: HostRuntime) {
-    assert!(rt; is_changed(rt.alloc()) == Ok(true));
+    assert!(rt; matches!(is_changed(rt.alloc()), Some(true)));
 }

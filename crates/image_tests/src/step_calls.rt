@@ -22,7 +22,9 @@ enum Came {
 }
 
 /// What is begun, what comes back for each datagram, and the codes: of the last one that came back, and of what is next.
-const RUNS: &[(Begun, &[Came], u32, u32)] = &[
+type Run = (Begun, &'static [Came], u32, u32);
+
+const RUNS: &[Run] = &[
     (Begun::Nothing, &[Came::Loss], 110, 110),
     (
         Begun::Opening,
@@ -112,15 +114,10 @@ fn begin(begun: Begun) -> Access {
     access
 }
 
-/// The codes at the end of a run.
-fn codes_of(begun: Begun, came: &[Came]) -> (u32, u32) {
+/// Whether a run ends with its codes.
+fn ends_so(run: &Run) -> bool {
+    let (begun, came, wanted, end) = *run;
     let mut access = begin(begun);
-    let mut sent = ToSend {
-        command: 0,
-        length: 0,
-        register: 0,
-        content: [0; 8],
-    };
     let mut last = 0;
     for back in came {
         last = match *back {
@@ -129,12 +126,18 @@ fn codes_of(begun: Begun, came: &[Came]) -> (u32, u32) {
             Came::Stop => take_stop(&mut access),
         };
     }
-    (last, next(&access, &mut sent))
+    let mut sent = ToSend {
+        command: 0,
+        length: 0,
+        register: 0,
+        content: [0; 8],
+    };
+    last == wanted && next(&access, &mut sent) == end
 }
 
 #[test]
 fn accesses_end_with_their_codes(rt: HostRuntime) {
-    for (begun, came, last, end) in RUNS {
-        assert!(rt; codes_of(*begun, came) == (*last, *end));
+    for run in RUNS {
+        assert!(rt; ends_so(run));
     }
 }

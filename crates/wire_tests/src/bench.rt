@@ -8,13 +8,14 @@ use sii_words::Words;
 use site_core::{Issued, Settled, Site};
 use site_file::{FileDevice, OpenFiles, RandomAccessFile};
 use site_shadow::{Parts, Pattern, ShadowSite};
-use site_wire::{LiveLine, StopReason, WireDevice, WireSite};
+use site_wire::{StopReason, WireDevice, WireSite};
 use std::alloc::Global;
 use std::io;
 use wire_bringup::{Sizes, SlaveState, bring_up};
 use wire_frames::{NumberedWire, Wire};
 use wire_practice::{
-    Cable, Fate, Mishap, PracticeClock, PracticeLine, PracticeSlave, PracticeWire, Quirks,
+    Cable, Fate, Mishap, NO_QUIRKS, PracticeClock, PracticeLine, PracticeSlave, PracticeWire,
+    Quirks,
 };
 
 /// A journal that nobody uses.
@@ -53,9 +54,6 @@ pub(crate) struct Bench {
 /// The wire of a test.
 pub(crate) type TestWire<'f> = NumberedWire<PracticeWire<'f>>;
 
-/// The site of a test.
-pub(crate) type TestSite<'f> = WireSite<'f, PracticeWire<'f>, NoFile, PracticeClock>;
-
 /// A slave.
 #[derive(Clone, Copy)]
 pub(crate) struct Slave {
@@ -76,6 +74,14 @@ pub(crate) enum Content {
     Numbers(usize, u16),
 }
 
+/// A slave of 64 words, all 0.
+pub(crate) const BLANK: Slave = Slave {
+    words: 64,
+    content: Content::Filled(0),
+    alias: 0,
+    quirks: NO_QUIRKS,
+};
+
 /// What goes wrong on a wire.
 #[derive(Clone, Copy)]
 pub(crate) struct Trouble {
@@ -95,6 +101,15 @@ pub(crate) const NO_TROUBLE: Trouble = Trouble {
     cut: None,
 };
 
+/// What a frame may meet that loses no word.
+pub(crate) const FATES: &[Fate] = &[
+    Fate::LostBefore,
+    Fate::LostBehind,
+    Fate::Doubled,
+    Fate::SentTwice,
+    Fate::Delayed,
+];
+
 impl Bench {
     pub(crate) fn new(alloc: Global) -> Bench {
         Bench {
@@ -107,17 +122,23 @@ impl Bench {
     }
 }
 
-/// A word of a slave.
-pub(crate) fn word_at(slave: &Slave, place: usize) -> u16 {
+// A word of a slave.
+fn word_at(slave: &Slave, place: usize) -> u16 {
     if place == 4 && slave.alias != 0 {
         return slave.alias;
     }
     match slave.content {
         Content::Filled(word) => word,
-        Content::Numbers(period, says) => match place.checked_rem(period) {
-            None | Some(0x3e) => says,
-            Some(number) => (number % 65536) as u16,
-        },
+        Content::Numbers(period, says) => number_at(place, period, says),
+    }
+}
+
+fn number_at(place: usize, period: usize, says: u16) -> u16 {
+    let number = place.checked_rem(period).unwrap_or(0x3e);
+    if number == 0x3e {
+        says
+    } else {
+        (number % 65536) as u16
     }
 }
 
@@ -154,15 +175,14 @@ pub(crate) fn wire_of<'f>(
     Some(NumberedWire::new(PracticeWire::new(line, &bench.clock), 7))
 }
 
-/// The wire with this trouble from now on, in the place of any other.
-pub(crate) fn troubled<'f>(mut wire: TestWire<'f>, trouble: &Trouble) -> TestWire<'f> {
+/// The wire has this trouble from now on, in the place of any other.
+pub(crate) fn plan(wire: &mut TestWire<'_>, trouble: &Trouble) {
     let under = wire.wire();
     under.plan(trouble.mishap);
     match trouble.cut {
         Some((words, left)) => under.cut_behind(words, left),
         None => under.keep_power(),
     }
-    wire
 }
 
 // The parts of a line of slaves with these words. None: memory was refused.
@@ -205,30 +225,23 @@ pub(crate) fn brought_up<W: Wire>(
     Some((parts, states))
 }
 
-/// The device on this wire.
-pub(crate) fn device_on<'f, W: Wire>(
-    bench: &'f Bench,
-    wire: NumberedWire<W>,
-) -> WireDevice<'f, LiveLine<W>, NoFile, PracticeClock> {
-    WireDevice::new(wire, &bench.clock, FileDevice::new(&bench.files))
-}
-
-/// Brings up the line on this wire without trouble, and makes a site of it, with this trouble from then on. Gives what the slaves were in too.
-/// None if the line isn't brought up, or memory was refused.
-pub(crate) fn site_on<'f>(
+/// The site of a line that was brought up on this wire.
+pub(crate) fn site_on<'f, W: Wire>(
     alloc: Global,
     bench: &'f Bench,
-    wire: TestWire<'f>,
-    trouble: &Trouble,
-) -> Option<(TestSite<'f>, [SlaveState; 64])> {
-    let mut wire = troubled(wire, &NO_TROUBLE);
-    let (parts, states) = brought_up(alloc, bench, &mut wire)?;
-    let device = device_on(bench, troubled(wire, trouble));
-    Some((ShadowSite::of_parts(alloc, parts, device), states))
+    wire: NumberedWire<W>,
+    parts: Parts,
+) -> WireSite<'f, W, NoFile, PracticeClock>
+    requires { AreWhole parts }
+{
+    let device = WireDevice::new(wire, &bench.clock, FileDevice::new(&bench.files));
+    ShadowSite::of_parts(alloc, parts, device)
 }
 
 /// The wire of a site, and why the site has stopped, if it has.
-pub(crate) fn taken_off<'f>(site: TestSite<'f>) -> (TestWire<'f>, Option<StopReason>) {
+pub(crate) fn taken_off<'f, W: Wire>(
+    site: WireSite<'f, W, NoFile, PracticeClock>,
+) -> (NumberedWire<W>, Option<StopReason>) {
     let (parts, device) = site.into_parts();
     drop(parts);
     let reason = device.reason();

@@ -1,23 +1,57 @@
 //! EEPROMs that are handed back, also where the site has stopped before.
 
-use crate::bench::{
-    Bench, Content, NO_TROUBLE, Slave, Trouble, WELL, brought_up, device_on, line_of, troubled,
-};
-use crate::quirks::count_written;
-use site_shadow::{Pattern, ShadowSite};
+use crate::bench::{BLANK, Bench, NO_TROUBLE, Slave, Trouble, WELL, brought_up, plan, wire_of};
+use crate::quirks::written_on;
+use site_shadow::Pattern;
 use std::alloc::Global;
 use wire_bringup::hand_back;
-use wire_frames::{Handed, NumberedWire};
-use wire_practice::{Fate, Mishap, NO_QUIRKS, PracticeWire, Quirks};
+use wire_frames::Handed;
+use wire_practice::{Fate, Mishap, NO_QUIRKS, Quirks};
 
-// A slave: whether its PDI has the EEPROM, and whether it keeps its station address without power.
-type Kind = (bool, bool);
+// A slave whose PDI hasn't the EEPROM, as the first and as the second one of a line. Each keeps its station address without power.
+const OURS: Slave = Slave {
+    quirks: Quirks {
+        station: Some(0x1001),
+        ..NO_QUIRKS
+    },
+    ..BLANK
+};
 
-const OURS: Kind = (false, true);
+const SECOND_OURS: Slave = Slave {
+    quirks: Quirks {
+        station: Some(0x1002),
+        ..NO_QUIRKS
+    },
+    ..BLANK
+};
 
-const HELD: Kind = (true, true);
+// The same of slaves whose PDI has it.
+const HELD: Slave = Slave {
+    quirks: Quirks {
+        station: Some(0x1001),
+        is_held: true,
+        ..NO_QUIRKS
+    },
+    ..BLANK
+};
 
-const LOST: Kind = (true, false);
+const SECOND_HELD: Slave = Slave {
+    quirks: Quirks {
+        station: Some(0x1002),
+        is_held: true,
+        ..NO_QUIRKS
+    },
+    ..BLANK
+};
+
+// One that loses its station address with the power.
+const LOST: Slave = Slave {
+    quirks: Quirks {
+        is_held: true,
+        ..NO_QUIRKS
+    },
+    ..BLANK
+};
 
 // The power is cut in the midst of the first word.
 const CUT: Trouble = Trouble {
@@ -34,145 +68,154 @@ const SILENT: Trouble = Trouble {
     cut: None,
 };
 
-// A frame comes back with a counter of 0 in place of 1.
-const UNCOUNTED: Fate = Fate::Turned(13, 1);
+// No frame comes back any more, up to the end or for two tries.
+const ALL_LOST: Trouble = Trouble {
+    mishap: Mishap {
+        passing: 0,
+        failing: u32::MAX,
+        fate: Fate::LostBefore,
+    },
+    cut: None,
+};
 
-// Two slaves; what goes wrong as words are written to the first one; how many of the three are written; what so many frames meet as the slaves
-// are handed back; and what becomes of the access to their EEPROMs.
-type Case = ((Kind, Kind), Trouble, usize, (Fate, u32), (Handed, Handed));
+const TWO_LOST: Trouble = Trouble {
+    mishap: Mishap {
+        passing: 0,
+        failing: 2,
+        fate: Fate::LostBefore,
+    },
+    cut: None,
+};
+
+// Two frames or three come back with a counter of 0 in place of 1.
+const TWO_UNCOUNTED: Trouble = Trouble {
+    mishap: Mishap {
+        passing: 0,
+        failing: 2,
+        fate: Fate::Turned(13, 1),
+    },
+    cut: None,
+};
+
+const THREE_UNCOUNTED: Trouble = Trouble {
+    mishap: Mishap {
+        passing: 0,
+        failing: 3,
+        fate: Fate::Turned(13, 1),
+    },
+    cut: None,
+};
+
+// Two slaves; what goes wrong as words are written to the first one; how many of the three are written; what goes wrong as the slaves are
+// handed back; and what becomes of the access to their EEPROMs.
+type Case = (&'static [Slave], Trouble, usize, Trouble, [Handed; 2]);
 
 const CASES: &[Case] = &[
     (
-        (OURS, HELD),
+        &[OURS, SECOND_HELD],
         NO_TROUBLE,
         3,
-        (Fate::Passes, 0),
-        (Handed::Nothing, Handed::Back),
+        NO_TROUBLE,
+        [Handed::Nothing, Handed::Back],
     ),
     (
-        (HELD, OURS),
+        &[HELD, SECOND_OURS],
         NO_TROUBLE,
         3,
-        (Fate::Passes, 0),
-        (Handed::Back, Handed::Nothing),
+        NO_TROUBLE,
+        [Handed::Back, Handed::Nothing],
     ),
     // The site has stopped: no frame came back, or the power was cut.
     (
-        (HELD, OURS),
+        &[HELD, SECOND_OURS],
         SILENT,
         0,
-        (Fate::Passes, 0),
-        (Handed::Back, Handed::Nothing),
+        NO_TROUBLE,
+        [Handed::Back, Handed::Nothing],
     ),
     (
-        (HELD, OURS),
+        &[HELD, SECOND_OURS],
         CUT,
         0,
-        (Fate::Passes, 0),
-        (Handed::Back, Handed::Nothing),
+        NO_TROUBLE,
+        [Handed::Back, Handed::Nothing],
     ),
     (
-        (HELD, LOST),
+        &[HELD, LOST],
         CUT,
         0,
-        (Fate::Passes, 0),
-        (Handed::Back, Handed::Uncounted),
+        NO_TROUBLE,
+        [Handed::Back, Handed::Uncounted],
     ),
     (
-        (LOST, HELD),
+        &[LOST, SECOND_HELD],
         CUT,
         0,
-        (Fate::Passes, 0),
-        (Handed::Uncounted, Handed::Back),
+        NO_TROUBLE,
+        [Handed::Uncounted, Handed::Back],
     ),
-    // No frame comes back any more, up to the end or for two tries.
+    // No frame comes back as they are handed back.
     (
-        (HELD, LOST),
+        &[HELD, LOST],
         SILENT,
         0,
-        (Fate::LostBefore, u32::MAX),
-        (Handed::Silent, Handed::Silent),
+        ALL_LOST,
+        [Handed::Silent, Handed::Silent],
     ),
     (
-        (OURS, HELD),
+        &[OURS, SECOND_HELD],
         SILENT,
         0,
-        (Fate::LostBefore, u32::MAX),
-        (Handed::Nothing, Handed::Silent),
+        ALL_LOST,
+        [Handed::Nothing, Handed::Silent],
     ),
     (
-        (HELD, LOST),
+        &[HELD, LOST],
         SILENT,
         0,
-        (Fate::LostBefore, 2),
-        (Handed::Back, Handed::Back),
+        TWO_LOST,
+        [Handed::Back, Handed::Back],
     ),
     // The write isn't counted, twice or in each of three tries.
     (
-        (HELD, LOST),
+        &[HELD, LOST],
         SILENT,
         0,
-        (UNCOUNTED, 2),
-        (Handed::Back, Handed::Back),
+        TWO_UNCOUNTED,
+        [Handed::Back, Handed::Back],
     ),
     (
-        (HELD, LOST),
+        &[HELD, LOST],
         SILENT,
         0,
-        (UNCOUNTED, 3),
-        (Handed::Uncounted, Handed::Back),
+        THREE_UNCOUNTED,
+        [Handed::Uncounted, Handed::Back],
     ),
 ];
 
-// A slave of 64 words, all 0, at this place of the line.
-fn slave_at(place: u16, kind: Kind) -> Slave {
-    let (is_held, is_kept) = kind;
-    let station = if is_kept {
-        Some(0x1001u16.wrapping_add(place))
-    } else {
-        None
-    };
-    Slave {
-        words: 64,
-        content: Content::Filled(0),
-        alias: 0,
-        quirks: Quirks {
-            station,
-            is_held,
-            ..NO_QUIRKS
-        },
-    }
-}
-
 // How many words are written, and what becomes of the access. None: the line isn't brought up, or memory was refused.
-fn handed_of(alloc: Global, case: &Case) -> Option<(usize, (Handed, Handed))> {
-    let ((first, second), work, _, (fate, failing), _) = *case;
+fn handed_of(
+    alloc: Global,
+    slaves: &[Slave],
+    work: &Trouble,
+    behind: &Trouble,
+) -> Option<(usize, [Handed; 2])> {
     let bench = Bench::new(alloc);
-    let line = line_of(alloc, &[slave_at(0, first), slave_at(1, second)], None)?;
-    let mut wire = NumberedWire::new(PracticeWire::new(line, &bench.clock), 7);
+    let mut wire = wire_of(alloc, &bench, slaves, None)?;
     let (parts, states) = brought_up(alloc, &bench, &mut wire)?;
-    let device = device_on(&bench, troubled(wire, &work));
-    let mut site = ShadowSite::of_parts(alloc, parts, device);
-    let count = count_written(&mut site);
-    let (parts, device) = site.into_parts();
-    drop(parts);
-    let mishap = Mishap {
-        passing: 0,
-        failing,
-        fate,
-    };
-    let behind = Trouble { mishap, cut: None };
-    let mut wire = troubled(device.into_wire(), &behind);
+    plan(&mut wire, work);
+    let (mut wire, count, _reason) = written_on(alloc, &bench, wire, parts);
+    plan(&mut wire, behind);
     hand_back(&mut wire, &states);
     let [one, other, ..] = wire.handed();
     drop(wire);
-    Some((count, (one, other)))
+    Some((count, [one, other]))
 }
 
 #[test]
 fn eeproms_are_handed_back(rt: HostRuntime) {
-    for case in CASES {
-        let (_, _, count, _, handed) = *case;
-        assert!(rt; handed_of(rt.alloc(), case) == Some((count, handed)));
+    for (slaves, work, count, behind, handed) in CASES {
+        let came = handed_of(rt.alloc(), slaves, work, behind);
+        assert!(rt; came == Some((*count, *handed)));
     }
 }

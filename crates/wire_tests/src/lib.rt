@@ -7,8 +7,6 @@ mod bench;
 #[cfg(test)]
 mod beside;
 #[cfg(test)]
-mod causes;
-#[cfg(test)]
 mod handing;
 #[cfg(test)]
 mod master;

@@ -183,20 +183,27 @@ impl<'c> Master<'c> {
 
     /// An answer waits. It is dropped where there is no room.
     fn keep(&mut self, answer: Message) {
-        for slot in &mut self.ready {
-            if slot.is_none() {
-                *slot = Some(answer);
+        for place in 0..ROOM {
+            if self.ready[place].is_none() {
+                self.ready[place] = Some(answer);
                 return;
             }
+        }
+    }
+
+    /// Whether an answer stands here that comes by this turn.
+    fn is_due(&self, place: usize, until: u64) -> bool {
+        match self.ready.get(place) {
+            Some(Some(answer)) => answer.due <= until,
+            _ => false,
         }
     }
 
     /// Where the answer stands that is given next, if one comes by this turn.
     fn next(&self, until: u64) -> Option<usize> {
         let mut found = None;
-        for (place, slot) in self.ready.iter().enumerate() {
-            let is_due = slot.is_some_and(|answer| answer.due <= until);
-            if is_due && (found.is_none() || self.habits.is_turned) {
+        for place in 0..ROOM {
+            if self.is_due(place, until) && (found.is_none() || self.habits.is_turned) {
                 found = Some(place);
             }
         }

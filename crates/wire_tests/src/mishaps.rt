@@ -1,8 +1,8 @@
 //! A line on a wire that loses, doubles, delays and falsifies frames, and slaves that lose their power.
 
 use crate::bench::{
-    Bench, Content, NO_TROUBLE, Slave, TestWire, Trouble, WELL, settled, site_on, taken_off,
-    troubled, wire_of,
+    BLANK, Bench, FATES, NO_TROUBLE, Slave, TestWire, Trouble, WELL, brought_up, plan, settled,
+    site_on, taken_off, wire_of,
 };
 use ecat_frame::{Command, Frame, fp};
 use esc_rom::read_all;
@@ -10,7 +10,7 @@ use site_core::{Settled, Site};
 use site_shadow::Pattern;
 use site_wire::{Difference, StopReason};
 use std::alloc::Global;
-use wire_bringup::{Sizes, bring_up};
+use wire_bringup::{FoundLine, Sizes, bring_up};
 use wire_frames::LineFault;
 use wire_practice::{Fate, Mishap, NO_QUIRKS, Quirks};
 
@@ -221,10 +221,8 @@ const BROUGHT_UP: &[(Mishap, Result<usize, LineFault>)] = &[
 // A slave of 64 words, all 0, which stays busy for so many datagrams.
 fn slave_of(delay: u32) -> Slave {
     Slave {
-        words: 64,
-        content: Content::Filled(0),
-        alias: 0,
         quirks: Quirks { delay, ..NO_QUIRKS },
+        ..BLANK
     }
 }
 
@@ -279,9 +277,10 @@ fn cut_of(act: Act) -> Option<(u32, Pattern)> {
 }
 
 // Words 4, 5 and 6 of the slave, once its line is brought up on a good wire.
-fn left_on<'f>(alloc: Global, bench: &'f Bench, wire: TestWire<'f>) -> Option<[u16; 3]> {
-    let (site, _states) = site_on(alloc, bench, wire, &NO_TROUBLE)?;
-    let (mut wire, _reason) = taken_off(site);
+fn left_on(alloc: Global, bench: &Bench, wire: &mut TestWire<'_>) -> Option<[u16; 3]> {
+    plan(wire, &NO_TROUBLE);
+    let (parts, _states) = brought_up(alloc, bench, wire)?;
+    drop(parts);
     match wire.wire().line().words(0)? {
         [_, _, _, _, a, b, c, ..] => Some([*a, *b, *c]),
         _ => None,
@@ -296,16 +295,16 @@ fn ends_so(alloc: Global, case: &Case) -> Option<bool> {
         failing,
         fate,
     };
-    let trouble = Trouble {
-        mishap,
-        cut: cut_of(act),
-    };
+    let cut = cut_of(act);
     let bench = Bench::new(alloc);
-    let wire = wire_of(alloc, &bench, &[slave_of(delay)], None)?;
-    let (mut site, _states) = site_on(alloc, &bench, wire, &trouble)?;
+    let mut wire = wire_of(alloc, &bench, &[slave_of(delay)], None)?;
+    let (parts, _states) = brought_up(alloc, &bench, &mut wire)?;
+    plan(&mut wire, &Trouble { mishap, cut });
+    let mut site = site_on(alloc, &bench, wire, parts);
     let is_done = is_done(alloc, &mut site, act);
-    let (wire, found) = taken_off(site);
-    Some(is_done == reason.is_none() && found == reason && left_on(alloc, &bench, wire)? == left)
+    let (mut wire, found) = taken_off(site);
+    let kept = left_on(alloc, &bench, &mut wire)?;
+    Some(is_done == reason.is_none() && found == reason && kept == left)
 }
 
 #[test]
@@ -315,48 +314,44 @@ fn mishaps_end_well_or_stop(rt: HostRuntime) {
     }
 }
 
-// How many slaves are found where frames have this fate. None where memory is wanted.
-fn brought_up(alloc: Global, mishap: Mishap) -> Option<Result<usize, LineFault>> {
+fn count_of(found: Result<FoundLine, LineFault>) -> Result<usize, LineFault> {
+    Ok(found?.slaves.len())
+}
+
+// How many slaves are found where frames have this fate, or why none are. None where the wire wants memory.
+fn found_with(alloc: Global, mishap: Mishap) -> Option<Result<usize, LineFault>> {
     let bench = Bench::new(alloc);
-    let wire = wire_of(alloc, &bench, &[slave_of(2)], None)?;
-    let mut wire = troubled(wire, &Trouble { mishap, cut: None });
-    match bring_up(alloc, &mut wire, &bench.clock, &Sizes::unknown()) {
-        Ok(line) => Some(Ok(line.slaves.len())),
-        Err(LineFault::Memory) => None,
-        Err(fault) => Some(Err(fault)),
-    }
+    let mut wire = wire_of(alloc, &bench, &[slave_of(2)], None)?;
+    plan(&mut wire, &Trouble { mishap, cut: None });
+    let found = bring_up(alloc, &mut wire, &bench.clock, &Sizes::unknown());
+    Some(count_of(found))
 }
 
 #[test]
 fn lines_are_brought_up(rt: HostRuntime) {
     for (mishap, found) in BROUGHT_UP {
-        assert!(rt; brought_up(rt.alloc(), *mishap) == Some(*found));
+        assert!(rt; found_with(rt.alloc(), *mishap) == Some(*found));
     }
 }
 
 // Whether a line is brought up, whichever of its first frames has this fate.
 fn is_always_brought_up(alloc: Global, fate: Fate) -> bool {
-    let mut is_always = true;
     for passing in 0..40u32 {
         let mishap = Mishap {
             passing,
             failing: 1,
             fate,
         };
-        is_always &= brought_up(alloc, mishap) == Some(Ok(1));
+        if found_with(alloc, mishap) != Some(Ok(1)) {
+            return false;
+        }
     }
-    is_always
+    true
 }
 
 #[test]
 fn lost_frames_are_sent_again(rt: HostRuntime) {
-    for fate in [
-        Fate::LostBefore,
-        Fate::LostBehind,
-        Fate::Doubled,
-        Fate::SentTwice,
-        Fate::Delayed,
-    ] {
-        assert!(rt; is_always_brought_up(rt.alloc(), fate));
+    for fate in FATES {
+        assert!(rt; is_always_brought_up(rt.alloc(), *fate));
     }
 }

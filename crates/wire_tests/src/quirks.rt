@@ -1,12 +1,17 @@
 //! Words that are written to slaves with the quirks of real ones, and the power of these cut at each word and at each frame.
 
+ghost use Rattle.site_shadow.specs.Parts.{AreWhole};
+
 use crate::bench::{
-    Bench, Content, NO_TROUBLE, Slave, Trouble, WELL, settled, site_on, taken_off, wire_of,
+    BLANK, Bench, NO_TROUBLE, Slave, TestWire, Trouble, WELL, brought_up, plan, settled, site_on,
+    taken_off, wire_of,
 };
 use site_core::{Settled, Site};
-use site_shadow::Pattern;
+use site_shadow::{Parts, Pattern};
+use site_wire::StopReason;
 use std::alloc::Global;
-use wire_bringup::hand_back;
+use wire_bringup::{SlaveState, hand_back};
+use wire_frames::{NumberedWire, Wire};
 use wire_practice::{NO_QUIRKS, PowerLoss, PracticeLine, Quirks};
 
 // What a slave does, and whether it is found above Pre-Operational, and with its PDI.
@@ -173,41 +178,41 @@ const CASES: &[Case] = &[
 // Words 4, 5 and 6 of slave 0, which are 0 at first, become these.
 const NEW: [u16; 3] = [0x1111, 0x2222, 0x3333];
 
-// Two slaves of 64 words that do the same.
-fn slaves_of(quirks: Quirks) -> [Slave; 2] {
-    let first = Slave {
-        words: 64,
-        content: Content::Filled(0),
-        alias: 0,
-        quirks,
-    };
-    let second = Slave {
-        alias: 0x1001,
-        ..first
-    };
-    [first, second]
-}
-
 // Whether the word is written. It is issued again as often as it ends in error, a hundred times at most.
 fn is_written(site: &mut impl Site, word: u16, value: u16) -> bool {
     for _issue in 0..100u32 {
-        match settled(site, word, value) {
-            Some(Settled::Again) => {}
-            Some(Settled::Written) => return true,
-            _ => return false,
+        let came = settled(site, word, value);
+        if came != Some(Settled::Again) {
+            return came == Some(Settled::Written);
         }
     }
     false
 }
 
-/// How many of the words are written before the site stops.
-pub(crate) fn count_written(site: &mut impl Site) -> usize {
+// How many of the words are written before the site stops.
+fn count_written(site: &mut impl Site) -> usize {
     for place in 0..3usize {
         if !is_written(site, 4 + place as u16, NEW[place]) {
             return place;
         }
     }
     3
+}
+
+/// Writes the words on a line that was brought up. Gives its wire, how many were written before the site stopped, and why it has stopped, if
+/// it has.
+pub(crate) fn written_on<W: Wire>(
+    alloc: Global,
+    bench: &Bench,
+    wire: NumberedWire<W>,
+    parts: Parts,
+) -> (NumberedWire<W>, usize, Option<StopReason>)
+    requires { AreWhole parts }
+{
+    let mut site = site_on(alloc, bench, wire, parts);
+    let count = count_written(&mut site);
+    let (wire, reason) = taken_off(site);
+    (wire, count, reason)
 }
 
 /// Whether so many words are in the chip of slave 0, and those behind the next one are as they were.
@@ -228,50 +233,64 @@ pub(crate) fn has_so_many(line: &PracticeLine, count: usize) -> bool {
     }
 }
 
-// What came of the words.
-#[derive(Clone, Copy, PartialEq, Eq)]
-struct Outcome {
-    // How many were written, by what the site says, before it stopped.
-    count: usize,
-    // Whether the chip has them.
-    is_kept: bool,
-    // Whether all are written once the line is brought up again, by the site and in the chip.
-    is_completed: bool,
+// Whether all words are written once the line is brought up on a good wire, by what the site says and in the chip. None: it isn't brought up, or
+// memory was refused.
+fn is_completed(alloc: Global, bench: &Bench, mut wire: TestWire<'_>) -> Option<bool> {
+    plan(&mut wire, &NO_TROUBLE);
+    let (parts, _states) = brought_up(alloc, bench, &mut wire)?;
+    let (mut wire, count, reason) = written_on(alloc, bench, wire, parts);
+    Some(count == 3 && reason.is_none() && has_so_many(wire.wire().line(), 3))
 }
 
-// Writes the words with this trouble, and then on a good wire.
-fn outcome_of(alloc: Global, slaves: &[Slave], trouble: &Trouble) -> Option<Outcome> {
+// How many words are written with this trouble. None: the chip hasn't so many then, or not all once they are written on a good wire, or
+// memory was refused.
+fn count_with(alloc: Global, slave: Slave, trouble: &Trouble) -> Option<usize> {
     let bench = Bench::new(alloc);
-    let wire = wire_of(alloc, &bench, slaves, None)?;
-    let (mut site, _states) = site_on(alloc, &bench, wire, trouble)?;
-    let count = count_written(&mut site);
-    let (mut wire, _reason) = taken_off(site);
+    let mut wire = wire_of(alloc, &bench, &[slave], None)?;
+    let (parts, _states) = brought_up(alloc, &bench, &mut wire)?;
+    plan(&mut wire, trouble);
+    let (mut wire, count, _reason) = written_on(alloc, &bench, wire, parts);
     let is_kept = has_so_many(wire.wire().line(), count);
-    let (mut site, _states) = site_on(alloc, &bench, wire, &NO_TROUBLE)?;
-    let completed = count_written(&mut site);
-    let (mut wire, reason) = taken_off(site);
-    Some(Outcome {
-        count,
-        is_kept,
-        is_completed: completed == 3 && reason.is_none() && has_so_many(wire.wire().line(), 3),
-    })
+    let is_completed = is_completed(alloc, &bench, wire)?;
+    if is_kept && is_completed {
+        Some(count)
+    } else {
+        None
+    }
+}
+
+// What slave 0 is found in as its line is brought up again.
+fn state_again(alloc: Global, bench: &Bench, wire: &mut TestWire<'_>) -> Option<SlaveState> {
+    let (parts, states) = brought_up(alloc, bench, wire)?;
+    drop(parts);
+    Some(states[0])
+}
+
+fn is_as_said(state: SlaveState, case: &Case) -> bool {
+    let (_quirks, is_above, is_with_pdi) = case;
+    state.is_above_preop() == *is_above && state.is_with_pdi() == *is_with_pdi
+}
+
+// Two slaves that do the same. The alias of the second one is the station address of the first.
+fn slaves_of(quirks: Quirks) -> [Slave; 2] {
+    let first = Slave { quirks, ..BLANK };
+    let second = Slave {
+        alias: 0x1001,
+        ..first
+    };
+    [first, second]
 }
 
 // Whether the words are written, and the slaves are found in the states that the case says, and so again once they are handed back.
 fn is_written_so(alloc: Global, case: &Case) -> Option<bool> {
-    let (quirks, is_above, is_with_pdi) = *case;
     let bench = Bench::new(alloc);
-    let wire = wire_of(alloc, &bench, &slaves_of(quirks), None)?;
-    let (mut site, states) = site_on(alloc, &bench, wire, &NO_TROUBLE)?;
-    let first = states[0];
-    let count = count_written(&mut site);
-    let (mut wire, reason) = taken_off(site);
+    let mut wire = wire_of(alloc, &bench, &slaves_of(case.0), None)?;
+    let (parts, states) = brought_up(alloc, &bench, &mut wire)?;
+    let (mut wire, count, reason) = written_on(alloc, &bench, wire, parts);
     let is_kept = count == 3 && reason.is_none() && has_so_many(wire.wire().line(), 3);
     hand_back(&mut wire, &states);
-    let (site, again) = site_on(alloc, &bench, wire, &NO_TROUBLE)?;
-    drop(site);
-    let is_seen = first.is_above_preop() == is_above && first.is_with_pdi() == is_with_pdi;
-    Some(is_kept && is_seen && again[0] == first)
+    let again = state_again(alloc, &bench, &mut wire)?;
+    Some(is_kept && is_as_said(states[0], case) && again == states[0])
 }
 
 #[test]
@@ -283,18 +302,12 @@ fn words_are_written(rt: HostRuntime) {
 
 // Whether a power cut in the midst of any of the words, which is left as 0xdead, is recovered from.
 fn is_recovered(alloc: Global, quirks: Quirks) -> bool {
-    let [slave, _other] = slaves_of(quirks);
     for word in 0..3u32 {
         let trouble = Trouble {
             mishap: WELL,
             cut: Some((word, Pattern::Fill(0xdead))),
         };
-        let wanted = Outcome {
-            count: word as usize,
-            is_kept: true,
-            is_completed: true,
-        };
-        if outcome_of(alloc, &[slave], &trouble) != Some(wanted) {
+        if count_with(alloc, Slave { quirks, ..BLANK }, &trouble) != Some(word as usize) {
             return false;
         }
     }
@@ -309,33 +322,34 @@ fn cuts_in_each_word_are_recovered_from(rt: HostRuntime) {
 }
 
 // How many frames are sent to this slave before the first word is written, and up to the end, where the power stays.
-fn frames_of(alloc: Global, slave: Slave) -> Option<(u32, u32)> {
+fn frames_of(alloc: Global, slave: Slave) -> Option<(u64, u64)> {
     let bench = Bench::new(alloc);
-    let wire = wire_of(alloc, &bench, &[slave], None)?;
-    let (mut site, _states) = site_on(alloc, &bench, wire, &NO_TROUBLE)?;
-    let (from, _again) = site.device().frames();
-    let _count = count_written(&mut site);
-    let (to, _again) = site.device().frames();
-    drop(site);
-    Some((u32::try_from(from).ok()?, u32::try_from(to).ok()?))
+    let mut wire = wire_of(alloc, &bench, &[slave], None)?;
+    let (parts, _states) = brought_up(alloc, &bench, &mut wire)?;
+    let from = wire.sent();
+    let (wire, _count, _reason) = written_on(alloc, &bench, wire, parts);
+    let to = wire.sent();
+    drop(wire);
+    Some((from, to))
 }
 
 // Whether a power loss of a slave behind any frame of a run is recovered from. The word in flight is left as 0xdead.
 fn is_always_recovered(alloc: Global, quirks: Quirks) -> bool {
-    let [kept, _other] = slaves_of(quirks);
-    let Some((from, to)) = frames_of(alloc, kept) else {
+    let Some((from, to)) = frames_of(alloc, Slave { quirks, ..BLANK }) else {
         return false;
     };
     for frame in from..to {
         let cut = Quirks {
-            loss: PowerLoss::Behind(frame),
+            loss: PowerLoss::Behind(u32::try_from(frame).unwrap_or(u32::MAX)),
             left: Pattern::Fill(0xdead),
             ..quirks
         };
-        let [slave, _other] = slaves_of(cut);
-        match outcome_of(alloc, &[slave], &NO_TROUBLE) {
-            Some(outcome) if outcome.is_kept && outcome.is_completed => {}
-            _ => return false,
+        let slave = Slave {
+            quirks: cut,
+            ..BLANK
+        };
+        if count_with(alloc, slave, &NO_TROUBLE).is_none() {
+            return false;
         }
     }
     true

@@ -1,22 +1,153 @@
-//! Slaves whose words are read side by side, by frames of many datagrams.
+//! Slaves whose words are read side by side, by frames of many datagrams, and what is told of those that can't be worked on.
 
-use crate::bench::{Bench, Content, Slave, Trouble, WELL, troubled, wire_of, word_at};
+use crate::bench::{BLANK, Bench, Content, FATES, Slave, Trouble, WELL, plan, wire_of};
 use std::alloc::Global;
-use wire_bringup::{FoundSlave, Sizes, bring_up};
+use wire_bringup::{FoundLine, FoundSlave, Sizes, bring_up};
 use wire_frames::{Cause, SlaveFault};
 use wire_practice::{Cable, Fate, Mishap, NO_QUIRKS, PowerLoss, Quirks};
 
-// What becomes of each of three slaves: its words are read, or it can't be worked on.
-#[derive(Clone, Copy, PartialEq, Eq)]
+// A slave of 64 words, each its own number, whose chip repeats.
+const PLAIN: Slave = Slave {
+    content: Content::Numbers(64, 0),
+    quirks: REPEATS,
+    ..BLANK
+};
+
+const REPEATS: Quirks = Quirks {
+    chip: Some(64),
+    ..NO_QUIRKS
+};
+
+const BUSY: Slave = Slave {
+    quirks: Quirks {
+        delay: 5,
+        ..REPEATS
+    },
+    ..PLAIN
+};
+
+// Its reads load eight bytes.
+const WIDE: Slave = Slave {
+    quirks: Quirks {
+        is_wide: true,
+        ..REPEATS
+    },
+    ..PLAIN
+};
+
+const WIDE_AND_MISSES: Slave = Slave {
+    quirks: Quirks {
+        each_missed: 3,
+        is_blocked_by_errors: true,
+        is_wide: true,
+        ..REPEATS
+    },
+    ..PLAIN
+};
+
+const SLOW: Slave = Slave {
+    quirks: Quirks {
+        read_time: 2_000,
+        ..REPEATS
+    },
+    ..PLAIN
+};
+
+const MISSES: Slave = Slave {
+    quirks: Quirks {
+        each_missed: 3,
+        is_blocked_by_errors: true,
+        ..REPEATS
+    },
+    ..PLAIN
+};
+
+const NEVER_ACKNOWLEDGES: Slave = Slave {
+    quirks: Quirks {
+        each_missed: 1,
+        ..REPEATS
+    },
+    ..PLAIN
+};
+
+// Behind frame 60, while its words are read.
+const LOSES_POWER: Slave = Slave {
+    quirks: Quirks {
+        loss: PowerLoss::Behind(60),
+        ..REPEATS
+    },
+    ..PLAIN
+};
+
+// Slaves with the same words that emulate their EEPROMs.
+const EMULATED: Slave = Slave {
+    quirks: NO_QUIRKS,
+    ..PLAIN
+};
+
+const EMULATED_MUTE: Slave = Slave {
+    quirks: Quirks {
+        each_missed: 1,
+        ..NO_QUIRKS
+    },
+    ..PLAIN
+};
+
+const STAYS_BUSY: Slave = Slave {
+    quirks: Quirks {
+        delay: u32::MAX,
+        ..NO_QUIRKS
+    },
+    ..PLAIN
+};
+
+const KEEPS_ADDRESS: Slave = Slave {
+    quirks: Quirks {
+        station: Some(0x1001),
+        ..NO_QUIRKS
+    },
+    ..PLAIN
+};
+
+const EMULATED_LOSES_POWER: Slave = Slave {
+    quirks: Quirks {
+        loss: PowerLoss::Behind(60),
+        ..NO_QUIRKS
+    },
+    ..PLAIN
+};
+
+const PLAINS: &[Slave] = &[PLAIN, PLAIN, PLAIN];
+
+const MIXED: &[Slave] = &[PLAIN, WIDE, PLAIN];
+
+// What becomes of a slave: its words are read, or it can't be worked on.
+#[derive(Clone, Copy)]
 enum Outcome {
     Read,
     Dead(Cause),
-    // Words that it hasn't, or another fault.
-    Wrong,
 }
 
-// What becomes of three slaves.
-type Three = (Outcome, Outcome, Outcome);
+const READ: Outcome = Outcome::Read;
+
+const RESTARTED: Outcome = Outcome::Dead(Cause::Restarted);
+
+const UNPLUGGED: Outcome = Outcome::Dead(Cause::CableOrPower);
+
+const MUTE: Outcome = Outcome::Dead(Cause::NoAcknowledge);
+
+const ALL_READ: &[Outcome] = &[READ, READ, READ];
+
+// The cable behind the first slave or behind the second one is pulled, while words are read.
+const PULLED_BEHIND_FIRST: Cable = Cable {
+    behind: 0,
+    frames: 60,
+};
+
+const PULLED: Cable = Cable {
+    behind: 1,
+    frames: 60,
+};
 
 // How many frames are sent before those with a datagram for each of three slaves: a broadcast, another one, and three addresses; AL status
 // and access of three; and for each of three access by force, access given back, a poll and a clearing.
@@ -46,109 +177,6 @@ const TURNED: &[(u32, usize, u8)] = &[
     (2, 48, 3),
 ];
 
-const FATES: &[Fate] = &[
-    Fate::LostBefore,
-    Fate::LostBehind,
-    Fate::Doubled,
-    Fate::SentTwice,
-    Fate::Delayed,
-];
-
-// A slave of 64 words.
-fn slave_of(quirks: Quirks) -> Slave {
-    Slave {
-        words: 64,
-        content: Content::Numbers(64, 0),
-        alias: 0,
-        quirks: Quirks {
-            chip: Some(64),
-            ..quirks
-        },
-    }
-}
-
-// Whether these are the words of the slave's image.
-fn are_words_of(slave: &Slave, words: &[u16]) -> bool {
-    let mut are_all = words.len() == slave.words;
-    for (place, word) in words.iter().enumerate() {
-        are_all &= *word == word_at(slave, place);
-    }
-    are_all
-}
-
-fn outcome_of(slave: &Slave, found: &FoundSlave) -> Outcome {
-    match &found.words {
-        Ok(words) if are_words_of(slave, words.as_slice()) => Outcome::Read,
-        Err(SlaveFault::Dead(sighting)) => Outcome::Dead(sighting.cause()),
-        _ => Outcome::Wrong,
-    }
-}
-
-// A line of slaves, a cable that is pulled, and what becomes of a frame.
-#[derive(Clone, Copy)]
-struct Line {
-    quirks: [Quirks; 3],
-    cable: Option<Cable>,
-    mishap: Mishap,
-}
-
-const GOOD_LINE: Line = Line {
-    quirks: [NO_QUIRKS; 3],
-    cable: None,
-    mishap: WELL,
-};
-
-// What becomes of the slaves of a line that is brought up, how many frames were sent, and after how many microseconds. None: it can't be brought
-// up, or memory was refused.
-fn found_on(alloc: Global, line: &Line, count: usize) -> Option<(Three, u64, u64)> {
-    let [first, second, third] = line.quirks;
-    let slaves = [slave_of(first), slave_of(second), slave_of(third)];
-    let bench = Bench::new(alloc);
-    let wire = wire_of(alloc, &bench, &slaves[..count.min(3)], line.cable)?;
-    let mishap = line.mishap;
-    let mut wire = troubled(wire, &Trouble { mishap, cut: None });
-    let brought_up = bring_up(alloc, &mut wire, &bench.clock, &Sizes::unknown()).ok()?;
-    let mut outcomes = [Outcome::Wrong; 3];
-    for place in 0..3usize {
-        if let Some(found) = brought_up.slaves.get(place) {
-            outcomes[place] = outcome_of(&slaves[place], found);
-        }
-    }
-    let [one, two, three] = outcomes;
-    Some(((one, two, three), wire.sent(), bench.clock.now()))
-}
-
-// Whether the words of all three slaves are read where one frame has this fate.
-fn are_read(alloc: Global, quirks: [Quirks; 3], passing: u32, fate: Fate) -> bool {
-    let line = Line {
-        quirks,
-        mishap: Mishap {
-            passing,
-            failing: 1,
-            fate,
-        },
-        ..GOOD_LINE
-    };
-    match found_on(alloc, &line, 3) {
-        Some((outcomes, _, _)) => outcomes == (READ, READ, READ),
-        None => false,
-    }
-}
-
-#[test]
-fn falsified_datagrams_are_asked_again(rt: HostRuntime) {
-    for (frame, place, bits) in TURNED {
-        assert!(rt;
-            are_read(
-                rt.alloc(),
-                [NO_QUIRKS; 3],
-                BEFORE + frame,
-                Fate::Turned(*place, *bits)
-            )
-        );
-    }
-}
-
 // Of three slaves, the second one's reads load eight bytes, so the third fetch is at byte 38: bit 6 of the second poll; length and counter of
 // the second fetch; command and counter of the third one.
 const TURNED_AT_MIXED: &[(u32, usize, u8)] = &[
@@ -160,18 +188,90 @@ const TURNED_AT_MIXED: &[(u32, usize, u8)] = &[
     (2, 52, 1),
 ];
 
-#[test]
-fn falsified_datagrams_of_eight_bytes_are_asked_again(rt: HostRuntime) {
-    for (frame, place, bits) in TURNED_AT_MIXED {
-        assert!(rt;
-            are_read(
-                rt.alloc(),
-                MIXED,
-                BEFORE + frame,
-                Fate::Turned(*place, *bits)
-            )
-        );
+// The words of each slave: their numbers, but for the size.
+const NUMBERS: &[u16] = &[
+    0, 1, 2, 3, 4, 5, 6, 7, 8, 9, 10, 11, 12, 13, 14, 15, 16, 17, 18, 19, 20, 21, 22, 23, 24, 25,
+    26, 27, 28, 29, 30, 31, 32, 33, 34, 35, 36, 37, 38, 39, 40, 41, 42, 43, 44, 45, 46, 47, 48, 49,
+    50, 51, 52, 53, 54, 55, 56, 57, 58, 59, 60, 61, 0, 63,
+];
+
+fn is_so(found: &FoundSlave, outcome: Outcome) -> bool {
+    match (&found.words, outcome) {
+        (Ok(words), Outcome::Read) => words.as_slice() == NUMBERS,
+        (Err(SlaveFault::Dead(sighting)), Outcome::Dead(cause)) => sighting.cause() == cause,
+        _ => false,
     }
+}
+
+// Whether the line has as many slaves as there are outcomes, and each slave came to its own.
+fn are_so(line: &FoundLine, outcomes: &[Outcome]) -> bool {
+    for place in 0..outcomes.len() {
+        match line.slaves.get(place) {
+            Some(found) if is_so(found, outcomes[place]) => {}
+            _ => return false,
+        }
+    }
+    line.slaves.len() == outcomes.len()
+}
+
+// How a line was brought up.
+#[derive(Clone, Copy)]
+struct Course {
+    // Whether each slave came to its outcome.
+    are_so: bool,
+    // How many frames were sent, and after how many microseconds.
+    frames: u64,
+    time: u64,
+}
+
+// How a line is brought up with a cable that is pulled, if there is one, where frames have this mishap. None: it can't be brought up, or memory
+// was refused.
+fn course_of(
+    alloc: Global,
+    slaves: &[Slave],
+    cable: Option<Cable>,
+    mishap: Mishap,
+    outcomes: &[Outcome],
+) -> Option<Course> {
+    let bench = Bench::new(alloc);
+    let mut wire = wire_of(alloc, &bench, slaves, cable)?;
+    plan(&mut wire, &Trouble { mishap, cut: None });
+    let line = bring_up(alloc, &mut wire, &bench.clock, &Sizes::unknown()).ok()?;
+    Some(Course {
+        are_so: are_so(&line, outcomes),
+        frames: wire.sent(),
+        time: bench.clock.now(),
+    })
+}
+
+// Whether the words of all three slaves are read where one frame has this fate.
+fn are_read(alloc: Global, slaves: &[Slave], passing: u32, fate: Fate) -> bool {
+    let mishap = Mishap {
+        passing,
+        failing: 1,
+        fate,
+    };
+    match course_of(alloc, slaves, None, mishap, ALL_READ) {
+        Some(course) => course.are_so,
+        None => false,
+    }
+}
+
+// Whether they are, whichever of these datagrams is falsified.
+fn are_asked_again(alloc: Global, slaves: &[Slave], turned: &[(u32, usize, u8)]) -> bool {
+    for (frame, place, bits) in turned {
+        let passing = BEFORE.saturating_add(*frame);
+        if !are_read(alloc, slaves, passing, Fate::Turned(*place, *bits)) {
+            return false;
+        }
+    }
+    true
+}
+
+#[test]
+fn falsified_datagrams_are_asked_again(rt: HostRuntime) {
+    assert!(rt; are_asked_again(rt.alloc(), PLAINS, TURNED));
+    assert!(rt; are_asked_again(rt.alloc(), MIXED, TURNED_AT_MIXED));
 }
 
 #[test]
@@ -183,153 +283,88 @@ fn lost_and_doubled_frames_are_asked_again(rt: HostRuntime) {
     }
 }
 
-// How many frames are sent to so many slaves of 64 words, whose chips repeat. None: not all are read.
-fn frames_for(alloc: Global, quirks: [Quirks; 3], count: usize) -> Option<u64> {
-    let line = Line {
-        quirks,
-        ..GOOD_LINE
-    };
-    let ((one, two, three), frames, _) = found_on(alloc, &line, count)?;
-    let outcomes = [one, two, three];
-    for outcome in outcomes.iter().take(count) {
-        if *outcome != Outcome::Read {
-            return None;
-        }
+// How many frames are sent to slaves that are all read. Each pair of words takes three frames for all slaves: 32 pairs of the first 64 words,
+// and as many from each of seven words on at which chips may begin to repeat. Besides there are two broadcasts, and seven frames for each slave.
+// Of slaves that load eight bytes each four words take three frames: 16 times, and as many from each of the seven words on.
+const FRAMES: &[(&[Slave], &[Outcome], u64)] = &[
+    (&[PLAIN], &[READ], 777),
+    (&[PLAIN, PLAIN], &[READ, READ], 784),
+    (PLAINS, ALL_READ, 791),
+    (&[WIDE], &[READ], 393),
+    (&[WIDE, WIDE], &[READ, READ], 400),
+    (&[WIDE, WIDE, WIDE], ALL_READ, 407),
+];
+
+// How many frames are sent to these slaves, if they come to these outcomes.
+fn frames_for(alloc: Global, slaves: &[Slave], outcomes: &[Outcome]) -> Option<u64> {
+    match course_of(alloc, slaves, None, WELL, outcomes) {
+        Some(course) if course.are_so => Some(course.frames),
+        _ => None,
     }
-    Some(frames)
 }
 
-// Each pair of words takes three frames for all slaves: 32 pairs of the first 64 words, and as many from each of seven words on at which chips
-// may begin to repeat. Besides there are two broadcasts, and seven frames for each slave.
 #[test]
-fn each_pair_of_words_is_read_once(rt: HostRuntime) {
-    for count in 1..4usize {
-        let wanted = 2 + 7 * count as u64 + 3 * (32 + 7 * 32);
-        assert!(rt; frames_for(rt.alloc(), [NO_QUIRKS; 3], count) == Some(wanted));
+fn words_are_read_once(rt: HostRuntime) {
+    for (slaves, outcomes, frames) in FRAMES {
+        assert!(rt; frames_for(rt.alloc(), slaves, outcomes) == Some(*frames));
     }
 }
-
-// The same of each four words.
-#[test]
-fn each_four_words_are_read_once(rt: HostRuntime) {
-    for count in 1..4usize {
-        let wanted = 2 + 7 * count as u64 + 3 * (16 + 7 * 16);
-        assert!(rt; frames_for(rt.alloc(), [WIDE; 3], count) == Some(wanted));
-    }
-}
-
-const BUSY: Quirks = Quirks {
-    delay: 5,
-    ..NO_QUIRKS
-};
-
-const WIDE: Quirks = Quirks {
-    is_wide: true,
-    ..NO_QUIRKS
-};
-
-const WIDE_AND_MISSES: Quirks = Quirks {
-    each_missed: 3,
-    is_blocked_by_errors: true,
-    ..WIDE
-};
-
-const MIXED: [Quirks; 3] = [NO_QUIRKS, WIDE, NO_QUIRKS];
-
-const SLOW: Quirks = Quirks {
-    read_time: 2_000,
-    ..NO_QUIRKS
-};
-
-const MISSES: Quirks = Quirks {
-    each_missed: 3,
-    is_blocked_by_errors: true,
-    ..NO_QUIRKS
-};
-
-const NEVER_ACKNOWLEDGES: Quirks = Quirks {
-    each_missed: 1,
-    ..NO_QUIRKS
-};
-
-const LOSES_POWER: Quirks = Quirks {
-    loss: PowerLoss::Behind(60),
-    ..NO_QUIRKS
-};
-
-const PULLED: Cable = Cable {
-    behind: 1,
-    frames: 60,
-};
-
-const READ: Outcome = Outcome::Read;
-
-const RESTARTED: Outcome = Outcome::Dead(Cause::Restarted);
-
-const UNPLUGGED: Outcome = Outcome::Dead(Cause::CableOrPower);
-
-const MUTE: Outcome = Outcome::Dead(Cause::NoAcknowledge);
 
 // Slaves side by side, a cable that is pulled, and what becomes of them.
-type Case = ((Quirks, Quirks, Quirks), Option<Cable>, Three);
-
-const LINES: &[Case] = &[
-    ((NO_QUIRKS, BUSY, SLOW), None, (READ, READ, READ)),
-    ((SLOW, MISSES, BUSY), None, (READ, READ, READ)),
-    ((WIDE, BUSY, WIDE_AND_MISSES), None, (READ, READ, READ)),
+const LINES: &[(&[Slave], Option<Cable>, &[Outcome])] = &[
+    (&[PLAIN, BUSY, SLOW], None, ALL_READ),
+    (&[SLOW, MISSES, BUSY], None, ALL_READ),
+    (&[WIDE, BUSY, WIDE_AND_MISSES], None, ALL_READ),
+    (&[PLAIN, LOSES_POWER, SLOW], None, &[READ, RESTARTED, READ]),
     (
-        (NO_QUIRKS, LOSES_POWER, SLOW),
+        &[BUSY, NEVER_ACKNOWLEDGES, PLAIN],
         None,
-        (READ, RESTARTED, READ),
+        &[READ, MUTE, READ],
     ),
     (
-        (BUSY, NEVER_ACKNOWLEDGES, NO_QUIRKS),
-        None,
-        (READ, MUTE, READ),
-    ),
-    (
-        (NO_QUIRKS, MISSES, NO_QUIRKS),
+        &[PLAIN, MISSES, PLAIN],
         Some(PULLED),
-        (READ, READ, UNPLUGGED),
+        &[READ, READ, UNPLUGGED],
+    ),
+    (&[EMULATED, EMULATED], None, &[READ, READ]),
+    (&[EMULATED_MUTE, EMULATED], None, &[MUTE, READ]),
+    (
+        &[EMULATED, STAYS_BUSY],
+        None,
+        &[READ, Outcome::Dead(Cause::StuckBusy)],
+    ),
+    // Slave 1 keeps the station address of slave 0.
+    (
+        &[EMULATED, KEEPS_ADDRESS],
+        None,
+        &[Outcome::Dead(Cause::Shared), RESTARTED],
+    ),
+    (&[EMULATED_LOSES_POWER, EMULATED], None, &[RESTARTED, READ]),
+    (
+        &[EMULATED, EMULATED],
+        Some(PULLED_BEHIND_FIRST),
+        &[READ, UNPLUGGED],
     ),
 ];
 
-// What becomes of the slaves of a case.
-fn outcomes_of(alloc: Global, case: &Case) -> Option<Three> {
-    let ((first, second, third), cable, _) = *case;
-    let quirks = [first, second, third];
-    let line = Line {
-        quirks,
-        cable,
-        mishap: WELL,
-    };
-    let (outcomes, _, _) = found_on(alloc, &line, 3)?;
-    Some(outcomes)
-}
-
 #[test]
 fn slaves_differ(rt: HostRuntime) {
-    for case in LINES {
-        let (_, _, outcomes) = *case;
-        assert!(rt; outcomes_of(rt.alloc(), case) == Some(outcomes));
+    for (slaves, cable, outcomes) in LINES {
+        let course = course_of(rt.alloc(), slaves, *cable, WELL, outcomes);
+        assert!(rt; matches!(course, Some(course) if course.are_so));
     }
 }
 
-// After how many microseconds so many slow slaves are read.
-fn time_of(alloc: Global, count: usize) -> Option<u64> {
-    let line = Line {
-        quirks: [SLOW; 3],
-        ..GOOD_LINE
-    };
-    let (_, _, time) = found_on(alloc, &line, count)?;
-    Some(time)
+// After how many microseconds slow slaves are brought up.
+fn time_of(alloc: Global, slaves: &[Slave], outcomes: &[Outcome]) -> Option<u64> {
+    let course = course_of(alloc, slaves, None, WELL, outcomes)?;
+    Some(course.time)
 }
 
 // Three slow slaves take no more than a tenth longer than one.
 #[test]
 fn slow_slaves_are_read_at_the_same_time(rt: HostRuntime) {
-    let (Some(one), Some(three)) = (time_of(rt.alloc(), 1), time_of(rt.alloc(), 3)) else {
-        panic!(rt; "a line isn't brought up");
-    };
+    let one = time_of(rt.alloc(), &[SLOW], &[READ]).unwrap_or(0);
+    let three = time_of(rt.alloc(), &[SLOW, SLOW, SLOW], ALL_READ).unwrap_or(u64::MAX);
     assert!(rt; one >= 256 * 2_000 && three <= one.saturating_add(one / 10));
 }
