@@ -1,7 +1,7 @@
 -- The files behind a site follow it, step by step.
-use Rattle.std.proofs.Common.{◌≡◌, ◌⊎◌, ℕ, ◌+◌, ◌≤◌, ◌<◌, Bool, true, false, List, [], ◌∷◌, ◌++◌, length, take, Any, Some, slice_get, Result, Ok, Err, IsErrOf, IsTrue, refl, sym, ap, subst, ◌∙◌, inl, inr, arith, append_assoc, length-append}
-use Rattle.std.proofs.lemmas.List.{append-nil, take-append-le}
-use Rattle.std.proofs.Math.Seq.{take-append_seam}
+use Rattle.std.proofs.Common.{◌≡◌, ◌⊎◌, ℕ, ◌+◌, ◌≤◌, ◌<◌, Bool, true, false, List, [], ◌∷◌, ◌++◌, length, take, drop, Any, Some, slice_get, Result, Ok, Err, IsErrOf, IsTrue, refl, sym, ap, subst, ◌∙◌, inl, inr, arith, append_assoc, length-append}
+use Rattle.std.proofs.lemmas.List.{append-nil, take-append-le, take_all, drop-append-le}
+use Rattle.std.proofs.Math.Seq.{take-append_seam, drop-length}
 use Rattle.std.proofs.lemmas.Option.{slice_get_within}
 use Rattle.std.proofs.lemmas.Bool.Decides.{eqb_tells}
 use Rattle.esc_model.specs.SlaveHalf.{SlaveHalf}
@@ -9,7 +9,7 @@ use Rattle.esc_model.proofs.Resting.{MayLeave-same}
 use Rattle.site_core.specs.declared.fault.DeviceFault.{DeviceFault}
 use Rattle.site_core.specs.declared.fault.DeviceFault.TheVariants as faults
 use Rattle.site_core.specs.Disk.{Disk, IsSynced, StopImage, overlaid, write_begun, written, synced}
-use Rattle.site_core.specs.State.{State, Seen, Pair, Leaves, clock}
+use Rattle.site_core.specs.State.{State, Seen, Pair, Moment, Leaves, clock}
 use Rattle.site_core.specs.Calls.{WritesDisk, SyncsDisk, begin_write}
 use Rattle.site_core.proofs.Moments.{Any-first}
 use Rattle.site_core.proofs.Times.{slice_get-early, slice_get-seam}
@@ -17,7 +17,7 @@ use Rattle.site_core.proofs.StopImages.{StopImage-synced}
 use Rattle.site_shadow.specs.declared.device.Passing.{Passing}
 use Rattle.site_shadow.specs.declared.device.Passing.TheVariants.{Passes}
 use Rattle.site_shadow.specs.Following as shadow
-use Rattle.site_shadow.specs.Following.{Extends, KeepsContents, GoesOn, LeftTowards}
+use Rattle.site_shadow.specs.Following.{Extends, KeepsContents, GoesOn, LeftTowards, begin_of, state_at}
 use Rattle.site_shadow.proofs.Keeping.{Extends-by}
 use Rattle.site_shadow.proofs.Towards.{last_left, Extends-now, Extends-towards, Extends-clock}
 use Rattle.site_file.specs.declared.asking.LineFile.{LineFile}
@@ -91,7 +91,7 @@ left_at_first state owned begun holds images left =
 
 -- THE LOG GOES ON
 
-calls_of-snoc : (pieces : List (List Asked)) (last : List Asked) → calls_of (pieces ++ last ∷ []) ≡ calls_of pieces ++ last
+pub calls_of-snoc : (pieces : List (List Asked)) (last : List Asked) → calls_of (pieces ++ last ∷ []) ≡ calls_of pieces ++ last
 calls_of-snoc [] last = append-nil last
 calls_of-snoc (piece ∷ pieces) last =
     ap (λ (l : List Asked). piece ++ l) (calls_of-snoc pieces last) ∙ sym (append_assoc piece (calls_of pieces) last)
@@ -106,8 +106,38 @@ lead_on calls others files mid laters first second name =
     subst (λ (l : List Asked). BecomesBy l (files name) (laters name)) (sym (of_file-append name calls others))
     (both (of_file name calls) (of_file name others) (files name) (mid name) (laters name) (first name) (second name))
 
-early_or_at : (place count : ℕ) → place < count + 1 → (place < count) ⊎ (place ≡ count)
+pub early_or_at : (place count : ℕ) → place < count + 1 → (place < count) ⊎ (place ≡ count)
 early_or_at place count within = elim (eqb_tells place count) [ inl same ↦ inr same.1 | inr other ↦ inl (let d = other.1 in omega arith) ]
+
+-- the state at a time stays what it was
+begins_so : (past : List Moment) (moment : Moment) (state : State) (time : ℕ) → time ≤ length past
+    → begin_of (drop time (past ++ moment ∷ [])) state ≡ begin_of (drop time past) moment.before
+begins_so past moment state time early = ap (λ (p : List Moment). begin_of p state) (drop-append-le time past (moment ∷ []) early) ∙ alike (drop time past)
+  where
+    alike : (before : List Moment) → begin_of (before ++ moment ∷ []) state ≡ begin_of before moment.before
+    alike [] = refl
+    alike (m ∷ before) = refl
+
+state_stays : (old new : Seen) (time : ℕ) → Extends old new → time < clock old → state_at new time ≡ state_at old time
+state_stays old new time extends early = by extends.goes
+  where
+    by : shadow.Continues old new → state_at new time ≡ state_at old time
+    by (shadow.begins moment before past) =
+        ap (λ (p : List Moment). begin_of (drop time p) new.state) past ∙ begins_so old.past moment new.state time (omega (arith, early))
+        ∙ ap (λ (s : State). begin_of (drop time old.past) s) before
+    by (shadow.goes_on past was is before old_is new_is left) =
+        let within : time ≤ length past = (let e = ap length old_is in omega (arith, early, e, length-append past (was ∷ []))) in
+        ap (λ (p : List Moment). begin_of (drop time p) new.state) new_is ∙ begins_so past is new.state time within
+        ∙ ap (λ (s : State). begin_of (drop time past) s) before
+        ∙ sym (ap (λ (p : List Moment). begin_of (drop time p) old.state) old_is ∙ begins_so past was old.state time within)
+    by (shadow.rests past state) =
+        ap (λ (p : List Moment). begin_of (drop time p) new.state) past ∙ ap (λ (s : State). begin_of (drop time old.past) s) state
+
+-- at the clock of the site before a call it is the state before the call
+state_before : (old new : Seen) (moment : Moment) → moment.before ≡ old.state → new.past ≡ old.past ++ moment ∷ [] → state_at new (clock old) ≡ old.state
+state_before old new moment before past =
+    ap (λ (p : List Moment). begin_of (drop (clock old) p) new.state) past ∙ begins_so old.past moment new.state (clock old) (omega arith)
+    ∙ ap (λ (p : List Moment). begin_of p moment.before) (drop-length old.past) ∙ before
 
 towards_on : (owned : LineFile → Bool) (old new : Seen) (time : ℕ) (images : LineFile → List ℕ) → Extends old new → time ≤ clock old
     → ShowOne owned (LeftTowards old time) images → ShowOne owned (LeftTowards new time) images
@@ -130,6 +160,9 @@ module _ {F : Type 0} (since : ℕ) (owned : LineFile → Bool) (begun : LineFil
             let within : place < length follows.pieces = slice_get_within follows.pieces place piece is in
             towards_on owned old new (since + place) images extends (omega (arith, few, within)) (follows.leaves place piece images bytes is left);
         leaves_last = λ images bytes left. towards_on owned old new (since + length follows.pieces) images extends few (follows.leaves_last images bytes left);
+        held = λ place files name within lead is_owned.
+            subst (λ (s : State). Holds s name (files name)) (sym (state_stays old new (since + place) extends (omega (arith, few, within))))
+            (follows.held place files name within lead is_owned);
         holds = λ sound_yet going name file is_owned becomes. absurd (over sound_yet going);
       }
 
@@ -184,6 +217,26 @@ module _ {F : Type 0} (since : ℕ) (owned : LineFile → Bool) (begun : LineFil
       early_last images bytes left =
           towards_on owned old new (since + length follows.pieces) images extends (omega (arith, now)) (follows.leaves_last images bytes left)
 
+      held_early : (place : ℕ) (files : LineFile → File) (name : LineFile) → place < length follows.pieces
+          → LeadTo (calls_of (take (place + 1) follows.pieces)) begun files → IsTrue (owned name) → Holds (state_at new (since + place)) name (files name)
+      held_early place files name within lead is_owned =
+          subst (λ (s : State). Holds s name (files name)) (sym (state_stays old new (since + place) extends (omega (arith, now, within))))
+          (follows.held place files name within lead is_owned)
+
+      held_one : state_at new (clock old) ≡ old.state → (place : ℕ) (files : LineFile → File) (name : LineFile)
+          → LeadTo (calls_of (take (place + 1) (follows.pieces ++ follows.last ∷ []))) begun files → IsTrue (owned name)
+          → (place < length follows.pieces) ⊎ (place ≡ length follows.pieces) → Holds (state_at new (since + place)) name (files name)
+      held_one before place files name lead is_owned (inl early_place) =
+          held_early place files name early_place (subst (λ (l : List (List Asked)). LeadTo (calls_of l) begun files)
+          (take-append-le (place + 1) follows.pieces (follows.last ∷ []) (omega (arith, early_place))) lead) is_owned
+      held_one before place files name lead is_owned (inr same) =
+          let all : take (place + 1) (follows.pieces ++ follows.last ∷ []) ≡ follows.pieces ++ follows.last ∷ [] =
+          take_all (place + 1) (follows.pieces ++ follows.last ∷ []) (omega (arith, same, length-append follows.pieces (follows.last ∷ []))) in
+          let whole : LeadTo (calls_of follows.pieces ++ follows.last) begun files =
+          subst (λ (l : List Asked). LeadTo l begun files) (ap calls_of all ∙ calls_of-snoc follows.pieces follows.last) lead in
+          let at : since + place ≡ clock old = omega (arith, now, same) in
+          subst (λ (s : State). Holds s name (files name)) (sym (ap (λ (t : ℕ). state_at new t) at ∙ before)) (held name (files name) is_owned (whole name))
+
       one_of : (place : ℕ) (piece : List Asked) (images : LineFile → List ℕ) → ((name : LineFile) → IsBytes (images name))
           → slice_get (follows.pieces ++ follows.last ∷ []) place ≡ Some piece
           → AreLeftBehind (calls_of (take place (follows.pieces ++ follows.last ∷ []))) piece begun images
@@ -201,8 +254,8 @@ module _ {F : Type 0} (since : ℕ) (owned : LineFile → Bool) (begun : LineFil
           (early_last images bytes (subst (λ (c : List Asked). AreLeftBehind (calls_of follows.pieces) c begun images) is_last
           (subst (λ (l : List (List Asked)). AreLeftBehind (calls_of l) piece begun images) all_before left)))
 
-      begins_one : clock new ≡ clock old + 1 → FilesFollow since owned begun later new
-      begins_one longer =
+      begins_one : clock new ≡ clock old + 1 → state_at new (clock old) ≡ old.state → FilesFollow since owned begun later new
+      begins_one longer before =
           let count : length (follows.pieces ++ follows.last ∷ []) ≡ length follows.pieces + 1 = length-append follows.pieces (follows.last ∷ []) in
           let all_before : calls_of (follows.pieces ++ follows.last ∷ []) ≡ calls_of follows.pieces ++ follows.last = calls_of-snoc follows.pieces follows.last in
           let there : since + length (follows.pieces ++ follows.last ∷ []) ≡ clock new = omega (arith, now, longer, count) in
@@ -218,6 +271,8 @@ module _ {F : Type 0} (since : ℕ) (owned : LineFile → Bool) (begun : LineFil
             leaves_last = λ images bytes left.
                 subst (λ (t : ℕ). ShowOne owned (LeftTowards new t) images) (sym there)
                 (here left.mid images bytes (λ name. subst (λ (l : List Asked). BecomesBy (of_file name l) (begun name) (left.mid name)) all_before (left.lead name)) left.left);
+            held = λ place files name within lead is_owned.
+                held_one before place files name lead is_owned (early_or_at place (length follows.pieces) (omega (arith, within, count)));
             holds = λ sound_yet goes name file is_owned becomes.
                 holds_all sound_yet goes name file is_owned (subst (λ (l : List Asked). BecomesBy (of_file name (l ++ calls)) (begun name) file) all_before becomes);
           }
@@ -239,12 +294,13 @@ module _ {F : Type 0} (since : ℕ) (owned : LineFile → Bool) (begun : LineFil
               | inr late ↦ subst (λ (t : ℕ). ShowOne owned (LeftTowards new t) images) (sym there)
                   (here late.0 images bytes (lead_on (calls_of follows.pieces) follows.last begun left.mid late.0 left.lead late.1) late.2)
             ];
+            held = held_early;
             holds = λ sound_yet goes name file is_owned becomes.
                 holds_all sound_yet goes name file is_owned (subst (λ (l : List Asked). BecomesBy (of_file name l) (begun name) file) (sym joined) becomes);
           }
 
       by : shadow.Continues old new → FilesFollow since owned begun later new
-      by (shadow.begins moment before past) = begins_one (let e = ap length past in omega (arith, e, length-append old.past (moment ∷ [])))
+      by (shadow.begins moment before past) = begins_one (let e = ap length past in omega (arith, e, length-append old.past (moment ∷ []))) (state_before old new moment before past)
       by (shadow.goes_on past was is before old_is new_is left) =
           goes_on_one (let e = ap length old_is in let f = ap length new_is in omega (arith, e, f, length-append past (was ∷ []), length-append past (is ∷ [])))
       by (shadow.rests past state) = goes_on_one (ap length past)

@@ -309,6 +309,7 @@ module _ {F : Type 0} (since : ℕ) (owned : LineFile → Bool) (begun : LineFil
         leaves_last = λ images bytes left.
             follows.leaves_last images bytes
             (record { mid = left.mid; lead = left.lead; left = quiet_behind follows.last calls left.mid images quiet left.left });
+        held = follows.held;
         holds = λ going_on goes name file is_owned becomes.
             let apart : BecomesBy (of_file name before ++ of_file name calls) (begun name) file =
             subst (λ (l : List Asked). BecomesBy l (begun name) file) (ap (of_file name) (sym joined) ∙ of_file-append name before calls) becomes in
@@ -369,6 +370,7 @@ begins_to_follow F owned begun d seen none holds = record {
   leaves_last = λ images bytes left.
       let shown = left_at_first seen.state owned begun holds images (at_first begun images left) in
       (shown.0, now_left seen (clock seen + 0) shown.0 (omega arith) shown.1, shown.2);
+  held = λ place files name within lead is_owned. absurd (omega (arith, within));
   holds = λ going_on going name file is_owned becomes. subst (λ (f : File). Holds seen.state name f) (sym becomes) (holds name is_owned);
 }
   where
@@ -408,6 +410,7 @@ refused d seen owned begun none failed holds = record {
   leaves = λ place piece images bytes is left. absurd cc;
   leaves_last = λ images bytes left. left_at_first (first_of seen) owned begun holds images
       (λ name. subst (λ (f : File). StopImage f.disk (images name)) (left.lead name) (left.left name));
+  held = λ place files name within lead is_owned. absurd (omega (arith, within));
   holds = λ going_on going name file is_owned becomes. absurd (let e : true ≡ false = sym failed ∙ going_on in cc);
 }
 

@@ -1,10 +1,10 @@
 -- The files behind a site in memory, and what a power cut leaves of all of them at one moment.
-use Rattle.std.specs.Prelude.{◌≡◌, ◌⊎◌, ℕ, ◌+◌, ◌≤◌, Bool, true, false, List, [], ◌∷◌, ◌++◌, length, take, slice_get, Some, IsTrue, if◌then◌else◌}
+use Rattle.std.specs.Prelude.{◌≡◌, ◌⊎◌, ℕ, ◌+◌, ◌≤◌, ◌<◌, Bool, true, false, List, [], ◌∷◌, ◌++◌, length, take, slice_get, Some, IsTrue, if◌then◌else◌}
 use Rattle.sii_words.specs.Words.{bytes_of}
 use Rattle.esc_model.specs.SlaveHalf.{SlaveHalf}
 use Rattle.site_core.specs.Disk.{Disk, IsSynced, StopImage}
 use Rattle.site_core.specs.State.{State, Seen, Pair, clock}
-use Rattle.site_shadow.specs.Following.{first_of, LeftTowards}
+use Rattle.site_shadow.specs.Following.{first_of, state_at, LeftTowards}
 use Rattle.site_file.specs.declared.asking.LineFile.{LineFile}
 use Rattle.site_file.specs.declared.asking.LineFile.TheVariants.{Journal, Image}
 use Rattle.site_file.specs.declared.files.FileDevice.{FileDevice}
@@ -73,8 +73,9 @@ ShowOne owned Q images = (pair : Pair) × Q pair × ((name : LineFile) → IsTru
 
 -- A device stands behind a site that owns some of the files. Whatever the files were, as its log began, that held the site's parts: its log falls into
 -- pieces, one for each time of the site's clock since then and one for now, in order. A power cut in a piece has left of the files a pair that it may
--- have left of the site towards the time of that piece: in the call that ended then, or then. As long as no call on a file has failed and the site
--- goes on, there is a piece for each time, and the files hold the site's parts; behind a failure, nothing is asked any more.
+-- have left of the site towards the time of that piece: in the call that ended then, or then. Behind each piece but the last one the files hold the
+-- site's parts as they were at its time. As long as no call on a file has failed and the site goes on, there is a piece for each time, and the files
+-- hold the site's parts; behind a failure, nothing is asked any more.
 pub record FilesFollow
     {F : Type 0} (since : ℕ) (owned : LineFile → Bool) (begun : LineFile → File) (device : FileDevice F) (seen : Seen) : Type 0 where
   pub pieces : List (List Asked)
@@ -87,6 +88,8 @@ pub record FilesFollow
       → ShowOne owned (LeftTowards seen (since + place)) images
   pub leaves_last : (images : LineFile → List ℕ) → ((name : LineFile) → IsBytes (images name)) → AreLeftBehind (calls_of pieces) last begun images
       → ShowOne owned (LeftTowards seen (since + length pieces)) images
+  pub held : (place : ℕ) (files : LineFile → File) (name : LineFile) → place < length pieces → LeadTo (calls_of (take (place + 1) pieces)) begun files
+      → IsTrue (owned name) → Holds (state_at seen (since + place)) name (files name)
   pub holds : device.has_failed ≡ false → ¬ IsTrue seen.is_stopped → (name : LineFile) (later : File) → IsTrue (owned name)
       → BecomesBy (of_file name (calls_of pieces ++ last)) (begun name) later → Holds seen.state name later
 

@@ -1,0 +1,4 @@
+mod Fixed
+mod AtDesk
+mod Since
+mod OnFiles
