@@ -25,10 +25,11 @@ use Rattle.book_model.specs.declared.next.RomNext.{RomNext}
 use Rattle.book_model.specs.declared.next.RomNext.TheVariants as rom
 use Rattle.book_model.specs.declared.next.RomOutcome.{RomOutcome}
 use Rattle.station_jobs.specs.declared.log.Assignment.{Assignment}
+use Rattle.station_jobs.specs.Jobs.{MayEnd}
 use Rattle.station_jobs.specs.Left.{LeftInProgress}
 use Rattle.station_jobs.specs.Flushing.{DoesAction, LeftInAction}
 use Rattle.station_jobs.specs.Working.{CallsSlave, LeftInCall}
-use Rattle.desk_files.specs.Cuts.{GoesThrough, IsAt, CutsLog, in_call, at_rest, JournalIsCut, ImageIsCut}
+use Rattle.desk_files.specs.Cuts.{IsAt, CutsLog, in_call, at_rest, JournalIsCut, ImageIsCut}
 use Rattle.desk_files.proofs.Since.{state_then, since_first, since_towards}
 
 -- A PIECE OF A LOG
@@ -77,19 +78,19 @@ module _ {F : Type 0} (owned : LineFile → Bool) (begun : LineFile → File) (d
 module _ {J O : Type 0} (Does : J → O → Seen → Seen → Type 0) (InProgress : J → State → Pair → Type 0)
     (job_stays : (job : J) (outcome : O) (old new : Seen) → Does job outcome old new → StaysWithin (InProgress job old.state) old new)
     (job_follows : (job : J) (outcome : O) (old new : Seen) → Does job outcome old new → Follows old new) where
-  through_follows : (out : List (Assignment J O)) (mid next : Seen) → GoesThrough Does out mid next → Follows mid next
+  through_follows : (out : List (Assignment J O)) (mid next : Seen) → MayEnd Does out mid next → Follows mid next
   through_follows [] mid next same = subst (λ (s : Seen). Follows mid s) (sym same) (Follows-same mid)
-  through_follows (entry ∷ []) mid next one = job_follows entry.job one.0 mid next one.1
+  through_follows (entry ∷ []) mid next one = job_follows entry.job one.outcome mid next one.does
   through_follows (entry ∷ other ∷ out) mid next never = absurd never
 
   -- what could be left since the job began
-  since_in_progress : (out : List (Assignment J O)) (mid next : Seen) (pair : Pair) → GoesThrough Does out mid next → LeftSince next (clock mid) pair
+  since_in_progress : (out : List (Assignment J O)) (mid next : Seen) (pair : Pair) → MayEnd Does out mid next → LeftSince next (clock mid) pair
       → (out ≡ [] → Leaves mid.state pair) → LeftInProgress InProgress out mid.state pair
   since_in_progress [] mid next pair same left rests = rests refl
-  since_in_progress (entry ∷ []) mid next pair one left rests = let stays = job_stays entry.job one.0 mid next one.1 in stays.left pair left
+  since_in_progress (entry ∷ []) mid next pair one left rests = let stays = job_stays entry.job one.outcome mid next one.does in stays.left pair left
   since_in_progress (entry ∷ other ∷ out) mid next pair never left rests = absurd never
 
-  none_between : (out : List (Assignment J O)) (mid next : Seen) (time : ℕ) → GoesThrough Does out mid next → clock mid < time → time ≤ clock next
+  none_between : (out : List (Assignment J O)) (mid next : Seen) (time : ℕ) → MayEnd Does out mid next → clock mid < time → time ≤ clock next
       → out ≡ [] → ⊥
   none_between [] mid next time same later within none = omega (arith, later, within, ap clock same)
   none_between (entry ∷ out) mid next time one later within none = cc

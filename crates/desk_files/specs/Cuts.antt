@@ -19,7 +19,7 @@ use Rattle.book_model.specs.Machine as machines
 use Rattle.book_laws.specs.Opening.{book_on}
 use Rattle.world_law.specs.Law.{KeptFor}
 use Rattle.station_jobs.specs.declared.log.Assignment.{Assignment}
-use Rattle.station_jobs.specs.Jobs.{DoneInTurn}
+use Rattle.station_jobs.specs.Jobs.{DoneInTurn, MayEnd}
 use Rattle.station_jobs.specs.Left.{LeftInProgress}
 use Rattle.station_jobs.specs.Flushing.{DoesAction, LeftInAction}
 use Rattle.station_jobs.specs.Working.{CallsSlave, LeftInCall}
@@ -29,12 +29,6 @@ use Rattle.desk_book.specs.Logs.{disk_log, rom_log}
 use Rattle.desk_laws.specs.Joined.{IsOpenedOn, MayBeOut, served_by}
 
 -- WHERE A DEVICE IS
-
--- The job of this list, if there is one, was begun on this site and led it on.
-abbrev pub GoesThrough : {J O : Type 0} → (J → O → Seen → Seen → Type 0) → List (Assignment J O) → Seen → Seen → Type 0
-GoesThrough Does [] mid next = next ≡ mid
-GoesThrough {O = O} Does (entry ∷ []) mid next = (outcome : O) × Does entry.job outcome mid next
-GoesThrough Does jobs mid next = ⊥
 
 -- The jobs of the log led the site on from `start`, one after another. All but the last one have returned and the site has not stopped; the last
 -- one may be out.
@@ -47,7 +41,7 @@ pub record IsAt {J O : Type 0} (Does : J → O → Seen → Seen → Type 0) (lo
   pub in_turn : DoneInTurn Does done start mid
   -- the site once the job that is out has come to its end, which may lie behind the cut
   pub next : Seen
-  pub through : GoesThrough Does out mid next
+  pub through : MayEnd Does out mid next
 
 -- WHAT A CUT LEAVES
 
@@ -73,11 +67,11 @@ pub record SlaveCut (calls : List Call) (slave : ℕ) (old : SlaveHalf) (words :
 pub record AllCut (calls : List Call) (old : State) (pair : Pair) : Type 0 where
   pub disk : DiskCut calls old.disk pair.disk
   pub count : length pair.words ≡ length old.halves
-  pub slaves : (slave : ℕ) (half : SlaveHalf) (words : List ℕ) → slice_get old.halves slave ≡ Some half → slice_get pair.words slave ≡ Some words
-      → SlaveCut calls slave half words
+  pub slaves : (slave : ℕ) (half : SlaveHalf) (words : List ℕ) → slice_get old.halves slave ≡ Some half
+      → slice_get pair.words slave ≡ Some words → SlaveCut calls slave half words
 
--- The book was opened on the contents after a prefix of the machine's commands, with every acknowledged one in it; a new session began there. The pair
--- is recoverable for this session, with the book's commands and all durable ones acknowledged.
+-- The book was opened on the contents after a prefix of the machine's commands, with every acknowledged one in it; a new session began there.
+-- The pair is recoverable for this session, with the book's commands and all durable ones acknowledged.
 pub record IsKeptPair (machine : Machine) (book : Book) (pair : Pair) : Type 0 where
   pub k : ℕ
   pub may_keep : MayKeep machine k
@@ -90,11 +84,12 @@ CutIsKept = (machine : Machine) (journal : Journal) (old : State) (calls : List 
 
 -- FILES
 
--- A power cut in the log of a device leaves these images: in a piece of it behind the time `from`, up to the time `to`; or behind the piece of the time
--- `from`, while no call on a file has failed.
+-- A power cut in the log of a device leaves these images: in a piece of it behind the time `from`, up to the time `to`; or behind the piece of
+-- the time `from`, while no call on a file has failed.
 pub data CutsLog {F : Type 0} {owned : LineFile → Bool} {begun : LineFile → File} {device : FileDevice F} {seen : Seen}
     (follows : FilesFollow 0 owned begun device seen) (from to : ℕ) (images : LineFile → List ℕ) : Type 0 where
-  in_call : (time : ℕ) (piece : List Asked) → from < time → time ≤ to → slice_get (follows.pieces ++ follows.last ∷ []) time ≡ Some piece
+  in_call : (time : ℕ) (piece : List Asked) → from < time → time ≤ to
+      → slice_get (follows.pieces ++ follows.last ∷ []) time ≡ Some piece
       → AreLeftBehind (calls_of (take time (follows.pieces ++ follows.last ∷ []))) piece begun images → CutsLog follows from to images
   at_rest : (from < length follows.pieces) ⊎ ((device.has_failed ≡ false) × ¬ IsTrue seen.is_stopped × (from ≡ length follows.pieces))
       → AreLeftBehind (calls_of (take (from + 1) (follows.pieces ++ follows.last ∷ []))) [] begun images → CutsLog follows from to images
