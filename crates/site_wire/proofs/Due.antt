@@ -8,8 +8,8 @@ use Rattle.esc_model.specs.Orders.{address_of}
 use Rattle.esc_model.specs.SlaveHalf.{SlaveHalf, Activity, Idle, Reading, Writing, is_busy, in_flight}
 use Rattle.esc_model.specs.declared.rest.WordWrite.{WordWrite}
 use Rattle.esc_model.proofs.WordTaking.{number_back}
-use Rattle.wire_laws.specs.Due.{WritesControl, none, reads, writes, IsFit, clears, IsDue}
-use Rattle.wire_laws.specs.Due as due
+use Rattle.site_wire.specs.Due.{WritesControl, none, reads, writes, IsFit, clears, IsDue}
+use Rattle.site_wire.specs.Due as due
 use Rattle.esc_model.proofs.Addressing.{register_is}
 
 -- a read of registers

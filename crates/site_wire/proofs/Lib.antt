@@ -1,3 +1,14 @@
+mod Liking
+mod Storing
+mod Stored
+mod Judged
+mod Taking
+mod Again
+mod Chain
+mod Showing
+mod Alone
+mod Agreeing
+mod AmendedLaws
 mod Boards
 mod Due
 mod Only

@@ -7,9 +7,9 @@ use Rattle.esc_model.specs.Bytes.{register_of}
 use Rattle.esc_model.specs.SlaveHalf.{SlaveHalf, is_busy}
 use Rattle.site_wire.specs.declared.device.Next.{Next}
 use Rattle.site_wire.specs.declared.device.Next.TheVariants as next
-use Rattle.wire_laws.specs.Due.{WritesControl}
-use Rattle.wire_laws.specs.Answers.{compared, ReadAlike}
-use Rattle.wire_laws.specs.Exchanges.{Agrees}
+use Rattle.site_wire.specs.Due.{WritesControl}
+use Rattle.site_wire.specs.Answers.{compared, ReadAlike}
+use Rattle.site_wire.specs.Exchanges.{Agrees}
 use Rattle.site_wire.specs.declared.answers.Answer.{Answer}
 use Rattle.site_wire.specs.declared.answers.Shown.{Shown}
 use Rattle.site_wire.specs.declared.answers.Shown.TheVariants as shown

@@ -3,7 +3,7 @@ use Rattle.std.specs.Prelude.{◌≡◌, ◌%◌, ◌≤◌, true, length, slice
 use Rattle.ecat_frame.specs.Frame.{Pdu}
 use Rattle.esc_model.specs.Bytes.{register_of}
 use Rattle.esc_model.specs.SlaveHalf.{SlaveHalf, Reading, in_flight}
-use Rattle.wire_laws.specs.Due.{is_command}
+use Rattle.site_wire.specs.Due.{is_command}
 
 -- The datagram tells only what a shadow knows that was made of the slave's words: it is the command to read words (001); or it reads the data
 -- register or those behind it (0x0508 on); or it reads registers while the half reads words.

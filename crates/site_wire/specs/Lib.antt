@@ -1,3 +1,9 @@
+pub mod Due
+pub mod Likeness
+pub mod Answers
+pub mod Exchanges
+pub mod Laws
+pub mod Amending
 pub mod Answering
 pub mod Joining
 pub mod Known

@@ -1,7 +1,7 @@
 //! What an answer shows of a slave, and whether it is the one that the shadow gives.
 ghost use Rattle.std.specs.Prelude.{◌≡◌, ◌≢◌, ◌<◌, ◌/◌, ◌↔◌, length, IsTrue, IfSome, None, Some};
 ghost use Rattle.ecat_frame.specs.Frame.{pdu};
-ghost use Rattle.wire_laws.specs.Answers.{compared, ReadAlike, shown_status};
+ghost use Rattle.site_wire.specs.Answers.{compared, ReadAlike, shown_status};
 ghost use Rattle.site_wire.specs.Answering.{found_of, shown_by, IsAnswer, difference_at, FirstDiffers, IsAlike, IsUnconfirmed};
 ghost use Rattle.site_wire.specs.declared.answers.Comparison.TheVariants.{Alike, Unconfirmed};
 

@@ -1,11 +1,11 @@
 //! The slaves on a wire and the journal's file, as the device behind a shadow.
 ghost use Rattle.std.specs.Prelude.{◌≡◌, ◌<◌, ◌∷◌, ◌==◌, [], true, false, None, Some, length, slice_set, if◌then◌else◌, IsTrue, IfSome, IsSome};
 ghost use Rattle.ecat_frame.specs.Frame.{Pdu, pdu};
-ghost use Rattle.wire_laws.specs.Due.{IsFit, WritesControl};
+ghost use Rattle.site_wire.specs.Due.{IsFit, WritesControl};
 ghost use Rattle.esc_model.specs.SlaveHalf.{in_flight, is_busy};
 ghost use Rattle.site_shadow.specs.declared.device.Resting.TheVariants as resting;
 ghost use Rattle.site_wire.specs.declared.answers.Shown.TheVariants as shown_as;
-ghost use Rattle.wire_laws.specs.Answers.{shown_status};
+ghost use Rattle.site_wire.specs.Answers.{shown_status};
 ghost use Rattle.site_wire.specs.Answering.{found_of, shown_by, next_by, AgreesWith};
 ghost use Rattle.wire_frames.specs.Sending.{IsForEeprom};
 ghost use Rattle.site_wire.specs.Known.{IsKnown};

@@ -1,26 +1,37 @@
 //! Why a site on a wire has stopped.
 
+use std::{error, fmt};
 use thiserror::Error;
 
 /// In what a slave's answer is another than that of the shadow.
-#[derive(Clone, Copy, Debug, PartialEq, Eq, Error)]
+#[derive(Clone, Copy, Debug, PartialEq, Eq)]
 pub enum Difference {
     /// It isn't the datagram that was sent, or a write that comes back with other content.
-    #[error("another datagram came back")]
     Datagram,
     /// The working counter.
-    #[error("the working counter differs")]
     Counter,
     /// Who has access to the EEPROM: bits 0 and 1 of 0x0500.
-    #[error("the access to the EEPROM differs")]
     Access,
     /// Whether the slave is busy: bit 15 of control and status.
-    #[error("the busy bit differs")]
     Busy,
     /// Bits 13 and 14 of control and status.
-    #[error("the error bits differ")]
     Errors,
 }
+
+impl fmt::Display for Difference {
+    fn fmt<W: fmt::Write>(&self, f: &mut fmt::Formatter<W>) -> fmt::Result {
+        let text = match self {
+            Difference::Datagram => "another datagram came back",
+            Difference::Counter => "the working counter differs",
+            Difference::Access => "the access to the EEPROM differs",
+            Difference::Busy => "the busy bit differs",
+            Difference::Errors => "the error bits differ",
+        };
+        f.write_str(text)
+    }
+}
+
+impl error::Error for Difference {}
 
 /// Why a site on a wire has stopped.
 #[derive(Clone, Copy, Debug, PartialEq, Eq, Error)]

@@ -1,7 +1,7 @@
 //! Which datagrams go to a slave.
 ghost use Rattle.std.specs.Prelude.{◌≡◌, ◌≤◌, ◌%◌, ◌↔◌, ◌∷◌, [], length, slice_index, IsTrue, IfSome};
 ghost use Rattle.ecat_frame.specs.Frame.{pdu};
-ghost use Rattle.wire_laws.specs.Due.{WritesControl, IsFit, NamesInside, is_command};
+ghost use Rattle.site_wire.specs.Due.{WritesControl, IsFit, NamesInside, is_command};
 ghost use Rattle.wire_frames.specs.Sending.{IsForEeprom};
 ghost use Rattle.site_wire.specs.Known.{IsKnown};
 

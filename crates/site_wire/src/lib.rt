@@ -1,5 +1,5 @@
 //! The slaves of a line that was brought up on a wire, and a journal's file, as the device behind the shadow: it sends each frame and compares
-//! its answer.
+//! its answer. `laws` says why comparing so little is enough.
 #![tactic(auto)]
 
 mod amending;
@@ -8,10 +8,14 @@ mod device;
 mod faults;
 mod fitting;
 mod joining;
+mod laws;
 mod order;
 mod ordering;
 mod reach;
 
 pub use device::{SharedSite, WireDevice, WireSite};
 pub use faults::{Difference, StopReason};
+pub use laws::{
+    agreed_is_possible, amending_is_possible, possible_leaves_no_more, stop_leaves_no_more,
+};
 pub use reach::{LiveLine, LockedLine, Reach, SharedLine};

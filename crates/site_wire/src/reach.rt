@@ -1,6 +1,6 @@
 //! How a device reaches the slaves of a wire.
 ghost use Rattle.std.specs.List.{All};
-ghost use Rattle.wire_laws.specs.Due.{IsDue};
+ghost use Rattle.site_wire.specs.Due.{IsDue};
 ghost use Rattle.std.specs.Prelude.{◌<◌};
 ghost use Rattle.ecat_frame.specs.Frame.{pdu};
 ghost use Rattle.wire_frames.specs.Sending.{IsForEeprom, OnlyEeprom};

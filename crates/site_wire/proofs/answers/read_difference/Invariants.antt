@@ -1,5 +1,5 @@
 use Rattle.std.proofs.Common.{◌≡◌, ℕ, ◌+◌, ◌<◌, slice_index}
-use Rattle.wire_laws.specs.Answers.{compared}
+use Rattle.site_wire.specs.Answers.{compared}
 use Rattle.site_wire.proofs.answers.read_difference.Given as goal
 
 abbrev pub invariant-loop-place : goal.invariant-loop-place

@@ -10,14 +10,14 @@ use Rattle.esc_model.specs.Datagrams.{served_datagram}
 use Rattle.esc_model.proofs.Resting.{MayHold-same, MayLeave-same, MayRest-station, MayRest-leaves}
 use Rattle.esc_model.proofs.Status.{idle_not_busy}
 use Rattle.esc_model.proofs.WordTaking.{number_back, value_back}
-use Rattle.wire_laws.specs.Due.{IsOwn, clears, reads, writes}
-use Rattle.wire_laws.specs.Likeness.{IsLike}
-use Rattle.wire_laws.specs.Amending.{IsAmended, start, next, PossibleIsAmended, AmendedStays, AmendedLeavesNoMore, BusyIsPossible, ReadBackIsPossible, OtherIsKept}
-use Rattle.wire_laws.proofs.Liking.{MayHold-then, like_is_possible}
-use Rattle.wire_laws.proofs.Stored.{offered_kept, forced_kept, command_given}
-use Rattle.wire_laws.proofs.Judged.{judged, Doing, Nothing, Fetches, Writes, doing_of, done, begun_is, writes_command}
-use Rattle.wire_laws.proofs.Taking.{true_or_false, writes_here, served_other, served_write, written_idle, written_ignored, judges}
-use Rattle.wire_laws.proofs.Showing.{reads_only}
+use Rattle.site_wire.specs.Due.{IsOwn, clears, reads, writes}
+use Rattle.site_wire.specs.Likeness.{IsLike}
+use Rattle.site_wire.specs.Amending.{IsAmended, start, next, PossibleIsAmended, AmendedStays, AmendedLeavesNoMore, BusyIsPossible, ReadBackIsPossible, OtherIsKept}
+use Rattle.site_wire.proofs.Liking.{MayHold-then, like_is_possible}
+use Rattle.site_wire.proofs.Stored.{offered_kept, forced_kept, command_given}
+use Rattle.site_wire.proofs.Judged.{judged, Doing, Nothing, Fetches, Writes, doing_of, done, begun_is, writes_command}
+use Rattle.site_wire.proofs.Taking.{true_or_false, writes_here, served_other, served_write, written_idle, written_ignored, judges}
+use Rattle.site_wire.proofs.Showing.{reads_only}
 
 -- WHAT A HALF MAY HOLD, THROUGH WHAT THE REAL SLAVE DOES
 

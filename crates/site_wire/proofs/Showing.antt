@@ -8,8 +8,8 @@ use Rattle.esc_model.specs.Bytes.{lies_in, station_of, register_of}
 use Rattle.esc_model.specs.Registers.{status_byte}
 use Rattle.esc_model.specs.SlaveHalf.{SlaveHalf, Outcome, is_busy, concerns, shown_bytes, replied, passed_on, served}
 use Rattle.esc_model.specs.Datagrams.{served_datagram, reply_of}
-use Rattle.wire_laws.specs.Answers.{compared, AnswersAlike, has_status}
-use Rattle.wire_laws.proofs.Taking.{true_or_false, writes_here, writes_code}
+use Rattle.site_wire.specs.Answers.{compared, AnswersAlike, has_status}
+use Rattle.site_wire.proofs.Taking.{true_or_false, writes_here, writes_code}
 
 -- BITS 5 TO 7
 

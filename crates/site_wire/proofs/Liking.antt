@@ -4,8 +4,8 @@ use Rattle.std.proofs.lemmas.List.{set-get_or, set-set}
 use Rattle.esc_model.specs.Registers.{Registers}
 use Rattle.esc_model.specs.SlaveHalf.{SlaveHalf, Activity, Idle, Reading, Writing, with_errors, settled, MayEnd, MayRest, MayHold, MayLeave}
 use Rattle.esc_model.proofs.Resting.{MayHold-same, MayRest-leaves, MayRest-twice}
-use Rattle.wire_laws.specs.Likeness.{SameRegisters, IsLike, MayBe}
-use Rattle.wire_laws.specs.Laws.{BroughtUpIsLike, LikeIsPossible, PossibleLeavesNoMore}
+use Rattle.site_wire.specs.Likeness.{SameRegisters, IsLike, MayBe}
+use Rattle.site_wire.specs.Laws.{BroughtUpIsLike, LikeIsPossible, PossibleLeavesNoMore}
 
 -- REGISTERS
 

@@ -5,8 +5,8 @@ use Rattle.std.proofs.lemmas.Bool.Decides.{nat_tests}
 use Rattle.esc_model.specs.Bytes.{overlaid}
 use Rattle.esc_model.specs.Registers.{Registers, access_byte, status_byte}
 use Rattle.esc_model.specs.SlaveHalf.{SlaveHalf, is_busy, shown_bytes, with_stored}
-use Rattle.wire_laws.specs.Likeness.{SameRegisters}
-use Rattle.wire_laws.proofs.Storing.{byte_after, Lies, before, within, behind, lies, after_before, after_behind, overlaid_at, after_within, after_covered}
+use Rattle.site_wire.specs.Likeness.{SameRegisters}
+use Rattle.site_wire.proofs.Storing.{byte_after, Lies, before, within, behind, lies, after_before, after_behind, overlaid_at, after_within, after_covered}
 use Rattle.esc_model.proofs.WordTaking.{offered_again as offered_bit}
 
 -- a word that stands at a place, after the write

@@ -3,9 +3,9 @@ use Rattle.std.specs.Prelude.{◌≡◌, ◌⊎◌, ℕ, ◌<◌, nat_le, true, 
 use Rattle.ecat_frame.specs.Frame.{Pdu}
 use Rattle.esc_model.specs.SlaveHalf.{SlaveHalf, Activity, Idle, Reading, Writing, is_busy, MayRest, settled, with_errors}
 use Rattle.esc_model.specs.Datagrams.{served_datagram, reply_of}
-use Rattle.wire_laws.specs.Due.{WritesControl, IsFit}
-use Rattle.wire_laws.specs.Likeness.{IsLike}
-use Rattle.wire_laws.specs.Answers.{AnswersAlike, shown_status}
+use Rattle.site_wire.specs.Due.{WritesControl, IsFit}
+use Rattle.site_wire.specs.Likeness.{IsLike}
+use Rattle.site_wire.specs.Answers.{AnswersAlike, shown_status}
 
 -- THE REAL SLAVE
 

@@ -3,9 +3,9 @@
 use Rattle.std.specs.Prelude.{◌≡◌, ◌⊎◌, ℕ, false, IsTrue, List, slice_index}
 use Rattle.ecat_frame.specs.Frame.{Pdu}
 use Rattle.esc_model.specs.SlaveHalf.{SlaveHalf, Idle, Reading, Writing, is_busy, MayHold, MayLeave, settled, with_errors}
-use Rattle.wire_laws.specs.Due.{IsOwn}
-use Rattle.wire_laws.specs.Likeness.{MayBe}
-use Rattle.wire_laws.specs.Exchanges.{Takes}
+use Rattle.site_wire.specs.Due.{IsOwn}
+use Rattle.site_wire.specs.Likeness.{MayBe}
+use Rattle.site_wire.specs.Exchanges.{Takes}
 
 -- The shadow is busy with a command, and shows no error.
 pub record IsAtWork (shadow : SlaveHalf) : Type 0 where

@@ -6,11 +6,11 @@ use Rattle.esc_model.specs.SlaveHalf.{SlaveHalf, Activity, Idle, Reading, Writin
 use Rattle.esc_model.specs.Datagrams.{served_datagram}
 use Rattle.esc_model.proofs.Resting.{MayLeave-same, MayLeave-idle}
 use Rattle.esc_model.proofs.Serving.{Goes, Goes-served}
-use Rattle.wire_laws.specs.Likeness.{IsLike, MayBe}
-use Rattle.wire_laws.specs.Exchanges.{IsSent, Takes, Takings, none, more, Answers}
-use Rattle.wire_laws.proofs.Liking.{MayBe-rests, MayBe-like}
-use Rattle.wire_laws.proofs.Taking.{served_like}
-use Rattle.wire_laws.proofs.Again.{MaySend, fit_all, forward, again}
+use Rattle.site_wire.specs.Likeness.{IsLike, MayBe}
+use Rattle.site_wire.specs.Exchanges.{IsSent, Takes, Takings, none, more, Answers}
+use Rattle.site_wire.proofs.Liking.{MayBe-rests, MayBe-like}
+use Rattle.site_wire.proofs.Taking.{served_like}
+use Rattle.site_wire.proofs.Again.{MaySend, fit_all, forward, again}
 
 -- `base` is the half for which the datagram is fit
 module _ (base shadow : SlaveHalf) (d : Pdu) (sent : IsSent base d) (may : MaySend shadow d) where

@@ -11,9 +11,9 @@ use Rattle.esc_model.specs.Bytes.{lies_in, station_of, register_of}
 use Rattle.esc_model.specs.SlaveHalf.{SlaveHalf, Idle, is_busy, concerns, replied, passed_on, with_stored, begun, after_write, written, served}
 use Rattle.esc_model.proofs.Resting.{MayLeave-idle}
 use Rattle.esc_model.proofs.Status.{idle_not_busy}
-use Rattle.wire_laws.specs.Likeness.{IsLike}
-use Rattle.wire_laws.proofs.Stored.{stored_same}
-use Rattle.wire_laws.proofs.Judged.{judged, Needs, begun_like}
+use Rattle.site_wire.specs.Likeness.{IsLike}
+use Rattle.site_wire.proofs.Stored.{stored_same}
+use Rattle.site_wire.proofs.Judged.{judged, Needs, begun_like}
 
 pub true_or_false : (b : Bool) → (b ≡ true) ⊎ (b ≡ false)
 true_or_false true = inl refl

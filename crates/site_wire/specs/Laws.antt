@@ -3,8 +3,8 @@ use Rattle.std.specs.Prelude.{◌≡◌, ℕ, false, List}
 use Rattle.ecat_frame.specs.Frame.{Pdu}
 use Rattle.esc_model.specs.SlaveHalf.{SlaveHalf, Idle, powered_up, MayLeave}
 use Rattle.esc_model.specs.Datagrams.{served_datagram}
-use Rattle.wire_laws.specs.Likeness.{IsLike, MayBe}
-use Rattle.wire_laws.specs.Exchanges.{BeginsToRead, Exchange, Exchanges, Stop}
+use Rattle.site_wire.specs.Likeness.{IsLike, MayBe}
+use Rattle.site_wire.specs.Exchanges.{BeginsToRead, Exchange, Exchanges, Stop}
 
 -- A half that is like the shadow is one that the shadow may be.
 abbrev pub LikeIsPossible : Type 0

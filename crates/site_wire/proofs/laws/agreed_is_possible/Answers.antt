@@ -1,6 +1,6 @@
-use Rattle.wire_laws.proofs.Agreeing.{agreed_is_possible as after_each, run_is_possible}
-use Rattle.wire_laws.proofs.Alone.{read_alone_is_possible}
-use Rattle.wire_laws.proofs.laws.agreed_is_possible.Goals as goal
+use Rattle.site_wire.proofs.Agreeing.{agreed_is_possible as after_each, run_is_possible}
+use Rattle.site_wire.proofs.Alone.{read_alone_is_possible}
+use Rattle.site_wire.proofs.laws.agreed_is_possible.Goals as goal
 
 pub returns-clause-agreed : goal.returns-clause-agreed
 returns-clause-agreed c = after_each

@@ -1,7 +1,7 @@
-//! Laws that hold for a real slave and its shadow. The functions here do nothing: the contract of each is the law.
+//! Laws that hold for a real slave and its shadow, by definitions alone. The functions here do nothing: the contract of each is the law.
 
-ghost use Rattle.wire_laws.specs.Amending.{PossibleIsAmended, AmendedStays, AmendedLeavesNoMore, BusyIsPossible, ReadBackIsPossible, OtherIsKept};
-ghost use Rattle.wire_laws.specs.Laws.{BroughtUpIsLike, LikeIsPossible, IsLikeItself, PossibleLeavesNoMore, AgreedIsPossible, ReadAloneIsPossible, RunIsPossible, StopLeavesNoMore};
+ghost use Rattle.site_wire.specs.Amending.{PossibleIsAmended, AmendedStays, AmendedLeavesNoMore, BusyIsPossible, ReadBackIsPossible, OtherIsKept};
+ghost use Rattle.site_wire.specs.Laws.{BroughtUpIsLike, LikeIsPossible, IsLikeItself, PossibleLeavesNoMore, AgreedIsPossible, ReadAloneIsPossible, RunIsPossible, StopLeavesNoMore};
 
 /// A slave as bring-up leaves it is like its shadow. A slave that is like its shadow, but for what is the controller's own, is one that the
 /// shadow may be. What a power cut leaves of any slave that the shadow may be is among what it may leave of the shadow.

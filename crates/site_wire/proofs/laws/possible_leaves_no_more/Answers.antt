@@ -1,5 +1,5 @@
-use Rattle.wire_laws.proofs.Liking.{brought_up_is_like, IsLike-refl, like_is_possible, possible_leaves_no_more as leaves_no_more}
-use Rattle.wire_laws.proofs.laws.possible_leaves_no_more.Goals as goal
+use Rattle.site_wire.proofs.Liking.{brought_up_is_like, IsLike-refl, like_is_possible, possible_leaves_no_more as leaves_no_more}
+use Rattle.site_wire.proofs.laws.possible_leaves_no_more.Goals as goal
 
 pub returns-clause-brought_up : goal.returns-clause-brought_up
 returns-clause-brought_up c = brought_up_is_like

@@ -4,8 +4,8 @@ use Rattle.std.specs.Prelude.{◌==◌, if◌then◌else◌}
 use Rattle.std.proofs.lemmas.Bool.{eqb-true}
 use Rattle.esc_model.specs.SlaveHalf.{SlaveHalf, Activity, Writing, with_stored, with_command_errors, begun, fetching, writing, MayHold}
 use Rattle.esc_model.proofs.Resting.{MayHold-same}
-use Rattle.wire_laws.specs.Likeness.{SameRegisters, IsLike}
-use Rattle.wire_laws.proofs.Stored.{offered_same, forced_same, address_covered, first_covered, control_same, command_same, command_given}
+use Rattle.site_wire.specs.Likeness.{SameRegisters, IsLike}
+use Rattle.site_wire.proofs.Stored.{offered_same, forced_same, address_covered, first_covered, control_same, command_same, command_given}
 
 -- the half with its content stored, and its command judged
 abbrev pub judged : SlaveHalf → ℕ → List ℕ → SlaveHalf

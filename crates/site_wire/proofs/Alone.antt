@@ -5,13 +5,13 @@ use Rattle.ecat_frame.specs.Frame.{Pdu}
 use Rattle.esc_model.specs.SlaveHalf.{SlaveHalf, Activity, Idle, Reading, Writing, MayHold, MayEnd}
 use Rattle.esc_model.specs.Datagrams.{served_datagram}
 use Rattle.esc_model.proofs.Resting.{MayRest-idle}
-use Rattle.wire_laws.specs.Likeness.{IsLike, MayBe}
-use Rattle.wire_laws.specs.Exchanges.{BeginsToRead}
-use Rattle.wire_laws.specs.Laws.{ReadAloneIsPossible}
-use Rattle.wire_laws.proofs.Again.{place_of, fit_all}
-use Rattle.wire_laws.proofs.Judged.{judged, Doing, Nothing, Fetches, Writes, doing_of, done, begun_is, fetches_well}
-use Rattle.wire_laws.proofs.Stored.{offered_kept, forced_kept}
-use Rattle.wire_laws.proofs.Taking.{true_or_false, served_other, writes_here, served_write, written_idle, judges, stores}
+use Rattle.site_wire.specs.Likeness.{IsLike, MayBe}
+use Rattle.site_wire.specs.Exchanges.{BeginsToRead}
+use Rattle.site_wire.specs.Laws.{ReadAloneIsPossible}
+use Rattle.site_wire.proofs.Again.{place_of, fit_all}
+use Rattle.site_wire.proofs.Judged.{judged, Doing, Nothing, Fetches, Writes, doing_of, done, begun_is, fetches_well}
+use Rattle.site_wire.proofs.Stored.{offered_kept, forced_kept}
+use Rattle.site_wire.proofs.Taking.{true_or_false, served_other, writes_here, served_write, written_idle, judges, stores}
 
 idle_reads_nothing : (activity : Activity) → activity ≡ Idle → activity ≡ Reading → ⊥
 idle_reads_nothing Idle idle reading = absurd cc

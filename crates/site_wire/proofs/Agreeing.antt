@@ -7,17 +7,17 @@ use Rattle.ecat_frame.specs.Frame.{Pdu}
 use Rattle.esc_model.specs.SlaveHalf.{SlaveHalf, Activity, Idle, Reading, Writing, is_busy, with_errors, settled, MayEnd, MayRest, MayHold, MayLeave}
 use Rattle.esc_model.specs.Datagrams.{served_datagram, reply_of}
 use Rattle.esc_model.proofs.Status.{idle_not_busy, no_error}
-use Rattle.wire_laws.specs.Due.{WritesControl}
-use Rattle.wire_laws.specs.Likeness.{IsLike, MayBe}
-use Rattle.wire_laws.specs.Answers.{AnswersAlike, has_status}
-use Rattle.wire_laws.specs.Exchanges.{IsSent, Takes, Takings, rested_well, rested_failed, rested_as, rested_by_answer, Agrees, alike, unconfirmed, unsent, reads_alone, shows_alone, answered, start, next, silent, told}
-use Rattle.wire_laws.specs.Laws.{AgreedIsPossible, StopLeavesNoMore, RunIsPossible}
-use Rattle.wire_laws.proofs.Liking.{IsLike-then, like_is_possible, possible_leaves_no_more}
-use Rattle.wire_laws.proofs.Alone.{read_alone}
-use Rattle.wire_laws.proofs.Taking.{true_or_false, served_other, writes_here, writes_inside, served_write, written_ignored}
-use Rattle.wire_laws.proofs.Again.{MaySend, place_of}
-use Rattle.wire_laws.proofs.Chain.{takings, told_once, more_takings, served_leaves}
-use Rattle.wire_laws.proofs.Showing.{flags, same_flags, ShowsStatus, shows_status, status_in, reads_only, status_shown}
+use Rattle.site_wire.specs.Due.{WritesControl}
+use Rattle.site_wire.specs.Likeness.{IsLike, MayBe}
+use Rattle.site_wire.specs.Answers.{AnswersAlike, has_status}
+use Rattle.site_wire.specs.Exchanges.{IsSent, Takes, Takings, rested_well, rested_failed, rested_as, rested_by_answer, Agrees, alike, unconfirmed, unsent, reads_alone, shows_alone, answered, start, next, silent, told}
+use Rattle.site_wire.specs.Laws.{AgreedIsPossible, StopLeavesNoMore, RunIsPossible}
+use Rattle.site_wire.proofs.Liking.{IsLike-then, like_is_possible, possible_leaves_no_more}
+use Rattle.site_wire.proofs.Alone.{read_alone}
+use Rattle.site_wire.proofs.Taking.{true_or_false, served_other, writes_here, writes_inside, served_write, written_ignored}
+use Rattle.site_wire.proofs.Again.{MaySend, place_of}
+use Rattle.site_wire.proofs.Chain.{takings, told_once, more_takings, served_leaves}
+use Rattle.site_wire.proofs.Showing.{flags, same_flags, ShowsStatus, shows_status, status_in, reads_only, status_shown}
 
 -- HOW THE SHADOW RESTS
 

@@ -11,12 +11,12 @@ use Rattle.esc_model.specs.Datagrams.{served_datagram}
 use Rattle.esc_model.proofs.Resting.{MayRest-idle, MayRest-station, MayHold-same}
 use Rattle.esc_model.proofs.Serving.{Goes-served}
 use Rattle.esc_model.proofs.Status.{idle_not_busy}
-use Rattle.wire_laws.specs.Due.{WritesControl, is_command, IsFit, NamesInside, none as names_none, reads as names_reads, writes as names_writes}
-use Rattle.wire_laws.specs.Likeness.{IsLike, MayBe}
-use Rattle.wire_laws.proofs.Liking.{like_is_possible, MayBe-refl, MayBe-rests, MayBe-as}
-use Rattle.wire_laws.proofs.Stored.{offered_same, forced_same, offered_again, forced_again}
-use Rattle.wire_laws.proofs.Judged.{judged, Doing, Nothing, Fetches, Writes, doing_of, done, begun_is, begun_as, SameCommand, Needs, none as no_command, reads as a_read, writes as a_write, needs_covers, judged_same, address_needed, first_needed, nothing_alike, fetching_alike, writing_alike}
-use Rattle.wire_laws.proofs.Taking.{true_or_false, HasAll, writes_code, writes_inside, writes_here, writes_same, served_other, served_write, written_quiet, written_idle, written_ignored, judges, stores}
+use Rattle.site_wire.specs.Due.{WritesControl, is_command, IsFit, NamesInside, none as names_none, reads as names_reads, writes as names_writes}
+use Rattle.site_wire.specs.Likeness.{IsLike, MayBe}
+use Rattle.site_wire.proofs.Liking.{like_is_possible, MayBe-refl, MayBe-rests, MayBe-as}
+use Rattle.site_wire.proofs.Stored.{offered_same, forced_same, offered_again, forced_again}
+use Rattle.site_wire.proofs.Judged.{judged, Doing, Nothing, Fetches, Writes, doing_of, done, begun_is, begun_as, SameCommand, Needs, none as no_command, reads as a_read, writes as a_write, needs_covers, judged_same, address_needed, first_needed, nothing_alike, fetching_alike, writing_alike}
+use Rattle.site_wire.proofs.Taking.{true_or_false, HasAll, writes_code, writes_inside, writes_here, writes_same, served_other, served_write, written_quiet, written_idle, written_ignored, judges, stores}
 
 -- WHAT IS SENT
 
