@@ -20,6 +20,6 @@ pub use fault::{CatFault, ChainFault};
 pub use kind::END;
 pub use laws::{one_chain, one_content, readings};
 pub use managers::{Manager, syncms, write_syncms};
-pub use mappings::{Pdo, PdoEntry, PdoHead, bits_of_entries, front_pdo, pdos, write_pdos};
+pub use mappings::{Pdo, PdoEntry, PdoHead, front_entry, front_pdo, pdos, write_pdos};
 pub use text::{strings, write_strings};
 pub use units::{FmmuUnit, FmmuUse, fmmus, write_fmmus};

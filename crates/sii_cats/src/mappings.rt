@@ -1,6 +1,6 @@
 //! TXPDO and RXPDO categories (types 50 and 51; ETG.1000.6 and ETG.2010).
 
-ghost use Rattle.std.specs.Prelude.{◌≡◌, ◌<◌, ◌≤◌, ◌+◌, ◌*◌, ◌++◌, ◌∷◌, [], ◌↔◌, length, sum_by, IsTrue, All, IfOk, IfSome, MatchOption, OnOk};
+ghost use Rattle.std.specs.Prelude.{◌≡◌, ◌<◌, ◌≤◌, ◌+◌, ◌*◌, ◌++◌, ◌∷◌, [], ◌↔◌, length, IsTrue, All, IfOk, IfSome, MatchOption, OnOk};
 ghost use Rattle.std.specs.List.{flat_map};
 ghost use Rattle.sii_cats.specs.Bytes.{bytes_of};
 ghost use Rattle.sii_cats.specs.Pdos.{ArePdos, entries_in, entry_bytes, head_bytes, in_place, pdo_bytes, view, views, IsWritable};
@@ -61,8 +61,9 @@ pub struct PdoHead {
     pub flags: u16,
 }
 
-/// The entry in front of the words, and the words behind it; `None` if fewer than four words are left.
-fn entry_of(words: &[u16]) -> Option<(PdoEntry, &[u16])>
+/// The entry in front of the words of a PDO's entries, four words each, and the words behind it. `None` if fewer than four words
+/// are left.
+pub fn front_entry(words: &[u16]) -> Option<(PdoEntry, &[u16])>
     ensures { MatchOption result (entries_in words.now ≡ [])
         (λ x. (entries_in words.now ≡ x.0 ∷ entries_in x.1.now) × (length x.1.now + 4 ≡ length words.now)) }
 {
@@ -89,26 +90,11 @@ fn entries_of(alloc: Global, words: &[u16]) -> Result<Vec<PdoEntry>, AllocError>
 {
     let mut entries = Vec::with_capacity(alloc, words.len() / 4)?;
     let mut rest = words;
-    while let Some((entry, after)) = entry_of(rest) {
+    while let Some((entry, after)) = front_entry(rest) {
         entries.push(entry)?;
         rest = after;
     }
     Ok(entries)
-}
-
-/// The length in bits of the entries that these words spell, four words each. There must be at most 4,096 words.
-pub fn bits_of_entries(words: &[u16]) -> u32
-    requires { length words.now ≤ 4096 }
-    ensures bits { result ≡ sum_by (λ entry. entry.bit_length) (entries_in words.now) }
-    ensures most { result ≤ 64 * length words.now }
-{
-    let mut bits = 0;
-    let mut rest = words;
-    while let Some((entry, after)) = entry_of(rest) {
-        bits += u32::from(entry.bit_length);
-        rest = after;
-    }
-    bits
 }
 
 /// The PDO in front of a content of type `kind`, TXPDO or RXPDO, where it lies: its head, the words of its entries, and the

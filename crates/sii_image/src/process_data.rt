@@ -1,7 +1,8 @@
 //! What the categories of a slave say of its process data.
 
-ghost use Rattle.std.specs.Prelude.{◌≡◌, ◌≤◌, ◌<◌, ◌*◌, ◌+◌, ℕ, length, map, All, IfOk, OnOk, Ok};
+ghost use Rattle.std.specs.Prelude.{◌≡◌, ◌≤◌, ◌<◌, ◌*◌, ◌+◌, ℕ, length, map, sum_by, All, IfOk, OnOk, Ok};
 ghost use Rattle.sii_cats.specs.Chain.{end_of, member_of};
+ghost use Rattle.sii_cats.specs.Pdos.{entries_in};
 ghost use Rattle.sii_cats.specs.steps.Chain.{GivesChain};
 ghost use Rattle.sii_cats.specs.steps.Pdos.{pdos_of};
 ghost use Rattle.sii_cats.specs.steps.Reading.{Gives};
@@ -11,9 +12,7 @@ ghost use Rattle.sii_image.specs.steps.Sums.{AddsPdos, AreWithin, sums_read};
 
 use crate::rows::Row;
 use sii_cats::kind::{RXPDOS, SYNC_MANAGERS, TXPDOS};
-use sii_cats::{
-    CatFault, Category, ChainFault, Manager, bits_of_entries, chain, front_pdo, syncms,
-};
+use sii_cats::{CatFault, Category, ChainFault, Manager, chain, front_entry, front_pdo, syncms};
 use std::alloc::{AllocError, Global};
 
 /// The type of a sync manager with outputs, sent by the master.
@@ -61,6 +60,21 @@ fn first_managers(
         }
     }
     Ok(Vec::new(alloc))
+}
+
+/// The length in bits of the entries that these words spell, four words each.
+fn bits_of_entries(words: &[u16]) -> u32
+    requires { length words.now ≤ 4096 }
+    ensures bits { result ≡ sum_by (λ entry. entry.bit_length) (entries_in words.now) }
+    ensures most { result ≤ 64 * length words.now }
+{
+    let mut bits = 0;
+    let mut rest = words;
+    while let Some((entry, after)) = front_entry(rest) {
+        bits += u32::from(entry.bit_length);
+        rest = after;
+    }
+    bits
 }
 
 /// Adds the length in bits of each PDO of a content of type `kind` to the sum of its sync manager, if there is one.

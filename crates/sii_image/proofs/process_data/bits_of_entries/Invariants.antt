@@ -1,6 +1,6 @@
 use Rattle.std.proofs.Common.{◌≡◌, ◌+◌, ◌*◌, ◌≤◌, length, sum_by}
 use Rattle.sii_cats.specs.Pdos.{entries_in}
-use Rattle.sii_cats.proofs.mappings.bits_of_entries.Given as goal
+use Rattle.sii_image.proofs.process_data.bits_of_entries.Given as goal
 
 abbrev pub invariant-loop-entry : goal.invariant-loop-entry
 invariant-loop-entry l = record {
