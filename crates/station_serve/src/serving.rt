@@ -6,7 +6,7 @@ use clap::Error;
 use clap::error::ErrorKind;
 use command_line::{INPUT, InputScript};
 use line_report::{Before, look_before, report_behind};
-use site_progress::Progress;
+use line_watch::Progress;
 use station_arguments::{
     PowerCut, Request, RunTask, Task, print_completions, print_manual, read_arguments,
 };
