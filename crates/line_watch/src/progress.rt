@@ -67,11 +67,12 @@ impl<T: Write> Line<T> {
 }
 
 impl<T: Write> Progress<T> {
-    /// Begins to count, for a line on this terminal. None where the clock can't be read.
-    pub fn begin<R: Clock>(rt: &R, terminal: T) -> Option<Progress<T>>
+    /// Begins to count, for a line on this terminal. None where there is none, or the clock can't be read.
+    pub fn begin<R: Clock>(rt: &R, terminal: Option<T>) -> Option<Progress<T>>
     where
         T: Drop,
     {
+        let terminal = terminal?;
         let Ok(now) = rt.monotonic() else {
             return None;
         };

@@ -1,10 +1,8 @@
-//! The subcommand `completions`: what a shell completes, from the description of the command line.
+//! What a shell completes, from the description of a program.
 
-use crate::arguments::station;
+use crate::program::{Program, described};
 use clap::{Arg, Command};
-use station_files::Fault;
 use std::alloc::{AllocError, Global};
-use std::io::Write;
 
 /// A shell that completes words.
 #[derive(Clone, Copy)]
@@ -14,29 +12,26 @@ pub enum Shell {
     Fish,
 }
 
-/// Prints a script that makes a shell complete subcommands, options and file names.
+/// A script that makes a shell complete the program's subcommands, options and file names.
 ///
 /// # Errors
 ///
-/// `Memory` before anything is printed; then `File` or `Memory`, as the output answers.
-pub fn print_completions<W: Write>(
+/// Memory was refused.
+pub fn completion_script(
     alloc: Global,
+    program: Program<'_>,
     shell: Shell,
-    output: &mut W,
-) -> Result<(), Fault> {
-    let mut command = station(alloc)?;
+) -> Result<String, AllocError> {
+    let mut command = described(alloc, program)?;
     command.build()?;
-    let text = match shell {
-        Shell::Bash => bash(alloc, &command)?,
-        Shell::Zsh => zsh(alloc, &command)?,
-        Shell::Fish => fish(alloc, &command)?,
-    };
-    output.write_all(text.as_bytes())?;
-    output.flush()?;
-    Ok(())
+    match shell {
+        Shell::Bash => bash(alloc, &command),
+        Shell::Zsh => zsh(alloc, &command),
+        Shell::Fish => fish(alloc, &command),
+    }
 }
 
-const BASH_HEAD: &str = "_sii_station() {
+const BASH_HEAD: &str = "() {
     local word=${COMP_WORDS[COMP_CWORD]} sub= i names= options=
     for ((i = 1; i < COMP_CWORD; i++)); do
         case ${COMP_WORDS[i]} in -*) ;; *) sub=${COMP_WORDS[i]}; break ;; esac
@@ -53,20 +48,21 @@ const BASH_TAIL: &str = "    esac
         COMPREPLY=($(compgen -f -- \"$word\"))
     fi
 }
-complete -o filenames -F _sii_station sii_station
 ";
 
 /// Of each subcommand a line `show) options='--hex --help' ;;`, after one of the program itself.
 fn bash(alloc: Global, command: &Command<'_>) -> Result<String, AllocError> {
+    let program = command.get_name();
     let names = bash_names(alloc, command.get_subcommands())?;
     let options = bash_options(alloc, command.get_arguments())?;
     let mut text = format!(in alloc;
-        "{BASH_HEAD}    '') names='{names}' options='{options}' ;;\n    help) names='{names}' ;;\n"
+        "_{program}{BASH_HEAD}    '') names='{names}' options='{options}' ;;\n    help) names='{names}' ;;\n"
     )?;
     for subcommand in command.get_subcommands() {
         text.push_str(bash_line(alloc, subcommand)?.as_str())?;
     }
     text.push_str(BASH_TAIL)?;
+    text.push_str(format!(in alloc; "complete -o filenames -F _{program} {program}\n")?.as_str())?;
     Ok(text)
 }
 
@@ -98,8 +94,7 @@ fn bash_options(alloc: Global, arguments: &[Arg<'_>]) -> Result<String, AllocErr
     Ok(options)
 }
 
-const ZSH_HEAD: &str = "#compdef sii_station
-_sii_station() {
+const ZSH_HEAD: &str = "() {
     local -a names
     names=(
 ";
@@ -113,12 +108,12 @@ const ZSH_MIDDLE: &str = "    )
 
 const ZSH_TAIL: &str = "    esac
 }
-compdef _sii_station sii_station
 ";
 
 /// Of each subcommand a line `'show:What it does'`, and a line `show) _arguments '--hex[What it does]' '*:file:_files' ;;`.
 fn zsh(alloc: Global, command: &Command<'_>) -> Result<String, AllocError> {
-    let mut text = String::from_str(alloc, ZSH_HEAD)?;
+    let program = command.get_name();
+    let mut text = format!(in alloc; "#compdef {program}\n_{program}{ZSH_HEAD}")?;
     for subcommand in command.get_subcommands() {
         text.push_str(zsh_name(alloc, subcommand)?.as_str())?;
     }
@@ -129,6 +124,7 @@ fn zsh(alloc: Global, command: &Command<'_>) -> Result<String, AllocError> {
     let options = zsh_arguments(alloc, command.get_arguments())?;
     text.push_str(format!(in alloc; "    -*) _arguments{options} ;;\n")?.as_str())?;
     text.push_str(ZSH_TAIL)?;
+    text.push_str(format!(in alloc; "compdef _{program} {program}\n")?.as_str())?;
     Ok(text)
 }
 
@@ -158,27 +154,37 @@ fn zsh_arguments(alloc: Global, arguments: &[Arg<'_>]) -> Result<String, AllocEr
 
 /// Of each subcommand a line, and a line of each of its options.
 fn fish(alloc: Global, command: &Command<'_>) -> Result<String, AllocError> {
-    let root = fish_options(alloc, "__fish_use_subcommand", command.get_arguments())?;
-    let mut text = root;
+    let program = command.get_name();
+    let mut text = fish_options(
+        alloc,
+        program,
+        "__fish_use_subcommand",
+        command.get_arguments(),
+    )?;
     for subcommand in command.get_subcommands() {
-        text.push_str(fish_lines(alloc, subcommand)?.as_str())?;
+        text.push_str(fish_lines(alloc, program, subcommand)?.as_str())?;
     }
     Ok(text)
 }
 
-fn fish_lines(alloc: Global, subcommand: &Command<'_>) -> Result<String, AllocError> {
+fn fish_lines(
+    alloc: Global,
+    program: &str,
+    subcommand: &Command<'_>,
+) -> Result<String, AllocError> {
     let name = subcommand.get_name();
     let about = quoted(alloc, subcommand.get_about().unwrap_or(""))?;
     let seen = format!(in alloc; "__fish_seen_subcommand_from {name}")?;
-    let options = fish_options(alloc, seen.as_str(), subcommand.get_arguments())?;
+    let options = fish_options(alloc, program, seen.as_str(), subcommand.get_arguments())?;
     format!(in alloc;
-        "complete -c sii_station -n __fish_use_subcommand -f -a {name} -d '{about}'\n{options}"
+        "complete -c {program} -n __fish_use_subcommand -f -a {name} -d '{about}'\n{options}"
     )
 }
 
 /// A line of each option among these arguments, which is offered where a condition holds.
 fn fish_options(
     alloc: Global,
+    program: &str,
     condition: &str,
     arguments: &[Arg<'_>],
 ) -> Result<String, AllocError> {
@@ -187,7 +193,7 @@ fn fish_options(
         if let Some(long) = argument.get_long() {
             let help = quoted(alloc, argument.get_help().unwrap_or(""))?;
             let line = format!(in alloc;
-                "complete -c sii_station -n '{condition}' -l {long} -d '{help}'\n"
+                "complete -c {program} -n '{condition}' -l {long} -d '{help}'\n"
             )?;
             lines.push_str(line.as_str())?;
         }

@@ -1,10 +1,8 @@
-//! The argument with commands that are typed in place of a script file.
+//! Commands that are typed in place of a script file.
 
 use crate::argument::{Argument, Kind};
-use crate::input_script::TYPED;
 use crate::typed::{is_line, typed_script};
-use clap::error::ErrorKind;
-use clap::{ArgMatches, Command, Error};
+use crate::unread::Flaw;
 use std::alloc::{AllocError, Global};
 
 /// The help text on typed commands.
@@ -21,30 +19,18 @@ pub const TYPED_COMMANDS: Argument = Argument {
     long_help: COMMANDS,
 };
 
-/// The name of the script: that of the argument `SCRIPT`, which is required unless commands are typed, or `TYPED`.
-pub fn script_of<'a>(matches: &ArgMatches<'a>) -> &'a str {
-    matches.get_str("SCRIPT").unwrap_or(TYPED)
-}
-
-/// The text of the script whose commands are typed behind this subcommand, if any are.
+/// The text of the script with these commands.
 ///
 /// # Errors
 ///
-/// The message where a command isn't one line of TOML on its own; or, with kind `OutOfMemory`, memory was refused.
-pub fn typed_text<'a>(
-    alloc: Global,
-    command: &mut Command<'a>,
-    matches: Option<&ArgMatches<'a>>,
-) -> Result<Option<Vec<u8>>, Error> {
-    let Some(typed) = matches.and_then(|found| found.get_strs("command")) else {
-        return Ok(None);
-    };
-    for line in typed {
-        if let Some(flaw) = flaw_of(alloc, line)? {
-            return Err(command.error(ErrorKind::ValueValidation, flaw.as_str())?);
+/// What is wrong with a command that isn't one line of TOML on its own; or memory was refused.
+pub(crate) fn typed_text(alloc: Global, commands: &[&str]) -> Result<Vec<u8>, Flaw> {
+    for command in commands {
+        if let Some(flaw) = flaw_of(alloc, command)? {
+            return Err(Flaw::Wrong(flaw));
         }
     }
-    Ok(Some(typed_script(alloc, typed)?))
+    Ok(typed_script(alloc, commands)?)
 }
 
 /// Why a typed command can't stand in a script, if it isn't one line of TOML on its own.

@@ -1,10 +1,36 @@
-//! The arguments that say how large EEPROMs are, and what is asked for on a line.
+//! Arguments that several subcommands have.
 
-use clap::ArgMatches;
-use command_line::{Argument, Kind, script_of, word_of};
-use station_json::Form;
-use wire_scan::{Asked, Named};
-use wire_session::RunOrder;
+use command_line::{Argument, Kind};
+
+pub(crate) const LINE: Argument = Argument {
+    id: "LINE",
+    kind: Kind::Word,
+    help: "The line file: the slaves' image files and the journal's, in TOML",
+    long_help: "",
+};
+
+pub(crate) const SCRIPT: Argument = Argument {
+    id: "SCRIPT",
+    kind: Kind::WordUnless("command"),
+    help: "The script file: the commands in order, in TOML",
+    long_help: "",
+};
+
+pub(crate) const TEXT: Argument = Argument {
+    id: "text",
+    kind: Kind::Text("FILE"),
+    help: "The file that text is added to; it has to be there",
+    long_help: "",
+};
+
+/// The second line of a fault.
+pub(crate) const VERBOSE: Argument = Argument {
+    id: "verbose",
+    kind: Kind::GlobalFlag,
+    help: "Says of a fault of the line what was seen, what it usually is, and what to do",
+    long_help: "Says of a fault of the line what was seen, what it usually is, and what to do, in a second line. Without this option the line \
+        comes where standard error is a terminal.",
+};
 
 /// The help text on sizes.
 const WORDS_HELP: &str =
@@ -66,25 +92,6 @@ pub(crate) const TAKE: Argument = Argument {
     long_help: "",
 };
 
-/// Whose the wire is.
-#[derive(Clone, Copy)]
-pub enum Tenure {
-    /// The station has it for itself.
-    Own,
-    /// A master lends it. EEPROMs are taken by force from PDIs that have them, or aren't.
-    Lent { is_forced: bool },
-}
-
-/// Whose the wire is, as the flags of the subcommand say.
-pub(crate) fn tenure_of(matches: &ArgMatches<'_>) -> Tenure {
-    match matches.subcommand() {
-        Some((_name, subcommand)) if subcommand.get_flag("beside") => Tenure::Lent {
-            is_forced: subcommand.get_flag("force"),
-        },
-        _ => Tenure::Own,
-    }
-}
-
 /// A report at the end.
 pub(crate) const REPORT: Argument = Argument {
     id: "report",
@@ -106,15 +113,6 @@ pub(crate) const JSON: Argument = Argument {
     long_help: JSON_HELP,
 };
 
-/// The form that a subcommand with this flag was asked for.
-pub(crate) fn form_of(matches: &ArgMatches<'_>) -> Form {
-    if matches.get_flag("json") {
-        Form::Json
-    } else {
-        Form::Text
-    }
-}
-
 /// No line with the progress.
 pub(crate) const QUIET: Argument = Argument {
     id: "quiet",
@@ -126,16 +124,6 @@ were read and how many were written, each as often as that was done, and how man
 slaves are busy with one. It is drawn over itself ten times a second at most, and
 erased before anything else is printed and at the end.",
 };
-
-/// Whether the subcommand that was given has the flag for no line with the progress, or works on no line.
-pub(crate) fn is_quiet(matches: &ArgMatches<'_>) -> bool {
-    for name in ["scan", "backup", "init", "run", "plan", "recover"] {
-        if let Some(subcommand) = matches.subcommand_matches(name) {
-            return subcommand.get_flag("quiet");
-        }
-    }
-    true
-}
 
 /// What happens, as it happens.
 pub(crate) const EVENTS: Argument = Argument {
@@ -152,40 +140,23 @@ pub(crate) const EVENTS: Argument = Argument {
                    prints it. It counts once the slaves start again",
 };
 
-/// What `run` or `plan` is given. The names are required, so they are there.
-pub(crate) fn order_of<'a>(matches: &ArgMatches<'a>) -> RunOrder<'a> {
-    RunOrder {
-        named: Named {
-            line: word_of(matches, "LINE"),
-            script: script_of(matches),
-        },
-        asked: asked_by_run(matches),
-    }
-}
+/// The help text on capture files.
+const CAPTURE_FILE: &str =
+    "Writes each frame to FILE as it goes over the wire, also one that is sent again, and
+each EtherCAT frame that comes, in the pcap format with times in nanoseconds: open
+it with Wireshark or tshark. The source address tells the way: 00:10:20:30:40:50
+out, and 02:10:20:30:40:50 back, as slaves mark it. A capture that is there already
+is written anew; a FILE that holds anything else stays, and no frame is sent. If
+FILE can't be written further, the work goes on and tells it at its end.
 
-/// What the flags of `run` ask for.
-fn asked_by_run(matches: &ArgMatches<'_>) -> Asked {
-    Asked {
-        trusts_images: matches.get_flag("trust-images"),
-        is_forced: matches.get_flag("force"),
-        resizes: matches.get_flag("resize"),
-        reports: matches.get_flag("report"),
-        tells_events: matches.get_flag("events"),
-    }
-}
+Example:
+  sii_wire -i eth0 run line.toml script.toml --capture frames.pcap
+  tshark -r frames.pcap";
 
-/// What the flags of `recover` ask for.
-pub(crate) fn asked_by_recover(matches: &ArgMatches<'_>) -> Asked {
-    Asked {
-        reports: matches.get_flag("report"),
-        ..trust_of(matches)
-    }
-}
-
-/// What the one flag that `init` and `recover` share asks for.
-pub(crate) fn trust_of(matches: &ArgMatches<'_>) -> Asked {
-    Asked {
-        trusts_images: matches.get_flag("trust-images"),
-        ..Asked::nothing()
-    }
-}
+/// The option.
+pub(crate) const CAPTURE: Argument = Argument {
+    id: "capture",
+    kind: Kind::Text("FILE"),
+    help: "Writes the frames on the wire to FILE, in the pcap format",
+    long_help: CAPTURE_FILE,
+};

@@ -1,10 +1,13 @@
-//! The arguments of the subcommands that read EEPROM images: `show`, `alias` and `diff`.
+//! The subcommands that read EEPROM images: `show`, `alias` and `diff`.
 
-use crate::json_argument::{JSON, form_of};
-use clap::error::ErrorKind;
-use clap::{ArgMatches, Command, Error};
-use command_line::{Argument, Kind, Subcommand, is_digits, refused, word_of};
-use station_json::Form;
+use crate::arguments::{JSON, form_of};
+use crate::serving::told;
+use command_line::{Argument, Given, Kind, Subcommand, is_digits};
+use station_files::{ExitStatus, Failure, Store, diff_images, report, set_alias, show_image};
+use station_json::{Form, diff_as_json, show_as_json};
+use station_troubles::Files;
+use std::alloc::Global;
+use std::io::{Read, Write};
 
 /// What a subcommand that reads EEPROM images is asked for.
 #[derive(Clone, Copy)]
@@ -153,7 +156,7 @@ const SECOND: Argument = Argument {
 };
 
 /// The subcommand `show`.
-pub(crate) const SHOW: Subcommand = Subcommand {
+const SHOW: Subcommand = Subcommand {
     name: "show",
     about: "Prints what an EEPROM image says",
     long_about: "Reads the image of a slave's EEPROM from FILE, or from standard input, and prints its alias, whether its check byte is right, its \
@@ -163,8 +166,12 @@ pub(crate) const SHOW: Subcommand = Subcommand {
     arguments: &[FILE, ALL, JSON, HEX],
 };
 
+pub(crate) fn show_row() -> Subcommand {
+    SHOW
+}
+
 /// The subcommand `alias`.
-pub(crate) const ALIAS: Subcommand = Subcommand {
+const ALIAS: Subcommand = Subcommand {
     name: "alias",
     about: "Sets the configured station alias of an EEPROM image, and the check byte that goes with it",
     long_about: "Reads the image of a slave's EEPROM from FILE, or from standard input, sets the configured station alias and the check byte that \
@@ -174,8 +181,12 @@ pub(crate) const ALIAS: Subcommand = Subcommand {
     arguments: &[VALUE, FILE, HEX_BOTH_WAYS],
 };
 
+pub(crate) fn alias_row() -> Subcommand {
+    ALIAS
+}
+
 /// The subcommand `diff`.
-pub(crate) const DIFF: Subcommand = Subcommand {
+const DIFF: Subcommand = Subcommand {
     name: "diff",
     about: "Prints what two EEPROM images differ in",
     long_about: "Reads two images of slaves' EEPROMs and prints what they differ in, a line for each: their lengths, alias, check byte, identity, \
@@ -185,78 +196,112 @@ pub(crate) const DIFF: Subcommand = Subcommand {
     arguments: &[FIRST, SECOND, JSON, HEX],
 };
 
-/// The task of `show`, `alias` or `diff`; `None` where another subcommand was given.
-pub fn image_task<'a>(
-    command: &mut Command<'a>,
-    matches: &ArgMatches<'a>,
-) -> Result<Option<ImageTask<'a>>, Error> {
-    if let Some(show) = matches.subcommand_matches("show") {
-        return Ok(Some(show_task(show)));
-    }
-    if let Some(alias) = matches.subcommand_matches("alias") {
-        return Ok(Some(alias_task(command, alias)?));
-    }
-    if let Some(diff) = matches.subcommand_matches("diff") {
-        return Ok(Some(diff_task(command, diff)?));
-    }
-    Ok(None)
+pub(crate) fn diff_row() -> Subcommand {
+    DIFF
 }
 
-fn show_task<'a>(matches: &ArgMatches<'a>) -> ImageTask<'a> {
+/// The task of `show`.
+pub(crate) fn show_task<'a>(given: &Given<'a>) -> ImageTask<'a> {
     ImageTask::Show {
-        hex: matches.get_flag("hex"),
-        all: matches.get_flag("all"),
-        form: form_of(matches),
-        file: file_of(matches, "FILE"),
+        hex: given.has("hex"),
+        all: given.has("all"),
+        form: form_of(given),
+        file: file_of(given, "FILE"),
     }
 }
 
-/// The value is required, and may have digits only.
-fn alias_task<'a>(
-    command: &mut Command<'a>,
-    matches: &ArgMatches<'a>,
-) -> Result<ImageTask<'a>, Error> {
-    let text = word_of(matches, "VALUE");
-    match matches.get_one::<u16>("VALUE") {
-        Some(value) if is_digits(text) => Ok(ImageTask::Alias {
+/// The task of `alias`. The value may have digits only.
+pub(crate) fn alias_task<'a>(given: &Given<'a>) -> Result<ImageTask<'a>, &'static str> {
+    let text = given.word("VALUE");
+    match text.parse::<u16>() {
+        Ok(value) if is_digits(text) => Ok(ImageTask::Alias {
             value,
-            hex: matches.get_flag("hex"),
-            file: file_of(matches, "FILE"),
+            hex: given.has("hex"),
+            file: file_of(given, "FILE"),
         }),
-        _ => refused(
-            command,
-            ErrorKind::ValueValidation,
-            "VALUE is a number in digits, 0 to 65535",
-        ),
+        _ => Err("VALUE is a number in digits, 0 to 65535"),
     }
 }
 
-/// Both names are required. Only one of the images can be read from standard input.
-fn diff_task<'a>(
-    command: &mut Command<'a>,
-    matches: &ArgMatches<'a>,
-) -> Result<ImageTask<'a>, Error> {
-    let old = file_of(matches, "A");
-    let new = file_of(matches, "B");
+/// The task of `diff`. Only one of the images can be read from standard input.
+pub(crate) fn diff_task<'a>(given: &Given<'a>) -> Result<ImageTask<'a>, &'static str> {
+    let old = file_of(given, "A");
+    let new = file_of(given, "B");
     if old.is_none() && new.is_none() {
-        return refused(
-            command,
-            ErrorKind::ValueValidation,
-            "only one of A and B can be standard input",
-        );
+        return Err("only one of A and B can be standard input");
     }
     Ok(ImageTask::Diff {
-        hex: matches.get_flag("hex"),
-        form: form_of(matches),
+        hex: given.has("hex"),
+        form: form_of(given),
         old,
         new,
     })
 }
 
 /// The name of a file; `None` where it is left out, or `-`, and standard input is meant.
-fn file_of<'a>(matches: &ArgMatches<'a>, argument: &'a str) -> Option<&'a str> {
-    match matches.get_str(argument) {
+fn file_of<'a>(given: &Given<'a>, argument: &str) -> Option<&'a str> {
+    match given.text(argument) {
         Some("-") | None => None,
         found => found,
+    }
+}
+
+/// Carries out a task that reads images.
+pub(crate) fn serve_image<R: Read, S: Store, W: Write, E: Write>(
+    alloc: Global,
+    task: ImageTask<'_>,
+    input: &mut R,
+    store: &mut S,
+    output: &mut W,
+    faults: &mut E,
+) -> ExitStatus {
+    match task {
+        ImageTask::Alias { value, hex, file } => {
+            let ended = set_alias(alloc, value, hex, file, input, store, output);
+            done(ended, faults)
+        }
+        ImageTask::Show {
+            hex,
+            all,
+            form,
+            file,
+        } => {
+            let shown = match form {
+                Form::Text => show_image(alloc, hex, all, file, input, store, output),
+                Form::Json => show_as_json(alloc, hex, all, file, input, store, output),
+            };
+            told(shown, faults)
+        }
+        ImageTask::Diff {
+            hex,
+            form,
+            old,
+            new,
+        } => {
+            let listed = match form {
+                Form::Text => diff_images(alloc, hex, old, new, input, store, output),
+                Form::Json => diff_as_json(alloc, hex, old, new, input, store, output),
+            };
+            told(listed, faults)
+        }
+    }
+}
+
+/// `Done`, or the exit status of the failure, which is printed.
+fn done<E: Write>(ended: Result<(), Failure>, faults: &mut E) -> ExitStatus {
+    match ended {
+        Ok(()) => ExitStatus::Done,
+        Err(failure) => report(failure, faults),
+    }
+}
+
+/// The files that a task reads.
+pub(crate) fn files_of_images(task: ImageTask<'_>) -> Files<'_> {
+    match task {
+        ImageTask::Alias { hex, file, .. } | ImageTask::Show { hex, file, .. } => match file {
+            Some(name) => Files::Image { name, hex },
+            None => Files::Input,
+        },
+        ImageTask::Diff { hex, old, new, .. } => Files::Pair { old, new, hex },
     }
 }

@@ -1,9 +1,11 @@
-//! The arguments of `plan` and `journal`.
+//! The subcommands that say what is so of a line, or would be: `plan`, `journal` and `layout`.
 
-use crate::arguments::{LINE, SCRIPT, Task};
-use crate::json_argument::{JSON, form_of};
-use clap::ArgMatches;
-use command_line::{Subcommand, TYPED_COMMANDS, script_of, word_of};
+use crate::arguments::{JSON, LINE, SCRIPT};
+use command_line::{Subcommand, TYPED_COMMANDS};
+use station_files::{Fault, Store, show_layout};
+use station_json::{Form, layout_as_json};
+use std::alloc::Global;
+use std::io::Write;
 
 /// The help text on what `plan` prints, and on its exit status.
 const PLAN_ANSWERS: &str = "Answers:
@@ -67,8 +69,24 @@ journal, 5 no memory.
 Example:
   sii_station journal line.toml";
 
-/// The subcommand `plan`.
-pub(crate) const PLAN: Subcommand = Subcommand {
+/// The help text on what `layout` prints, and on its exit status.
+const LAYOUT_ANSWERS: &str = "Answers:
+  slave P sm M out offset O size S bits B
+                   the outputs of sync manager M of slave P: where they begin
+                   in the process image, and their length in bytes and in bits
+  slave P sm M in ..
+                   the same of inputs
+  outputs A inputs B counter C
+                   all outputs and inputs in bytes, and the working counter of
+                   a cycle that every slave takes part in
+
+Exit status: 0 done, 2 wrong usage, 3 a file or its form, or no process image,
+5 no memory.
+
+Example:
+  sii_station layout line.toml";
+
+const PLAN: Subcommand = Subcommand {
     name: "plan",
     about: "Says what a script would do to a line, and does nothing",
     long_about: "Reads what run would read, and prints how run would answer each command, which words of which slaves would change, how much \
@@ -78,8 +96,11 @@ pub(crate) const PLAN: Subcommand = Subcommand {
     arguments: &[LINE, SCRIPT, TYPED_COMMANDS, JSON],
 };
 
-/// The subcommand `journal`.
-pub(crate) const JOURNAL: Subcommand = Subcommand {
+pub(crate) fn plan_row() -> Subcommand {
+    PLAN
+}
+
+const JOURNAL: Subcommand = Subcommand {
     name: "journal",
     about: "Says what a journal holds, and what a recovery would do",
     long_about: "Reads a line file, the EEPROM images and the journal that it names, and prints the journal's header, the batches that aren't \
@@ -90,18 +111,34 @@ pub(crate) const JOURNAL: Subcommand = Subcommand {
     arguments: &[LINE, JSON],
 };
 
-/// The task of `plan` or `journal`, if one of them was given. The names are required, so they are there.
-pub(crate) fn planning_task<'a>(matches: &ArgMatches<'a>) -> Option<Task<'a>> {
-    if let Some(plan) = matches.subcommand_matches("plan") {
-        return Some(Task::Plan {
-            line: word_of(plan, "LINE"),
-            script: script_of(plan),
-            form: form_of(plan),
-        });
+pub(crate) fn journal_row() -> Subcommand {
+    JOURNAL
+}
+
+const LAYOUT: Subcommand = Subcommand {
+    name: "layout",
+    about: "Prints the process image of a line of slaves",
+    long_about: "Reads a line file and the EEPROM images that it names, and prints where the process data of each sync manager lies in the \
+        process image, then the sizes of outputs and inputs in bytes and the working counter that is expected. No file is written.",
+    after_help: "Example:\n  sii_station layout line.toml",
+    after_long_help: LAYOUT_ANSWERS,
+    arguments: &[LINE, JSON],
+};
+
+pub(crate) fn layout_row() -> Subcommand {
+    LAYOUT
+}
+
+/// Lists the process image of a line.
+pub(crate) fn list_layout<S: Store, W: Write>(
+    alloc: Global,
+    line: &str,
+    form: Form,
+    store: &mut S,
+    output: &mut W,
+) -> Result<(), Fault> {
+    match form {
+        Form::Text => show_layout(alloc, line, store, output),
+        Form::Json => layout_as_json(alloc, line, store, output),
     }
-    let journal = matches.subcommand_matches("journal")?;
-    Some(Task::Journal {
-        line: word_of(journal, "LINE"),
-        form: form_of(journal),
-    })
 }
