@@ -1,6 +1,7 @@
 -- A script that is no file, among the files.
 use Rattle.std.specs.Prelude.{ℕ, List, [], ◌∷◌, Bool, true, false, bytes_eq, Option, Some, None, Result, Ok, Err, Vec}
 use Rattle.std.specs.declared.alloc.Global.{Global}
+use Rattle.command_line.specs.declared.input_script.Script.{Script}
 use Rattle.station_files.specs.Files.{Known}
 use Rattle.station_files.specs.Locations.{Leads}
 
@@ -14,9 +15,10 @@ abbrev pub known_of : {E : Type 0} → Result (Vec ℕ Global) E → Option (Opt
 known_of (Ok bytes) = Some (Some bytes.items)
 known_of (Err error) = None
 
--- the files, and under this name the script
-abbrev pub with_script : {E : Type 0} → List ℕ → Result (Vec ℕ Global) E → Known → Known
-with_script own script files name = chosen (bytes_eq name own) (known_of script) (files name)
+-- the files, and under its name the script, if there is one
+abbrev pub with_script : Option Script → Known → Known
+with_script None files name = files name
+with_script (Some script) files name = chosen (bytes_eq name script.name.now) (known_of script.text) (files name)
 
 -- where the names lead; nothing is known of the names of scripts that are no files: a zero byte, and that with -e behind
 abbrev pub but_scripts : Leads → Leads

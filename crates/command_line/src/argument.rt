@@ -49,6 +49,16 @@ pub enum Kind {
     Texts(&'static str, char, &'static str),
 }
 
+impl Kind {
+    /// Whether the argument has a text.
+    pub(crate) fn has_value(self) -> bool {
+        !matches!(
+            self,
+            Kind::Flag | Kind::ShortFlag(_) | Kind::GlobalFlag | Kind::FlagWith(_)
+        )
+    }
+}
+
 impl Argument {
     /// The argument as `clap` takes it.
     ///

@@ -12,31 +12,44 @@ pub const INPUT: &str = "\0";
 /// The name under which a script of typed commands stands among the files. No file of a system has it.
 pub const TYPED: &str = "\0-e";
 
-/// The files of a store, and under one more name a script that is no file. Nothing is written there.
+/// The files of a store, and under one more name a script that is no file, if there is one. Nothing is written there.
 #[derive(Drop)]
 pub struct InputScript<'s, S> {
     store: &'s mut S,
-    name: &'static str,
-    script: io::Result<Vec<u8>>,
+    script: Option<Script>,
 }
 
-impl<'s, S: Store> InputScript<'s, S> {
+/// A script that is no file.
+#[derive(Drop)]
+pub struct Script {
+    /// Its name: `INPUT` or `TYPED`.
+    name: &'static str,
+    /// Its text, or why it can't be read.
+    text: io::Result<Vec<u8>>,
+}
+
+impl Script {
     /// Reads standard input to its end, as the script `INPUT`. An error of it comes where the script is read.
-    pub fn new<R: Read>(alloc: Global, input: &mut R, store: &'s mut S) -> InputScript<'s, S> {
-        InputScript {
-            store,
+    pub fn read<R: Read>(alloc: Global, input: &mut R) -> Script {
+        Script {
             name: INPUT,
-            script: read_to_end(alloc, input),
+            text: read_to_end(alloc, input),
         }
     }
 
-    /// Has this text as the script `TYPED`.
-    pub fn typed(text: Vec<u8>, store: &'s mut S) -> InputScript<'s, S> {
-        InputScript {
-            store,
+    /// This text, as the script `TYPED`.
+    pub fn typed(text: Vec<u8>) -> Script {
+        Script {
             name: TYPED,
-            script: Ok(text),
+            text: Ok(text),
         }
+    }
+}
+
+impl<'s, S: Store> InputScript<'s, S> {
+    /// The files of this store, and the script, if there is one.
+    pub fn new(store: &'s mut S, script: Option<Script>) -> InputScript<'s, S> {
+        InputScript { store, script }
     }
 }
 
@@ -46,7 +59,7 @@ fn refusal() -> io::Error {
 }
 
 impl<S: Store> Store for InputScript<'_, S> {
-    ghost files = { λ joined. with_script joined.name.now joined.script (S.files joined.store.now) };
+    ghost files = { λ joined. with_script joined.script (S.files joined.store.now) };
 
     ghost leads = { but_scripts S.leads };
 
@@ -55,17 +68,17 @@ impl<S: Store> Store for InputScript<'_, S> {
     type Lock = S::Lock;
 
     fn read(&mut self, alloc: Global, name: &str) -> io::Result<Option<Vec<u8>>> {
-        if name != self.name {
-            return self.store.read(alloc, name);
-        }
         match &self.script {
-            Ok(bytes) => Ok(Some(bytes.to_vec(alloc)?)),
-            Err(error) => Err(*error),
+            Some(script) if script.name == name => match &script.text {
+                Ok(bytes) => Ok(Some(bytes.to_vec(alloc)?)),
+                Err(error) => Err(*error),
+            },
+            _ => self.store.read(alloc, name),
         }
     }
 
     fn locate(&mut self, alloc: Global, name: &str) -> io::Result<Location> {
-        if name == INPUT || name == TYPED {
+        if self.script.is_some() && (name == INPUT || name == TYPED) {
             return Ok(Location::of_name(alloc, name)?);
         }
         self.store.locate(alloc, name)
@@ -76,24 +89,24 @@ impl<S: Store> Store for InputScript<'_, S> {
     }
 
     fn write(&mut self, name: &str, bytes: &[u8]) -> io::Result<()> {
-        if name == self.name {
-            return Err(refusal());
+        match &self.script {
+            Some(script) if script.name == name => Err(refusal()),
+            _ => self.store.write(name, bytes),
         }
-        self.store.write(name, bytes)
     }
 
     fn open(&mut self, name: &str) -> io::Result<S::File> {
-        if name == self.name {
-            return Err(refusal());
+        match &self.script {
+            Some(script) if script.name == name => Err(refusal()),
+            _ => self.store.open(name),
         }
-        self.store.open(name)
     }
 
     fn create(&mut self, name: &str) -> Result<S::File, LockFault> {
-        if name == self.name {
-            return Err(LockFault::Io(refusal()));
+        match &self.script {
+            Some(script) if script.name == name => Err(LockFault::Io(refusal())),
+            _ => self.store.create(name),
         }
-        self.store.create(name)
     }
 
     fn lock(&mut self, name: &str) -> Result<Option<S::Lock>, LockFault> {

@@ -1,16 +1,27 @@
-//! What a command line gives: subcommands and their arguments, as rows of a table that `clap` is told, and a script that is no file of a
-//! store, since it comes on standard input or its commands are typed.
+//! What a command line gives: a program's subcommands and their arguments, as rows of a table; the words that were typed, by the names of the
+//! arguments; what makes a shell complete them, and the manual page, of the same rows; and a script that is no file of a store, since it comes
+//! on standard input or its commands are typed.
 #![tactic(auto)]
 
 mod argument;
+mod completions;
+mod given;
 mod input_script;
+mod manual;
+mod program;
 mod reading;
 mod subcommand;
 mod typed;
-mod typed_arguments;
+mod typed_commands;
+mod unread;
 
 pub use argument::{Argument, Kind};
-pub use input_script::{INPUT, InputScript, TYPED};
-pub use reading::{is_digits, refused, word_of};
-pub use subcommand::{Subcommand, with_argument, with_subcommands};
-pub use typed_arguments::{TYPED_COMMANDS, script_of, typed_text};
+pub use completions::{Shell, completion_script};
+pub use given::{Cut, Given, is_digits};
+pub use input_script::{INPUT, InputScript, Script, TYPED};
+pub use manual::manual_page;
+pub use program::Program;
+pub use reading::{read_typed, read_words, refuse};
+pub use subcommand::Subcommand;
+pub use typed_commands::TYPED_COMMANDS;
+pub use unread::{Unread, refuse_words};

@@ -1,19 +1,89 @@
-//! What the words of a command line are checked for beside their kind.
+//! Reads the words of a command line.
 
+use crate::given::Given;
+use crate::program::{Program, described};
+use crate::unread::{Flaw, Unread, why_unread};
 use clap::error::ErrorKind;
-use clap::{ArgMatches, Command, Error};
+use clap::{ArgMatches, Error};
+use std::alloc::{AllocError, Global};
 
-/// Whether a text has digits only: a sign is not taken.
-pub fn is_digits(text: &str) -> bool {
-    text.bytes().all(|byte| byte.is_ascii_digit())
+/// Reads a command line of this program. The first word is the program's name.
+///
+/// # Errors
+///
+/// What is wrong with the words; or the text of the help or the version, where that is asked for; or memory was refused.
+pub fn read_words<'a>(
+    alloc: Global,
+    program: Program<'_>,
+    words: &'a [String],
+) -> Result<Given<'a>, Unread> {
+    match given_in(alloc, program, words) {
+        Ok(given) => Ok(given),
+        Err(error) => Err(why_unread(alloc, &error)),
+    }
 }
 
-/// The error for wrong arguments: this message, and the usage.
-pub fn refused<T>(command: &mut Command<'_>, kind: ErrorKind, message: &str) -> Result<T, Error> {
-    Err(command.error(kind, message)?)
+fn given_in<'a>(
+    alloc: Global,
+    program: Program<'_>,
+    words: &'a [String],
+) -> Result<Given<'a>, Error> {
+    let mut command = described(alloc, program)?;
+    let matches = command.try_get_matches_from_mut(words)?;
+    Ok(given_by(alloc, program, &matches)?)
 }
 
-/// The word that is given for a required argument, so that it is there.
-pub fn word_of<'a>(matches: &ArgMatches<'a>, id: &str) -> &'a str {
-    matches.get_str(id).unwrap_or("")
+/// The subcommand that was given, with its arguments, behind the options of the program.
+fn given_by<'a>(
+    alloc: Global,
+    program: Program<'_>,
+    matches: &ArgMatches<'a>,
+) -> Result<Given<'a>, AllocError> {
+    let Some((name, found)) = matches.subcommand() else {
+        return Ok(Given::of(alloc, ""));
+    };
+    let mut given = Given::of(alloc, name);
+    given.take_all(program.options, matches)?;
+    for subcommand in program.subcommands {
+        if subcommand.name == name {
+            given.take_all(subcommand.arguments, found)?;
+        }
+    }
+    Ok(given)
+}
+
+/// Refuses words that were read: this text, and the usage.
+pub fn refuse(alloc: Global, program: Program<'_>, words: &[String], text: &str) -> Unread {
+    match refusal(alloc, program, words, text) {
+        Ok(error) | Err(error) => why_unread(alloc, &error),
+    }
+}
+
+fn refusal(
+    alloc: Global,
+    program: Program<'_>,
+    words: &[String],
+    text: &str,
+) -> Result<Error, Error> {
+    let mut command = described(alloc, program)?;
+    drop(command.try_get_matches_from_mut(words)?);
+    Ok(command.error(ErrorKind::ValueValidation, text)?)
+}
+
+/// The text of the script whose commands are typed in these words, if any are.
+///
+/// # Errors
+///
+/// A command isn't one line of TOML on its own; or memory was refused.
+pub fn read_typed(
+    alloc: Global,
+    program: Program<'_>,
+    words: &[String],
+    given: &Given<'_>,
+) -> Result<Option<Vec<u8>>, Unread> {
+    match given.typed(alloc) {
+        Ok(typed) => Ok(typed),
+        Err(Flaw::Memory) => Err(Unread::Memory),
+        Err(Flaw::Wrong(text)) => Err(refuse(alloc, program, words, text.as_str())),
+    }
 }

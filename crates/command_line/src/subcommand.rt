@@ -11,7 +11,7 @@ pub struct Subcommand {
     pub name: &'static str,
     /// What it does, in one line.
     pub about: &'static str,
-    /// What `--help` says of it at its head.
+    /// What `--help` says of it at its head; empty where that is the same, and nothing but its options follows.
     pub long_about: &'static str,
     /// What stands at the end of the help.
     pub after_help: &'static str,
@@ -23,13 +23,12 @@ pub struct Subcommand {
 
 impl Subcommand {
     /// The subcommand as `clap` takes it.
-    ///
-    /// # Errors
-    ///
-    /// Memory was refused.
     fn described<'a>(self, alloc: Global) -> Result<Command<'a>, AllocError> {
-        let command = Command::new(alloc, self.name)
-            .about(self.about)
+        let command = Command::new(alloc, self.name).about(self.about);
+        if self.long_about.is_empty() {
+            return Ok(command);
+        }
+        let command = command
             .long_about(self.long_about)
             .after_help(self.after_help)
             .after_long_help(text_or(self.after_long_help, self.after_help));
@@ -38,7 +37,7 @@ impl Subcommand {
 }
 
 /// The command with these arguments behind those that it has.
-fn with_arguments<'a>(
+pub(crate) fn with_arguments<'a>(
     alloc: Global,
     command: Command<'a>,
     arguments: &[Argument],
@@ -58,25 +57,8 @@ fn with_described<'a>(
     command.arg(argument?)
 }
 
-/// The command with one more argument.
-///
-/// # Errors
-///
-/// Memory was refused.
-pub fn with_argument<'a>(
-    alloc: Global,
-    command: Command<'a>,
-    argument: Argument,
-) -> Result<Command<'a>, AllocError> {
-    with_described(command, argument.described(alloc))
-}
-
 /// The command with these subcommands behind those that it has.
-///
-/// # Errors
-///
-/// Memory was refused.
-pub fn with_subcommands<'a>(
+pub(crate) fn with_subcommands<'a>(
     alloc: Global,
     command: Command<'a>,
     subcommands: &[Subcommand],

@@ -12,9 +12,7 @@ use std::time::SystemTime;
 use std::{env, io};
 use system_files::FileStore;
 use wire_frames::EthernetWire;
-use wire_serve::{
-    Arguments, Connection, Screen, read_arguments, refuse_text, refuse_words, serve, show_usage,
-};
+use wire_serve::{Arguments, Connection, Screen, read_arguments, refuse_text, refuse_words, serve};
 
 fn main(rt: HostRuntime) -> ExitCode {
     let status = match words(&rt) {
@@ -23,7 +21,7 @@ fn main(rt: HostRuntime) -> ExitCode {
                 wire: EthernetWire::new(rt.stdin(), rt.stdout()),
                 number: first_number(&rt),
             };
-            serve_words(&rt, &words, connection, &mut rt.stderr(), &mut rt.stderr())
+            serve_words(&rt, &words, connection, &mut rt.stderr())
         }
         Err(error) => refuse_words(&error, &mut rt.stderr()),
     };
@@ -36,28 +34,58 @@ fn words(rt: &HostRuntime) -> io::Result<Vec<String>> {
     Ok(words)
 }
 
-/// Carries out the arguments over this connection. The text goes to the file that they name, or to this stream.
+/// Where the text goes.
+#[derive(Drop)]
+enum Text<E> {
+    File(File),
+    Stream(E),
+}
+
+impl<E: Write> Write for Text<E> {
+    fn write(&mut self, bytes: &[u8]) -> io::Result<usize> {
+        match self {
+            Text::File(file) => file.write(bytes),
+            Text::Stream(stream) => stream.write(bytes),
+        }
+    }
+
+    fn flush(&mut self) -> io::Result<()> {
+        match self {
+            Text::File(file) => file.flush(),
+            Text::Stream(stream) => stream.flush(),
+        }
+    }
+}
+
+/// Carries out the arguments over this connection. The text goes to the file that they name, or to the stream for faults.
 fn serve_words<
     H: Files<File = File> + Wait + Threads + Clock + AllocGlobal + Sync,
     R: Read + Send + Drop,
     W: Write + Send + Drop,
     E: Write + IsTerminal + Copy + Send + Drop,
->(rt: &H, words: &[String], connection: Connection<R, W>, text: &mut E, faults: &mut E) -> u8 {
+>(rt: &H, words: &[String], connection: Connection<R, W>, faults: &mut E) -> u8 {
     match read_arguments(rt.alloc(), words) {
-        Ok(arguments) => match arguments.text {
-            Some(name) => match open_text(rt, name) {
-                Ok(mut text) => serve_task(rt, arguments, connection, &mut text, faults),
-                Err(error) => refuse_text(error, faults),
-            },
-            None => serve_task(rt, arguments, connection, text, faults),
+        Ok(arguments) => match text_to(rt, arguments.text, *faults) {
+            Ok(mut text) => serve_task(rt, arguments, connection, &mut text, faults),
+            Err(error) => refuse_text(error, faults),
         },
-        Err(error) => show_usage(&error, faults),
+        Err(unread) => unread.report(faults) as u8,
     }
 }
 
-/// Opens a file that is there, to add text to it.
-fn open_text<H: Files<File = File>>(rt: &H, name: &str) -> io::Result<File> {
-    OpenOptions::new().append(true).open(rt, name)
+/// The file of this name, which has to be there, to add text to it; or this stream.
+fn text_to<H: Files<File = File>, E: Drop>(
+    rt: &H,
+    name: Option<&str>,
+    stream: E,
+) -> io::Result<Text<E>> {
+    match name {
+        Some(name) => {
+            let file = OpenOptions::new().append(true).open(rt, name)?;
+            Ok(Text::File(file))
+        }
+        None => Ok(Text::Stream(stream)),
+    }
 }
 
 /// Carries out what the arguments ask for, with its text in this stream.

@@ -1,12 +1,15 @@
-//! The program as a library: its subcommands over any files and streams.
+//! The program as a library: its command line, and its subcommands over any files and streams.
 #![tactic(auto)]
 
-mod explain;
-mod image_serving;
+mod arguments;
+mod images;
+mod line_listings;
+mod line_work;
+mod pages;
+mod request;
 mod serving;
 
-pub use serving::{refuse_words, serve};
-pub use station_arguments::read_arguments;
+pub use command_line::refuse_words;
+pub use serving::serve;
 pub use station_files::{LockFault, Store};
 pub use station_session::Streams;
-pub use station_text::{read_hex, read_line, read_script};

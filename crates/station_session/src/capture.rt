@@ -4,7 +4,7 @@ ghost use Rattle.station_files.specs.Faults.{IsFaultless};
 ghost use Rattle.station_files.specs.Files.{ChangesOnly};
 ghost use Rattle.station_session.specs.Session.{BeginsCapture};
 
-use site_capture::{BeginFault, Capture};
+use line_watch::{BeginFault, Capture};
 use site_file::RandomAccessFile;
 use station_files::{ExitStatus, Fault, Store, report_fault, worse};
 use std::io::Write;

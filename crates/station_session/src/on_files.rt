@@ -6,9 +6,9 @@ ghost use Rattle.station_files.specs.Files.{ChangesAmong};
 ghost use Rattle.station_session.specs.Site.{files_of, HoldsSite};
 
 use crate::site::save_parts;
+use line_watch::Watched;
 use site_core::Site;
 use site_file::{FileDevice, RandomAccessFile};
-use site_progress::Watched;
 use site_shadow::{Parts, ShadowSite};
 use station_files::{Fault, Store};
 use station_text::LineFile;

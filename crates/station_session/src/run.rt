@@ -15,12 +15,11 @@ use crate::site::save_site;
 use crate::streams::Streams;
 use crate::threads::run_threads;
 use crate::watch::Watch;
+use line_watch::{Capture, Captured, Cleared, Watched};
 use script_session::serve_commands;
 use sii_edit::Command;
-use site_capture::{Capture, Captured};
 use site_file::FileDevice;
 use site_mem::{FaultPlan, Pattern};
-use site_progress::{Cleared, Watched};
 use site_shadow::{Device, ShadowSite};
 use station_alone::{Alone, OpenFault, recover};
 use station_files::{

@@ -1,6 +1,6 @@
 //! The runtime of a call, and the progress that counts what it does.
 
-use site_progress::Progress;
+use line_watch::Progress;
 use std::alloc::AllocError;
 use std::io::Write;
 use std::sync::Wait;

@@ -2,15 +2,14 @@
 #![tactic(auto)]
 
 mod arguments;
-mod capture_argument;
 mod dated;
 mod explain;
-mod plan_arguments;
+mod rows;
 mod serving;
-mod session_arguments;
+mod shared_arguments;
 mod sizes;
 
-pub use arguments::{Arguments, Task, read_arguments};
+pub use arguments::{Arguments, Task, Tenure, read_arguments};
+pub use command_line::refuse_words;
 pub use dated::name_at;
-pub use serving::{Connection, Screen, refuse_text, refuse_words, serve, show_usage};
-pub use session_arguments::Tenure;
+pub use serving::{Connection, Screen, refuse_text, serve};

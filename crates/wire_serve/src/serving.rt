@@ -1,14 +1,10 @@
 //! The program as a function of its arguments and streams.
 
-use crate::arguments::{Arguments, Task};
+use crate::arguments::{Arguments, Task, Tenure};
 use crate::dated::dated_name;
 use crate::explain::explain;
-use crate::session_arguments::Tenure;
-use clap::Error;
-use clap::error::ErrorKind;
-use command_line::InputScript;
-use site_capture::Capture;
-use site_progress::{Cleared, Progress};
+use command_line::{InputScript, Script};
+use line_watch::{Capture, CapturedWire, Cleared, Progress, WatchedWire};
 use station_files::{ExitStatus, Fault, Store, report_fault};
 use station_listing::Code;
 use station_session::{begin_capture, end_capture};
@@ -20,7 +16,6 @@ use std::rt::Clock;
 use std::sync::Wait;
 use std::thread::Threads;
 use wire_bringup::Sizes;
-use wire_capture::{CapturedWire, WatchedWire};
 use wire_faults::WireFault;
 use wire_frames::{EthernetWire, NumberedWire, Wire};
 use wire_scan::{CaptureNames, backup_line, keep_capture_apart, scan_line};
@@ -101,25 +96,8 @@ pub fn serve<
         number,
         is_quiet,
     };
-    match typed {
-        Some(text) => {
-            let mut joined = InputScript::typed(text, store);
-            serve_job(rt, job, screen, wire, &mut joined, output)
-        }
-        None => serve_job(rt, job, screen, wire, store, output),
-    }
-}
-
-/// Begins to count the progress, if there is a terminal for its line and it is to be drawn.
-fn begin_progress<H: Clock, T: Write + Drop>(
-    rt: &H,
-    is_quiet: bool,
-    terminal: Option<T>,
-) -> Option<Progress<T>> {
-    match terminal {
-        Some(terminal) if !is_quiet => Progress::begin(rt, terminal),
-        _ => None,
-    }
+    let mut joined = InputScript::new(store, typed.map(Script::typed));
+    serve_job(rt, job, screen, wire, &mut joined, output)
 }
 
 /// Carries out a job on this wire.
@@ -177,7 +155,8 @@ fn do_counted<
     store: &mut S,
     output: &mut O,
 ) -> Result<ExitStatus, WireFault> {
-    let begun = begin_progress(rt, job.is_quiet, terminal);
+    let terminal = if job.is_quiet { None } else { terminal };
+    let begun = Progress::begin(rt, terminal);
     do_watched(rt, job, begun.as_ref(), wire, store, output)
 }
 
@@ -365,28 +344,6 @@ fn tell_names<S: Store, E: Write>(
     if let Some(text) = look_again(alloc, code, files, store) {
         let _ = writeln!(faults, "{text}; see sii_wire explain");
     }
-}
-
-/// Prints the help or the version that was asked for, or what is wrong with the arguments, and returns the exit status.
-pub fn show_usage<E: Write>(error: &Error, faults: &mut E) -> u8 {
-    if error.kind() == ErrorKind::OutOfMemory {
-        return report_fault(Fault::Memory, faults) as u8;
-    }
-    let _ = write!(faults, "{error}");
-    if error.use_stderr() {
-        ExitStatus::Usage as u8
-    } else {
-        ExitStatus::Done as u8
-    }
-}
-
-/// Prints why the arguments can't be read, and returns the exit status: 5 where memory was refused, and 2 where an argument is not UTF-8.
-pub fn refuse_words<E: Write>(error: &io::Error, faults: &mut E) -> u8 {
-    if error.kind() == io::ErrorKind::OutOfMemory {
-        return report_fault(Fault::Memory, faults) as u8;
-    }
-    let _ = writeln!(faults, "error: an argument is not UTF-8");
-    ExitStatus::Usage as u8
 }
 
 /// Prints why the file for the text can't be opened, and returns the exit status.

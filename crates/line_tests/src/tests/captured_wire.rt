@@ -1,7 +1,7 @@
 //! What a capture of a wire holds, on which frames are lost, doubled and falsified.
 
 use super::{put, zero_words};
-use site_capture::Capture;
+use line_watch::{Capture, CapturedWire};
 use site_file::RandomAccessFile;
 use std::alloc::Global;
 use std::io;
@@ -11,7 +11,6 @@ use std::sync::atomic::AtomicU8;
 use std::sync::atomic::Ordering::SeqCst;
 use std::time::Duration;
 use wire_bringup::{Sizes, bring_up};
-use wire_capture::CapturedWire;
 use wire_frames::NumberedWire;
 use wire_practice::{Fate, Mishap, PracticeClock, PracticeLine, PracticeWire};
 

@@ -1,8 +1,7 @@
 use Rattle.std.proofs.Common.{false}
 use denote.Param.Send.{sendable}
 use Rattle.site_file.proofs.Sent.{device-send}
-use Rattle.site_capture.proofs.Sent.{captured-send}
-use Rattle.site_progress.proofs.Sent.{watched-send}
+use Rattle.line_watch.proofs.Sent.{captured-send, watched-send}
 use Rattle.station_session.proofs.Ending.{ends-run-opened, ends-unopened}
 use Rattle.station_session.proofs.run.run_on_files.Goals as goal
 

@@ -1,0 +1,141 @@
+//! The words that were given, by the names of the arguments.
+
+use crate::argument::{Argument, Kind};
+use crate::input_script::TYPED;
+use crate::typed_commands::typed_text;
+use crate::unread::Flaw;
+use clap::ArgMatches;
+use std::alloc::{AllocError, Global};
+
+/// What the words of a command line give: a subcommand, and the arguments that are there.
+#[derive(Drop)]
+pub struct Given<'a> {
+    /// The name of the subcommand.
+    pub subcommand: &'a str,
+    values: Vec<Value<'a>>,
+    commands: Vec<&'a str>,
+}
+
+/// An argument that is there.
+#[derive(Clone, Copy)]
+struct Value<'a> {
+    id: &'static str,
+    /// Its text; empty for an option without a value.
+    text: &'a str,
+}
+
+/// How many units pass before a power cut, and what a torn word is left as.
+#[derive(Clone, Copy)]
+pub struct Cut {
+    /// So many writes or words pass.
+    pub count: u32,
+    /// What is left of the next one.
+    pub left: u16,
+}
+
+impl<'a> Given<'a> {
+    /// This subcommand, with no argument yet.
+    pub(crate) fn of(alloc: Global, subcommand: &'a str) -> Given<'a> {
+        Given {
+            subcommand,
+            values: Vec::new(alloc),
+            commands: Vec::new(alloc),
+        }
+    }
+
+    /// Takes those of these arguments that are there.
+    pub(crate) fn take_all(
+        &mut self,
+        arguments: &[Argument],
+        found: &ArgMatches<'a>,
+    ) -> Result<(), AllocError> {
+        for argument in arguments {
+            self.take(*argument, found)?;
+        }
+        Ok(())
+    }
+
+    /// Takes this argument, if it is there.
+    fn take(&mut self, argument: Argument, found: &ArgMatches<'a>) -> Result<(), AllocError> {
+        let id = argument.id;
+        if let Kind::Texts(..) = argument.kind {
+            self.commands
+                .extend_from_slice(found.get_strs(id).unwrap_or(&[]))?;
+        } else if let Some(text) = text_in(argument, found) {
+            self.values.push(Value { id, text })?;
+        }
+        Ok(())
+    }
+
+    /// The text of this argument, if it is there.
+    pub fn text(&self, id: &str) -> Option<&'a str> {
+        for value in &self.values {
+            if value.id == id {
+                return Some(value.text);
+            }
+        }
+        None
+    }
+
+    /// The text of an argument that has to be there.
+    pub fn word(&self, id: &str) -> &'a str {
+        self.text(id).unwrap_or("")
+    }
+
+    /// Whether this option is there.
+    pub fn has(&self, id: &str) -> bool {
+        self.text(id).is_some()
+    }
+
+    /// The name of the script: that of the argument `SCRIPT`, which has to be there unless commands are typed, or `TYPED`.
+    pub fn script(&self) -> &'a str {
+        self.text("SCRIPT").unwrap_or(TYPED)
+    }
+
+    /// The text of the script whose commands are typed, if any are.
+    ///
+    /// # Errors
+    ///
+    /// A command isn't one line of TOML on its own; or memory was refused.
+    pub(crate) fn typed(&self, alloc: Global) -> Result<Option<Vec<u8>>, Flaw> {
+        if self.commands.is_empty() {
+            return Ok(None);
+        }
+        Ok(Some(typed_text(alloc, &self.commands)?))
+    }
+
+    /// A power cut behind so many units, as this option and `--left` say. `--left` is checked even without the option.
+    ///
+    /// # Errors
+    ///
+    /// The text for one that isn't in digits.
+    pub fn cut(&self, id: &str) -> Result<Option<Cut>, &'static str> {
+        let count = self.text(id);
+        let left = self.text("left");
+        if !count.is_none_or(is_digits) || !left.is_none_or(is_digits) {
+            return Err("K is a number in digits, 0 to 4294967295, and W one of 0 to 65535");
+        }
+        let left = left.unwrap_or("0").parse::<u16>().unwrap_or(0);
+        match count.unwrap_or("").parse::<u32>() {
+            Ok(count) => Ok(Some(Cut { count, left })),
+            Err(_) => Ok(None),
+        }
+    }
+}
+
+/// The text of this argument, if it is there. That of an option without a value is empty.
+fn text_in<'a>(argument: Argument, found: &ArgMatches<'a>) -> Option<&'a str> {
+    if argument.kind.has_value() {
+        return found.get_str(argument.id);
+    }
+    if found.get_flag(argument.id) {
+        Some("")
+    } else {
+        None
+    }
+}
+
+/// Whether a text has digits only: a sign is not taken.
+pub fn is_digits(text: &str) -> bool {
+    text.bytes().all(|byte| byte.is_ascii_digit())
+}

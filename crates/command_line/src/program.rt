@@ -1,0 +1,41 @@
+//! A program as its command line is described: its texts, its options and its subcommands.
+
+use crate::argument::Argument;
+use crate::subcommand::{Subcommand, with_arguments, with_subcommands};
+use clap::Command;
+use std::alloc::{AllocError, Global};
+
+/// A program with subcommands.
+#[derive(Clone, Copy)]
+pub struct Program<'p> {
+    /// Its name.
+    pub name: &'static str,
+    /// What it does, in one line.
+    pub about: &'static str,
+    /// What `--version` prints behind its name.
+    pub version: &'static str,
+    /// What stands at the end of its help.
+    pub after_help: &'static str,
+    /// The options that stand before the subcommand.
+    pub options: &'static [Argument],
+    /// The subcommands, in the order of the help.
+    pub subcommands: &'p [Subcommand],
+}
+
+/// The program as `clap` takes it.
+///
+/// # Errors
+///
+/// Memory was refused.
+pub(crate) fn described<'a>(
+    alloc: Global,
+    program: Program<'_>,
+) -> Result<Command<'a>, AllocError> {
+    let plain = Command::new(alloc, program.name)
+        .about(program.about)
+        .version(program.version)
+        .after_help(program.after_help)
+        .subcommand_required(true);
+    let command = with_arguments(alloc, plain, program.options)?;
+    with_subcommands(alloc, command, program.subcommands)
+}

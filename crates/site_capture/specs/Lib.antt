@@ -1,2 +1,0 @@
-pub mod Ethernet
-pub mod Pcap

@@ -1,5 +1,0 @@
-use Rattle.site_progress.proofs.watched.WatchedDevice.write.Goals as goal
-
-pub returns : goal.returns
-returns g c = λ old new given running inside wrote told followed.
-    c.write.ensures old new given running inside wrote told (rw c.note_write.ensures followed)

@@ -1,0 +1,114 @@
+//! Arguments that several subcommands have.
+
+use command_line::{Argument, Given, Kind};
+use station_json::Form;
+
+/// The help text on line files.
+const LINE_FILE: &str = "The line file: the slaves' image files and the journal's, in TOML:
+
+  journal = \"journal.bin\"
+  area = 65536
+  [[slave]]
+  image = \"s0.bin\"
+  [[slave]]
+  image = \"s1.bin\"
+
+The journal's area has 4096 to 4194304 bytes, 65536 where nothing is said.
+There are 1 to 64 slaves, numbered from 0. Each image is a whole EEPROM of
+64 to 4096 words, a multiple of 64. Names are relative to the current folder.";
+
+/// The help text on script files.
+const SCRIPT_FILE: &str =
+    "The script file, or - for standard input: the commands, in order, in TOML, here one
+of each kind:
+
+  [[command]]
+  alias = { slave = 0, value = 1001 }
+  [[command]]
+  swap = [0, 1]
+  [[command]]
+  category = { slave = 0, kind = 51, content = \"0016010000000000\" }
+  [[command]]
+  image = { slave = 1, file = \"new.bin\" }
+  [[command]]
+  group = [
+    { alias = { slave = 0, value = 7 } },
+    { alias = { slave = 1, value = 8 }, expect = { vendor = 2, product = 0, revision = 0 } },
+  ]
+
+A category's content is hexadecimal text of whole words; \"\" removes the
+category. A group is 1 to 64 edits, alias, category or image, that are done as
+one act. An edit with expect is refused where the slave has another identity.";
+
+/// The line file of a subcommand.
+pub(crate) const LINE: Argument = Argument {
+    id: "LINE",
+    kind: Kind::Word,
+    help: "The line file: the slaves' image files and the journal's",
+    long_help: LINE_FILE,
+};
+
+/// The script file of a subcommand.
+pub(crate) const SCRIPT: Argument = Argument {
+    id: "SCRIPT",
+    kind: Kind::WordUnless("command"),
+    help: "The script file: the commands, in order; - for standard input",
+    long_help: SCRIPT_FILE,
+};
+
+/// The help text on JSON.
+const JSON_ROWS: &str =
+    "Prints JSON in place of text: an object a line, whose key row says what it is. Numbers
+are JSON numbers, and the other keys are named as in the text. Strings of an EEPROM
+are escaped as in the text. Later versions may add keys and rows; pass over what you
+don't know. Faults and the exit status stay as they are.";
+
+/// The flag.
+pub(crate) const JSON: Argument = Argument {
+    id: "json",
+    kind: Kind::Flag,
+    help: "Prints JSON, one object a line",
+    long_help: JSON_ROWS,
+};
+
+/// The form that a subcommand with this argument was asked for.
+pub(crate) fn form_of(given: &Given<'_>) -> Form {
+    if given.has("json") {
+        Form::Json
+    } else {
+        Form::Text
+    }
+}
+
+/// The help text on the line with the progress.
+const QUIET_RUN: &str =
+    "Draws no line with the progress. Without this option, where standard error is a
+terminal and the work takes longer than a second, a line there says how many of
+the script's commands no power cut can undo any more, how many words the slaves
+have written, and how many slaves are writing one. It is drawn over itself ten
+times a second at most, and erased before anything else is printed and at the end.";
+
+/// The flag for no line with the progress.
+pub(crate) const QUIET: Argument = Argument {
+    id: "quiet",
+    kind: Kind::ShortFlag('q'),
+    help: "Draws no line with the progress",
+    long_help: QUIET_RUN,
+};
+
+/// The flag for a report at the end.
+pub(crate) const REPORT: Argument = Argument {
+    id: "report",
+    kind: Kind::Flag,
+    help: "Prints at the end which words have changed, and whether the line is in order",
+    long_help: line_report::REPORT,
+};
+
+/// The second line of a fault.
+pub(crate) const VERBOSE: Argument = Argument {
+    id: "verbose",
+    kind: Kind::GlobalFlag,
+    help: "Says of a fault which file it is about, and what is wrong there",
+    long_help: "Says of a fault which file it is about, what is wrong there and where, in a second line. Without this option the line comes \
+        where standard error is a terminal.",
+};

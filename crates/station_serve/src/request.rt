@@ -1,0 +1,220 @@
+//! What a command line asks for.
+
+use crate::arguments::{VERBOSE, form_of};
+use crate::images::{ImageTask, alias_row, alias_task, diff_row, diff_task, show_row, show_task};
+use crate::line_listings::{journal_row, layout_row, plan_row};
+use crate::line_work::{RunTask, init_row, recover_row, run_row, run_task};
+use crate::pages::{MANUAL_HEAD, code_of, completions_row, explain_row, man_row, shell_of};
+use command_line::{
+    Argument, Given, Program, Shell, Subcommand, Unread, completion_script, manual_page,
+    read_typed, read_words, refuse,
+};
+use station_json::Form;
+use station_listing::Code;
+use station_session::RunNames;
+use std::alloc::{AllocError, Global};
+
+/// What a command line asks for: a subcommand with its arguments.
+#[derive(Clone, Copy)]
+pub enum Task<'a> {
+    /// Reads images.
+    Image(ImageTask<'a>),
+    /// Makes an empty journal for a line.
+    Init {
+        /// The name of the line file.
+        line: &'a str,
+    },
+    /// Runs a script on a line.
+    Run(RunTask<'a>),
+    /// Recovers a line.
+    Recover {
+        /// The name of the line file.
+        line: &'a str,
+        /// Whether what has changed is printed at the end.
+        reports: bool,
+    },
+    /// Prints the process image of a line.
+    Layout {
+        /// The name of the line file.
+        line: &'a str,
+        /// Text, or rows of JSON.
+        form: Form,
+    },
+    /// Prints what a script would do to a line.
+    Plan {
+        /// The name of the line file.
+        line: &'a str,
+        /// The name of the script file.
+        script: &'a str,
+        /// Text, or rows of JSON.
+        form: Form,
+    },
+    /// Prints what a journal holds.
+    Journal {
+        /// The name of the line file.
+        line: &'a str,
+        /// Text, or rows of JSON.
+        form: Form,
+    },
+    /// Prints a script that makes a shell complete arguments.
+    Completions {
+        /// The shell.
+        shell: Shell,
+    },
+    /// Prints the manual page.
+    Man,
+    /// Explains one code, or all of them.
+    Explain {
+        /// The code; `None` for all codes.
+        code: Option<Code>,
+    },
+}
+
+impl<'a> Task<'a> {
+    /// The task with the script of this name, where its script is to come from standard input (`-`).
+    pub(crate) fn with_script(self, name: &'a str) -> Option<Task<'a>> {
+        match self {
+            Task::Run(run) if run.names.script == "-" => Some(Task::Run(RunTask {
+                names: RunNames {
+                    script: name,
+                    ..run.names
+                },
+                ..run
+            })),
+            Task::Plan {
+                line,
+                script: "-",
+                form,
+            } => Some(Task::Plan {
+                line,
+                script: name,
+                form,
+            }),
+            _ => None,
+        }
+    }
+}
+
+/// A command line that was read.
+#[derive(Drop)]
+pub struct Request<'a> {
+    /// The subcommand with its arguments.
+    pub task: Task<'a>,
+    /// The text of the script `TYPED`, where commands are typed in place of a script file.
+    pub typed: Option<Vec<u8>>,
+    /// Whether a second line is to follow the line of a fault.
+    pub is_verbose: bool,
+    /// Whether no line is to be drawn with the progress.
+    pub is_quiet: bool,
+}
+
+/// The subcommands, in the order of the help. A table that a function names becomes part of what is proved of it, so each row stands in a
+/// function of its own.
+fn rows() -> [Subcommand; 12] {
+    [
+        show_row(),
+        diff_row(),
+        alias_row(),
+        init_row(),
+        plan_row(),
+        run_row(),
+        journal_row(),
+        recover_row(),
+        layout_row(),
+        explain_row(),
+        completions_row(),
+        man_row(),
+    ]
+}
+
+/// What all subcommands have.
+const OPTIONS: &[Argument] = &[VERBOSE];
+
+/// The program with these subcommands.
+fn station(subcommands: &[Subcommand]) -> Program<'_> {
+    Program {
+        name: "sii_station",
+        about: "Reprograms the SII EEPROMs of a line of EtherCAT slaves",
+        version: "0.1.0",
+        after_help: "Example:\n  sii_station alias 1001 < slave.bin > renamed.bin",
+        options: OPTIONS,
+        subcommands,
+    }
+}
+
+/// A script that makes a shell complete subcommands, options and file names.
+pub(crate) fn completions_for(alloc: Global, shell: Shell) -> Result<String, AllocError> {
+    completion_script(alloc, station(&rows()), shell)
+}
+
+/// The manual page.
+pub(crate) fn manual_of(alloc: Global) -> Result<String, AllocError> {
+    manual_page(alloc, station(&rows()), MANUAL_HEAD)
+}
+
+/// Reads a command line. The first word is the program's name.
+///
+/// # Errors
+///
+/// What is wrong with the words; or the text of the help or the version, where that is asked for; or memory was refused.
+pub(crate) fn read_arguments<'a>(
+    alloc: Global,
+    words: &'a [String],
+) -> Result<Request<'a>, Unread> {
+    let subcommands = rows();
+    let program = station(&subcommands);
+    let given = read_words(alloc, program, words)?;
+    match task_of(&given) {
+        Ok(task) => Ok(Request {
+            task,
+            typed: read_typed(alloc, program, words, &given)?,
+            is_verbose: given.has("verbose"),
+            is_quiet: given.has("quiet"),
+        }),
+        Err(text) => Err(refuse(alloc, program, words, text)),
+    }
+}
+
+/// The task of the subcommand that was given, or why its words are refused.
+fn task_of<'a>(given: &Given<'a>) -> Result<Task<'a>, &'static str> {
+    match given.subcommand {
+        "show" => Ok(Task::Image(show_task(given))),
+        "alias" => Ok(Task::Image(alias_task(given)?)),
+        "diff" => Ok(Task::Image(diff_task(given)?)),
+        "run" => Ok(Task::Run(run_task(given)?)),
+        "explain" => Ok(Task::Explain {
+            code: code_of(given)?,
+        }),
+        _ => plain_task(given),
+    }
+}
+
+/// The task of a subcommand whose words are never refused.
+fn plain_task<'a>(given: &Given<'a>) -> Result<Task<'a>, &'static str> {
+    let line = given.word("LINE");
+    match given.subcommand {
+        "init" => Ok(Task::Init { line }),
+        "recover" => Ok(Task::Recover {
+            line,
+            reports: given.has("report"),
+        }),
+        "plan" => Ok(Task::Plan {
+            line,
+            script: given.script(),
+            form: form_of(given),
+        }),
+        "journal" => Ok(Task::Journal {
+            line,
+            form: form_of(given),
+        }),
+        "layout" => Ok(Task::Layout {
+            line,
+            form: form_of(given),
+        }),
+        "completions" => Ok(Task::Completions {
+            shell: shell_of(given),
+        }),
+        "man" => Ok(Task::Man),
+        _ => Err("a subcommand is needed"),
+    }
+}
