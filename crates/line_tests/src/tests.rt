@@ -1,5 +1,4 @@
 mod access;
-mod captured_wire;
 mod frames;
 mod process_data;
 mod process_half;
@@ -15,10 +14,10 @@ use site_core::Site;
 use site_mem::{MemSite, Parts};
 use std::alloc::Global;
 
-// Writes bytes over others, from a place on.
+// Writes bytes over others, from a place on, if there is room.
 fn put(bytes: &mut [u8], from: usize, new: &[u8]) {
-    for (byte, value) in bytes.iter_mut().skip(from).zip(new) {
-        *byte = *value;
+    if let Some(room) = bytes.get_mut(from..from.saturating_add(new.len())) {
+        room.copy_from_slice(new);
     }
 }
 

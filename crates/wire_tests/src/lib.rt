@@ -1,11 +1,13 @@
-//! Tests of a line on a wire in memory: frames that are lost, doubled, late and falsified, slaves with the quirks of real ones, slaves
-//! that lose their power, and a master that lends its wire.
+//! Tests of a line on a wire in memory: frames that are lost, doubled, late and falsified, what a capture of them holds, slaves with the
+//! quirks of real ones, slaves that lose their power, and a master that lends its wire.
 #![tactic(auto)]
 
 #[cfg(test)]
 mod bench;
 #[cfg(test)]
 mod beside;
+#[cfg(test)]
+mod captured_wire;
 #[cfg(test)]
 mod handing;
 #[cfg(test)]

@@ -75,10 +75,12 @@ pub(super) fn plan_of(alloc: Global, categories: &[&[u8]]) -> Option<Plan> {
 
 // Puts bytes into the memory of a slave.
 fn stand(halves: &mut [ProcessHalf], slave: usize, place: u16, bytes: &[u8]) {
-    for (address, byte) in (place..place.saturating_add(100)).zip(bytes) {
+    let mut address = place;
+    for byte in bytes {
         if slave < halves.len() && address >= 0x1000 {
             halves[slave].poke(address, *byte);
         }
+        address = address.saturating_add(1);
     }
 }
 

@@ -120,10 +120,12 @@ fn write_units(half: &mut ProcessHalf, units: &[[u8; 16]]) {
 
 // Puts bytes into the memory from `place` on.
 fn stand(half: &mut ProcessHalf, place: u16, memory: &[u8]) {
-    for (address, byte) in (place..place.saturating_add(9)).zip(memory) {
+    let mut address = place;
+    for byte in memory {
         if address >= 0x1000 {
             half.poke(address, *byte);
         }
+        address = address.saturating_add(1);
     }
 }
 

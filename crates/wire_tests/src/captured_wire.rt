@@ -1,23 +1,31 @@
 //! What a capture of a wire holds, on which frames are lost, doubled and falsified.
 
-use super::{put, zero_words};
+use crate::bench::{BLANK, Slave, line_of};
 use line_watch::{Capture, CapturedWire};
 use site_file::RandomAccessFile;
 use std::alloc::Global;
 use std::io;
 use std::rt::Clock;
 use std::sync::Wait;
-use std::sync::atomic::AtomicU8;
+use std::sync::atomic::AtomicU64;
 use std::sync::atomic::Ordering::SeqCst;
 use std::time::Duration;
 use wire_bringup::{Sizes, bring_up};
 use wire_frames::NumberedWire;
-use wire_practice::{Fate, Mishap, PracticeClock, PracticeLine, PracticeWire};
+use wire_practice::{Fate, Mishap, NO_QUIRKS, PracticeClock, PracticeWire, Quirks};
 
-// A file that is empty at first, and keeps what is written to its first bytes.
+// How often the first bytes of a file were written as they must be, byte by byte, and how many writes there were with another one.
+#[derive(Drop)]
+struct Seen {
+    agreeing: AtomicU64,
+    differing: AtomicU64,
+}
+
+// A file that is empty at first. What is written to its first bytes is compared with what must be.
 #[derive(Drop)]
 struct Front<'b> {
-    bytes: &'b [AtomicU8],
+    wanted: &'b [u8],
+    seen: &'b Seen,
 }
 
 impl RandomAccessFile for Front<'_> {
@@ -30,9 +38,12 @@ impl RandomAccessFile for Front<'_> {
     }
 
     fn write_all_at(&self, bytes: &[u8], at: u64) -> io::Result<()> {
-        let held = self.bytes.get(at as usize..).unwrap_or(&[]);
-        for (byte, held) in bytes.iter().zip(held) {
-            held.store(*byte, SeqCst);
+        let wanted = self.wanted.get(at as usize..).unwrap_or(&[]);
+        let count = bytes.len().min(wanted.len());
+        if bytes[..count] == wanted[..count] {
+            self.seen.agreeing.fetch_add(count as u64, SeqCst);
+        } else {
+            self.seen.differing.fetch_add(1, SeqCst);
         }
         Ok(())
     }
@@ -140,10 +151,18 @@ const CASES: &[(Fate, &[Noted])] = &[
     (Fate::Turned(13, 1), &[(OUT, COUNT), (BACK, UNCOUNTED)]),
 ];
 
-// A wire with one slave, whose first frame has this fate.
+// A slave of 64 words, which stays busy for a datagram with a command.
+const BUSY: Slave = Slave {
+    quirks: Quirks {
+        delay: 1,
+        ..NO_QUIRKS
+    },
+    ..BLANK
+};
+
+// A wire with one slave, whose first frame has this fate. None: memory was refused.
 fn wire_with<'f>(alloc: Global, clock: &'f PracticeClock, fate: Fate) -> Option<PracticeWire<'f>> {
-    let plant = Vec::from_array(alloc, [zero_words(alloc)?]).ok()?;
-    let line = PracticeLine::power_up(alloc, &plant, 1).ok()?;
+    let line = line_of(alloc, &[BUSY], None)?;
     let mut wire = PracticeWire::new(line, clock);
     wire.plan(Mishap {
         passing: 0,
@@ -153,9 +172,9 @@ fn wire_with<'f>(alloc: Global, clock: &'f PracticeClock, fate: Fate) -> Option<
     Some(wire)
 }
 
-// Brings up a line on the wire, and writes its frames to these bytes. Tells whether all were written.
-fn capture_in(rt: &impl Wait, alloc: Global, fate: Fate, bytes: &[AtomicU8]) -> Option<bool> {
-    let capture = Capture::begin(Front { bytes }).ok()?;
+// Brings up a line on the wire, and writes its frames to this file. Tells whether all were written.
+fn is_captured_in(rt: &impl Wait, alloc: Global, fate: Fate, front: Front<'_>) -> Option<bool> {
+    let capture = Capture::begin(front).ok()?;
     let still = Still { _handle: rt };
     let clock = PracticeClock::new();
     let wire = CapturedWire::new(wire_with(alloc, &clock, fate)?, Some(&capture), &still);
@@ -167,6 +186,13 @@ fn capture_in(rt: &impl Wait, alloc: Global, fate: Fate, bytes: &[AtomicU8]) -> 
     )
     .is_ok();
     Some(capture.end().is_ok())
+}
+
+// Writes bytes over others, from a place on, if there is room.
+fn put(bytes: &mut [u8], from: usize, new: &[u8]) {
+    if let Some(room) = bytes.get_mut(from..from.saturating_add(new.len())) {
+        room.copy_from_slice(new);
+    }
 }
 
 // The first bytes of a capture with these records.
@@ -183,24 +209,27 @@ fn spelt(records: &[Noted]) -> [u8; LOOKED_AT] {
     bytes
 }
 
-// Whether a capture begins with these records, where the first frame has this fate.
-fn is_captured(rt: &impl Wait, alloc: Global, fate: Fate, records: &[Noted]) -> Option<bool> {
-    let mut bytes = Vec::new(alloc);
-    for _byte in 0..LOOKED_AT {
-        bytes.push(AtomicU8::new(0)).ok()?;
-    }
-    let is_whole = capture_in(rt, alloc, fate, &bytes)?;
-    let wanted = spelt(records);
-    let is_so = bytes
-        .iter()
-        .zip(&wanted)
-        .all(|(byte, wanted)| byte.load(SeqCst) == *wanted);
-    Some(is_whole && is_so)
+// Whether a capture begins with these records, and ends there if it has fewer bytes than are looked at, where the first frame has this fate.
+fn is_captured(rt: &impl Wait, alloc: Global, fate: Fate, records: &[Noted]) -> bool {
+    let seen = Seen {
+        agreeing: AtomicU64::new(0),
+        differing: AtomicU64::new(0),
+    };
+    let front = Front {
+        wanted: &spelt(records),
+        seen: &seen,
+    };
+    let count = HEADER
+        .len()
+        .saturating_add(records.len().saturating_mul(76));
+    is_captured_in(rt, alloc, fate, front) == Some(true)
+        && seen.agreeing.load(SeqCst) == count as u64
+        && seen.differing.load(SeqCst) == 0
 }
 
 #[test]
 fn frames_are_captured_as_they_go(rt: HostRuntime) {
     for (fate, records) in CASES {
-        assert!(rt; is_captured(&rt, rt.alloc(), *fate, *records) == Some(true));
+        assert!(rt; is_captured(&rt, rt.alloc(), *fate, *records));
     }
 }
