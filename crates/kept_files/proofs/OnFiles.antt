@@ -14,7 +14,7 @@ use Rattle.file_laws.proofs.Following.{left_at_first}
 use Rattle.file_laws.proofs.FollowingWords.{left_since, site_is_followed}
 use Rattle.book_model.specs.Book.{Book, base_of}
 use Rattle.book_laws.specs.Opening.{words_in}
-use Rattle.kept_files.specs.KeptFiles.{has_file, holding, words_or_none, KeepsFiles, SiteHasFiles, CutLeavesKept, RecoveryLeavesContents, HasContents}
+use Rattle.kept_files.specs.KeptFiles.{has_file, holding, words_or_none, KeepsFiles, SiteHasFiles, SiteKeepsOn, CutLeavesKept, RecoveryLeavesContents, HasContents}
 
 -- WHAT THE FILES HOLD AT FIRST
 
@@ -63,6 +63,28 @@ cut_leaves_kept before now is_sound files new first keeps = record {
         λ name there. found.2 name (subst (λ (s : State). IsTrue (has_file s name)) (sym start) there),
       );
 }
+
+pub site_keeps_on : (F : Type 0) → SiteKeepsOn F
+site_keeps_on F device before now follows new first keeps =
+    let files : FilesFollow 0 (has_file before.state) (holding before.state) device now =
+    site_is_followed F device now follows (has_file before.state) (holding before.state)
+    (subst (λ (s : State). (name : LineFile) → IsTrue (has_file before.state name) → Holds s name (holding before.state name)) (sym first) (holds_state before.state)) in
+    record {
+      device = device;
+      calls = calls_of files.pieces ++ files.last;
+      keeps = record {
+        moment = device.asking.calls;
+        log = files.has;
+        kept = λ machine kept images bytes left.
+            let within = keeps machine kept in
+            let found = left_since (has_file before.state) (holding before.state) device now files images bytes left in (
+              found.0,
+              within.left found.0 (subst (λ (past : List Moment). LeftSince now (length past) found.0) (sym new) found.1),
+              found.2,
+            );
+      };
+      hold = λ sound going name later there becomes. files.holds sound going name later there becomes;
+    }
 
 has_contents : (book : Book) (state : State) (name : LineFile) (file : File) → words_in state.halves ≡ base_of book → Holds state name file
     → HasContents book name file

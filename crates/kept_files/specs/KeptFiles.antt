@@ -66,6 +66,14 @@ pub record KeepsFiles (before : State) (calls : List Asked) : Type 0 where
   pub log : HasLog moment calls
   pub kept : (machine : Machine) → LeavesOnly (KeptFor machine) before → LeaveOnly (KeptFor machine) before calls
 
+-- A device made these calls on the files of a line since they held the state before, while calls led the site from there to where it is now. What a
+-- power cut leaves in them is kept so; and as long as no call has failed and the site goes on, they hold its state.
+pub record KeepsOn (F : Type 0) (before now : Seen) : Type 0 where
+  pub device : FileDevice F
+  pub calls : List Asked
+  pub keeps : KeepsFiles before.state calls
+  pub hold : device.has_failed ≡ false → ¬ IsTrue now.is_stopped → BecomeOnly (Holds now.state) before.state calls
+
 -- The image of a slave has the words with which the book was opened, all synced.
 abbrev pub HasContents : Book → LineFile → File → Type 0
 HasContents book Journal file = Unit {0}
@@ -82,6 +90,11 @@ SiteHasFiles F = (device : FileDevice F) (seen : Seen) (is_sound : Bool) → Fol
 abbrev pub CutLeavesKept : Type 0
 CutLeavesKept = (before now : Seen) (is_sound : Bool) (files : FilesOf now is_sound) → before.past ≡ [] → first_of now ≡ before.state
     → KeepsThroughout before now → KeepsFiles before.state files.calls
+
+-- The device of a site that saw its first call there.
+abbrev pub SiteKeepsOn : Type 0 → Type 0
+SiteKeepsOn F = (device : FileDevice F) (before now : Seen) → Follows device now → before.past ≡ [] → first_of now ≡ before.state
+    → KeepsThroughout before now → KeepsOn F before now
 
 -- Behind a complete recovery the images have the contents, if no call on a file has failed and the site goes on.
 abbrev pub RecoveryLeavesContents : Type 0

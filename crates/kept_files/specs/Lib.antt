@@ -1,1 +1,3 @@
 pub mod KeptFiles
+pub mod Cuts
+pub mod DeskFiles

@@ -1,4 +1,4 @@
-ghost use Rattle.kept_files.specs.KeptFiles.{SiteHasFiles, CutLeavesKept, RecoveryLeavesContents};
+ghost use Rattle.kept_files.specs.KeptFiles.{SiteHasFiles, CutLeavesKept, SiteKeepsOn, RecoveryLeavesContents};
 
 /// The files behind a site: all that was asked of them since they held the state in which the site began, and what that makes of them.
 pub fn a_site_has_files<F>()
@@ -12,6 +12,11 @@ pub fn a_site_has_files<F>()
 /// the journal that is left can be redone, and redo gives the contents after a prefix of the commands, with every acknowledged one in it.
 pub fn a_cut_leaves_kept_files()
     ensures { CutLeavesKept }
+{}
+
+/// The same from a site's first call on, with what the files hold now: the state of the site, if no call on them has failed and it goes on.
+pub fn a_site_keeps_its_files<F>()
+    ensures { SiteKeepsOn F }
 {}
 
 /// A recovery that is complete has left the contents in the files: each slave's image has the words with which the session began, all of them

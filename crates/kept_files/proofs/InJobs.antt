@@ -29,8 +29,8 @@ use Rattle.station_jobs.specs.Jobs.{MayEnd}
 use Rattle.station_jobs.specs.Left.{LeftInProgress}
 use Rattle.station_jobs.specs.Flushing.{DoesAction, LeftInAction}
 use Rattle.station_jobs.specs.Working.{CallsSlave, LeftInCall}
-use Rattle.desk_files.specs.Cuts.{IsAt, CutsLog, in_call, at_rest, JournalIsCut, ImageIsCut}
-use Rattle.desk_files.proofs.Since.{state_then, since_first, since_towards}
+use Rattle.kept_files.specs.Cuts.{IsAt, CutsLog, in_call, at_rest, JournalIsCut, ImageIsCut}
+use Rattle.kept_files.proofs.Since.{state_then, since_first, since_towards}
 
 -- A PIECE OF A LOG
 
@@ -124,7 +124,7 @@ action_stays disk.Sync result old new does = SyncsDisk-adds_nothing old result n
 action_stays disk.Idle result old new does = absurd does
 action_stays disk.Stop result old new does = absurd does
 
-action_follows : (action : DiskNext) (result : Result (Unit {0}) DeviceFault) (old new : Seen) → DoesAction action result old new → Follows old new
+pub action_follows : (action : DiskNext) (result : Result (Unit {0}) DeviceFault) (old new : Seen) → DoesAction action result old new → Follows old new
 action_follows (disk.Write at bytes) result old new does = Calls-follows old does.writes.middle result new does.writes.call
 action_follows (disk.Gate at closed) result old new does = Calls-follows old does.writes.middle result new does.writes.call
 action_follows disk.Sync result old new does = Calls-follows old [] result new does.call
@@ -144,7 +144,7 @@ call_stays slave (rom.Settle taken) outcome old new calls = let s = calls.settle
 call_stays slave rom.Idle outcome old new calls = absurd calls
 call_stays slave rom.Stop outcome old new calls = absurd calls
 
-call_follows : (slave : ℕ) (job : RomNext) (outcome : RomOutcome) (old new : Seen) → CallsSlave slave job outcome old new → Follows old new
+pub call_follows : (slave : ℕ) (job : RomNext) (outcome : RomOutcome) (old new : Seen) → CallsSlave slave job outcome old new → Follows old new
 call_follows slave (rom.Issue word value) outcome old new calls = let i = calls.issues in i.follows
 call_follows slave (rom.Settle taken) outcome old new calls = let s = calls.settles in s.quiet.follows
 call_follows slave rom.Idle outcome old new calls = absurd calls

@@ -16,8 +16,8 @@ use Rattle.station_jobs.proofs.CallLaws.{worked}
 use Rattle.desk_book.specs.declared.call.Call.{Call}
 use Rattle.desk_laws.specs.Joined.{AllGo, DiskGoes, SlaveGoes}
 use Rattle.desk_laws.proofs.Ending.{desk-kept}
-use Rattle.desk_files.specs.Cuts.{IsAt, DiskCut, SlaveCut, AllCut, CutIsKept}
-use Rattle.desk_files.proofs.Fixed.{still, fixed, fixed_only, fixed_leaves, still_at, still_from}
+use Rattle.kept_files.specs.Cuts.{IsAt, DiskCut, SlaveCut, AllCut, CutIsKept}
+use Rattle.kept_files.proofs.Fixed.{still, fixed, fixed_only, fixed_leaves, still_at, still_from}
 
 -- the jobs that have returned led the site there
 done_led : {J O : Type 0} (Does : J → O → Seen → Seen → Type 0) (log : List (Assignment J O)) (start : Seen) (at : IsAt Does log start) → Led Does at.done start at.mid

@@ -1,4 +1,5 @@
-ghost use Rattle.desk_files.specs.Cuts.{CutIsKept, JournalIsCut, ImageIsCut};
+ghost use Rattle.kept_files.specs.Cuts.{CutIsKept, JournalIsCut, ImageIsCut};
+ghost use Rattle.kept_files.specs.DeskFiles.{PartHasItsFile, CutLeavesKeptParts};
 
 /// At any moment of a desk's history a power cut leaves a recoverable state, wherever each device is in the job that is out for it.
 ///
@@ -18,4 +19,15 @@ pub fn a_cut_of_the_journal<F>()
 /// The same of a slave's image file behind the site of its thread, and of the slave's half.
 pub fn a_cut_of_the_slave_images<F>()
     ensures { ImageIsCut F }
+{}
+
+/// The file of a part of a desk: if it held the part as the device's log began, it has followed the part's site from there on.
+pub fn a_part_has_its_file<F>()
+    ensures { PartHasItsFile F }
+{}
+
+/// At any moment of a desk's history a power cut leaves a recoverable state in the files, all of them together, each by the log of its own part's
+/// device, wherever that is in its job.
+pub fn a_cut_leaves_kept_parts<F, S>()
+    ensures { CutLeavesKeptParts F S }
 {}

@@ -1,4 +1,0 @@
-mod Fixed
-mod AtDesk
-mod Since
-mod OnFiles
