@@ -3,7 +3,7 @@ use Rattle.std.proofs.Common.{◌≡◌, ℕ, zero, suc, List, [], ◌∷◌, �
 use Rattle.std.specs.List.{AllByRecursion}
 use Rattle.std.proofs.lemmas.List.{length-map}
 use Rattle.sii_words.specs.declared.run.Run.{Run}
-use Rattle.sii_words.specs.Redo.{redone, redone_from, redone_words}
+use Rattle.sii_words.specs.Redo.{redone, redone_from}
 use Rattle.jrn_format.specs.declared.journal.Entry.{Entry}
 use Rattle.jrn_format.specs.Batch.{LiesWithin, LieWithin}
 use Rattle.book_model.specs.Entries.{runs_of, sizes_of}

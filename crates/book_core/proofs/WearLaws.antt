@@ -1,9 +1,8 @@
 -- What a slave is owed, and that it is issued, written and named.
 use Rattle.std.proofs.Common.{◌≡◌, ◌≢◌, ◌⊎◌, inl, inr, ℕ, zero, suc, ◌<◌, ◌≤◌, Bool, true, false, List, [], ◌∷◌, ◌++◌, length, set, take, refl, sym, ◌∙◌, ap, subst, arith, Some}
-use Rattle.std.specs.Prelude.{◌==◌, filter, is_some, if◌then◌else◌}
+use Rattle.std.specs.Prelude.{filter, is_some, if◌then◌else◌}
 use Rattle.std.specs.List.{AllByRecursion}
 use Rattle.std.proofs.lemmas.Bool.{cases_eq, cases_lt}
-use Rattle.std.proofs.lemmas.Bool.Decides.{nat_tests}
 use Rattle.std.proofs.lemmas.List.{append-nil, get_or_past, get_or-set_same, get_or-set_other}
 use Rattle.sii_words.specs.declared.run.Run.{Run}
 use Rattle.book_model.specs.Cells.{Cell, Known, Holds, Unsure, nothing, cell_of, all_named, is_any, owing, written}

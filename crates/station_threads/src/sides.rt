@@ -152,13 +152,14 @@ impl<'a, T: Tickets, R: Refusals> Dispatch<DiskLog> for DiskSide<'a, T, R> {
         let mut served = desk.served.lock(rt);
         match served.disk_next() {
             Heard::Work((job, copy)) => {
-                if !begins_below(&job, self.limit) {
-                    return Turn::Stop;
+                if begins_below(&job, self.limit) {
+                    self.notes.hand_out(copy);
+                    self.has_job = true;
+                    self.patience.granted();
+                    Turn::Work(job)
+                } else {
+                    Turn::Stop
                 }
-                self.notes.hand_out(copy);
-                self.has_job = true;
-                self.patience.granted();
-                Turn::Work(job)
             }
             Heard::Nothing => {
                 self.patience.granted();

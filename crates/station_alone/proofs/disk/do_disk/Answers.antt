@@ -1,7 +1,14 @@
-use Rattle.std.proofs.Common.{◌≡◌, ◌∙◌, sym, None}
+use Rattle.std.proofs.Common.{◌≡◌, ◌∙◌, sym, None, Some}
 use Rattle.station_alone.specs.Steps.{told_at_once}
-use Rattle.station_alone.proofs.DiskLaws.{is-none, steps-done}
+use Rattle.station_alone.proofs.DiskLaws.{is-none, steps-at-once, steps-done}
 use Rattle.station_alone.proofs.disk.do_disk.Goals as goal
+
+pub returns-in-Some-clause-steps : goal.returns-in-Some-clause-steps
+returns-in-Some-clause-steps g c =
+    let line = g.S.Site.line c.args.site.now in
+    let seen = g.S.Site.seen c.args.site.now in
+    let some : told_at_once c.in-Ok.action ≡ Some c.in-Some.told = sym c.told_at_once.ensures ∙ c.in-Some.is in
+    steps-at-once c.args.core.now line seen c.disk_next.new.self c.in-Ok.ensures.book c.in-Ok.action c.in-Some.told c.in-Ok.ensures.answer some
 
 pub returns-clause-steps : goal.returns-clause-steps
 returns-clause-steps g c =

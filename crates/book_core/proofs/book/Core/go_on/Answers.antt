@@ -4,11 +4,11 @@ use Rattle.book_model.specs.Book.{Book}
 use Rattle.book_model.specs.DiskSteps.{went_on}
 use Rattle.book_parts.specs.Spot.{as_place}
 use Rattle.book_core.specs.declared.step.Step.{Step}
-use Rattle.book_core.specs.Stands.{StepStands, IsAppending, IsRetiring}
+use Rattle.book_core.specs.Stands.{StepStands, IsAppending, IsRetiring, IsMigrating}
 use Rattle.book_core.proofs.InsideLaws.{sizes-redone}
 use Rattle.book_core.proofs.OrderLaws.{order-next}
 use Rattle.book_core.proofs.LedgerLaws.{length-appended}
-use Rattle.book_core.proofs.LiveLaws.{none-newer, live-stands, retired-stands}
+use Rattle.book_core.proofs.LiveLaws.{none-newer, live-stands, retired-stands, migrated-stands}
 use Rattle.book_core.proofs.DoneLaws.{book-live}
 use Rattle.book_core.proofs.book.Core.go_on.Goals as goal
 
@@ -40,6 +40,13 @@ invariant_of-self-in-CloseSync c =
     let retiring : IsRetiring core.ledger core.work = subst (λ (s : Step). StepStands s core.area core.ledger core.work) c.in-CloseSync.is c.self.invariant.doing in
     rw (c.retire-in-CloseSync.ensures, c.retire.ensures)
     (retired-stands core.words.value core.found core.area core.step core.ledger core.work core.shown core.fault retiring.no_append retiring.settled c.self.invariant)
+
+pub invariant_of-self-in-VersionSync : goal.invariant_of-self-in-VersionSync
+invariant_of-self-in-VersionSync c =
+    let core = c.self.inside in
+    let migrating : IsMigrating core.area core.ledger = subst (λ (s : Step). StepStands s core.area core.ledger core.work) c.in-VersionSync.is c.self.invariant.doing in
+    rw c.become_version_2.ensures
+    (migrated-stands core.words.value core.found core.area core.step core.ledger core.work core.shown core.fault migrating.no_append c.self.invariant)
 
 pub returns-in-OpenSync : goal.returns-in-OpenSync
 returns-in-OpenSync c =
