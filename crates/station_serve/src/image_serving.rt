@@ -1,8 +1,9 @@
 //! The subcommands that read EEPROM images.
 
 use crate::serving::told;
+use line_changes::diff_images;
 use station_arguments::ImageTask;
-use station_files::{ExitStatus, Failure, Store, diff_images, report, set_alias, show_image};
+use station_files::{ExitStatus, Failure, Store, report, set_alias, show_image};
 use station_json::{Form, diff_as_json, show_as_json};
 use station_troubles::Files;
 use std::alloc::Global;

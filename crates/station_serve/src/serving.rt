@@ -5,7 +5,7 @@ use crate::image_serving::{files_of_images, serve_image};
 use clap::Error;
 use clap::error::ErrorKind;
 use command_line::{INPUT, InputScript};
-use line_report::{Before, look_before, report_behind};
+use line_changes::{Before, look_before, report_behind};
 use site_progress::Progress;
 use station_arguments::{
     PowerCut, Request, RunTask, Task, print_completions, print_manual, read_arguments,
