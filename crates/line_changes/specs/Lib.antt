@@ -1,2 +1,5 @@
 pub mod Changes
+pub mod Diff
+pub mod Difference
+pub mod Report
 pub mod Size

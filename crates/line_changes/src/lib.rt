@@ -1,10 +1,26 @@
-//! What commands change on a line: the words in which two contents differ, and the EEPROM sizes that word 0x3E says.
+//! What changes: on a line by commands, in a run or a recovery; and from one EEPROM image to another, as `diff` prints it.
 #![tactic(auto)]
 
+mod categories;
 mod changes;
+mod checks;
 mod commands;
+mod diff;
+mod difference;
+mod head;
+mod layout;
+mod report;
 mod said;
+mod words;
 
+pub use categories::{CategoryChange, CategoryTeller, Side, tell_categories};
 pub use changes::{ChangedWord, MOST_PRINTED, changed_words, write_changes, write_range};
+pub use checks::check_of;
 pub use commands::{Resize, resizes};
+pub use diff::diff_images;
+pub use difference::{Difference, compare};
+pub use head::Head;
+pub use layout::{print_image, spell_layout};
+pub use report::{Before, REPORT, Report, changes_since, look_before, print_report, report_behind};
 pub use said::size_said;
+pub use words::WordChanges;

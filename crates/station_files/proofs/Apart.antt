@@ -1,11 +1,11 @@
 -- Files that stand apart, as they are found one by one.
-use Rattle.std.proofs.Common.{◌≡◌, ◌≢◌, ℕ, zero, suc, ◌+◌, ◌-◌, ◌<◌, List, [], ◌∷◌, ◌++◌, IfSome, Option, Some, None, length, map, take, drop, get_or, String, Global, string_bytes, refl, sym, ap, ◌∙◌, subst, inl, inr, arith}
+use Rattle.std.proofs.Common.{◌≡◌, ℕ, zero, suc, ◌+◌, ◌-◌, ◌<◌, List, [], ◌∷◌, ◌++◌, IfSome, Option, Some, None, length, map, take, drop, get_or, String, Global, string_bytes, refl, sym, ap, ◌∙◌, subst, inl, arith}
 use Rattle.std.proofs.lemmas.List.{drop_more, get_or-drop, get_or_default, length-drop, map_more, take_more}
 use Rattle.std.specs.List.{AllByRecursion, AllZip, HoldsAt, slice_index_or}
 use Rattle.std.specs.Prelude.{MatchOption}
 use Rattle.station_files.specs.declared.location.Location.{Location}
 use Rattle.station_files.specs.declared.same_files.Clash.{Clash}
-use Rattle.station_files.specs.Locations.{AreApart, IsClash, Leads, LeadsTo, MeetAt, Meets, NoneMeet, OfBoth, Place, StandApart, place_of}
+use Rattle.station_files.specs.Locations.{AreApart, IsClash, Leads, LeadsTo, MeetAt, Meets, NoneMeet, Place, StandApart, place_of}
 use Rattle.lists.proofs.Quantifiers.{all_snoc, zip_snoc}
 
 -- ---- lists of pairs

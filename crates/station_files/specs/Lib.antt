@@ -1,5 +1,4 @@
 pub mod Alias
-pub mod Diff
 pub mod Faults
 pub mod FileNames
 pub mod Files

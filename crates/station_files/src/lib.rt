@@ -1,9 +1,8 @@
 //! Reads the files of a line and of a script into values and writes them back, prints faults, and does the subcommands that need no
-//! journal: `alias`, `show`, `diff` and `layout`.
+//! journal: `alias`, `show` and `layout`.
 #![tactic(auto)]
 
 mod alias;
-mod diff;
 mod faults;
 mod image;
 mod layout;
@@ -20,13 +19,12 @@ mod show;
 mod store;
 
 pub use alias::set_alias;
-pub use diff::diff_images;
 pub use faults::{ExitStatus, Failure, Fault, Refused, worse};
 pub use image::read_image;
 pub use layout::{list_line, show_layout};
 pub use line::{load_line, load_slaves};
 pub use location::{FileId, Location, name_beside};
-pub use printing::write_whole;
+pub use printing::{print_listing, write_whole};
 pub use reading::{read_about, read_to_end};
 pub use reporting::{report, report_fault, status_of};
 pub use same_files::{Clash, FileNames, find_clash, keep_apart, keep_line_apart};

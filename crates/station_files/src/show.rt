@@ -6,12 +6,11 @@ ghost use Rattle.station_files.specs.Show.{IsStatusOf, ShowsImage, ShowsStatus};
 
 use crate::faults::{ExitStatus, Fault};
 use crate::image::read_image;
-use crate::printing::print_listing;
+use crate::printing::write_whole;
 use crate::store::Store;
 use sii_words::ImageFile;
 use station_listing::{ItemListing, Listing, list_image, list_items};
 use std::alloc::{AllocError, Global};
-use std::fmt;
 use std::io::{Read, Write};
 
 /// Reads an EEPROM image, of the file of this name or from the input, and prints its listing, with `all` its items behind it. With `hex` its
@@ -20,7 +19,7 @@ use std::io::{Read, Write};
 ///
 /// # Errors
 ///
-/// As for `read_image`; then `Memory`, where the listing can't be made; then as for `print_listing`. Nothing is printed before the listing
+/// As for `read_image`; then `Memory`, where the listing can't be made; then as for `write_whole`. Nothing is printed before the listing
 /// is complete.
 pub fn show_image<R: Read, S: Store, W: Write>(
     alloc: Global,
@@ -52,28 +51,20 @@ fn print_image<W: Write>(
 {
     let listing = list_image(alloc, image)?;
     let items = items_of(alloc, all, image)?;
-    let shown = Shown {
-        listing: &listing,
-        items: &items,
-    };
-    print_listing(alloc, &shown, output)?;
+    let text = spell_listing(alloc, &listing, &items)?;
+    write_whole(text.as_bytes(), output)?;
     Ok(status_of(&listing))
 }
 
 /// What is printed: the listing of an image, and behind it its items, where they are asked for.
-#[derive(Clone, Copy)]
-struct Shown<'a> {
-    listing: &'a Listing,
-    items: &'a Option<ItemListing>,
-}
-
-impl fmt::Display for Shown<'_> {
-    fn fmt<W: fmt::Write>(&self, f: &mut fmt::Formatter<W>) -> fmt::Result {
-        write!(f, "{}", self.listing)?;
-        match self.items {
-            Some(items) => write!(f, "{items}"),
-            None => Ok(()),
-        }
+fn spell_listing(
+    alloc: Global,
+    listing: &Listing,
+    items: &Option<ItemListing>,
+) -> Result<String, AllocError> {
+    match items {
+        Some(items) => format!(in alloc; "{listing}{items}"),
+        None => format!(in alloc; "{listing}"),
     }
 }
 

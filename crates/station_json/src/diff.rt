@@ -3,9 +3,9 @@
 ghost use Rattle.std.specs.Prelude.{◌≡◌, IfErr};
 ghost use Rattle.station_files.specs.Faults.{IsOfStream};
 
-use crate::diff_categories::write_chains;
+use crate::diff_categories::Rows;
 use crate::row::write_cells;
-use image_diff::{Difference, Head, WordChanges, compare};
+use line_changes::{Difference, Head, WordChanges, compare, tell_categories};
 use sii_words::{ImageFile, Run};
 use station_files::{ExitStatus, Fault, Store, read_image};
 use std::alloc::Global;
@@ -43,11 +43,7 @@ fn write_comparison<W: Write>(
     let difference = compare(alloc, first, second)?;
     write_difference(alloc, &difference, output)?;
     output.flush()?;
-    if difference.is_none() {
-        Ok(ExitStatus::Done)
-    } else {
-        Ok(ExitStatus::Refused)
-    }
+    Ok(difference.status())
 }
 
 fn write_difference<W: Write>(
@@ -58,7 +54,11 @@ fn write_difference<W: Write>(
     ensures { IfErr result IsOfStream }
 {
     write_heads(alloc, difference.old, difference.new, output)?;
-    write_chains(alloc, &difference.old_items, &difference.new_items, output)?;
+    let mut rows = Rows {
+        alloc,
+        output: &mut *output,
+    };
+    tell_categories(&difference.old_items, &difference.new_items, &mut rows)?;
     write_words(alloc, &difference.words, output)
 }
 

@@ -5,9 +5,11 @@ ghost use Rattle.station_files.specs.Faults.{IsOfStream};
 use crate::cell::Cell;
 use crate::names::{Names, text_of};
 use crate::row::write_cells;
-use sii_cats::{FmmuUnit, FmmuUse, Manager, Pdo, kind};
+use sii_cats::{FmmuUnit, Manager, Pdo, kind};
 use station_files::Fault;
-use station_listing::{CategoryLines, General, ItemListing, Items, Line, read_items};
+use station_listing::{
+    CategoryLines, General, ItemListing, Items, Line, manager_word, read_items, usage_word,
+};
 use std::alloc::Global;
 use std::io::Write;
 
@@ -96,22 +98,12 @@ fn write_units<W: Write>(alloc: Global, units: &[FmmuUnit], output: &mut W) -> R
         let row = [
             ("row", "fmmu".into()),
             ("fmmu", place.into()),
-            ("usage", usage_of(*unit).into()),
+            ("usage", usage_word(*unit).unwrap_or("other").into()),
             ("byte", unit.byte.into()),
         ];
         write_cells(alloc, &row, output)?;
     }
     Ok(())
-}
-
-fn usage_of(unit: FmmuUnit) -> &'static str {
-    match unit.usage() {
-        FmmuUse::Unused => "unused",
-        FmmuUse::Outputs => "outputs",
-        FmmuUse::Inputs => "inputs",
-        FmmuUse::SyncManagerStatus => "status",
-        FmmuUse::Other => "other",
-    }
 }
 
 fn write_managers<W: Write>(
@@ -125,7 +117,7 @@ fn write_managers<W: Write>(
         let row = [
             ("row", "sm".into()),
             ("sm", place.into()),
-            ("type", manager_type(manager.kind).into()),
+            ("type", manager_word(manager.kind).unwrap_or("other").into()),
             ("byte", manager.kind.into()),
             ("start", manager.start.into()),
             ("length", manager.length.into()),
@@ -136,17 +128,6 @@ fn write_managers<W: Write>(
         write_cells(alloc, &row, output)?;
     }
     Ok(())
-}
-
-fn manager_type(kind: u8) -> &'static str {
-    match kind {
-        0 => "unused",
-        1 => "mailbox-out",
-        2 => "mailbox-in",
-        3 => "outputs",
-        4 => "inputs",
-        _ => "other",
-    }
 }
 
 fn write_pdos<W: Write>(

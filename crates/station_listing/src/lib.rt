@@ -12,5 +12,7 @@ pub use codes::{CODES, Code, CodeEntry, each_code_is_listed, find_code};
 pub use content::Content;
 pub use items::{General, Items, read_items};
 pub use layout_listing::{Direction, LayoutListing, ListedSegment, list_layout};
-pub use lines::{CategoryLines, Field, ItemListing, Label, Line, list_items};
+pub use lines::{
+    CategoryLines, Field, ItemListing, Label, Line, list_items, manager_word, usage_word,
+};
 pub use listing::{CheckByte, ListedCategory, ListedChain, Listing, list_image};

@@ -65,6 +65,25 @@ pub struct Field {
     pub value: String,
 }
 
+/// What is said of an item, before it is spelt.
+#[derive(Clone, Copy)]
+enum Value<'a> {
+    /// One of the words for it.
+    Word(&'static str),
+    Number(usize),
+    /// A number of milliamperes.
+    Current(i16),
+    Byte(u8),
+    /// Two bytes.
+    Register(u16),
+    /// An object of the device's dictionary, by index and subindex.
+    Object(u16, u8),
+    /// A text of the image.
+    Text(&'a [u8]),
+    /// The number of a text of the image, and the text.
+    Name(usize, &'a [u8]),
+}
+
 /// A text of the image as it is printed: in quotation marks, with what is no printable ASCII escaped.
 #[derive(Clone, Copy)]
 struct Quoted<'a>(&'a [u8]);
@@ -165,8 +184,8 @@ fn lines_of(
 fn string_lines(alloc: Global, strings: &[Vec<u8>]) -> Result<Vec<Line>, AllocError> {
     let mut lines = Vec::new(alloc);
     for (place, string) in strings.iter().enumerate() {
-        let line = Line::of(alloc, Label::Text(place.saturating_add(1)));
-        lines.push(line.with("", quote_text(alloc, string))?)?;
+        let label = Label::Text(place.saturating_add(1));
+        lines.push(Line::of(alloc, label, &[("", Value::Text(string))])?)?;
     }
     Ok(lines)
 }
@@ -176,42 +195,54 @@ fn general_lines(
     general: General,
     names: &[Vec<u8>],
 ) -> Result<Vec<Line>, AllocError> {
-    let line = Line::of(alloc, Label::General)
-        .with("group", name_of(alloc, general.group, names))?
-        .with("image", name_of(alloc, general.image, names))?
-        .with("order", name_of(alloc, general.order, names))?
-        .with("name", name_of(alloc, general.name, names))?
-        .with("coe", byte(alloc, general.coe))?
-        .with("foe", byte(alloc, general.foe))?
-        .with("eoe", byte(alloc, general.eoe))?;
-    let current = i16::from_le_bytes(general.current.to_le_bytes());
-    let line = line
-        .with("soe", number(alloc, general.soe))?
-        .with("ds402", number(alloc, general.ds402))?
-        .with("sysman", number(alloc, general.sysman))?
-        .with("flags", byte(alloc, general.flags))?
-        .with("current", format!(in alloc; "{current}"))?;
     let mut lines = Vec::new(alloc);
-    lines.push(line)?;
+    lines.push(general_line(alloc, general, names)?)?;
     Ok(lines)
+}
+
+fn general_line(alloc: Global, general: General, names: &[Vec<u8>]) -> Result<Line, AllocError> {
+    let current = i16::from_le_bytes(general.current.to_le_bytes());
+    let said = [
+        ("group", name_of(general.group, names)),
+        ("image", name_of(general.image, names)),
+        ("order", name_of(general.order, names)),
+        ("name", name_of(general.name, names)),
+        ("coe", Value::Byte(general.coe)),
+        ("foe", Value::Byte(general.foe)),
+        ("eoe", Value::Byte(general.eoe)),
+        ("soe", Value::Number(usize::from(general.soe))),
+        ("ds402", Value::Number(usize::from(general.ds402))),
+        ("sysman", Value::Number(usize::from(general.sysman))),
+        ("flags", Value::Byte(general.flags)),
+        ("current", Value::Current(current)),
+    ];
+    Line::of(alloc, Label::General, &said)
 }
 
 fn unit_lines(alloc: Global, units: &[FmmuUnit]) -> Result<Vec<Line>, AllocError> {
     let mut lines = Vec::new(alloc);
     for (place, unit) in units.iter().enumerate() {
-        let line = Line::of(alloc, Label::Fmmu(place));
-        lines.push(line.with("", usage_of(alloc, *unit))?)?;
+        let usage = word_or_byte(usage_word(*unit), unit.byte);
+        lines.push(Line::of(alloc, Label::Fmmu(place), &[("", usage)])?)?;
     }
     Ok(lines)
 }
 
-fn usage_of(alloc: Global, unit: FmmuUnit) -> Result<String, AllocError> {
+/// The word for what an FMMU is used for, where there is one.
+pub fn usage_word(unit: FmmuUnit) -> Option<&'static str> {
     match unit.usage() {
-        FmmuUse::Unused => String::from_str(alloc, "unused"),
-        FmmuUse::Outputs => String::from_str(alloc, "outputs"),
-        FmmuUse::Inputs => String::from_str(alloc, "inputs"),
-        FmmuUse::SyncManagerStatus => String::from_str(alloc, "status"),
-        FmmuUse::Other => byte(alloc, unit.byte),
+        FmmuUse::Unused => Some("unused"),
+        FmmuUse::Outputs => Some("outputs"),
+        FmmuUse::Inputs => Some("inputs"),
+        FmmuUse::SyncManagerStatus => Some("status"),
+        FmmuUse::Other => None,
+    }
+}
+
+fn word_or_byte(word: Option<&'static str>, byte: u8) -> Value<'static> {
+    match word {
+        Some(word) => Value::Word(word),
+        None => Value::Byte(byte),
     }
 }
 
@@ -224,24 +255,29 @@ fn manager_lines(alloc: Global, managers: &[Manager]) -> Result<Vec<Line>, Alloc
 }
 
 fn manager_line(alloc: Global, place: usize, manager: Manager) -> Result<Line, AllocError> {
-    let length = manager.length;
-    Line::of(alloc, Label::Manager(place))
-        .with("type", manager_type(alloc, manager.kind))?
-        .with("start", word(alloc, manager.start))?
-        .with("length", format!(in alloc; "{length}"))?
-        .with("control", byte(alloc, manager.control))?
-        .with("status", byte(alloc, manager.status))?
-        .with("enable", byte(alloc, manager.enable))
+    let said = [
+        (
+            "type",
+            word_or_byte(manager_word(manager.kind), manager.kind),
+        ),
+        ("start", Value::Register(manager.start)),
+        ("length", Value::Number(usize::from(manager.length))),
+        ("control", Value::Byte(manager.control)),
+        ("status", Value::Byte(manager.status)),
+        ("enable", Value::Byte(manager.enable)),
+    ];
+    Line::of(alloc, Label::Manager(place), &said)
 }
 
-fn manager_type(alloc: Global, kind: u8) -> Result<String, AllocError> {
+/// The word for a type of sync managers, where there is one.
+pub fn manager_word(kind: u8) -> Option<&'static str> {
     match kind {
-        0 => String::from_str(alloc, "unused"),
-        1 => String::from_str(alloc, "mailbox-out"),
-        2 => String::from_str(alloc, "mailbox-in"),
-        3 => String::from_str(alloc, "outputs"),
-        4 => String::from_str(alloc, "inputs"),
-        _ => byte(alloc, kind),
+        0 => Some("unused"),
+        1 => Some("mailbox-out"),
+        2 => Some("mailbox-in"),
+        3 => Some("outputs"),
+        4 => Some("inputs"),
+        _ => None,
     }
 }
 
@@ -260,21 +296,22 @@ fn pdo_lines(
 }
 
 fn pdo_line(alloc: Global, kind: u16, pdo: &Pdo, names: &[Vec<u8>]) -> Result<Line, AllocError> {
+    let said = [
+        ("entries", Value::Number(pdo.entries.len())),
+        ("sm", assigned_to(pdo.manager)),
+        ("sync", Value::Number(usize::from(pdo.synchronization))),
+        ("flags", Value::Register(pdo.flags)),
+        ("name", name_of(pdo.name, names)),
+    ];
     let index = pdo.index;
-    let count = pdo.entries.len();
-    Line::of(alloc, Label::Pdo { kind, index })
-        .with("entries", format!(in alloc; "{count}"))?
-        .with("sm", assigned_to(alloc, pdo.manager))?
-        .with("sync", number(alloc, pdo.synchronization))?
-        .with("flags", word(alloc, pdo.flags))?
-        .with("name", name_of(alloc, pdo.name, names))
+    Line::of(alloc, Label::Pdo { kind, index }, &said)
 }
 
 /// The number of the sync manager that a PDO is assigned to, or `none`.
-fn assigned_to(alloc: Global, manager: u8) -> Result<String, AllocError> {
+fn assigned_to(manager: u8) -> Value<'static> {
     match manager {
-        0xFF => String::from_str(alloc, "none"),
-        _ => number(alloc, manager),
+        0xFF => Value::Word("none"),
+        _ => Value::Number(usize::from(manager)),
     }
 }
 
@@ -302,67 +339,43 @@ fn entry_line(
     entry: PdoEntry,
     names: &[Vec<u8>],
 ) -> Result<Line, AllocError> {
-    let (index, subindex) = (entry.index, entry.subindex);
-    Line::of(alloc, label)
-        .with("object", format!(in alloc; "0x{index:04x}:{subindex:02x}"))?
-        .with("type", byte(alloc, entry.data_type))?
-        .with("bits", number(alloc, entry.bit_length))?
-        .with("flags", word(alloc, entry.flags))?
-        .with("name", name_of(alloc, entry.name, names))
+    let said = [
+        ("object", Value::Object(entry.index, entry.subindex)),
+        ("type", Value::Byte(entry.data_type)),
+        ("bits", Value::Number(usize::from(entry.bit_length))),
+        ("flags", Value::Register(entry.flags)),
+        ("name", name_of(entry.name, names)),
+    ];
+    Line::of(alloc, label, &said)
 }
 
 /// What a reference to a string says: `none`, or the number of the string and, where there is one of this number, the string.
-fn name_of(alloc: Global, index: u8, names: &[Vec<u8>]) -> Result<String, AllocError> {
-    let Some(place) = usize::from(index).checked_sub(1) else {
-        return String::from_str(alloc, "none");
+fn name_of(index: u8, names: &[Vec<u8>]) -> Value<'_> {
+    let number = usize::from(index);
+    let Some(place) = number.checked_sub(1) else {
+        return Value::Word("none");
     };
-    let Some(name) = names.get(place) else {
-        return number(alloc, index);
-    };
-    let name = Quoted(name);
-    format!(in alloc; "{index} {name}")
-}
-
-fn quote_text(alloc: Global, text: &[u8]) -> Result<String, AllocError> {
-    let text = Quoted(text);
-    format!(in alloc; "{text}")
-}
-
-fn number(alloc: Global, value: u8) -> Result<String, AllocError> {
-    format!(in alloc; "{value}")
-}
-
-fn byte(alloc: Global, value: u8) -> Result<String, AllocError> {
-    format!(in alloc; "0x{value:02x}")
-}
-
-fn word(alloc: Global, value: u16) -> Result<String, AllocError> {
-    format!(in alloc; "0x{value:04x}")
+    match names.get(place) {
+        Some(name) => Value::Name(number, name),
+        None => Value::Number(number),
+    }
 }
 
 impl Line {
-    fn of(alloc: Global, label: Label) -> Line {
-        Line {
-            label,
-            fields: Vec::new(alloc),
-        }
-    }
-
-    /// The line with one more field.
-    fn with(
-        self,
-        name: &'static str,
-        value: Result<String, AllocError>,
+    /// The line of an item of which this is said.
+    fn of(
+        alloc: Global,
+        label: Label,
+        said: &[(&'static str, Value<'_>)],
     ) -> Result<Line, AllocError> {
-        let mut fields = self.fields;
-        fields.push(Field {
-            name,
-            value: value?,
-        })?;
-        Ok(Line {
-            label: self.label,
-            fields,
-        })
+        let mut fields = Vec::with_capacity(alloc, said.len())?;
+        for (name, value) in said {
+            fields.push(Field {
+                name: *name,
+                value: format!(in alloc; "{value}")?,
+            })?;
+        }
+        Ok(Line { label, fields })
     }
 }
 
@@ -416,6 +429,21 @@ fn pdo_word(kind: u16) -> &'static str {
     match kind {
         kind::TXPDOS => "txpdo",
         _ => "rxpdo",
+    }
+}
+
+impl fmt::Display for Value<'_> {
+    fn fmt<W: fmt::Write>(&self, f: &mut fmt::Formatter<W>) -> fmt::Result {
+        match self {
+            Value::Word(word) => f.write_str(word),
+            Value::Number(number) => write!(f, "{number}"),
+            Value::Current(current) => write!(f, "{current}"),
+            Value::Byte(byte) => write!(f, "0x{byte:02x}"),
+            Value::Register(value) => write!(f, "0x{value:04x}"),
+            Value::Object(index, subindex) => write!(f, "0x{index:04x}:{subindex:02x}"),
+            Value::Text(text) => write!(f, "{}", Quoted(text)),
+            Value::Name(number, name) => write!(f, "{number} {}", Quoted(name)),
+        }
     }
 }
 

@@ -156,9 +156,8 @@ impl fmt::Display for Listing {
             revision,
             serial,
         } = self.identity;
-        writeln!(f, "words {}", self.count)?;
-        writeln!(f, "alias {}", self.alias)?;
-        writeln!(f, "check {}", self.check)?;
+        let (count, alias, check) = (self.count, self.alias, self.check);
+        write!(f, "words {count}\nalias {alias}\ncheck {check}\n")?;
         writeln!(
             f,
             "vendor 0x{vendor:08x} product 0x{product:08x} revision 0x{revision:08x} serial 0x{serial:08x}"

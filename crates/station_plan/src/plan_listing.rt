@@ -3,8 +3,7 @@ ghost use Rattle.std.specs.Prelude.{IfErr};
 
 use crate::plan::Planned;
 use crate::tally::Tally;
-use line_changes::{Resize, write_changes};
-use line_report::spell_layout;
+use line_changes::{Resize, spell_layout, write_changes};
 use sii_words::Plant;
 use station_files::Fault;
 use std::alloc::Global;

@@ -101,7 +101,7 @@ pub(crate) const REPORT: Argument = Argument {
     id: "report",
     kind: Kind::Flag,
     help: "Prints at the end which words have changed, and whether the line is in order",
-    long_help: line_report::REPORT,
+    long_help: line_changes::REPORT,
 };
 
 /// The second line of a fault.

@@ -3,7 +3,8 @@
 use crate::arguments::{JSON, form_of};
 use crate::serving::told;
 use command_line::{Argument, Given, Kind, Subcommand, is_digits};
-use station_files::{ExitStatus, Failure, Store, diff_images, report, set_alias, show_image};
+use line_changes::diff_images;
+use station_files::{ExitStatus, Failure, Store, report, set_alias, show_image};
 use station_json::{Form, diff_as_json, show_as_json};
 use station_troubles::Files;
 use std::alloc::Global;

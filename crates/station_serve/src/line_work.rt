@@ -3,7 +3,7 @@
 use crate::arguments::{LINE, QUIET, REPORT, SCRIPT};
 use crate::serving::told;
 use command_line::{Argument, Given, Kind, Subcommand, TYPED_COMMANDS};
-use line_report::{Before, look_before, report_behind};
+use line_changes::{Before, look_before, report_behind};
 use station_files::{ExitStatus, Fault, Store};
 use station_session::{Fuse, RunNames, Streams, Watch, recover_line, run_script};
 use std::alloc::Global;

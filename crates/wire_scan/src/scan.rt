@@ -1,6 +1,6 @@
 //! The subcommand `scan`.
 use crate::scan_rows::write_slaves;
-use line_report::check_of;
+use line_changes::check_of;
 use sii_words::{Identity, Words};
 use station_json::Form;
 use std::io::Write;

@@ -1,7 +1,7 @@
 //! The slaves that `scan` finds, as rows of JSON.
 
 use crate::scan::name_of_state;
-use line_report::check_of;
+use line_changes::check_of;
 use serde::Serialize;
 use sii_words::Words;
 use station_files::Fault;

@@ -9,7 +9,7 @@ ghost use Rattle.wire_session.specs.Recovery.{EndsRecovery, Recovers};
 use crate::as_found::AsFound;
 use crate::redoing::recover_by_threads;
 use crate::reporting::{report_end, tell_why};
-use line_report::Before;
+use line_changes::Before;
 use sii_words::Plant;
 use site_file::FileDevice;
 use site_shadow::{Device, ShadowSite};

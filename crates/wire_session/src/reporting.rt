@@ -3,7 +3,7 @@ ghost use Rattle.std.specs.Prelude.{◌≡◌, IfErr};
 ghost use Rattle.station_files.specs.Faults.{IsOfStream};
 ghost use Rattle.wire_session.specs.Reporting.{IsExplained, IsReported};
 
-use line_report::{Before, print_image, print_report};
+use line_changes::{Before, print_image, print_report};
 use site_wire::LockedLine;
 use station_files::{Fault, Store};
 use std::alloc::Global;

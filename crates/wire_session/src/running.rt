@@ -12,7 +12,7 @@ ghost use Rattle.wire_session.specs.Running.{EndsFound, EndsSite, RunsScript};
 use crate::as_found::AsFound;
 use crate::reporting::{report_end, tell_handed, tell_why};
 use crate::threads::run_threads;
-use line_report::Before;
+use line_changes::Before;
 use script_session::Work;
 use sii_edit::Command;
 use sii_words::Plant;

@@ -1,4 +1,4 @@
-use Rattle.std.proofs.Common.{◌∙◌, sym, String, Global, map, string_bytes}
+use Rattle.std.proofs.Common.{sym, String, Global, map, string_bytes}
 use Rattle.std.proofs.lemmas.List.{append-nil}
 use Rattle.station_text.specs.declared.script_command.ScriptGroupEdit.{ScriptGroupEdit}
 use Rattle.station_files.specs.ScriptFiles.{image_of}

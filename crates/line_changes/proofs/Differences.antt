@@ -6,8 +6,8 @@ use Rattle.std.proofs.lemmas.List.{get_or-take, length-take-le, take_all}
 use Rattle.sii_words.specs.Redo.{last_given}
 use Rattle.sii_words.specs.Run.{change, stretches}
 use Rattle.sii_words.proofs.StretchLaws.{last_given-stretches, other_change, same_change, stretches-same}
-use Rattle.image_diff.specs.Difference.{common, Compares, NamesDifferences, NothingDiffers}
-use Rattle.image_diff.specs.declared.difference.Difference.{Difference}
+use Rattle.line_changes.specs.Difference.{common, Compares, NamesDifferences, NothingDiffers}
+use Rattle.line_changes.specs.declared.difference.Difference.{Difference}
 
 -- a word is named exactly where it changes
 changed : (old new : ℕ) (named : Option ℕ) → named ≡ change old new → IsSome named ↔ (old ≢ new)

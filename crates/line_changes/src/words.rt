@@ -1,7 +1,7 @@
 //! The words in which two images differ.
 ghost use Rattle.std.specs.Prelude.{◌≡◌, ◌≤◌, IfOk, length};
 ghost use Rattle.sii_words.specs.Run.{stretches};
-ghost use Rattle.image_diff.specs.Difference.{AreChanges};
+ghost use Rattle.line_changes.specs.Difference.{AreChanges};
 
 use sii_words::{Run, push_stretches};
 use std::alloc::{AllocError, Global};

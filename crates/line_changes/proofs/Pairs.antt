@@ -1,9 +1,9 @@
 -- Two images that are read one after the other, and what is known of their texts.
 use Rattle.std.proofs.Common.{◌≡◌, ◌↔◌, ℕ, Bool, List, Option, Some, None, IfSome, IsSome, option_map, inl, inr, refl, subst, sym}
 use Rattle.sii_words.specs.Words.{bytes_of}
-use Rattle.image_diff.specs.Difference.{NothingDiffers}
-use Rattle.image_diff.specs.declared.difference.Difference.{Difference}
-use Rattle.station_files.specs.Diff.{IsStatusOf, IsStatusOfPair, RefusesPair, TellsDifference, second_text}
+use Rattle.line_changes.specs.Difference.{NothingDiffers}
+use Rattle.line_changes.specs.declared.difference.Difference.{Difference}
+use Rattle.line_changes.specs.Diff.{IsStatusOf, IsStatusOfPair, RefusesPair, TellsDifference, second_text}
 use Rattle.station_files.specs.Faults.{IsOfStream}
 use Rattle.station_files.specs.Files.{Known}
 use Rattle.station_files.specs.ImageText.{Spells, held_of, text_of}

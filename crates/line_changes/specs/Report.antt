@@ -6,8 +6,8 @@ use Rattle.station_files.specs.LineFiles.{SpellsSlaves}
 use Rattle.station_listing.specs.ImageListing.{SaysCheck}
 use Rattle.station_listing.specs.declared.listing.CheckByte.{CheckByte}
 use Rattle.line_changes.specs.Changes.{changes_between}
-use Rattle.line_report.specs.declared.report.Before.{Before}
-use Rattle.line_report.specs.declared.report.Report.{Report}
+use Rattle.line_changes.specs.declared.report.Before.{Before}
+use Rattle.line_changes.specs.declared.report.Report.{Report}
 
 -- for each slave, whether its check byte is right
 abbrev pub SayChecks : List (List ℕ) → List CheckByte → Type 0

@@ -1,5 +1,5 @@
 //! The numbers of an image that have a name of their own: its length, alias, check byte and identity.
-ghost use Rattle.image_diff.specs.Difference.{IsHead};
+ghost use Rattle.line_changes.specs.Difference.{IsHead};
 
 use sii_words::{Identity, ImageFile};
 use std::fmt;

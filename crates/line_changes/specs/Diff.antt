@@ -1,8 +1,8 @@
 -- The exit status of `diff`.
 use Rattle.std.specs.Prelude.{◌≡◌, ◌≢◌, ◌⊎◌, ℕ, Bool, List, Option, Some, None, IfSome}
 use Rattle.sii_words.specs.Words.{bytes_of}
-use Rattle.image_diff.specs.Difference.{NothingDiffers}
-use Rattle.image_diff.specs.declared.difference.Difference.{Difference}
+use Rattle.line_changes.specs.Difference.{NothingDiffers}
+use Rattle.line_changes.specs.declared.difference.Difference.{Difference}
 use Rattle.station_files.specs.Files.{Known}
 use Rattle.station_files.specs.ImageText.{RefusesInput, Spells, text_of}
 use Rattle.station_files.specs.declared.faults.Fault.{Fault}

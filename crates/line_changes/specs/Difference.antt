@@ -4,9 +4,9 @@ use Rattle.sii_words.specs.Identity.{identity_of}
 use Rattle.sii_words.specs.Redo.{last_given}
 use Rattle.sii_words.specs.Run.{stretches}
 use Rattle.sii_words.specs.Words.{alias_of}
-use Rattle.image_diff.specs.declared.difference.Difference.{Difference}
-use Rattle.image_diff.specs.declared.head.Head.{Head}
-use Rattle.image_diff.specs.declared.words.WordChanges.{WordChanges}
+use Rattle.line_changes.specs.declared.difference.Difference.{Difference}
+use Rattle.line_changes.specs.declared.head.Head.{Head}
+use Rattle.line_changes.specs.declared.words.WordChanges.{WordChanges}
 
 -- this is the head of an image: its length, alias, check byte as it stands there, and identity
 pub record IsHead (words : List ℕ) (head : Head) : Type 0 where

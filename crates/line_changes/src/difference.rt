@@ -1,14 +1,12 @@
 //! What two images differ in.
 ghost use Rattle.std.specs.Prelude.{◌≡◌, ◌↔◌, IfOk, IsTrue};
-ghost use Rattle.image_diff.specs.Difference.{Compares, NothingDiffers, NamesDifferences};
+ghost use Rattle.line_changes.specs.Difference.{Compares, NothingDiffers, NamesDifferences};
 
-use crate::categories::print_chains;
-use crate::head::{Head, print_heads};
+use crate::head::Head;
 use crate::words::{WordChanges, compare_words};
 use sii_words::ImageFile;
 use station_listing::{ItemListing, list_items};
 use std::alloc::{AllocError, Global};
-use std::fmt;
 
 /// What two images differ in.
 #[derive(Drop)]
@@ -58,13 +56,5 @@ impl Difference {
         ensures { IsTrue result ↔ NothingDiffers self.now }
     {
         self.old.count == self.new.count && self.words.new.is_empty()
-    }
-}
-
-impl fmt::Display for Difference {
-    fn fmt<W: fmt::Write>(&self, f: &mut fmt::Formatter<W>) -> fmt::Result {
-        print_heads(f, self.old, self.new)?;
-        print_chains(f, &self.old_items, &self.new_items)?;
-        write!(f, "{}", self.words)
     }
 }

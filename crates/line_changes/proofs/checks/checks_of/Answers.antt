@@ -1,6 +1,6 @@
 use Rattle.std.proofs.Common.{◌<◌, length, rules}
-use Rattle.line_report.proofs.NextCheck.{next_check}
-use Rattle.line_report.proofs.checks.checks_of.Goals as goal
+use Rattle.line_changes.proofs.NextCheck.{next_check}
+use Rattle.line_changes.proofs.checks.checks_of.Goals as goal
 
 pub loop-slave-preserved : goal.loop-slave-preserved
 loop-slave-preserved c =

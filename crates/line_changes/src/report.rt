@@ -2,10 +2,10 @@
 ghost use Rattle.std.specs.Prelude.{◌≡◌, IfErr, IfOk};
 ghost use Rattle.station_files.specs.Faults.{IsOfStream};
 ghost use Rattle.station_files.specs.LineFiles.{SpellsLine, SpellsSlaves};
-ghost use Rattle.line_report.specs.Report.{Reports};
+ghost use Rattle.line_changes.specs.Report.{Reports};
 
+use crate::changes::{ChangedWord, changed_words, write_changes};
 use crate::checks::checks_of;
-use line_changes::{ChangedWord, changed_words, write_changes};
 use sii_words::Plant;
 use station_files::{ExitStatus, Fault, Store, load_line, load_slaves, status_of, worse};
 use station_listing::CheckByte;

@@ -1,10 +1,10 @@
 use Rattle.std.proofs.Common.{option_map}
 use Rattle.std.proofs.lemmas.Result.{IfErr-weaker, IfOk-weaker}
-use Rattle.station_files.specs.Diff.{IfKnown, IsStatusOfPair, RefusesPair, TellsDifference, second_text}
+use Rattle.line_changes.specs.Diff.{IfKnown, IsStatusOfPair, RefusesPair, TellsDifference, second_text}
 use Rattle.station_files.specs.Faults.{IsOfStream}
 use Rattle.station_files.specs.ImageText.{text_of}
-use Rattle.station_files.proofs.Pairs.{both, second_known, stream_refuses, tells}
-use Rattle.station_files.proofs.diff.diff_images.Goals as goal
+use Rattle.line_changes.proofs.Pairs.{both, second_known, stream_refuses, tells}
+use Rattle.line_changes.proofs.diff.diff_images.Goals as goal
 
 pub returns-clause-status : goal.returns-clause-status
 returns-clause-status g c =

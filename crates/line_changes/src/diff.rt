@@ -1,15 +1,15 @@
 //! The subcommand `diff`.
 ghost use Rattle.std.specs.Prelude.{◌≡◌, IfOk, IfErr, option_map};
-ghost use Rattle.station_files.specs.Diff.{IfKnown, IsStatusOf, IsStatusOfPair, RefusesPair, TellsDifference};
+ghost use Rattle.line_changes.specs.Diff.{IfKnown, IsStatusOf, IsStatusOfPair, RefusesPair, TellsDifference};
 ghost use Rattle.station_files.specs.Faults.{IsOfStream};
 
-use crate::faults::{ExitStatus, Fault};
-use crate::image::read_image;
-use crate::printing::print_listing;
-use crate::store::Store;
-use image_diff::{Difference, compare};
+use crate::categories::tell_categories;
+use crate::difference::{Difference, compare};
+use crate::head::print_heads;
 use sii_words::ImageFile;
+use station_files::{ExitStatus, Fault, Store, print_listing, read_image};
 use std::alloc::Global;
+use std::fmt;
 use std::io::{Read, Write};
 
 /// Reads two EEPROM images and prints what they differ in. Each is read from the file of its name, or, where no name is given, from the input;
@@ -51,17 +51,45 @@ fn print_difference<W: Write>(
     ensures failed { IfErr result IsOfStream }
 {
     let difference = compare(alloc, first, second)?;
-    print_listing(alloc, &difference, output)?;
-    Ok(status_of(&difference))
+    let mut categories = String::new(alloc);
+    tell_categories(
+        &difference.old_items,
+        &difference.new_items,
+        &mut categories,
+    )?;
+    let shown = Shown {
+        difference: &difference,
+        categories: categories.as_str(),
+    };
+    print_listing(alloc, &shown, output)?;
+    Ok(difference.status())
 }
 
-/// `Done` where nothing differs, `Refused` where something does.
-fn status_of(difference: &Difference) -> ExitStatus
-    ensures { IsStatusOf difference.now result }
-{
-    if difference.is_none() {
-        ExitStatus::Done
-    } else {
-        ExitStatus::Refused
+/// What is printed: what two images differ in.
+#[derive(Clone, Copy)]
+struct Shown<'a> {
+    difference: &'a Difference,
+    /// What the categories differ in, as text.
+    categories: &'a str,
+}
+
+impl fmt::Display for Shown<'_> {
+    fn fmt<W: fmt::Write>(&self, f: &mut fmt::Formatter<W>) -> fmt::Result {
+        print_heads(f, self.difference.old, self.difference.new)?;
+        f.write_str(self.categories)?;
+        write!(f, "{}", self.difference.words)
+    }
+}
+
+impl Difference {
+    /// `Done` where nothing differs, `Refused` where something does.
+    pub fn status(&self) -> ExitStatus
+        ensures { IsStatusOf self.now result }
+    {
+        if self.is_none() {
+            ExitStatus::Done
+        } else {
+            ExitStatus::Refused
+        }
     }
 }

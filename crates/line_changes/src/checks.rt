@@ -1,7 +1,7 @@
 //! Whether the check bytes of a line are right.
 ghost use Rattle.std.specs.Prelude.{IfOk};
 ghost use Rattle.station_listing.specs.ImageListing.{SaysCheck};
-ghost use Rattle.line_report.specs.Report.{SayChecks};
+ghost use Rattle.line_changes.specs.Report.{SayChecks};
 
 use sii_words::{Plant, Words};
 use station_listing::CheckByte;

@@ -1,6 +1,0 @@
-use Rattle.station_files.proofs.Pairs.{told}
-use Rattle.station_files.proofs.diff.print_difference.Goals as goal
-
-pub returns-clause-status : goal.returns-clause-status
-returns-clause-status g c =
-    told c.args.first.now c.args.second.now c.in_ok-difference.difference c.status_of.result c.in_ok-difference.ensures.same c.status_of.ensures
