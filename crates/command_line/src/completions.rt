@@ -23,11 +23,26 @@ pub fn completion_script(
     shell: Shell,
 ) -> Result<String, AllocError> {
     let mut command = described(alloc, program)?;
+    let mut text = String::new(alloc);
+    let ended = push_script(alloc, shell, &mut command, &mut text);
+    drop(command);
+    match ended {
+        Ok(()) => Ok(text),
+        Err(error) => Err(error),
+    }
+}
+
+fn push_script(
+    alloc: Global,
+    shell: Shell,
+    command: &mut Command<'_>,
+    text: &mut String,
+) -> Result<(), AllocError> {
     command.build()?;
     match shell {
-        Shell::Bash => bash(alloc, &command),
-        Shell::Zsh => zsh(alloc, &command),
-        Shell::Fish => fish(alloc, &command),
+        Shell::Bash => push_bash(alloc, command, text),
+        Shell::Zsh => push_zsh(alloc, command, text),
+        Shell::Fish => push_fish(alloc, command, text),
     }
 }
 
@@ -51,19 +66,23 @@ const BASH_TAIL: &str = "    esac
 ";
 
 /// Of each subcommand a line `show) options='--hex --help' ;;`, after one of the program itself.
-fn bash(alloc: Global, command: &Command<'_>) -> Result<String, AllocError> {
+fn push_bash(alloc: Global, command: &Command<'_>, text: &mut String) -> Result<(), AllocError> {
     let program = command.get_name();
-    let names = bash_names(alloc, command.get_subcommands())?;
-    let options = bash_options(alloc, command.get_arguments())?;
-    let mut text = format!(in alloc;
-        "_{program}{BASH_HEAD}    '') names='{names}' options='{options}' ;;\n    help) names='{names}' ;;\n"
-    )?;
+    text.push_str(bash_head(alloc, command)?.as_str())?;
     for subcommand in command.get_subcommands() {
         text.push_str(bash_line(alloc, subcommand)?.as_str())?;
     }
     text.push_str(BASH_TAIL)?;
-    text.push_str(format!(in alloc; "complete -o filenames -F _{program} {program}\n")?.as_str())?;
-    Ok(text)
+    text.push_str(format!(in alloc; "complete -o filenames -F _{program} {program}\n")?.as_str())
+}
+
+fn bash_head(alloc: Global, command: &Command<'_>) -> Result<String, AllocError> {
+    let program = command.get_name();
+    let names = bash_names(alloc, command.get_subcommands())?;
+    let options = bash_options(alloc, command.get_arguments())?;
+    format!(in alloc;
+        "_{program}{BASH_HEAD}    '') names='{names}' options='{options}' ;;\n    help) names='{names}' ;;\n"
+    )
 }
 
 fn bash_line(alloc: Global, subcommand: &Command<'_>) -> Result<String, AllocError> {
@@ -111,9 +130,9 @@ const ZSH_TAIL: &str = "    esac
 ";
 
 /// Of each subcommand a line `'show:What it does'`, and a line `show) _arguments '--hex[What it does]' '*:file:_files' ;;`.
-fn zsh(alloc: Global, command: &Command<'_>) -> Result<String, AllocError> {
+fn push_zsh(alloc: Global, command: &Command<'_>, text: &mut String) -> Result<(), AllocError> {
     let program = command.get_name();
-    let mut text = format!(in alloc; "#compdef {program}\n_{program}{ZSH_HEAD}")?;
+    text.push_str(format!(in alloc; "#compdef {program}\n_{program}{ZSH_HEAD}")?.as_str())?;
     for subcommand in command.get_subcommands() {
         text.push_str(zsh_name(alloc, subcommand)?.as_str())?;
     }
@@ -121,11 +140,14 @@ fn zsh(alloc: Global, command: &Command<'_>) -> Result<String, AllocError> {
     for subcommand in command.get_subcommands() {
         text.push_str(zsh_options(alloc, subcommand)?.as_str())?;
     }
+    text.push_str(zsh_end(alloc, command)?.as_str())
+}
+
+/// The options of the program itself, and the end.
+fn zsh_end(alloc: Global, command: &Command<'_>) -> Result<String, AllocError> {
+    let program = command.get_name();
     let options = zsh_arguments(alloc, command.get_arguments())?;
-    text.push_str(format!(in alloc; "    -*) _arguments{options} ;;\n")?.as_str())?;
-    text.push_str(ZSH_TAIL)?;
-    text.push_str(format!(in alloc; "compdef _{program} {program}\n")?.as_str())?;
-    Ok(text)
+    format!(in alloc; "    -*) _arguments{options} ;;\n{ZSH_TAIL}compdef _{program} {program}\n")
 }
 
 fn zsh_name(alloc: Global, subcommand: &Command<'_>) -> Result<String, AllocError> {
@@ -153,18 +175,14 @@ fn zsh_arguments(alloc: Global, arguments: &[Arg<'_>]) -> Result<String, AllocEr
 }
 
 /// Of each subcommand a line, and a line of each of its options.
-fn fish(alloc: Global, command: &Command<'_>) -> Result<String, AllocError> {
+fn push_fish(alloc: Global, command: &Command<'_>, text: &mut String) -> Result<(), AllocError> {
     let program = command.get_name();
-    let mut text = fish_options(
-        alloc,
-        program,
-        "__fish_use_subcommand",
-        command.get_arguments(),
-    )?;
+    let options = command.get_arguments();
+    text.push_str(fish_options(alloc, program, "__fish_use_subcommand", options)?.as_str())?;
     for subcommand in command.get_subcommands() {
         text.push_str(fish_lines(alloc, program, subcommand)?.as_str())?;
     }
-    Ok(text)
+    Ok(())
 }
 
 fn fish_lines(

@@ -4,7 +4,7 @@ use crate::given::Given;
 use crate::program::{Program, described};
 use crate::unread::{Flaw, Unread, why_unread};
 use clap::error::ErrorKind;
-use clap::{ArgMatches, Error};
+use clap::{ArgMatches, Command, Error};
 use std::alloc::{AllocError, Global};
 
 /// Reads a command line of this program. The first word is the program's name.
@@ -29,8 +29,21 @@ fn given_in<'a>(
     words: &'a [String],
 ) -> Result<Given<'a>, Error> {
     let mut command = described(alloc, program)?;
+    let read = read_with(alloc, program, &mut command, words);
+    drop(command);
+    read
+}
+
+fn read_with<'a>(
+    alloc: Global,
+    program: Program<'_>,
+    command: &mut Command<'a>,
+    words: &'a [String],
+) -> Result<Given<'a>, Error> {
     let matches = command.try_get_matches_from_mut(words)?;
-    Ok(given_by(alloc, program, &matches)?)
+    let given = given_by(alloc, program, &matches);
+    drop(matches);
+    Ok(given?)
 }
 
 /// The subcommand that was given, with its arguments, behind the options of the program.
@@ -66,6 +79,16 @@ fn refusal(
     text: &str,
 ) -> Result<Error, Error> {
     let mut command = described(alloc, program)?;
+    let refused = refuse_with(&mut command, words, text);
+    drop(command);
+    refused
+}
+
+fn refuse_with<'a>(
+    command: &mut Command<'a>,
+    words: &'a [String],
+    text: &str,
+) -> Result<Error, Error> {
     drop(command.try_get_matches_from_mut(words)?);
     Ok(command.error(ErrorKind::ValueValidation, text)?)
 }
