@@ -6,7 +6,7 @@
 ghost use Rattle.std.specs.Prelude.{◌≡◌, []};
 ghost use denote.Param.Send.{IsSync};
 
-use crate::book::book;
+use crate::line::{Plan, book_of};
 use book_core::Core;
 use book_model::{RomNext, RomOutcome, Status};
 use runner_cases::asks::{Ask, command};
@@ -479,9 +479,17 @@ fn wakes_at<
     ended(rt, alloc, &desk, &mut submitter, trial) == Some(end)
 }
 
+/// Two slaves of zeros, whose process image is empty.
+const TWO: Plan = Plan {
+    words: 64,
+    slaves: &[&[], &[]],
+    area: 4096,
+    has_cycle: false,
+};
+
 /// Whether the sleep of the trial ended as it has to.
 fn wakes<W: Wait + Threads + Sync + Clock + Abort>(rt: &W, alloc: Global, trial: &Trial) -> bool {
-    let core = book(alloc).expect(rt, "memory");
+    let core = book_of(rt, alloc, &TWO);
     wakes_at::<Brand, Brand, W>(
         rt,
         alloc,
