@@ -34,7 +34,8 @@ pub record PartOnFiles (F : Type 0) (owned : LineFile → Bool) (start end : See
       → FilesFollow 0 owned begun device end
 
 -- The parts of a desk stand on files: that of the disk on the journal, and that of each slave on its image.
-pub record DeskOnFiles (F : Type 0) {S : Type 0} (seen : S → Seen) (flusher : Stay S (List DiskEntry)) (workers : List (Stay S SlaveLog)) : Type 0 where
+pub record DeskOnFiles (F : Type 0) {S : Type 0} (seen : S → Seen) (flusher : Stay S (List DiskEntry))
+    (workers : List (Stay S SlaveLog)) : Type 0 where
   pub journal : PartOnFiles F (is_same JournalFile) (seen flusher.start) (seen flusher.site)
   pub images : (slave : ℕ) (end : Stay S SlaveLog) → slice_get workers slave ≡ Some end
       → PartOnFiles F (is_same (Image slave)) (seen end.start) (seen end.site)
@@ -55,8 +56,8 @@ pub record PartIsCut {J O F : Type 0} (Does : J → O → Seen → Seen → Type
 pub record DeskIsCut {F S : Type 0} {seen : S → Seen} {flusher : Stay S (List DiskEntry)} {workers : List (Stay S SlaveLog)}
     (desk : DeskOnFiles F seen flusher workers) (calls : List Call) (begun : LineFile → File) (images : LineFile → List ℕ) : Type 0 where
   pub journal : PartIsCut DoesAction (disk_log calls) (is_same JournalFile) (seen flusher.start) (seen flusher.site) desk.journal.device begun images
-  pub slaves : (slave : ℕ) (end : Stay S SlaveLog) (here : slice_get workers slave ≡ Some end)
-      → PartIsCut (CallsSlave slave) (rom_log slave calls) (is_same (Image slave)) (seen end.start) (seen end.site) (desk.images slave end here).device
+  pub slaves : (slave : ℕ) (end : Stay S SlaveLog) (is : slice_get workers slave ≡ Some end)
+      → PartIsCut (CallsSlave slave) (rom_log slave calls) (is_same (Image slave)) (seen end.start) (seen end.site) (desk.images slave end is).device
       begun images
 
 -- THE LAWS

@@ -33,8 +33,8 @@ use Rattle.script_session.specs.Asking.{no_counts, ComesTo, GivesUp, Receives, f
 use Rattle.script_session.specs.declared.closing.AtDesk.{AtDesk}
 use Rattle.script_session.specs.declared.closing.Ending.{Ending}
 use Rattle.script_session.specs.declared.threads.Left.{Left}
-use Rattle.script_session.specs.Parts.{Sites, HasDiskOf, HasHalf, IsApart, IsServable, AreEndsOfParts, IsTogether}
-use Rattle.script_session.specs.AtDesk.{seen_of, Closes, ClosesWith, EndsSo, IsServedAtDesk, IsStopped, IsStoppedAtDesk, LeavesSo, TellsWhy}
+use Rattle.script_session.specs.Parts.{Sites, BeginsWith, HasDiskOf, IsApart, IsServable, AreEndsOfParts, AreFollowed, IsTogether}
+use Rattle.script_session.specs.AtDesk.{seen_of, Closes, ClosesWith, EndsSo, IsServedAtDesk, IsStopped, IsStoppedAtDesk, LeavesSo, ServesFollowed, TellsWhy}
 use Rattle.script_session.proofs.AskLaws.{all-received}
 use Rattle.script_session.proofs.SlaveLaws.{contents-together}
 use Rattle.script_session.proofs.LeftLaws.{kept-together, left-together}
@@ -191,17 +191,17 @@ module _ (opened : Book) (commands : List Command) (status : ExitStatus) (counts
 -- ---- the disk of a line that is taken apart
 
 pub servable : {E : Type 0} (result : Result Sites E) (sites : Sites) (capacity : ℕ) (whole : State) (disk : Option (Vec ℕ)) (halves : List SlaveHalf) → IsSomeAnd disk (λ (b : Vec ℕ). 8 + capacity ≤ length b.items) → IfSome disk (λ (b : Vec ℕ). b.items ≡ whole.disk.bytes)
-    → halves ≡ whole.halves → HasDiskOf disk sites.disk → AllPlaced HasHalf 0 halves sites.slaves.items → is_some sites.cycle ≡ true
+    → halves ≡ whole.halves → HasDiskOf disk sites.disk → sites.disk.seen.past ≡ [] → AllPlaced BeginsWith 0 halves sites.slaves.items → is_some sites.cycle ≡ true
     → IfOk result (λ (same : Sites). (same ≡ sites) × OwnParts (λ (s : SiteValue). s.line) same.disk same.slaves.items same.cycle) → IfOk result (λ (same : Sites). IsServable capacity whole same)
-servable (Ok same) sites capacity whole (Some b) halves long bytes held disk slaves turning is =
+servable (Ok same) sites capacity whole (Some b) halves long bytes held disk new slaves turning is =
     let owned : OwnParts (λ (s : SiteValue). s.line) sites.disk sites.slaves.items sites.cycle = subst (λ (x : Sites). OwnParts (λ (s : SiteValue). s.line) x.disk x.slaves.items x.cycle) is.0 is.1 in
     subst (λ (x : Sites). IsServable capacity whole x) (sym is.0) (record {
-      apart = record { disk = disk ∙ ap of_bytes bytes; slaves = subst (λ (l : List SlaveHalf). AllPlaced HasHalf 0 l sites.slaves.items) held slaves; turning = turning };
+      apart = record { disk = disk ∙ ap of_bytes bytes; new = new; slaves = subst (λ (l : List SlaveHalf). AllPlaced BeginsWith 0 l sites.slaves.items) held slaves; turning = turning };
       owned = owned;
       long = subst (λ (d : Disk). 8 + capacity ≤ length d.bytes) (sym disk) long;
     })
-servable (Ok same) sites capacity whole None halves long bytes held disk slaves turning is = absurd long
-servable (Err fault) sites capacity whole disk halves long bytes held of slaves turning is = tt
+servable (Ok same) sites capacity whole None halves long bytes held disk new slaves turning is = absurd long
+servable (Err fault) sites capacity whole disk halves long bytes held of new slaves turning is = tt
 
 -- ---- a line that was served at a desk
 
@@ -234,6 +234,22 @@ served-at-desk opened commands book seen sites at (Ok left) of_book of_seen apar
     let parts : IsApart opened.seen.state sites = subst (λ (s : Seen). IsApart s.state sites) of_seen apart in
     record { told = same.told; left = leaves-so opened commands sites at.ends left.site parts of_sites is.0 left.ending.is_driven left.ending.status left.ending.told left.ending.closed same.ended }
 served-at-desk opened commands book seen sites at (Err fault) of_book of_seen apart of_sites is ends = tt
+
+pub serves-parts : {D E : Type 0} (follows : D → Seen → Type 0) (opened : Station) (commands : List Command) (book : Book) (seen : Seen) (sites : Sites) (at : AtDesk SiteValue) (result : Result (Left SiteValue) E) → book ≡ opened.book → seen ≡ opened.seen → IsApart seen.state sites → AreEndsOfParts sites at.ends
+    → IfOk result (λ (left : Left SiteValue). IsTogether at.ends left.site × (left.ending ≡ at.ending)) → OnOk result (AreFollowed follows at.ends) → EndsSo book commands at.ends at.ending → IfOk result (λ (left : Left SiteValue). ServesFollowed follows opened commands left.ending left.site)
+serves-parts follows opened commands book seen sites at (Ok left) of_book of_seen apart of_sites is followed ends =
+    let here : EndsSo opened.book commands at.ends at.ending = subst (λ (b : Book). EndsSo b commands at.ends at.ending) of_book ends in (
+      record {
+        sites = sites;
+        apart = subst (λ (s : Seen). IsApart s.state sites) of_seen apart;
+        ends = at.ends;
+        of_sites = of_sites;
+        ended = subst (λ (e : Ending). EndsSo opened.book commands at.ends e) (sym is.1) here;
+        together = is.0;
+      },
+      followed,
+    )
+serves-parts follows opened commands book seen sites at (Err fault) of_book of_seen apart of_sites is followed ends = tt
 
 -- where no fault is told, the desk was closed, and the line was served
 pub served-told : (opened : Station) (commands : List Command) (ending : Ending) (site : SiteValue) → ending.told ≡ Ok tt → LeavesSo opened commands ending site → IsServedAtDesk opened commands ending.is_driven ending.status (Ok tt) site

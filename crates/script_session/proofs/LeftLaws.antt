@@ -24,7 +24,7 @@ use Rattle.station_threads.specs.declared.closing.Ends.{Ends}
 use Rattle.world_law.proofs.StandsLaws.{as-read}
 use Rattle.station_threads.specs.Places.{AllPlaced}
 use Rattle.station_threads.proofs.PlaceLaws.{placed-long}
-use Rattle.script_session.specs.Parts.{Sites, HasHalf, EndsWith, IsApart, AreEndsOfParts, IsTogether}
+use Rattle.script_session.specs.Parts.{Sites, BeginsWith, HasHalf, EndsWith, IsApart, AreEndsOfParts, IsTogether}
 use Rattle.script_session.specs.AtDesk.{seen_of, AllLeftSo, BeginsAs}
 use Rattle.script_session.proofs.SlaveLaws.{placed-at}
 
@@ -34,7 +34,7 @@ mapped-back f (x ∷ xs) zero y at = (x, refl, cc)
 mapped-back f (x ∷ xs) (suc k) y at = mapped-back f xs k y at
 
 -- the item that the one at this place belongs to
-placed-back : {A B : Type 0} (Is : ℕ → A → B → Type 0) (place : ℕ) (xs : List A) (ys : List B) (k : ℕ) (y : B) → AllPlaced Is place xs ys → slice_get ys k ≡ Some y → (x : A) × (slice_get xs k ≡ Some x) × Is (place + k) x y
+pub placed-back : {A B : Type 0} (Is : ℕ → A → B → Type 0) (place : ℕ) (xs : List A) (ys : List B) (k : ℕ) (y : B) → AllPlaced Is place xs ys → slice_get ys k ≡ Some y → (x : A) × (slice_get xs k ≡ Some x) × Is (place + k) x y
 placed-back Is place xs [] k y all at = absurd (omega (arith, slice_get_within [] k y at))
 placed-back Is place [] (b ∷ ys) k y all at = absurd all
 placed-back Is place (a ∷ xs) (b ∷ ys) zero y all at =
@@ -53,7 +53,7 @@ synced-less disk image stop =
 
 module _ (opened : Station) (calls : List Call) (sites : Sites) (ends : Ends SiteValue) (site : SiteValue) (apart : IsApart opened.seen.state sites) (of_sites : AreEndsOfParts sites ends) (together : IsTogether ends site) where
   -- the line when the work began: the disk is synced
-  abbrev old : State
+  abbrev pub old : State
   old = record opened.seen.state { disk = of_bytes opened.seen.state.disk.bytes }
 
   -- the line once it was done: the disk is that of the flusher
@@ -64,9 +64,9 @@ module _ (opened : Station) (calls : List Call) (sites : Sites) (ends : Ends Sit
   began slave s at =
       let end = mapped-back (λ (e : Stay SiteValue SlaveLog). e.start) ends.workers.items slave s at in
       let worker = placed-back (λ place (x : SiteValue) (e : Stay SiteValue SlaveLog). IsEndOfSlave place x e) 0 sites.slaves.items ends.workers.items slave end.0 of_sites.workers end.1 in
-      let half = placed-back HasHalf 0 opened.seen.state.halves sites.slaves.items slave worker.0 apart.slaves worker.1 in
+      let half = placed-back BeginsWith 0 opened.seen.state.halves sites.slaves.items slave worker.0 apart.slaves worker.1 in
       let same : worker.0 ≡ s = sym worker.2.start ∙ end.2 in
-      half.1 ∙ sym (subst (λ (x : SiteValue). HasHalf slave half.0 x) same (subst (λ (n : ℕ). HasHalf n half.0 worker.0) (omega arith) half.2))
+      half.1 ∙ sym (subst (λ (x : SiteValue). HasHalf slave half.0 x) same (subst (λ (n : ℕ). HasHalf n half.0 worker.0) (omega arith) half.2.has))
 
   ended : (slave : ℕ) (s : SiteValue) → slice_get (at_desk.sites ends.workers.items) slave ≡ Some s → slice_get new.halves slave ≡ slice_get s.seen.state.halves slave
   ended slave s at =
@@ -74,11 +74,11 @@ module _ (opened : Station) (calls : List Call) (sites : Sites) (ends : Ends Sit
       let half = placed-at EndsWith 0 ends.workers.items site.seen.state.halves slave end.0 together.halves end.1 in
       half.1 ∙ sym (subst (λ (x : SiteValue). HasHalf slave half.0 x) end.2 (subst (λ (n : ℕ). HasHalf n half.0 end.0.site) (omega arith) half.2))
 
-  first : AreTogether seen_of ends.flusher.start (starts ends.workers.items) old
+  pub first : AreTogether seen_of ends.flusher.start (starts ends.workers.items) old
   first = record {
     disk = sym (ap (λ (s : SiteValue). s.seen.state.disk) of_sites.flusher ∙ apart.disk);
     count =
-        let many = placed-long HasHalf 0 opened.seen.state.halves sites.slaves.items apart.slaves in
+        let many = placed-long BeginsWith 0 opened.seen.state.halves sites.slaves.items apart.slaves in
         let all = placed-long (λ place (x : SiteValue) (e : Stay SiteValue SlaveLog). IsEndOfSlave place x e) 0 sites.slaves.items ends.workers.items of_sites.workers in
         sym (length-map ends.workers.items (λ (e : Stay SiteValue SlaveLog). e.start) ∙ all ∙ many);
     halves = began;
@@ -91,7 +91,7 @@ module _ (opened : Station) (calls : List Call) (sites : Sites) (ends : Ends Sit
     halves = ended;
   }
 
-  opened-on : (machine : Machine) (begins : BeginsAs machine calls opened) → IsOpenedOn machine begins.journal old calls
+  pub opened-on : (machine : Machine) (begins : BeginsAs machine calls opened) → IsOpenedOn machine begins.journal old calls
   opened-on machine begins =
       let pair : Pair = record { disk = opened.seen.state.disk.bytes; words = words_in opened.seen.state.halves } in
       record {

@@ -2,7 +2,7 @@ pub mod AskLaws
 pub mod HalfPlaces
 mod PartLaws
 pub mod SlaveLaws
-mod LeftLaws
+pub mod LeftLaws
 pub mod DeskLaws
 pub mod IssueLaws
 pub mod RedoLaws

@@ -1,10 +1,12 @@
 -- EEPROM halves that are put into sites, and taken from them, one by one.
 use Rattle.std.proofs.Common.{◌≡◌, ℕ, ◌+◌, List, [], ◌∷◌, ◌++◌, length, Some, None, Option, Result, Ok, Err, refl, sym, ◌∙◌, ap, subst, arith}
-use Rattle.std.specs.Prelude.{is_some, IfSome, IfOk, IsTrue}
+use Rattle.std.specs.Prelude.{is_some, IfSome, IfOk, IsTrue, OnOk}
 use Rattle.std.specs.Global.{Vec}
+use Rattle.std.specs.List.{AllByRecursion}
 use Rattle.std.proofs.lemmas.Bool.{false≢true}
 use Rattle.std.proofs.lemmas.List.{length-map, map-append}
 use Rattle.esc_model.specs.SlaveHalf.{SlaveHalf}
+use Rattle.site_core.specs.State.{Seen}
 use Rattle.site_shadow.specs.Line.{half_of, halves_of}
 use Rattle.site_shadow.specs.Site.{SiteValue}
 use Rattle.site_shadow.specs.Parts.{bytes_or_none, site_of}
@@ -13,18 +15,19 @@ use Rattle.site_shadow.specs.Unsynced.{of_bytes}
 use Rattle.station_threads.specs.declared.closing.Ends.{Ends}
 use Rattle.station_jobs.specs.declared.log.SlaveLog.{SlaveLog}
 use Rattle.station_jobs.specs.Ends.{Stay}
+use Rattle.station_jobs.specs.Flushing.{IsFlushed}
 use Rattle.station_threads.specs.Places.{AllPlaced}
 use Rattle.station_threads.proofs.PlaceLaws.{placed-long, placed-more}
-use Rattle.script_session.specs.Parts.{HasDiskOf, HasHalf, EndsWith, IsLineOf, IsTogether}
+use Rattle.script_session.specs.Parts.{AreFollowed, BeginsWith, HasDiskOf, EndsWith, IsFollowed, IsLineOf, IsTogether, IsWorkFollowed}
 
 -- one site more
-pub sites-more : (halves : List (Option SlaveHalf)) (sites : List SiteValue) (half : Option SlaveHalf) (site : SiteValue) (slave : ℕ) → AllPlaced HasHalf 0 (halves_of halves) sites → slave ≡ length sites → HasHalf slave (half_of half) site
-    → AllPlaced HasHalf 0 (halves_of (halves ++ half ∷ [])) (sites ++ site ∷ [])
+pub sites-more : (halves : List (Option SlaveHalf)) (sites : List SiteValue) (half : Option SlaveHalf) (site : SiteValue) (slave : ℕ) → AllPlaced BeginsWith 0 (halves_of halves) sites → slave ≡ length sites → BeginsWith slave (half_of half) site
+    → AllPlaced BeginsWith 0 (halves_of (halves ++ half ∷ [])) (sites ++ site ∷ [])
 sites-more halves sites half site slave all is has =
-    let long = placed-long HasHalf 0 (halves_of halves) sites all in
+    let long = placed-long BeginsWith 0 (halves_of halves) sites all in
     let here : slave ≡ 0 + length (halves_of halves) = omega (arith, long, is) in
-    subst (λ (l : List SlaveHalf). AllPlaced HasHalf 0 l (sites ++ site ∷ [])) (sym (map-append half_of halves (half ∷ [])))
-    (placed-more HasHalf 0 (halves_of halves) sites (half_of half) site all (subst (λ (n : ℕ). HasHalf n (half_of half) site) here has))
+    subst (λ (l : List SlaveHalf). AllPlaced BeginsWith 0 l (sites ++ site ∷ [])) (sym (map-append half_of halves (half ∷ [])))
+    (placed-more BeginsWith 0 (halves_of halves) sites (half_of half) site all (subst (λ (n : ℕ). BeginsWith n (half_of half) site) here has))
 
 -- one half more
 pub halves-more : (ends : List (Stay SiteValue SlaveLog)) (halves : List (Option SlaveHalf)) (end : Stay SiteValue SlaveLog) (half : Option SlaveHalf) (slave : ℕ) → AllPlaced EndsWith 0 ends (halves_of halves) → slave ≡ length halves → EndsWith slave end (half_of half)
@@ -52,14 +55,31 @@ bytes-same None site bytes has_disk is same = absurd (false≢true (sym is ∙ h
 
 -- the line of these ends
 pub puts-together : {E : Type 0} (result : Result SiteValue E) (slaves : ℕ) (site : SiteValue) (disk : Option (Vec ℕ)) (halves : List (Option SlaveHalf)) (workers : List (Stay SiteValue SlaveLog)) (ends : Ends SiteValue)
-    → IfOk result (λ (whole : SiteValue). (whole ≡ site) × IsLineOf slaves whole.line) → HasDiskOf disk site
+    → IfOk result (λ (whole : SiteValue). (whole ≡ site) × IsLineOf slaves whole.line) → site.seen.past ≡ [] → HasDiskOf disk site
     → IfSome disk (λ (b : Vec ℕ). b.items ≡ ends.flusher.site.seen.state.disk.bytes) → site.seen.state.halves ≡ halves_of halves → workers ≡ ends.workers.items → AllPlaced EndsWith 0 workers (halves_of halves)
     → IfOk result (λ (whole : SiteValue). IsTogether ends whole × IsLineOf slaves whole.line)
-puts-together (Ok whole) slaves site disk halves workers ends is there bytes held same all =
+puts-together (Ok whole) slaves site disk halves workers ends is new there bytes held same all =
     let has_disk : IsTrue site.line.has_disk = subst (λ (s : SiteValue). IsTrue s.line.has_disk) is.0 is.1.disk in
     let here : IsTogether ends site = record {
+      new = new;
       disk = bytes-same disk site ends.flusher.site.seen.state.disk.bytes has_disk there bytes;
       halves = subst (λ (l : List SlaveHalf). AllPlaced EndsWith 0 ends.workers.items l) (sym held) (subst (λ (l : List (Stay SiteValue SlaveLog)). AllPlaced EndsWith 0 l (halves_of halves)) same all);
     } in
     (subst (λ (s : SiteValue). IsTogether ends s) (sym is.0) here, is.1)
-puts-together (Err fault) slaves site disk halves workers ends is there bytes held same all = tt
+puts-together (Err fault) slaves site disk halves workers ends is new there bytes held same all = tt
+
+-- ---- the devices behind the ends
+
+-- one end more
+pub followed_more : {D : Type 0} (follows : D → Seen → Type 0) (ends : List (Stay SiteValue SlaveLog)) (end : Stay SiteValue SlaveLog) → AllByRecursion (IsWorkFollowed follows) ends → IsWorkFollowed follows end → AllByRecursion (IsWorkFollowed follows) (ends ++ end ∷ [])
+followed_more follows [] end all one = (one, tt)
+followed_more follows (e ∷ ends) end all one = (all.0, followed_more follows ends end all.1 one)
+
+pub followed_together : {D A E : Type 0} (follows : D → Seen → Type 0) (result : Result A E) (ends : Ends SiteValue) (workers : List (Stay SiteValue SlaveLog)) → IsFlushed ends.flusher.log ends.flusher.start.seen ends.flusher.site.seen
+    → IsFollowed follows ends.flusher.site.seen → workers ≡ ends.workers.items → AllByRecursion (IsWorkFollowed follows) workers → OnOk result (AreFollowed follows ends)
+followed_together follows (Ok whole) ends workers flushed followed same all = record {
+  flushed = flushed;
+  followed = followed;
+  workers = subst (λ (l : List (Stay SiteValue SlaveLog)). AllByRecursion (IsWorkFollowed follows) l) same all;
+}
+followed_together follows (Err fault) ends workers flushed followed same all = tt

@@ -12,7 +12,7 @@ use Rattle.station_threads.specs.Parts.{IsEndOfSlave}
 use Rattle.station_threads.specs.declared.closing.Ends.{Ends}
 use Rattle.desk_laws.specs.Slaves.{IsAsOpened, ReadsAsContents, AllReadAsContents}
 use Rattle.station_threads.specs.Places.{AllPlaced}
-use Rattle.script_session.specs.Parts.{Sites, HasHalf, EndsWith, IsApart, AreEndsOfParts, IsTogether}
+use Rattle.script_session.specs.Parts.{Sites, BeginsWith, HasHalf, EndsWith, IsApart, AreEndsOfParts, IsTogether}
 use Rattle.script_session.specs.AtDesk.{seen_of}
 
 -- the item at this place has a partner at this place
@@ -35,9 +35,9 @@ pub contents-together : (opened book : Book) (whole : State) (sites : Sites) (en
     → (slave : ℕ) → IsAsOpened opened whole slave → ReadsAsContents book site.seen.state slave
 contents-together opened book whole sites ends site apart of_sites together reads slave was =
     let none : 0 + slave ≡ slave = omega arith in
-    let part = placed-at HasHalf 0 whole.halves sites.slaves.items slave was.half apart.slaves was.here in
+    let part = placed-at BeginsWith 0 whole.halves sites.slaves.items slave was.half apart.slaves was.here in
     let worker = placed-at (λ place (s : SiteValue) (end : Stay SiteValue SlaveLog). IsEndOfSlave place s end) 0 sites.slaves.items ends.workers.items slave part.0 of_sites.workers part.1 in
-    let begun : HasHalf slave was.half worker.0.start = subst (λ (s : SiteValue). HasHalf slave was.half s) (sym worker.2.start) (subst (λ (n : ℕ). HasHalf n was.half part.0) none part.2) in
+    let begun : HasHalf slave was.half worker.0.start = subst (λ (s : SiteValue). HasHalf slave was.half s) (sym worker.2.start) (subst (λ (n : ℕ). HasHalf n was.half part.0) none part.2.has) in
     let left : ReadsAsContents book worker.0.site.seen.state slave = reads slave worker.0 worker.1 (record { half = was.half; here = begun; is = was.is }) in
     let half = placed-at EndsWith 0 ends.workers.items site.seen.state.halves slave worker.0 together.halves worker.1 in
     record { half = left.half; here = half.1 ∙ at-place worker.0.site.seen.state (0 + slave) slave half.0 left.half none half.2 left.here; is = left.is }

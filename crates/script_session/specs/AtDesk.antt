@@ -34,7 +34,7 @@ use Rattle.station_files.specs.declared.faults.ExitStatus.TheVariants.{Done}
 use Rattle.script_session.specs.Rounds.{AreAmong}
 use Rattle.script_session.specs.declared.closing.Ending.{Ending}
 use Rattle.script_session.specs.Asking.{commands_of, GivesUp}
-use Rattle.script_session.specs.Parts.{Sites, IsApart, AreEndsOfParts, IsTogether}
+use Rattle.script_session.specs.Parts.{Sites, IsApart, AreEndsOfParts, AreFollowed, IsTogether}
 
 -- the state of a site and its past
 abbrev pub seen_of : SiteValue → Seen
@@ -144,3 +144,16 @@ pub record LeavesSo (opened : Station) (commands : List Command) (ending : Endin
   pub left : MatchResult ending.closed
       (λ done. IsServedAtDesk opened commands ending.is_driven ending.status ending.told site)
       (λ why. IsStoppedAtDesk opened why ending.told site)
+
+-- The line of this station was taken apart, a desk of its book served the parts, and the line was put together again.
+pub record ServesParts (opened : Station) (commands : List Command) (ending : Ending) (site : SiteValue) : Type 0 where
+  pub sites : Sites
+  pub apart : IsApart opened.seen.state sites
+  pub ends : Ends SiteValue
+  pub of_sites : AreEndsOfParts sites ends
+  pub ended : EndsSo opened.book commands ends ending
+  pub together : IsTogether ends site
+
+-- The parts were served so, and behind each of them a device keeps this of the part's site.
+abbrev pub ServesFollowed : {D : Type 0} → (D → Seen → Type 0) → Station → List Command → Ending → SiteValue → Type 0
+ServesFollowed follows opened commands ending site = (parts : ServesParts opened commands ending site) × AreFollowed follows parts.ends

@@ -1,14 +1,17 @@
 -- A line that is taken apart into sites, and put together again.
-use Rattle.std.specs.Prelude.{◌≡◌, ◌≤◌, ◌+◌, ℕ, true, length, Option, Some, is_some, slice_get, IsTrue, None, false}
+use Rattle.std.specs.Prelude.{◌≡◌, ◌≤◌, ◌+◌, ℕ, List, [], true, length, Option, Some, is_some, slice_get, IsTrue, None, false}
+use Rattle.std.specs.List.{AllByRecursion}
 use Rattle.std.specs.Global.{Vec}
 use Rattle.esc_model.specs.SlaveHalf.{SlaveHalf}
 use Rattle.site_core.specs.Line as lines
-use Rattle.site_core.specs.State.{State}
+use Rattle.site_core.specs.State.{State, Seen}
 use Rattle.site_shadow.specs.Unsynced.{of_bytes}
 use Rattle.esc_rom.specs.Owned.{OwnsAll}
 use Rattle.site_shadow.specs.Site.{SiteValue}
 use Rattle.station_jobs.specs.declared.log.SlaveLog.{SlaveLog}
 use Rattle.station_jobs.specs.Ends.{Stay}
+use Rattle.station_jobs.specs.Flushing.{IsFlushed}
+use Rattle.station_jobs.specs.Working.{IsWorked}
 use Rattle.station_threads.specs.declared.parts.PerDevice.{PerDevice}
 use Rattle.station_threads.specs.declared.closing.Ends.{Ends}
 use Rattle.station_threads.specs.Places.{AllPlaced}
@@ -27,10 +30,17 @@ abbrev pub HasDiskOf : Option (Vec ℕ) → SiteValue → Type 0
 HasDiskOf (Some bytes) site = site.seen.state.disk ≡ of_bytes bytes.items
 HasDiskOf None site = site.line.has_disk ≡ false
 
--- The sites hold the bytes of the line's disk, all of them synced, and each slave's EEPROM half, and there is a site for process data.
+-- the site holds this EEPROM half for this slave, and has seen no call
+pub record BeginsWith (slave : ℕ) (half : SlaveHalf) (site : SiteValue) : Type 0 where
+  pub has : HasHalf slave half site
+  pub new : site.seen.past ≡ []
+
+-- The sites hold the bytes of the line's disk, all of them synced, and each slave's EEPROM half, and have seen no call. There is a site for
+-- process data.
 pub record IsApart (whole : State) (sites : Sites) : Type 0 where
   pub disk : sites.disk.seen.state.disk ≡ of_bytes whole.disk.bytes
-  pub slaves : AllPlaced HasHalf 0 whole.halves sites.slaves.items
+  pub new : sites.disk.seen.past ≡ []
+  pub slaves : AllPlaced BeginsWith 0 whole.halves sites.slaves.items
   pub turning : is_some sites.cycle ≡ true
 
 -- The line is taken apart so, each site owns its part, and the disk reaches to the end of a journal's area of this capacity.
@@ -45,12 +55,29 @@ pub record AreEndsOfParts (sites : Sites) (ends : Ends SiteValue) : Type 0 where
   pub workers : AreEndsOfSites sites.slaves.items ends.workers.items
   pub cycle : IsEndOfTurns sites.cycle ends.cycle
 
+-- A device keeps this of a site.
+abbrev pub IsFollowed : {D : Type 0} → (D → Seen → Type 0) → Seen → Type 0
+IsFollowed {D} follows seen = (device : D) × follows device seen
+
+-- The jobs of its log led the site of a slave's end there, and a device keeps this of it.
+pub record IsWorkFollowed {D : Type 0} (follows : D → Seen → Type 0) (end : Stay SiteValue SlaveLog) : Type 0 where
+  pub worked : IsWorked end.log.slave end.log.jobs end.start.seen end.site.seen
+  pub followed : IsFollowed follows end.site.seen
+
+-- The same of the disk's end and of each slave's.
+pub record AreFollowed {D : Type 0} (follows : D → Seen → Type 0) (ends : Ends SiteValue) : Type 0 where
+  pub flushed : IsFlushed ends.flusher.log ends.flusher.start.seen ends.flusher.site.seen
+  pub followed : IsFollowed follows ends.flusher.site.seen
+  pub workers : AllByRecursion (IsWorkFollowed follows) ends.workers.items
+
 -- this is the EEPROM half of this slave at the end of its worker
 abbrev pub EndsWith : ℕ → Stay SiteValue SlaveLog → SlaveHalf → Type 0
 EndsWith slave end half = HasHalf slave half end.site
 
--- The site's disk has the bytes that the flusher left, all of them synced, and each slave's EEPROM half is as its worker left it.
+-- The site's disk has the bytes that the flusher left, all of them synced, and each slave's EEPROM half is as its worker left it. It has seen no
+-- call.
 pub record IsTogether (ends : Ends SiteValue) (site : SiteValue) : Type 0 where
+  pub new : site.seen.past ≡ []
   pub disk : site.seen.state.disk ≡ of_bytes ends.flusher.site.seen.state.disk.bytes
   pub halves : AllPlaced EndsWith 0 ends.workers.items site.seen.state.halves
 

@@ -1,12 +1,12 @@
 //! Takes a line apart into sites: one for the disk, one for each slave, and one for the process data.
 
-ghost use Rattle.std.specs.Prelude.{◌≡◌, ◌↔◌, ◌+◌, ◌<◌, ◌≤◌, true, length, slice_set, vec_len, is_some, IfOk, IsSomeAnd, IsTrue};
+ghost use Rattle.std.specs.Prelude.{◌≡◌, ◌↔◌, ◌+◌, ◌<◌, ◌≤◌, [], true, length, slice_set, vec_len, is_some, IfOk, IsSomeAnd, IsTrue};
 ghost use Rattle.site_shadow.specs.Line.{half_of, halves_of};
 ghost use Rattle.site_shadow.specs.Parts.{site_of};
 ghost use Rattle.site_shadow.specs.Site.{SiteValue};
 ghost use Rattle.station_threads.specs.Places.{AllPlaced};
 ghost use Rattle.station_threads.specs.Sites.{OwnParts};
-ghost use Rattle.script_session.specs.Parts.{HasDiskOf, HasHalf, IsServable};
+ghost use Rattle.script_session.specs.Parts.{BeginsWith, HasDiskOf, IsFollowed, IsServable};
 
 use esc_model::{FIRST_STATION, ProcessHalf, RomHalf};
 use site_shadow::{Device, Parts, ShadowSite};
@@ -40,6 +40,7 @@ pub(crate) fn site_of<D: Device + Copy>(
 ) -> Result<ShadowSite<D>, Fault>
     ensures made { IfOk result (λ site. site ≡ site_of parts) }
     ensures disk { IfOk result (λ site. HasDiskOf parts.disk site) }
+    ensures new { IfOk result (λ site. site.seen.past ≡ []) }
 {
     if !parts.is_whole() {
         return Err(Fault::Unserved);
@@ -65,7 +66,7 @@ fn slave_site<D: Device + Copy>(
     slave: usize,
     half: Option<RomHalf>,
 ) -> Result<ShadowSite<D>, Fault>
-    ensures { IfOk result (λ site. HasHalf slave (half_of half) site) }
+    ensures { IfOk result (λ site. BeginsWith slave (half_of half) site) }
 {
     let parts = nothing(alloc, sizes)?;
     if slave >= parts.halves.len() {
@@ -82,7 +83,7 @@ fn slave_sites<D: Device + Copy>(
     sizes: &Vec<u16>,
     halves: Vec<Option<RomHalf>>,
 ) -> Result<Vec<ShadowSite<D>>, Fault>
-    ensures { IfOk result (λ sites. AllPlaced HasHalf 0 (halves_of halves.items) sites.items) }
+    ensures { IfOk result (λ sites. AllPlaced BeginsWith 0 (halves_of halves.items) sites.items) }
 {
     let mut sites = Vec::with_capacity(alloc, halves.len())?;
     for half in halves {
@@ -121,7 +122,8 @@ fn disk_site<D: Device + Copy>(
     sizes: &Vec<u16>,
     disk: Option<Vec<u8>>,
 ) -> Result<ShadowSite<D>, Fault>
-    ensures { IfOk result (λ site. HasDiskOf disk site) }
+    ensures disk { IfOk result (λ site. HasDiskOf disk site) }
+    ensures new { IfOk result (λ site. site.seen.past ≡ []) }
 {
     let mut parts = nothing(alloc, sizes)?;
     parts.disk = disk;
@@ -149,7 +151,8 @@ fn disk_and_cycle<D: Device + Copy>(
     disk: Option<Vec<u8>>,
     halves: &[Option<RomHalf>],
 ) -> Result<(ShadowSite<D>, ShadowSite<D>), Fault>
-    ensures { IfOk result (λ sites. HasDiskOf disk sites.0) }
+    ensures disk { IfOk result (λ sites. HasDiskOf disk sites.0) }
+    ensures new { IfOk result (λ sites. sites.0.seen.past ≡ []) }
 {
     let cycle = cycle_site(alloc, device, sizes, halves)?;
     match disk_site(alloc, device, sizes, disk) {
@@ -168,7 +171,8 @@ fn sites_of<D: Device + Copy>(
     line: Parts,
 ) -> Result<Sites<ShadowSite<D>>, Fault>
     ensures disk { IfOk result (λ sites. HasDiskOf line.disk sites.disk) }
-    ensures slaves { IfOk result (λ sites. AllPlaced HasHalf 0 (halves_of line.halves.items) sites.slaves.items) }
+    ensures new { IfOk result (λ sites. sites.disk.seen.past ≡ []) }
+    ensures slaves { IfOk result (λ sites. AllPlaced BeginsWith 0 (halves_of line.halves.items) sites.slaves.items) }
     ensures turning { IfOk result (λ sites. is_some sites.cycle ≡ true) }
 {
     let Parts {
@@ -225,7 +229,8 @@ pub(crate) fn take_apart<D: Device + Copy>(
     site: ShadowSite<D>,
     capacity: u32,
 ) -> Result<Sites<ShadowSite<D>>, Fault>
-    ensures { IfOk result (λ sites. IsServable capacity site.seen.state sites) }
+    ensures sites { IfOk result (λ sites. IsServable capacity site.seen.state sites) }
+    ensures followed { IsFollowed D.follows site.seen }
 {
     let (parts, device) = site.into_parts();
     if !reaches(&parts, capacity) {

@@ -1,11 +1,11 @@
 //! Serves a line by threads.
 
-ghost use Rattle.std.specs.Prelude.{◌≡◌, ◌+◌, ◌<◌, ◌≤◌, [], false, length, vec_capacity, IfOk};
+ghost use Rattle.std.specs.Prelude.{◌≡◌, ◌+◌, ◌<◌, ◌≤◌, [], false, length, vec_capacity, IfOk, OnOk};
 ghost use Rattle.site_shadow.specs.Site.{SiteValue};
 ghost use Rattle.station_threads.specs.Sites.{OwnParts};
 ghost use Rattle.script_session.specs.Asking.{no_counts};
-ghost use Rattle.script_session.specs.AtDesk.{EndsSo, LeavesSo};
-ghost use Rattle.script_session.specs.Parts.{AreEndsOfParts, IsLineOf, IsServable, IsTogether};
+ghost use Rattle.script_session.specs.AtDesk.{EndsSo, LeavesSo, ServesFollowed};
+ghost use Rattle.script_session.specs.Parts.{AreEndsOfParts, AreFollowed, IsFollowed, IsLineOf, IsServable, IsTogether};
 
 use crate::apart::take_apart;
 use crate::asked::Asked;
@@ -60,6 +60,8 @@ pub fn serve_by_threads<D: Device + Copy + Send, O: Write, W: Wait + Threads + S
     requires { alone.book.accepted ≡ [] }
     ensures line { IfOk result (λ left. IsLineOf slaves left.site.line) }
     ensures left { IfOk result (λ left. LeavesSo alone work.commands.items left.ending left.site) }
+    ensures parts { IfOk result (λ left. ServesFollowed D.follows alone work.commands.items left.ending left.site) }
+    ensures before { IsFollowed D.follows alone.seen }
     ensures unserved { IfOk result (λ left. left.ending.is_driven ≡ false → left.unserved.items ≡ work.commands.items) }
 {
     let (core, site) = alone.into_parts();
@@ -87,6 +89,7 @@ pub(crate) fn prepare<D: Device + Copy>(
 ) -> Result<(Sites<ShadowSite<D>>, Vec<Option<RomHalf>>), Fault>
     ensures sites { IfOk result (λ prepared. IsServable capacity site.seen.state prepared.0) }
     ensures room { IfOk result (λ prepared. prepared.1.items ≡ []) }
+    ensures followed { IsFollowed D.follows site.seen }
 {
     let sites = take_apart(alloc, site, capacity)?;
     match Vec::with_capacity(alloc, slaves) {
@@ -108,6 +111,7 @@ fn put_back<D: Device + Copy>(
     requires { room.items ≡ [] }
     ensures line { IfOk result (λ left. IsLineOf slaves left.site.line) }
     ensures left { IfOk result (λ left. IsTogether at.ends left.site × (left.ending ≡ at.ending)) }
+    ensures followed { OnOk result (AreFollowed D.follows at.ends) }
     ensures unserved { IfOk result (λ left. left.unserved ≡ at.unserved) }
 {
     let AtDesk {

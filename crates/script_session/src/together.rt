@@ -1,9 +1,19 @@
 //! Puts a line together again from the ends of its threads.
 
-ghost use Rattle.std.specs.Prelude.{◌≡◌, [], IfOk, IfSome, IsTrue};
+ghost use Rattle.std.specs.Prelude.{◌≡◌, [], IfOk, IfSome, IsTrue, OnOk};
+ghost use Rattle.std.specs.List.{AllByRecursion};
 ghost use Rattle.site_shadow.specs.Line.{half_of, halves_of};
+ghost use Rattle.station_jobs.specs.Flushing.{IsFlushed};
 ghost use Rattle.station_threads.specs.Places.{AllPlaced};
-ghost use Rattle.script_session.specs.Parts.{EndsWith, HasDiskOf, IsLineOf, IsTogether};
+ghost use Rattle.script_session.specs.Parts.{
+  AreFollowed,
+  EndsWith,
+  HasDiskOf,
+  IsFollowed,
+  IsLineOf,
+  IsTogether,
+  IsWorkFollowed,
+};
 
 use crate::apart::site_of;
 use esc_model::RomHalf;
@@ -19,6 +29,8 @@ use std::alloc::Global;
 fn parts_of<D: Device + Copy, L: Leads + Drop>(end: End<ShadowSite<D>, L>) -> (Parts, D)
     ensures disk { IfSome result.0.disk (λ bytes. bytes.items ≡ end.site.seen.state.disk.bytes) }
     ensures halves { halves_of result.0.halves.items ≡ end.site.seen.state.halves }
+    ensures led { L.leads end.log end.start.seen end.site.seen }
+    ensures followed { IsFollowed D.follows end.site.seen }
 {
     let (site, _log) = end.into_parts();
     site.into_parts()
@@ -29,7 +41,8 @@ fn half_at<D: Device + Copy>(
     slave: usize,
     end: End<ShadowSite<D>, SlaveLog>,
 ) -> Result<Option<RomHalf>, Fault>
-    ensures { IfOk result (λ half. EndsWith slave end (half_of half)) }
+    ensures half { IfOk result (λ half. EndsWith slave end (half_of half)) }
+    ensures followed { OnOk result (IsWorkFollowed D.follows end) }
 {
     let (mut parts, _device) = parts_of(end);
     if slave >= parts.halves.len() {
@@ -47,7 +60,8 @@ fn halves_at<D: Device + Copy>(
     workers: Vec<End<ShadowSite<D>, SlaveLog>>,
 ) -> Result<Vec<Option<RomHalf>>, Fault>
     requires { room.items ≡ [] }
-    ensures { IfOk result (λ halves. AllPlaced EndsWith 0 workers.items (halves_of halves.items)) }
+    ensures halves { IfOk result (λ halves. AllPlaced EndsWith 0 workers.items (halves_of halves.items)) }
+    ensures followed { OnOk result (AllByRecursion (IsWorkFollowed D.follows) workers.items) }
 {
     let mut halves = room;
     for end in workers {
@@ -70,6 +84,8 @@ fn split<D: Device + Copy>(
     ends: Ends<ShadowSite<D>>,
 ) -> ((Parts, D), Vec<End<ShadowSite<D>, SlaveLog>>)
     ensures disk { IfSome result.0.0.disk (λ bytes. bytes.items ≡ ends.flusher.site.seen.state.disk.bytes) }
+    ensures flushed { IsFlushed ends.flusher.log ends.flusher.start.seen ends.flusher.site.seen }
+    ensures followed { IsFollowed D.follows ends.flusher.site.seen }
     ensures workers { result.1 ≡ ends.workers }
 {
     let Ends {
@@ -88,6 +104,7 @@ fn line_of<D: Device + Copy>(
     device: D,
     halves: Vec<Option<RomHalf>>,
 ) -> Result<ShadowSite<D>, Fault>
+    ensures new { IfOk result (λ site. site.seen.past ≡ []) }
     ensures disk { IfOk result (λ site. HasDiskOf line.disk site) }
     ensures halves { IfOk result (λ site. site.seen.state.halves ≡ halves_of halves.items) }
 {
@@ -126,7 +143,8 @@ pub(crate) fn put_together<D: Device + Copy>(
     ends: Ends<ShadowSite<D>>,
 ) -> Result<ShadowSite<D>, Fault>
     requires { room.items ≡ [] }
-    ensures { IfOk result (λ site. IsTogether ends site × IsLineOf slaves site.line) }
+    ensures together { IfOk result (λ site. IsTogether ends site × IsLineOf slaves site.line) }
+    ensures followed { OnOk result (AreFollowed D.follows ends) }
 {
     let ((line, device), workers) = split(ends);
     let halves = halves_at(room, workers)?;

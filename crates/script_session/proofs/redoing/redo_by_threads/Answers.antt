@@ -12,5 +12,5 @@ returns-clause-redone g c =
     let desk = c.in_ok-ends.ensures in
     let words = c.issues_of-words.result in
     redone c.args.alone c.in-Ok.prepared.0 c.in_ok-ends.ends c.in_ok-site.site words c.requires c.core.ensures.stands c.of.result.core parts.result.1.seen
-    (c.of.ensures.core ∙ parts.ensures.book) parts.ensures.seen c.in-Ok.ensures.sites.apart desk.of_sites desk.closes c.in_ok-site.ensures.0
+    (c.of.ensures.core ∙ parts.ensures.book) parts.ensures.seen c.in-Ok.ensures.sites.apart desk.of_sites desk.closes c.in_ok-site.ensures.together.0
     (subst (λ (l : List (Stay SiteValue SlaveLog)). IsCount (issues_of l) words) c.as_slice.ensures.value c.issues_of-words.ensures)

@@ -9,3 +9,6 @@ returns-clause-disk g c = subst (λ (s : SiteValue). IfSome c.into_parts.result.
 
 pub returns-clause-halves : goal.returns-clause-halves
 returns-clause-halves g c = subst (λ (s : SiteValue). halves_of c.into_parts.result.0.halves.items ≡ s.seen.state.halves) c.into_parts-site.ensures.site c.into_parts.ensures.halves
+
+pub returns-clause-followed : goal.returns-clause-followed
+returns-clause-followed g c = (c.into_parts.result.1, subst (λ (s : SiteValue). g.D.Device.follows c.into_parts.result.1 s.seen) c.into_parts-site.ensures.site c.into_parts.ensures.device)

@@ -1,9 +1,14 @@
 use Rattle.std.proofs.Common.{ap}
-use Rattle.script_session.proofs.PartLaws.{puts-together}
+use Rattle.script_session.proofs.PartLaws.{followed_together, puts-together}
 use Rattle.script_session.proofs.together.put_together.Goals as goal
 
-pub returns : goal.returns
-returns g c =
+pub returns-clause-together : goal.returns-clause-together
+returns-clause-together g c =
     let parted = c.split-line in
     let site = c.in_ok-site in
-    puts-together c.whole_line.result c.args.slaves site.site parted.result.0.0.disk c.in_ok-halves.halves.items parted.result.1.items c.args.ends c.whole_line.ensures site.ensures.disk parted.ensures.disk site.ensures.halves (ap (λ w. w.items) parted.ensures.workers) c.in_ok-halves.ensures
+    puts-together c.whole_line.result c.args.slaves site.site parted.result.0.0.disk c.in_ok-halves.halves.items parted.result.1.items c.args.ends c.whole_line.ensures site.ensures.new site.ensures.disk parted.ensures.disk site.ensures.halves (ap (λ w. w.items) parted.ensures.workers) c.in_ok-halves.ensures.halves
+
+pub returns-clause-followed : goal.returns-clause-followed
+returns-clause-followed g c =
+    let parted = c.split-line in
+    followed_together g.D.Device.follows c.whole_line.result c.args.ends parted.result.1.items parted.ensures.flushed parted.ensures.followed (ap (λ w. w.items) parted.ensures.workers) c.in_ok-halves.ensures.followed
