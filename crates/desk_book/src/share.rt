@@ -58,7 +58,7 @@ impl<T: Tickets, R: Refusals> Share<T, R> {
         self.refusals
     }
 
-    /// ShareCounts one more ticket. The ledger's total has to stay below 2^64.
+    /// Counts one more ticket. The ledger's total has to stay below 2^64.
     pub(crate) fn count_ticket(&mut self, book: &mut Book<T>)
         requires { book.old.total + 1 < 2 ^ 64 }
         ensures total { book.new.total ≡ book.old.total + 1 }
@@ -69,7 +69,7 @@ impl<T: Tickets, R: Refusals> Share<T, R> {
         self.tickets += 1;
     }
 
-    /// ShareCounts one more refusal. The ledger's total has to stay below 2^64.
+    /// Counts one more refusal. The ledger's total has to stay below 2^64.
     pub(crate) fn count_refusal(&mut self, book: &mut Book<R>)
         requires { book.old.total + 1 < 2 ^ 64 }
         ensures few { book.old.total + 1 < 2 ^ 64 }

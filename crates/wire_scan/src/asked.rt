@@ -32,15 +32,4 @@ impl Asked {
             events: self.tells_events,
         }
     }
-
-    /// Nothing more than where nothing is said.
-    pub fn nothing() -> Asked {
-        Asked {
-            trusts_images: false,
-            is_forced: false,
-            resizes: false,
-            reports: false,
-            tells_events: false,
-        }
-    }
 }
