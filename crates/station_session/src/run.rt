@@ -458,10 +458,9 @@ pub fn open_station<D: Device + Drop>(
 }
 
 /// Opens the station, after `device`, if there is one, has replaced the device behind the site.
-#[tactic(auto, using(crate::proofs::RunFiles::open_goes))]
 fn open_upon<D: Device + Drop>(
     alloc: Global,
-    mut site: ShadowSite<D>,
+    site: ShadowSite<D>,
     device: Option<D>,
 ) -> Result<Alone<ShadowSite<D>>, (ShadowSite<D>, OpenFault)>
     requires disk { IsTrue site.line.has_disk }
@@ -470,10 +469,18 @@ fn open_upon<D: Device + Drop>(
     ensures opened { IfOk result (λ alone. IsOpened site.line site.seen alone) }
     ensures goes { MatchResult result (λ alone. GoesKept site.seen alone.seen) (λ back. GoesKept site.seen back.0.seen) }
 {
+    let placed = with_other(site, device);
+    Alone::open(alloc, placed)
+}
+
+/// The site, with `device` in place of the device behind it, if there is one.
+fn with_other<D: Device + Drop>(mut site: ShadowSite<D>, device: Option<D>) -> ShadowSite<D>
+    ensures { result ≡ site }
+{
     if let Some(device) = device {
         let _before = site.replace_device(device);
     }
-    Alone::open(alloc, site)
+    site
 }
 
 /// Serves the commands on a station in memory, and saves what its line holds, also after a fault.
