@@ -6,3 +6,4 @@ pub mod SwitchedOn
 pub mod Ending
 pub mod ThreadsEnd
 mod OnFiles
+pub mod RunFiles

@@ -3,5 +3,6 @@ pub mod Init
 pub mod Site
 pub mod Faults
 pub mod Session
+pub mod RunFiles
 pub mod Judging
 pub mod Refusals

@@ -1,10 +1,11 @@
 //! The subcommand `run`.
-ghost use Rattle.std.specs.Prelude.{◌≡◌, length, is_some, option_map, false, true, IfErr, IfOk, IsTrue, MatchResult, OnErr, OnOk};
+ghost use Rattle.std.specs.Prelude.{◌≡◌, [], length, is_some, option_map, false, true, IfErr, IfOk, IsTrue, MatchResult, OnErr, OnOk};
 ghost use Rattle.esc_rom.specs.Owned.{OwnsAll};
 ghost use Rattle.station_files.specs.ScriptFiles.{SpellsCommands};
 ghost use Rattle.station_files.specs.FileNames.{spelt};
 ghost use Rattle.station_session.specs.Judging.{AreRunApart, HasJournal, IsRunApart};
 ghost use Rattle.station_session.specs.Refusals.{RefusesCommandFiles, RefusesRun};
+ghost use Rattle.station_session.specs.RunFiles.{GoesKept, KeepsRunFiles, RunKeepsFiles, RunsFollowed};
 ghost use Rattle.station_session.specs.Session.{is_old, EndsCaptured, EndsRun, EndsStation, IsOpened, Loads, RunsFiles, StartsFrom};
 
 use crate::capture::{begin_capture, end_capture};
@@ -104,6 +105,8 @@ pub fn run_script<
 ) -> Result<ExitStatus, Fault>
     ensures ran { IfOk result (RunsFiles S.leads (is_some fuse) (option_map (λ given. given.now) names.entry.capture)
         (S.files store.old) (S.files store.new) names.entry.line.now names.entry.script.now) }
+    ensures kept { is_some fuse ≡ false
+        → IfOk result (KeepsRunFiles S.File (S.files store.old) names.entry.line.now names.entry.script.now) }
     ensures refused { IfErr result (RefusesRun (S.files store.old) S.leads (option_map (λ given. given.now) names.entry.capture)
         names.entry.line.now names.entry.script.now) }
     ensures same { OnErr result (S.files store.new ≡ S.files store.old) }
@@ -136,10 +139,12 @@ fn run_captured<
 ) -> ExitStatus
     requires disk { IsTrue given.session.site.line.has_disk }
     requires owned { OwnsAll given.session.site.line }
+    requires new { given.session.site.seen.past ≡ [] }
     requires slaves { length given.session.site.line.sizes ≡ length given.session.line.images.items }
     requires old { given.session.is_old ≡ is_old given.session.site.seen.state.disk.bytes }
-    ensures { EndsCaptured (is_some fuse) (option_map (λ given. given.now) capture.entry) (S.files store.old) (S.files store.new)
+    ensures ends { EndsCaptured (is_some fuse) (option_map (λ given. given.now) capture.entry) (S.files store.old) (S.files store.new)
         given.session.line given.session.site given.commands.items result }
+    ensures kept { is_some fuse ≡ false → RunKeepsFiles S.File given.session.site.seen given.commands.items result }
 {
     match begin_capture(capture, store) {
         Ok(begun) => run_begun(watch, given, fuse, begun, store, streams),
@@ -167,9 +172,11 @@ fn run_begun<
 ) -> ExitStatus
     requires disk { IsTrue given.session.site.line.has_disk }
     requires owned { OwnsAll given.session.site.line }
+    requires new { given.session.site.seen.past ≡ [] }
     requires slaves { length given.session.site.line.sizes ≡ length given.session.line.images.items }
     requires old { given.session.is_old ≡ is_old given.session.site.seen.state.disk.bytes }
-    ensures { EndsRun (is_some fuse) (S.files store.old) (S.files store.new) given.session.line given.session.site given.commands.items result }
+    ensures ends { EndsRun (is_some fuse) (S.files store.old) (S.files store.new) given.session.line given.session.site given.commands.items result }
+    ensures kept { is_some fuse ≡ false → RunKeepsFiles S.File given.session.site.seen given.commands.items result }
 {
     let Streams { output, faults } = streams;
     let lent = Streams {
@@ -197,9 +204,11 @@ fn run_given<
 ) -> ExitStatus
     requires disk { IsTrue given.session.site.line.has_disk }
     requires owned { OwnsAll given.session.site.line }
+    requires new { given.session.site.seen.past ≡ [] }
     requires slaves { length given.session.site.line.sizes ≡ length given.session.line.images.items }
     requires old { given.session.is_old ≡ is_old given.session.site.seen.state.disk.bytes }
-    ensures { EndsRun (is_some fuse) (S.files store.old) (S.files store.new) given.session.line given.session.site given.commands.items result }
+    ensures ends { EndsRun (is_some fuse) (S.files store.old) (S.files store.new) given.session.line given.session.site given.commands.items result }
+    ensures kept { is_some fuse ≡ false → RunKeepsFiles S.File given.session.site.seen given.commands.items result }
 {
     match fuse {
         Some(fuse) => run_fused(watch.rt, given, fuse, capture, store, streams),
@@ -261,9 +270,11 @@ fn run_on_files<
 ) -> ExitStatus
     requires disk { IsTrue given.session.site.line.has_disk }
     requires owned { OwnsAll given.session.site.line }
+    requires new { given.session.site.seen.past ≡ [] }
     requires slaves { length given.session.site.line.sizes ≡ length given.session.line.images.items }
     requires old { given.session.is_old ≡ is_old given.session.site.seen.state.disk.bytes }
-    ensures { EndsRun false (S.files store.old) (S.files store.new) given.session.line given.session.site given.commands.items result }
+    ensures ends { EndsRun false (S.files store.old) (S.files store.new) given.session.line given.session.site given.commands.items result }
+    ensures kept { RunKeepsFiles S.File given.session.site.seen given.commands.items result }
 {
     let Watch { rt, progress } = watch;
     let Streams { output, faults } = streams;
@@ -322,7 +333,8 @@ fn run_site<
     requires disk { IsTrue ready.site.line.has_disk }
     requires owned { OwnsAll ready.site.line }
     requires old { ready.is_old ≡ is_old ready.site.seen.state.disk.bytes }
-    ensures { EndsRun false (S.files store.old) (S.files store.new) line.now ready.site ready.commands.items result }
+    ensures ends { EndsRun false (S.files store.old) (S.files store.new) line.now ready.site ready.commands.items result }
+    ensures goes { RunsFollowed D.follows ready.site.seen ready.commands.items result }
 {
     let Ready {
         site,
@@ -335,7 +347,9 @@ fn run_site<
             run_threads(rt, line, alone, commands, store, streams)
         },
         Err((left, fault)) => {
-            drop(left);
+            // What its device followed, it followed up to here.
+            let (parts, _device) = left.into_parts();
+            drop(parts);
             drop(commands);
             report_fault(of_open(fault), faults)
         }
@@ -431,6 +445,7 @@ pub fn open_station<D: Device + Drop>(
     requires owned { OwnsAll site.line }
     ensures line { MatchResult result (λ alone. alone.line ≡ site.line) (λ back. back.0.line ≡ site.line) }
     ensures starts { IfOk result (λ alone. StartsFrom is_old site alone) }
+    ensures goes { MatchResult result (λ alone. GoesKept site.seen alone.seen) (λ back. GoesKept site.seen back.0.seen) }
 {
     if is_old {
         let (alone, _recovered) = recover(alloc, site)?;
@@ -444,18 +459,27 @@ pub fn open_station<D: Device + Drop>(
 /// Opens the station, after `device`, if there is one, has replaced the device behind the site.
 fn open_upon<D: Device + Drop>(
     alloc: Global,
-    mut site: ShadowSite<D>,
+    site: ShadowSite<D>,
     device: Option<D>,
 ) -> Result<Alone<ShadowSite<D>>, (ShadowSite<D>, OpenFault)>
     requires disk { IsTrue site.line.has_disk }
     requires owned { OwnsAll site.line }
     ensures line { MatchResult result (λ alone. alone.line ≡ site.line) (λ back. back.0.line ≡ site.line) }
     ensures opened { IfOk result (λ alone. IsOpened site.line site.seen alone) }
+    ensures goes { MatchResult result (λ alone. GoesKept site.seen alone.seen) (λ back. GoesKept site.seen back.0.seen) }
+{
+    let placed = with_other(site, device);
+    Alone::open(alloc, placed)
+}
+
+/// The site, with `device` in place of the device behind it, if there is one.
+fn with_other<D: Device + Drop>(mut site: ShadowSite<D>, device: Option<D>) -> ShadowSite<D>
+    ensures { result ≡ site }
 {
     if let Some(device) = device {
         let _before = site.replace_device(device);
     }
-    Alone::open(alloc, site)
+    site
 }
 
 /// Serves the commands on a station in memory, and saves what its line holds, also after a fault.

@@ -5,6 +5,7 @@ ghost use Rattle.sii_words.specs.Words.{bytes_of, IsDeviceSize};
 ghost use Rattle.site_shadow.specs.Line.{half_of, halves_of};
 ghost use Rattle.station_files.specs.Faults.{IsOfStream};
 ghost use Rattle.station_files.specs.Files.{ChangesAmong, HoldsAll};
+ghost use Rattle.script_session.specs.Parts.{IsFollowed};
 ghost use Rattle.station_session.specs.Site.{IsSiteOf, powered_up_from, files_of, HoldsSite};
 
 use esc_model::{FIRST_STATION, RomHalf};
@@ -88,6 +89,7 @@ pub fn save_site<S: Store, D: Device + Drop>(
     ensures saved { OnOk result (HoldsSite (S.files store.new) line.now site.seen.state) }
     ensures others { ChangesAmong (S.files store.old) (S.files store.new) (files_of line.now) }
     ensures failed { IfErr result IsOfStream }
+    ensures followed { IsFollowed D.follows site.seen }
 {
     let _count = site.slaves();
     let (parts, _device) = site.into_parts();

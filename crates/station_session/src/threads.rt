@@ -1,9 +1,11 @@
 //! Runs commands by threads, on the files of a line.
 ghost use Rattle.std.specs.Prelude.{◌≡◌, [], false, true, length, IsTrue, Ok, OnOk};
+ghost use Rattle.site_core.specs.State.{Seen};
 ghost use Rattle.station_files.specs.Faults.{IsFaultless};
 ghost use Rattle.station_files.specs.Files.{ChangesAmong};
 ghost use Rattle.station_session.specs.Site.{files_of};
-ghost use Rattle.script_session.specs.Parts.{IsLineOf};
+ghost use Rattle.script_session.specs.Parts.{IsFollowed, IsLineOf};
+ghost use Rattle.station_session.specs.RunFiles.{GoesFollowed, ServesFollowedBy};
 ghost use Rattle.station_session.specs.Session.{EndsStation, HoldsBehind, SavesBehind, SavesLeft};
 
 use crate::faults::of_open;
@@ -46,7 +48,9 @@ pub(crate) fn run_threads<
     streams: Streams<'_, W, E>,
 ) -> ExitStatus
     requires none { alone.book.accepted ≡ [] }
-    ensures { EndsStation false (S.files store.old) (S.files store.new) line.now alone commands.items result }
+    ensures ends { EndsStation false (S.files store.old) (S.files store.new) line.now alone commands.items result }
+    ensures followed { IsFollowed D.follows alone.seen }
+    ensures serves { ServesFollowedBy D.follows alone commands.items result }
 {
     let work = Work {
         commands,
@@ -78,6 +82,8 @@ fn end_threads<D: Device + Copy, S: Store, W: Write, E: Write>(
     requires told { OnOk left.ending.told (left.ending.closed ≡ Ok tt) }
     ensures others { ChangesAmong (S.files store.old) (S.files store.new) (files_of line.now) }
     ensures saved { IsFaultless result → SavesLeft (S.files store.new) line.now left result }
+    ensures goes { left.ending.closed ≡ Ok tt → IsTrue left.ending.is_driven
+        → (last : Seen) × GoesFollowed D.follows left.site.seen last }
 {
     let Left {
         site,
@@ -120,11 +126,14 @@ fn save_behind<D: Device + Copy, S: Store, W: Write, E: Write>(
     requires line { IsLineOf (length line.now.images.items) site.line }
     ensures others { ChangesAmong (S.files store.old) (S.files store.new) (files_of line.now) }
     ensures saved { IsFaultless result → SavesBehind (S.files store.new) line.now site.seen unserved.is_driven unserved.commands.items result }
+    ensures goes { IsTrue unserved.is_driven → (last : Seen) × GoesFollowed D.follows site.seen last }
 {
     match recover(alloc, site) {
         Ok((alone, _recovered)) => save_recovered(alloc, line, alone, unserved, store, streams),
         Err((left, fault)) => {
-            drop(left);
+            // What its device followed, it followed up to here.
+            let (parts, _device) = left.into_parts();
+            drop(parts);
             drop(unserved);
             report_fault(of_open(fault), streams.faults)
         }
@@ -144,6 +153,7 @@ fn save_recovered<D: Device + Copy, S: Store, W: Write, E: Write>(
     requires slaves { length alone.line.sizes ≡ length line.now.images.items }
     ensures others { ChangesAmong (S.files store.old) (S.files store.new) (files_of line.now) }
     ensures saved { IsFaultless result → HoldsBehind unserved.is_driven (S.files store.new) line.now alone unserved.commands.items result }
+    ensures followed { IsTrue unserved.is_driven → IsFollowed D.follows alone.seen }
 {
     let Unserved {
         is_driven,

@@ -1,6 +1,8 @@
-use Rattle.std.proofs.Common.{Bor, List, ℕ}
+use Rattle.std.proofs.Common.{Bor, List, ℕ, ap}
+use Rattle.site_core.specs.State.{Seen}
 use Rattle.std.specs.Prelude.{is_some, option_map}
 use Rattle.station_session.proofs.Ending.{runs}
+use Rattle.station_session.proofs.RunFiles.{runs_kept}
 use Rattle.station_session.proofs.run.run_script.Goals as goal
 
 pub run_captured-requires-clause-disk : goal.run_captured-requires-clause-disk
@@ -15,4 +17,12 @@ run_captured-requires-clause-slaves g c κs lives = c.in-Ok.ensures.loaded.count
 pub returns-in-Ok-clause-ran : goal.returns-in-Ok-clause-ran
 returns-in-Ok-clause-ran g c =
     runs g.S.Store.leads (is_some c.args.fuse) (option_map (λ (name : Bor (List ℕ)). name.now) c.args.names.capture) (g.S.Store.files c.args.store.now) (g.S.Store.files c.load.new.store) (g.S.Store.files c.run_captured.new.store) c.args.names.line.now c.args.names.script.now c.in-Ok.given.session.line c.in-Ok.given.session.site c.in-Ok.given.commands.items c.run_captured.result
-    c.in-Ok.ensures.loaded c.in-Ok.ensures.apart c.in-Ok.ensures.journal c.in-Ok.ensures.spelt c.load.ensures.same c.run_captured.ensures
+    c.in-Ok.ensures.loaded c.in-Ok.ensures.apart c.in-Ok.ensures.journal c.in-Ok.ensures.spelt c.load.ensures.same c.run_captured.ensures.ends
+
+pub run_captured-requires-clause-new : goal.run_captured-requires-clause-new
+run_captured-requires-clause-new g c κs lives = ap (λ (seen : Seen). seen.past) c.in-Ok.ensures.loaded.made.seen
+
+pub returns-in-Ok-clause-kept : goal.returns-in-Ok-clause-kept
+returns-in-Ok-clause-kept g c none =
+    let given = c.in-Ok.given in
+    runs_kept _ (g.S.Store.files c.args.store.now) c.args.names.line.now c.args.names.script.now given.session.line given.session.site given.commands.items c.run_captured.result c.in-Ok.ensures.loaded c.in-Ok.ensures.spelt (c.run_captured.ensures.kept none)

@@ -1,4 +1,5 @@
 use Rattle.station_session.proofs.ThreadsEnd.{not-closed, saves-left}
+use Rattle.std.proofs.Common.{◌≡◌, ◌∙◌, Ok, Err, sym}
 use Rattle.station_session.proofs.threads.end_threads.Goals as goal
 
 pub returns-in-Ok-clause-saved : goal.returns-in-Ok-clause-saved
@@ -9,3 +10,9 @@ returns-in-Ok-clause-saved g c =
 pub returns-in-Err-clause-saved : goal.returns-in-Err-clause-saved
 returns-in-Err-clause-saved g c good =
     absurd (not-closed c.args.left.ending.closed c.in-Err.field-0 c.args.left.ending.told c.status_of-told.result c.in-Err.is c.requires.told c.status_of-told.ensures.fault (c.worse-in-Err.ensures.faultless good).1)
+
+pub returns-in-Ok-clause-goes : goal.returns-in-Ok-clause-goes
+returns-in-Ok-clause-goes g c closed driven = c.save_behind-saved.ensures.goes driven
+
+pub returns-in-Err-clause-goes : goal.returns-in-Err-clause-goes
+returns-in-Err-clause-goes g c closed driven = absurd (let e : Err c.in-Err.field-0 ≡ Ok tt = sym c.in-Err.is ∙ closed in cc)

@@ -1,5 +1,6 @@
 use Rattle.std.proofs.Common.{false, length, arith}
 use Rattle.station_session.proofs.ThreadsEnd.{ends-left, ends-unserved, line-of}
+use Rattle.station_session.specs.RunFiles.{served, unserved}
 use Rattle.station_session.proofs.threads.run_threads.Goals as goal
 
 pub end_threads-requires-clause-line : goal.end_threads-requires-clause-line
@@ -8,10 +9,19 @@ end_threads-requires-clause-line g c κs lives = line-of c.in-Ok.left.site.line 
 pub end_threads-requires-clause-told : goal.end_threads-requires-clause-told
 end_threads-requires-clause-told g c κs lives = c.in-Ok.ensures.left.told
 
-pub returns-in-Ok : goal.returns-in-Ok
-returns-in-Ok g c =
+pub returns-in-Ok-clause-ends : goal.returns-in-Ok-clause-ends
+returns-in-Ok-clause-ends g c =
     ends-left (g.S.Store.files c.args.store.now) (g.S.Store.files c.end_threads.new.store) c.args.line.now c.args.alone c.args.commands.items c.in-Ok.left c.end_threads.result
     c.in-Ok.ensures.left c.in-Ok.ensures.unserved c.end_threads.ensures.others c.end_threads.ensures.saved
 
-pub returns-in-Err : goal.returns-in-Err
-returns-in-Err g c = ends-unserved false (g.S.Store.files c.args.store.now) c.args.line.now c.args.alone c.args.commands.items c.report_fault.result c.report_fault.ensures.fault
+pub returns-in-Err-clause-ends : goal.returns-in-Err-clause-ends
+returns-in-Err-clause-ends g c = ends-unserved false (g.S.Store.files c.args.store.now) c.args.line.now c.args.alone c.args.commands.items c.report_fault.result c.report_fault.ensures.fault
+
+pub returns-in-Ok-clause-serves : goal.returns-in-Ok-clause-serves
+returns-in-Ok-clause-serves g c =
+    let left = c.in-Ok.left in
+    let parts = c.in-Ok.ensures.parts in
+    served left.ending left.site parts.0 parts.1 c.end_threads.ensures.goes
+
+pub returns-in-Err-clause-serves : goal.returns-in-Err-clause-serves
+returns-in-Err-clause-serves g c = unserved c.report_fault.ensures.fault

@@ -1,4 +1,5 @@
 use Rattle.station_session.proofs.ThreadsEnd.{saves_behind}
+use Rattle.station_session.proofs.RunFiles.{recovery_goes, failure_goes}
 use Rattle.station_session.proofs.threads.save_behind.Goals as goal
 
 pub returns-in-Ok-clause-saved : goal.returns-in-Ok-clause-saved
@@ -7,3 +8,20 @@ returns-in-Ok-clause-saved g c =
 
 pub returns-in-Err-clause-saved : goal.returns-in-Err-clause-saved
 returns-in-Err-clause-saved g c good = absurd (c.report_fault.ensures.fault good)
+
+pub returns-in-Ok-clause-goes : goal.returns-in-Ok-clause-goes
+returns-in-Ok-clause-goes g c driven =
+    let r = c.in-Ok in (
+      r.alone.seen,
+      record { goes = recovery_goes c.args.site.line c.args.site.seen r.alone r.ensures.steps r.ensures.keeps; followed = c.save_recovered.ensures.followed driven },
+    )
+
+pub returns-in-Err-clause-goes : goal.returns-in-Err-clause-goes
+returns-in-Err-clause-goes g c driven =
+    let e = c.in-Err in (
+      e.left.seen,
+      record {
+        goes = failure_goes c.args.site.line c.args.site.seen e.fault e.left.line e.left.seen e.ensures.refused e.ensures.keeps;
+        followed = (c.into_parts-parts.result.1, c.into_parts-parts.ensures.device);
+      },
+    )

@@ -1,0 +1,175 @@
+-- What a power cut leaves in the files of a run.
+use Rattle.std.proofs.Common.{◌≡◌, ◌∙◌, ℕ, ◌+◌, zero, suc, Bool, true, false, List, [], ◌∷◌, Some, slice_get, IsTrue, Result, Ok, Err, refl, sym, ap, subst, inl, inr, arith}
+use Rattle.std.specs.Prelude.{◌⊎◌, is_some, option_map, IfOk, IfErr, IsErrAnd, MatchResult}
+use Rattle.std.specs.List.{AllByRecursion}
+use Rattle.sii_edit.specs.declared.command.Command.{Command}
+use Rattle.esc_model.specs.SlaveHalf.{SlaveHalf}
+use Rattle.site_core.specs.Line.{Line}
+use Rattle.site_core.specs.Passes.{LeavesOnly}
+use Rattle.site_core.specs.State.{State, Seen, Pair}
+use Rattle.site_core.specs.Times.{Follows}
+use Rattle.site_core.proofs.Runs.{Passes-stays, Passes-then}
+use Rattle.site_core.proofs.Times.{Follows-then}
+use Rattle.site_shadow.specs.Site.{SiteValue}
+use Rattle.site_shadow.specs.Unsynced.{of_bytes}
+use Rattle.site_file.specs.declared.asking.LineFile.{LineFile as FileName}
+use Rattle.site_file.specs.declared.asking.LineFile.TheVariants.{Journal as JournalFile, Image}
+use Rattle.site_file.specs.declared.files.FileDevice.{FileDevice}
+use Rattle.site_file.specs.Following as files
+use Rattle.file_laws.specs.Held.{is_same}
+use Rattle.file_laws.specs.Following.{Shows}
+use Rattle.book_model.specs.Book.{Book}
+use Rattle.book_model.specs.Machine.{Machine}
+use Rattle.desk_book.specs.declared.call.Call.{Call}
+use Rattle.desk_book.specs.Calls.{AreAnswered, replayed}
+use Rattle.station_alone.specs.declared.fault.OpenFault.{OpenFault}
+use Rattle.station_alone.specs.Keeping.{KeepsThroughout, KeptFor}
+use Rattle.station_alone.specs.Opening.{Opens, FailsToOpen}
+use Rattle.station_alone.specs.Recovery.{RecoversBySteps, FailsToRecover}
+use Rattle.station_alone.specs.Station.{Station}
+use Rattle.station_jobs.specs.declared.log.SlaveLog.{SlaveLog}
+use Rattle.station_jobs.specs.Ends.{Stay}
+use Rattle.kept_files.specs.KeptFiles.{KeepsOn, has_file}
+use Rattle.kept_files.specs.Cuts.{IsKeptPair}
+use Rattle.kept_files.specs.DeskFiles.{DeskOnFiles, PartOnFiles}
+use Rattle.kept_files.proofs.OnFiles.{site_keeps_on}
+use Rattle.kept_files.proofs.Extending.{first_stays, recovers_on, fails_on}
+use Rattle.kept_files.proofs.AtDeskOnFiles.{part_has_its_file, flushed_follows, worked_follows, cut_leaves_kept_parts}
+use Rattle.station_threads.specs.declared.closing.Ends.{Ends}
+use Rattle.station_threads.specs.Parts.{IsEndOfSlave}
+use Rattle.station_text.specs.declared.line_file.LineFile.{LineFile}
+use Rattle.station_files.specs.Faults.{IsFaultless}
+use Rattle.station_files.specs.Files.{Known}
+use Rattle.station_files.specs.ScriptFiles.{SpellsCommands}
+use Rattle.station_files.specs.declared.faults.ExitStatus.{ExitStatus}
+use Rattle.script_session.specs.declared.closing.Ending.{Ending}
+use Rattle.script_session.specs.AtDesk.{BeginsAs, ServesParts, seen_of}
+use Rattle.script_session.specs.Parts.{AreFollowed, BeginsWith, IsFollowed, IsWorkFollowed}
+use Rattle.script_session.proofs.LeftLaws.{first, opened-on, placed-back}
+use Rattle.station_session.specs.RunFiles.{GoesKept, GoesFollowed, DeskGoes, RunGoes, RunsFollowed, KeepsAtDesk, KeepsRunFiles, RunKeepsFiles, unserved, served, unopened, opened}
+use Rattle.station_session.specs.Session.{Loads}
+
+-- ---- one thread
+
+goes_then : (a b c : Seen) → GoesKept a b → GoesKept b c → GoesKept a c
+goes_then a b c one two = record {
+  goes_on = Follows-then a b c one.goes_on two.goes_on;
+  keeps = λ machine kept.
+      let before = one.keeps machine kept in
+      let behind = two.keeps machine before.passes.now in
+      Passes-stays (KeptFor machine) a c (Passes-then (LeavesOnly (KeptFor machine)) a b c before.passes behind.passes);
+}
+
+-- what an open or a recovery ends with
+abbrev pub Went : Type 0
+Went = Result Station (SiteValue × OpenFault)
+
+abbrev pub WentSo : Seen → Went → Type 0
+WentSo before result = MatchResult result (λ s. GoesKept before s.seen) (λ back. GoesKept before back.0.seen)
+
+pub open_goes : (line : Line) (before : Seen) (result : Went) → IfOk result (λ s. Opens line before s) → IfOk result (λ s. KeepsThroughout before s.seen)
+    → IfErr result (λ back. FailsToOpen line before back.1 back.0.line back.0.seen) → IfErr result (λ back. KeepsThroughout before back.0.seen) → WentSo before result
+open_goes line before (Ok s) opens keeps fails back = record { goes_on = opens.1.quiet.follows; keeps = keeps }
+open_goes line before (Err e) opens keeps fails back = record { goes_on = fails.quiet.follows; keeps = back }
+
+pub recovery_goes : (line : Line) (before : Seen) (r : Station) → RecoversBySteps line before r → KeepsThroughout before r.seen → GoesKept before r.seen
+recovery_goes line before r by keeps = record { goes_on = recovers_on line before r by; keeps = keeps }
+
+pub failure_goes : (line : Line) (before : Seen) (fault : OpenFault) (later : Line) (now : Seen) → FailsToRecover line before fault later now → KeepsThroughout before now
+    → GoesKept before now
+failure_goes line before fault later now fails keeps = record { goes_on = fails_on line before fault later now fails; keeps = keeps }
+
+-- a failure is handed on
+pub failed_goes : (before : Seen) (result : Went) (e : SiteValue × OpenFault) → IsErrAnd result (λ back. back ≡ e) → GoesKept before e.0.seen → WentSo before result
+failed_goes before (Ok s) e gave goes = absurd gave
+failed_goes before (Err back) e gave goes = subst (λ (b : SiteValue × OpenFault). GoesKept before b.0.seen) (sym gave) goes
+
+-- the station was opened behind a recovery
+pub goes_behind : (before : Seen) (r : Station) (left : Seen) (result : Went) → GoesKept before r.seen → left ≡ r.seen → WentSo left result → WentSo before result
+goes_behind before r left (Ok s) one same two = goes_then before r.seen s.seen one (subst (λ (x : Seen). GoesKept x s.seen) same two)
+goes_behind before r left (Err e) one same two = goes_then before r.seen e.0.seen one (subst (λ (x : Seen). GoesKept x e.0.seen) same two)
+
+-- ---- on files
+
+at-place : {A : Type 0} (P : A → Type 0) (xs : List A) (k : ℕ) (a : A) → AllByRecursion P xs → slice_get xs k ≡ Some a → P a
+at-place P [] k a all at = absurd cc
+at-place P (b ∷ xs) zero a all at = let same : b ≡ a = cc in subst P same all.0
+at-place P (b ∷ xs) (suc k) a all at = at-place P xs k a all.1 at
+
+module _ (F : Type 0) {D : Type 0} (follows : D → Seen → Type 0) (to_file : (device : D) (seen : Seen) → follows device seen → (d : FileDevice F) × files.Follows d seen) where
+  goes_on_files : (before now : Seen) → before.past ≡ [] → GoesFollowed follows before now → KeepsOn F before now
+  goes_on_files before now new stage =
+      let device = to_file stage.followed.0 now stage.followed.1 in
+      site_keeps_on F device.0 before now device.1 new (first_stays before now new stage.goes.goes_on) stage.goes.keeps
+
+  module _ (station : Station) (commands : List Command) (ending : Ending) (site : SiteValue) (parts : ServesParts station commands ending site) (followed : AreFollowed follows parts.ends) where
+    journal_part : PartOnFiles F (is_same JournalFile) parts.ends.flusher.start.seen parts.ends.flusher.site.seen
+    journal_part =
+        let start = parts.ends.flusher.start.seen in
+        let end = parts.ends.flusher.site.seen in
+        let device = to_file followed.followed.0 end followed.followed.1 in
+        part_has_its_file F (is_same JournalFile) start end device.0 (ap (λ (s : SiteValue). s.seen.past) parts.of_sites.flusher ∙ parts.apart.new) (flushed_follows parts.ends.flusher.log start end followed.flushed) device.1
+
+    image_part : (slave : ℕ) (end : Stay SiteValue SlaveLog) → slice_get parts.ends.workers.items slave ≡ Some end → PartOnFiles F (is_same (Image slave)) end.start.seen end.site.seen
+    image_part slave end here =
+        let work = at-place (IsWorkFollowed follows) parts.ends.workers.items slave end followed.workers here in
+        let device = to_file work.followed.0 end.site.seen work.followed.1 in
+        let worker = placed-back (λ place (x : SiteValue) (e : Stay SiteValue SlaveLog). IsEndOfSlave place x e) 0 parts.sites.slaves.items parts.ends.workers.items slave end parts.of_sites.workers here in
+        let half = placed-back BeginsWith 0 station.seen.state.halves parts.sites.slaves.items slave worker.0 parts.apart.slaves worker.1 in
+        part_has_its_file F (is_same (Image slave)) end.start.seen end.site.seen device.0 (ap (λ (s : SiteValue). s.seen.past) worker.2.start ∙ half.2.new) (worked_follows end.log.slave end.log.jobs end.start.seen end.site.seen work.worked) device.1
+
+    desk : DeskOnFiles F seen_of parts.ends.flusher parts.ends.workers.items
+    desk = record { journal = journal_part; images = image_part }
+
+    abbrev old : State
+    old = record station.seen.state { disk = of_bytes station.seen.state.disk.bytes }
+
+    abbrev LeftKept : Machine → List Call → (FileName → List ℕ) → Book → Type 0
+    LeftKept machine calls images book =
+        (pair : Pair) × IsKeptPair machine (replayed book calls) pair × ((name : FileName) → IsTrue (has_file station.seen.state name) → Shows pair name (images name))
+
+    keeps_at_desk : KeepsAtDesk F station parts.ends
+    keeps_at_desk = record {
+      desk = desk;
+      kept = λ machine calls begun images begins answered bytes cut.
+          subst (LeftKept machine calls images) (sym begins.book)
+          (cut_leaves_kept_parts F SiteValue seen_of parts.ends.flusher parts.ends.workers.items desk machine begins.journal old calls begun images
+          (opened-on station calls parts.sites parts.ends site parts.apart parts.of_sites parts.together machine begins)
+          (subst (λ (b : Book). AreAnswered b calls) begins.book answered)
+          (first station calls parts.sites parts.ends site parts.apart parts.of_sites parts.together) bytes cut);
+    }
+
+  desk_on_files : (station : Station) (commands : List Command) (status : ExitStatus) → DeskGoes (GoesFollowed follows) (λ s ends. AreFollowed follows ends) station commands status
+      → DeskGoes (KeepsOn F) (KeepsAtDesk F) station commands status
+  desk_on_files station commands status (unserved bad) = unserved bad
+  desk_on_files station commands status (served ending site parts followed closes) =
+      served ending site parts (keeps_at_desk station commands ending site parts followed)
+      (λ closed driven. let last = closes closed driven in (last.0, goes_on_files site.seen last.0 parts.together.new last.1))
+
+  pub run_on_files : (before : Seen) (commands : List Command) (status : ExitStatus) → before.past ≡ [] → RunsFollowed follows before commands status → RunKeepsFiles F before commands status
+  run_on_files before commands status new (unopened last stage bad) = inr (unopened last (goes_on_files before last new stage) bad)
+  run_on_files before commands status new (opened station stage goes) =
+      inr (opened station (goes_on_files before station.seen new stage) (desk_on_files station commands status goes))
+
+-- ---- the run
+
+-- the same site, with another device
+pub kept_as : (F : Type 0) (site other : SiteValue) (commands : List Command) (status : ExitStatus) → other ≡ site → RunKeepsFiles F other.seen commands status
+    → RunKeepsFiles F site.seen commands status
+kept_as F site other commands status same kept = subst (λ (s : SiteValue). RunKeepsFiles F s.seen commands status) same kept
+
+desk_told : (F : Type 0) (station : Station) (commands : List Command) (one final : ExitStatus) → (¬ IsFaultless one → ¬ IsFaultless final) → DeskGoes (KeepsOn F) (KeepsAtDesk F) station commands one
+    → DeskGoes (KeepsOn F) (KeepsAtDesk F) station commands final
+desk_told F station commands one final worse (unserved bad) = unserved (worse bad)
+desk_told F station commands one final worse (served ending site parts desk closes) = served ending site parts desk closes
+
+-- a fault of the capture ends the run as a fault, or the status stays
+pub told_as : (F : Type 0) (before : Seen) (commands : List Command) (one final : ExitStatus) → (final ≡ one) ⊎ (¬ IsFaultless final) → RunKeepsFiles F before commands one → RunKeepsFiles F before commands final
+told_as F before commands one final (inl same) kept = subst (λ (s : ExitStatus). RunKeepsFiles F before commands s) (sym same) kept
+told_as F before commands one final (inr bad) (inl was) = inl bad
+told_as F before commands one final (inr bad) (inr (unopened last stage was)) = inr (unopened last stage bad)
+told_as F before commands one final (inr bad) (inr (opened station stage goes)) = inr (opened station stage (desk_told F station commands one final (λ was. bad) goes))
+
+pub runs_kept : (F : Type 0) (old : Known) (name script : List ℕ) (line : LineFile) (site : SiteValue) (commands : List Command) (status : ExitStatus) → Loads old name line site → SpellsCommands old script commands → RunKeepsFiles F site.seen commands status
+    → KeepsRunFiles F old name script status
+runs_kept F old name script line site commands status loaded spelt kept = record { line = line; site = site; loaded = loaded; commands = commands; spelt = spelt; kept = kept }
