@@ -172,4 +172,4 @@ told_as F before commands one final (inr bad) (inr (opened station stage goes)) 
 
 pub runs_kept : (F : Type 0) (old : Known) (name script : List ℕ) (line : LineFile) (site : SiteValue) (commands : List Command) (status : ExitStatus) → Loads old name line site → SpellsCommands old script commands → RunKeepsFiles F site.seen commands status
     → KeepsRunFiles F old name script status
-runs_kept F old name script line site commands status loaded spelt kept = record { line = line; site = site; loaded = loaded; commands = commands; spelt = spelt; kept = kept }
+runs_kept F known name script line site commands status loaded spelt kept = record { line = line; site = site; loaded = loaded; commands = commands; spelt = spelt; kept = kept }

@@ -75,7 +75,7 @@ pub record KeepsAtDesk (F : Type 0) (station : Station) (ends : Ends SiteValue) 
   pub kept : (machine : Machine) (calls : List Call) (begun : FileName → File) (images : FileName → List ℕ) → BeginsAs machine calls station
       → AreAnswered station.book calls → ((name : FileName) → IsBytes (images name)) → DeskIsCut desk calls begun images
       → (pair : Pair) × IsKeptPair machine (replayed station.book calls) pair
-          × ((name : FileName) → IsTrue (has_file station.seen.state name) → Shows pair name (images name))
+      × ((name : FileName) → IsTrue (has_file station.seen.state name) → Shows pair name (images name))
 
 -- What a power cut has left in the files of a run is kept, as far as the run came: as the station was opened, at its desk, and in the recovery behind
 -- the desk, each since the log of its device began. Or a fault ended it before a file was asked.
