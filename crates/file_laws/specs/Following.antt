@@ -71,11 +71,11 @@ Holds state (Image slave) file = HoldsWords state.halves slave file
 abbrev pub ShowOne : (owned : LineFile → Bool) → (Pair → Type 0) → (images : LineFile → List ℕ) → Type 0
 ShowOne owned Q images = (pair : Pair) × Q pair × ((name : LineFile) → IsTrue (owned name) → Shows pair name (images name))
 
--- A device stands behind a site that owns some of the files. Whatever the files were, as its log began, that held the site's parts: its log falls
--- into pieces, one for each time of the site's clock since then and one for now, in order. A power cut in a piece has left of the files a pair that it
--- may have left of the site towards the time of that piece: in the call that ended then, or then. Behind each piece but the last one the files hold the
--- site's parts as they were at its time. As long as no call on a file has failed and the site goes on, there is a piece for each time, and the files
--- hold the site's parts; behind a failure, nothing is asked any more.
+-- A device stands behind a site that owns some of the files. Whatever the files were, as its log began, that held the site's parts: its log
+-- falls into pieces, one for each time of the site's clock since then and one for now, in order. A power cut in a piece has left of the files
+-- a pair that it may have left of the site towards the time of that piece: in the call that ended then, or then. Behind each piece but the
+-- last one the files hold the site's parts as they were at its time. As long as no call on a file has failed and the site goes on, there is a
+-- piece for each time, and the files hold the site's parts; behind a failure, nothing is asked any more.
 pub record FilesFollow
     {F : Type 0} (since : ℕ) (owned : LineFile → Bool) (begun : LineFile → File) (device : FileDevice F) (seen : Seen) : Type 0 where
   pub pieces : List (List Asked)
