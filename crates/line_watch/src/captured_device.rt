@@ -61,6 +61,8 @@ impl<'c, D, F: RandomAccessFile + Drop, R: Wait + Clock> Captured<'c, D, F, R> {
 impl<'c, D: Device, F: RandomAccessFile + Drop, R: Wait + Clock> Device for Captured<'c, D, F, R> {
     ghost follows = { λ captured. D.follows captured.device };
 
+    ghost well = { λ captured. D.well captured.device };
+
     fn begin(&mut self, is_new: bool) {
         self.device.begin(is_new)
     }
@@ -87,8 +89,8 @@ impl<'c, D: Device, F: RandomAccessFile + Drop, R: Wait + Clock> Device for Capt
         passing
     }
 
-    fn rest(&mut self, slave: usize, half: &RomHalf, k: usize) -> Resting {
-        self.device.rest(slave, half, k)
+    fn rest(&mut self, slave: usize, half: &RomHalf, frame: &Frame, k: usize) -> Resting {
+        self.device.rest(slave, half, frame, k)
     }
 
     fn taken(
@@ -110,6 +112,10 @@ impl<'c, D: Device, F: RandomAccessFile + Drop, R: Wait + Clock> Device for Capt
         let passing = self.device.cycle(frame);
         self.note_sent(passing, frame);
         passing
+    }
+
+    fn is_well(&self) -> bool {
+        self.device.is_well()
     }
 
     ghost goes_on = { λ captured. D.goes_on captured.device };

@@ -101,6 +101,8 @@ impl<'p, D, T: Write, R: Clock> Watched<'p, D, T, R> {
 impl<'p, D: Device, T: Write, R: Clock> Device for Watched<'p, D, T, R> {
     ghost follows = { λ watched. D.follows watched.device };
 
+    ghost well = { λ watched. D.well watched.device };
+
     fn begin(&mut self, is_new: bool) {
         self.device.begin(is_new)
     }
@@ -130,8 +132,8 @@ impl<'p, D: Device, T: Write, R: Clock> Device for Watched<'p, D, T, R> {
         self.device.exchange(slave, half, frame)
     }
 
-    fn rest(&mut self, slave: usize, half: &RomHalf, k: usize) -> Resting {
-        let resting = self.device.rest(slave, half, k);
+    fn rest(&mut self, slave: usize, half: &RomHalf, frame: &Frame, k: usize) -> Resting {
+        let resting = self.device.rest(slave, half, frame, k);
         if let (Some(progress), Some(_), Resting::Well) = (
             self.progress,
             half.in_flight(),
@@ -160,6 +162,10 @@ impl<'p, D: Device, T: Write, R: Clock> Device for Watched<'p, D, T, R> {
 
     fn cycle(&mut self, frame: &Frame) -> Passing {
         self.device.cycle(frame)
+    }
+
+    fn is_well(&self) -> bool {
+        self.device.is_well()
     }
 
     ghost goes_on = { λ watched. D.goes_on watched.device };

@@ -1,5 +1,5 @@
 -- EEPROM halves that are put into sites, and taken from them, one by one.
-use Rattle.std.proofs.Common.{◌≡◌, ℕ, ◌+◌, List, [], ◌∷◌, ◌++◌, length, Some, None, Option, Result, Ok, Err, refl, sym, ◌∙◌, ap, subst, arith}
+use Rattle.std.proofs.Common.{◌≡◌, ℕ, zero, suc, take, slice_get, ◌+◌, List, [], ◌∷◌, ◌++◌, length, Some, None, Option, Result, Ok, Err, refl, sym, ◌∙◌, ap, subst, arith}
 use Rattle.std.specs.Prelude.{is_some, IfSome, IfOk, IsTrue, OnOk}
 use Rattle.std.specs.Global.{Vec}
 use Rattle.std.specs.List.{AllByRecursion}
@@ -74,6 +74,21 @@ puts-together (Err fault) slaves site disk halves workers ends is new there byte
 pub followed_more : {D : Type 0} (follows : D → Seen → Type 0) (ends : List (Stay SiteValue SlaveLog)) (end : Stay SiteValue SlaveLog) → AllByRecursion (IsWorkFollowed follows) ends → IsWorkFollowed follows end → AllByRecursion (IsWorkFollowed follows) (ends ++ end ∷ [])
 followed_more follows [] end all one = (one, tt)
 followed_more follows (e ∷ ends) end all one = (all.0, followed_more follows ends end all.1 one)
+
+-- the first ends, and the next one
+pub followed_next : {D : Type 0} (follows : D → Seen → Type 0) (ends : List (Stay SiteValue SlaveLog)) (i : ℕ) (end : Stay SiteValue SlaveLog)
+    → AllByRecursion (IsWorkFollowed follows) (take i ends) → slice_get ends i ≡ Some end → IsWorkFollowed follows end
+    → AllByRecursion (IsWorkFollowed follows) (take (i + 1) ends)
+followed_next follows ends i end all here one =
+    let same : suc i ≡ i + 1 = omega arith in
+    subst (λ (n : ℕ). AllByRecursion (IsWorkFollowed follows) (take n ends)) same
+    (subst (AllByRecursion (IsWorkFollowed follows)) (sym (take_next ends i end here)) (followed_more follows (take i ends) end all one))
+  where
+    take_next : (ends : List (Stay SiteValue SlaveLog)) (i : ℕ) (end : Stay SiteValue SlaveLog) → slice_get ends i ≡ Some end
+        → take (suc i) ends ≡ take i ends ++ end ∷ []
+    take_next [] i end here = absurd cc
+    take_next (e ∷ ends) zero end here = let same : e ≡ end = cc in ap (λ (x : Stay SiteValue SlaveLog). x ∷ []) same
+    take_next (e ∷ ends) (suc i) end here = ap (λ (l : List (Stay SiteValue SlaveLog)). e ∷ l) (take_next ends i end here)
 
 pub followed_together : {D A E : Type 0} (follows : D → Seen → Type 0) (result : Result A E) (ends : Ends SiteValue) (workers : List (Stay SiteValue SlaveLog)) → IsFlushed ends.flusher.log ends.flusher.start.seen ends.flusher.site.seen
     → IsFollowed follows ends.flusher.site.seen → workers ≡ ends.workers.items → AllByRecursion (IsWorkFollowed follows) workers → OnOk result (AreFollowed follows ends)

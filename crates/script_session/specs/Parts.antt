@@ -55,6 +55,10 @@ pub record AreEndsOfParts (sites : Sites) (ends : Ends SiteValue) : Type 0 where
   pub workers : AreEndsOfSites sites.slaves.items ends.workers.items
   pub cycle : IsEndOfTurns sites.cycle ends.cycle
 
+-- A device keeps this of a site, nothing has failed that it was asked, and the site has not stopped.
+abbrev pub Soundly : {D : Type 0} → (D → Seen → Type 0) → (D → Type 0) → D → Seen → Type 0
+Soundly follows well device seen = follows device seen × well device × (seen.is_stopped ≡ false)
+
 -- A device keeps this of a site.
 abbrev pub IsFollowed : {D : Type 0} → (D → Seen → Type 0) → Seen → Type 0
 IsFollowed {D} follows seen = (device : D) × follows device seen

@@ -18,7 +18,7 @@ mod work;
 
 pub use closing::Ending;
 pub use commands::serve_commands;
-pub use redoing::{Redone, redo_by_threads};
+pub use redoing::{Redone, is_sound, redo_by_threads};
 pub use station_threads::CloseFault;
 pub use threads::{Left, serve_by_threads};
 pub use work::Work;

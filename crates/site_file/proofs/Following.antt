@@ -2,6 +2,10 @@
 use Rattle.std.proofs.Common.{◌≡◌, ◌↔◌, ℕ, Bool, true, false, not, ◌||◌, List, [], Option, IsTrue, refl, sym, subst, ◌∙◌}
 use Rattle.esc_model.specs.declared.rest.WordWrite.{WordWrite}
 use Rattle.esc_model.specs.SlaveHalf.{SlaveHalf, in_flight}
+use Rattle.esc_model.specs.Datagrams.{served_datagram}
+use Rattle.esc_model.proofs.Serving.{Goes-served}
+use Rattle.ecat_frame.specs.Command.{command_of}
+use Rattle.ecat_frame.specs.Frame.{Pdu}
 use Rattle.site_core.specs.State.{Seen}
 use Rattle.site_shadow.specs.declared.device.Passing.{Passing}
 use Rattle.site_shadow.specs.declared.device.Resting.{Resting}
@@ -93,8 +97,10 @@ module _ {F : Type 0} where
       one_more old new before after (following.sync result given running synced told calls)
       (λ refuses. refuses_on before after (same_journal syncs before after result refuses.1 calls) refuses) follows
 
-  pub rest_keeps : (slave : ℕ) (half : SlaveHalf) (before after : FileDevice F) (result : Resting)
-      → Rests slave (in_flight half.activity) before result after → FitsWords half → RestKeeps Follows slave half before result after
-  rest_keeps slave half before after result rests fits old new rested later running here said words is extends follows =
-      one_more old new before after (following.rest slave half rested later result running here said words is extends fits rests)
+  pub rest_keeps : (slave : ℕ) (half : SlaveHalf) (frame : List Pdu) (k : ℕ) (before after : FileDevice F) (result : Resting)
+      → Rests slave (in_flight half.activity) before result after → FitsWords half → RestKeeps Follows slave half frame k before result after
+  rest_keeps slave half frame k before after result rests fits old new rested d running here at said is extends follows =
+      one_more old new before after
+      (following.rest slave half rested (served_datagram rested d).half result running here said
+      (Goes-served rested (command_of d.command) d.address d.content).words is extends fits rests)
       (refuses_rest slave (in_flight half.activity) before after result rests) follows

@@ -8,7 +8,7 @@ use Rattle.site_core.specs.Calls.{WritesDisk, SyncsDisk}
 use Rattle.site_shadow.specs.declared.device.Passing.{Passing}
 use Rattle.site_shadow.specs.declared.device.Resting.{Resting}
 use Rattle.site_shadow.specs.Resting.{RestsAs}
-use Rattle.site_shadow.specs.Following.{Extends, GoesOn, IsTold}
+use Rattle.site_shadow.specs.Following.{Extends, GoesOn, IsUnasked, IsTold}
 use Rattle.site_file.specs.declared.files.FileDevice.{FileDevice}
 use Rattle.site_file.specs.Calls.{writes, syncs}
 use Rattle.site_file.specs.Asking.{HasLog}
@@ -70,6 +70,6 @@ one_step old new before after step so_far = record {
 }
 
 -- the law of the trait: a step in which the device isn't asked
-pub follows_on : {F : Type 0} (device : FileDevice F) (old new : Seen) → GoesOn old new → Follows device old → Follows device new
-follows_on device old new goes (has_followed so_far) = has_followed (one_step old new device device (goes_on goes (unasked refl)) so_far)
-follows_on device old new goes (refuses unasked_yet failed) = refuses unasked_yet failed
+pub follows_on : {F : Type 0} (device : FileDevice F) (old new : Seen) → IsUnasked old new → Follows device old → Follows device new
+follows_on device old new is (has_followed so_far) = has_followed (one_step old new device device (goes_on is.goes (unasked refl)) so_far)
+follows_on device old new is (refuses unasked_yet failed) = refuses unasked_yet failed

@@ -261,6 +261,8 @@ impl<'f, F: RandomAccessFile> Device for FileDevice<'f, F> {
 
     ghost follows = { Follows };
 
+    ghost well = { λ device. device.has_failed ≡ false };
+
     /// The log of this copy begins here. Behind a shadow that has seen a call it would not know what the files hold: there each call fails.
     fn begin(&mut self, is_new: bool)
         ensures nothing { HasLog self.new.asking.calls [] }
@@ -313,9 +315,9 @@ impl<'f, F: RandomAccessFile> Device for FileDevice<'f, F> {
 
     /// Writes a word in flight to its image and syncs it; then the half becomes idle. Until then a power cut may leave anything in the
     /// word. If that fails, the half stays busy, and the site stops at once.
-    fn rest(&mut self, slave: usize, half: &RomHalf, _k: usize) -> Resting
+    fn rest(&mut self, slave: usize, half: &RomHalf, frame: &Frame, k: usize) -> Resting
         ensures asks { Rests slave (in_flight half.now.activity) self.old result self.new }
-        ensures follows { RestKeeps Follows slave half.now self.old result self.new }
+        ensures follows { RestKeeps Follows slave half.now frame.now k self.old result self.new }
     {
         self.rest_word(slave, half)
     }
@@ -349,6 +351,10 @@ impl<'f, F: RandomAccessFile> Device for FileDevice<'f, F> {
             return Passing::Stops(Pattern::Old);
         }
         Passing::Passes
+    }
+
+    fn is_well(&self) -> bool {
+        !self.has_failed
     }
 
     ghost use Rattle.site_file.specs.Following.{follows_on};

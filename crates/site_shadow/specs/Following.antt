@@ -1,6 +1,8 @@
 -- What a device keeps of the shadow before it, through the calls of both.
 use Rattle.std.specs.Prelude.{◌≡◌, ◌⊎◌, ℕ, zero, suc, ◌≤◌, Bool, false, List, [], ◌∷◌, ◌++◌, length, drop, Some, slice_get, Result, IsTrue, IsErrOf}
+use Rattle.ecat_frame.specs.Frame.{Pdu}
 use Rattle.esc_model.specs.SlaveHalf.{SlaveHalf}
+use Rattle.esc_model.specs.Datagrams.{served_datagram}
 use Rattle.site_core.specs.declared.fault.DeviceFault.{DeviceFault}
 use Rattle.site_core.specs.declared.fault.DeviceFault.TheVariants as faults
 use Rattle.site_core.specs.Disk.{IsSynced}
@@ -58,6 +60,15 @@ pub record GoesOn (old new : Seen) : Type 0 where
   pub extends : Extends old new
   pub kept : ¬ IsTrue new.is_stopped → KeepsContents old.state new.state
 
+-- A call in which the device isn't asked. No half changes either, unless the site stops.
+pub record IsUnasked (old new : Seen) : Type 0 where
+  pub goes : GoesOn old new
+  pub halves : ¬ IsTrue new.is_stopped → new.state.halves ≡ old.state.halves
+
+-- A device keeps this of the site, and nothing that it was asked has failed.
+abbrev pub IsFollowedBy : {D : Type 0} → (D → Seen → Type 0) → (D → Type 0) → Seen → Type 0
+IsFollowedBy {D} follows well seen = (device : D) × follows device seen × well device
+
 -- WHAT A CALL OF A DEVICE KEEPS, by what it keeps of a shadow
 
 -- The shadow changes nothing by this call.
@@ -78,11 +89,11 @@ abbrev pub SyncKeeps : {D : Type 0} → (D → Seen → Type 0) → D → Passin
 SyncKeeps follows before passing after = (old new : Seen) (given : Result (Unit {0}) DeviceFault) → old.is_stopped ≡ false
     → SyncsDisk old given new → IsTold passing given → follows before old → follows after new
 
--- The half becomes idle as the device says, and takes a datagram, which changes none of its words.
-abbrev pub RestKeeps : {D : Type 0} → (D → Seen → Type 0) → ℕ → SlaveHalf → D → Resting → D → Type 0
-RestKeeps follows slave half before resting after = (old new : Seen) (rested later : SlaveHalf) → old.is_stopped ≡ false
-    → slice_get old.state.halves slave ≡ Some half → RestsAs resting half rested → later.words ≡ rested.words
-    → new.state ≡ with_half old.state slave later → Extends old new → follows before old → follows after new
+-- The half becomes idle as the device says, and takes the datagram at index `k` of the frame.
+abbrev pub RestKeeps : {D : Type 0} → (D → Seen → Type 0) → ℕ → SlaveHalf → List Pdu → (k : ℕ) → D → Resting → D → Type 0
+RestKeeps follows slave half frame k before resting after = (old new : Seen) (rested : SlaveHalf) (d : Pdu) → old.is_stopped ≡ false
+    → slice_get old.state.halves slave ≡ Some half → slice_get frame k ≡ Some d → RestsAs resting half rested
+    → new.state ≡ with_half old.state slave (served_datagram rested d).half → Extends old new → follows before old → follows after new
 
 -- IN THE MIDDLE OF AN EXCHANGE, with these states in its middle so far
 

@@ -172,7 +172,7 @@ module _ (half : SlaveHalf) (at : ℕ) (over : List ℕ) (bytes : (k : ℕ) → 
 -- a command that is judged again
 module _ (half : SlaveHalf) (over : List ℕ) (bytes : (k : ℕ) → slice_index over k < 256) (needs : Needs over) where
   -- a half that has the access bits that the command left
-  command_again : (other : SlaveHalf) → other.station ≡ half.station
+  pub command_again : (other : SlaveHalf) → other.station ≡ half.station
       → other.registers.offered ≡ (judged half 2 over).registers.offered
       → other.registers.forced ≡ (judged half 2 over).registers.forced
       → length other.words ≡ length half.words
@@ -181,7 +181,7 @@ module _ (half : SlaveHalf) (over : List ℕ) (bytes : (k : ℕ) → slice_index
       judged_same half other over needs station
       (offered_again half other 2 over bytes offered forced) (forced_again half other 2 over bytes offered forced) count
 
-  both : (nat_le 2 2 && nat_le 4 (2 + length over)) ≡ true
+  pub both : (nat_le 2 2 && nat_le 4 (2 + length over)) ≡ true
   both = rw (le-leb 2 2 (omega arith), le-leb 4 (2 + length over) (omega (arith, needs_covers over needs))) refl
 
   done_again : (d : Doing) → doing_of (judged half 2 over) ≡ d → (other : SlaveHalf) → other.activity ≡ Idle

@@ -1,5 +1,5 @@
 -- What a device does of its own keeps the real slave one of which a power cut leaves no more than of its shadow.
-use Rattle.std.proofs.Common.{◌≡◌, ◌⊎◌, ℕ, ◌+◌, ◌-◌, ◌*◌, ◌/◌, ◌%◌, ◌^◌, ◌<◌, ◌≤◌, ◌&&◌, true, false, nat_le, List, length, slice_index, slice_set, refl, sym, ap, subst, ◌∙◌, inl, inr, arith}
+use Rattle.std.proofs.Common.{◌≡◌, ◌⊎◌, ℕ, ◌+◌, ◌-◌, ◌%◌, ◌≤◌, ◌&&◌, true, false, nat_le, List, length, slice_index, slice_set, refl, sym, ap, subst, ◌∙◌, inl, inr, arith}
 use Rattle.std.proofs.lemmas.List.{set-set, set-get_or}
 use Rattle.std.proofs.lemmas.Bool.{le-leb}
 use Rattle.ecat_frame.specs.Command.{command_of}
@@ -41,7 +41,7 @@ amended_leaves_no_more shadow real left am leaves = holds_through shadow.activit
 -- RESTING
 
 -- what a half is once it has ended: idle, and with the same access
-ended_idle : (activity : Activity) (half later : SlaveHalf) → MayEnd activity half later
+pub ended_idle : (activity : Activity) (half later : SlaveHalf) → MayEnd activity half later
     → (later.activity ≡ Idle) × (later.registers.offered ≡ half.registers.offered) × (later.registers.forced ≡ half.registers.forced)
 ended_idle Idle half later ends = absurd ends
 ended_idle Reading half later (inl well) = (ap (λ (h : SlaveHalf). h.activity) well, ap (λ (h : SlaveHalf). h.registers.offered) well, ap (λ (h : SlaveHalf). h.registers.forced) well)
@@ -55,7 +55,7 @@ ended_idle (Writing word value) half later (inr fails) = (
   ap (λ (h : SlaveHalf). h.registers.forced) fails.ends.rested_is,
 )
 
-amended_rests : (shadow real later : SlaveHalf) → IsAmended shadow real → MayRest real later → IsAmended shadow later
+pub amended_rests : (shadow real later : SlaveHalf) → IsAmended shadow real → MayRest real later → IsAmended shadow later
 amended_rests shadow real later am (inl same) = subst (IsAmended shadow) (sym same) am
 amended_rests shadow real later am (inr ends) =
     let e = ended_idle real.activity real later ends in
@@ -69,7 +69,7 @@ amended_rests shadow real later am (inr ends) =
     }
 
 -- a half that is like it
-amended_like : (shadow real later : SlaveHalf) → IsAmended shadow real → IsLike real later → IsAmended shadow later
+pub amended_like : (shadow real later : SlaveHalf) → IsAmended shadow real → IsLike real later → IsAmended shadow later
 amended_like shadow real later am like = record {
   station = like.station ∙ am.station;
   offered = like.registers.offered ∙ am.offered;
@@ -141,7 +141,7 @@ module _ (shadow half : SlaveHalf) (d : Pdu) (am : IsAmended shadow half) where
           (sym (is_written ∙ written_idle half 2 d.content idle ∙ judges half 2 d.content covers ∙ begun_is (judged half 2 d.content)))
           (begins half d.content shadow idle am (own_write shadow half d own) (doing_of (judged half 2 d.content)) refl)
 
-  served_amended : (d.command ≡ 4) ⊎ ((d.command ≡ 5) × IsOwn shadow d) → IsAmended shadow (served_datagram half d).half
+  pub served_amended : (d.command ≡ 4) ⊎ ((d.command ≡ 5) × IsOwn shadow d) → IsAmended shadow (served_datagram half d).half
   served_amended (inl read) = unchanged (reads_only half d read)
   served_amended (inr own) = elim (true_or_false (writes_here half (command_of d.command) d.address d.content)) [
     | inl here ↦ own_written own.1 here
@@ -192,7 +192,7 @@ busy_is_possible shadow real at_work am same command_error enable_error = like_i
 })
 
 -- the words of a slave whose word in flight holds this
-held_is : (shadow real : SlaveHalf) (word value : ℕ) → IsAmended shadow real → shadow.activity ≡ Writing word value
+pub held_is : (shadow real : SlaveHalf) (word value : ℕ) → IsAmended shadow real → shadow.activity ≡ Writing word value
     → real.words ≡ slice_set shadow.words word (slice_index real.words word)
 held_is shadow real word value am flying =
     let h : MayHold (Writing word value) shadow.words real.words = subst (λ (t : Activity). MayHold t shadow.words real.words) flying am.words in

@@ -12,6 +12,12 @@ use Rattle.site_wire.specs.Due.{WritesControl, none, reads, writes, IsFit, clear
 use Rattle.site_wire.specs.Due as due
 use Rattle.esc_model.proofs.Addressing.{register_is}
 
+-- a word in flight is being written
+pub writing_by : (activity : Activity) (write : WordWrite) → in_flight activity ≡ Some write → activity ≡ Writing write.word write.value
+writing_by Idle write e = absurd cc
+writing_by Reading write e = absurd cc
+writing_by (Writing word value) write e = cc
+
 -- a read of registers
 pub read_due : (half : SlaveHalf) (frame : List Pdu) (address : ℕ) (content : List ℕ) → frame ≡ sent Fprd 0 address content ∷ [] → IsDue half frame
 read_due half frame address content is = record {
@@ -57,13 +63,8 @@ write_due half frame slave write near small fits inside flying is = record {
     from = λ command. register_is slave 0x0502 near;
     names = λ command. writes (omega arith) refl (subst (λ (n : ℕ). n < length half.words) (sym (number_back write.word small)) inside);
   };
-  quiet = λ busy writes_it. due.writes write.word write.value (writing_by half.activity flying) small fits (register_is slave 0x0502 near) refl;
+  quiet = λ busy writes_it. due.writes write.word write.value (writing_by half.activity write flying) small fits (register_is slave 0x0502 near) refl;
 }
-  where
-    writing_by : (activity : Activity) → in_flight activity ≡ Some write → activity ≡ Writing write.word write.value
-    writing_by Idle e = absurd cc
-    writing_by Reading e = absurd cc
-    writing_by (Writing word value) e = cc
 
 -- what the shadow takes, unless it is busy and takes nothing of it
 pub sent_due : (half : SlaveHalf) (frame : List Pdu) (d : Pdu) → frame ≡ d ∷ [] → IsFit half d

@@ -62,6 +62,18 @@ fetches_well half is =
     by false true reads writes e = absurd cc
     by false false reads writes e = (refl, refl)
 
+pub fetches_command : (half : SlaveHalf) → doing_of half ≡ Fetches → half.registers.command ≡ 1
+unfolding doing
+fetches_command half is =
+    eqb-true half.registers.command 1
+    (by (half.registers.command_error || half.registers.enable_error) (half.registers.command == 1) (half.registers.command == 2) is)
+  where
+    by : (error reads writes : Bool) → (if error then Nothing else if reads then Fetches else if writes then Writes else Nothing) ≡ Fetches → reads ≡ true
+    by true reads writes e = absurd cc
+    by false true writes e = refl
+    by false false true e = absurd cc
+    by false false false e = absurd cc
+
 pub writes_command : (half : SlaveHalf) → doing_of half ≡ Writes → half.registers.command ≡ 2
 unfolding doing
 writes_command half is =

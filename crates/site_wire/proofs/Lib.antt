@@ -12,4 +12,12 @@ mod AmendedLaws
 mod Boards
 mod Due
 mod Only
-mod Sending
+mod ForEeprom
+pub mod Living
+mod Sends
+mod ReadingBack
+mod Behind
+mod Carrying
+mod FollowingUp
+mod Following
+mod DueTo

@@ -112,7 +112,7 @@ is_read : (half : SlaveHalf) (d : Pdu) → d.command ≡ 4 → served_datagram h
 unfolding served
 is_read half d reads = ap (λ (n : ℕ). served half (command_of n) d.address d.content) reads
 
-read_replied : (half : SlaveHalf) (d : Pdu) → d.command ≡ 4 → d.counter ≡ 0 → (d.counter + (served_datagram half d).added) % 65536 ≡ 1
+pub read_replied : (half : SlaveHalf) (d : Pdu) → d.command ≡ 4 → d.counter ≡ 0 → (d.counter + (served_datagram half d).added) % 65536 ≡ 1
     → (concerns half d.address (length d.content) ≡ true) × (served_datagram half d ≡ replied half (register_of d.address - 0x0500) d.content)
 read_replied half d reads fresh counted = by (true_or_false (concerns half d.address (length d.content)))
   where

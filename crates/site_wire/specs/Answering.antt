@@ -26,6 +26,11 @@ found_of answer = record {
   counter = answer.counter;
 }
 
+-- One slave counted the datagram, and it came back with these bytes.
+pub record ShowsPair (found : Pdu) (pair : List ℕ) : Type 0 where
+  pub counter : found.counter ≡ 1
+  pub content : found.content ≡ pair
+
 -- what the byte at 0x0503 shows of a slave: bit 7 is busy, bits 5 and 6 are the errors
 abbrev pub shown_by : Option ℕ → Shown
 shown_by None = shown.Nothing

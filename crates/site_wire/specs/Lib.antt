@@ -8,3 +8,6 @@ pub mod Answering
 pub mod Joining
 pub mod Known
 pub mod Orders
+pub mod Sent
+pub mod RealSlaves
+pub mod Following

@@ -1,14 +1,18 @@
 //! What a device sends of its own to a slave whose shadow writes a word: the command again, where the slave has not carried it out, and the
 //! read of the word, once the slave shows it as written.
-ghost use Rattle.std.specs.Prelude.{◌≡◌, ◌+◌, ◌<◌, ◌≤◌, ◌∷◌, ◌++◌, [], Some, length};
+ghost use Rattle.std.specs.Prelude.{◌≡◌, ◌+◌, ◌%◌, ◌<◌, ◌≤◌, ◌∷◌, ◌++◌, [], Some, length};
 ghost use Rattle.std.specs.Int.{w16, w32, to_le_bytes};
 ghost use Rattle.ecat_frame.specs.Frame.{sent};
 ghost use Rattle.ecat_frame.specs.declared.command.Command.TheVariants.{Fprd, Fpwr};
 ghost use Rattle.esc_model.specs.Orders.{address_of};
+ghost use Rattle.esc_model.specs.Bytes.{word_at};
 ghost use Rattle.esc_model.specs.SlaveHalf.{in_flight};
+ghost use Rattle.site_wire.specs.Answering.{found_of};
+ghost use Rattle.site_wire.specs.Following.{SendsOwn, Polls, TriesPair, ReadsBack};
 
 use crate::answers::{Answer, Shown, state_shown};
 use crate::reach::Reach;
+use crate::sending::Sender;
 use ecat_frame::{Command, Frame, fp};
 use esc_model::{RomHalf, WordWrite, station_address};
 use esc_rom::{CONTENT, CONTROL, POLLS, write_content};
@@ -78,16 +82,17 @@ fn write_frame(slave: u16, write: WordWrite) -> Frame
 }
 
 /// Clears the errors of a slave. None where the line has stopped.
-#[tactic(auto, using(crate::proofs::Due::clear_due, crate::proofs::Sending::clear_eeprom))]
-fn clear<L: Reach>(line: &mut L, slave: u16, half: &RomHalf) -> Option<Answer>
+#[tactic(auto, using(crate::proofs::Due::clear_due, crate::proofs::ForEeprom::clear_eeprom))]
+fn clear<L: Reach>(line: &mut Sender<L>, slave: u16, half: &RomHalf) -> Option<Answer>
     requires { slave < 64 }
+    ensures { SendsOwn slave half.now line.old.moment line.new.moment }
 {
     line.pass(half, &clear_frame(slave))
 }
 
 /// Clears the errors of a slave, and tells it again to write the word in flight. Tells whether it took that. None where the line has stopped.
 pub(crate) fn issue_again<L: Reach>(
-    line: &mut L,
+    line: &mut Sender<L>,
     slave: u16,
     half: &RomHalf,
     write: WordWrite,
@@ -95,6 +100,7 @@ pub(crate) fn issue_again<L: Reach>(
     requires slave { slave < 64 }
     requires flying { in_flight half.now.activity ≡ Some write }
     requires inside { write.word < length half.now.words }
+    ensures { SendsOwn slave half.now line.old.moment line.new.moment }
 {
     let _cleared = clear(line, slave, half)?;
     let answer = line.pass(half, &write_frame(slave, write))?;
@@ -103,14 +109,15 @@ pub(crate) fn issue_again<L: Reach>(
 
 /// Polls a slave until it shows that it is idle, and gives what it shows. `Nothing` where none of 10,000 polls sees that, or a hundred in a
 /// row aren't counted. None where the line has stopped.
-#[tactic(auto, using(crate::proofs::Due::read_due, crate::proofs::Sending::poll_eeprom))]
+#[tactic(auto, using(crate::proofs::Due::read_due, crate::proofs::ForEeprom::poll_eeprom))]
 fn wait_idle<L: Reach, C: Clock>(
-    line: &mut L,
+    line: &mut Sender<L>,
     clock: &C,
     slave: u16,
     half: &RomHalf,
 ) -> Option<Shown>
     requires { slave < 64 }
+    ensures { Polls slave line.old.moment line.new.moment result }
 {
     let poll = frame_for(slave, Command::Fprd, CONTROL, &[0, 0]);
     let mut pace = Pace::of_polls();
@@ -130,9 +137,9 @@ fn wait_idle<L: Reach, C: Clock>(
 }
 
 /// Tries once to read a word and the next one. None where the line has stopped.
-#[tactic(auto, using(crate::proofs::Due::read_due, crate::proofs::Sending::fetch_eeprom))]
+#[tactic(auto, using(crate::proofs::Due::read_due, crate::proofs::ForEeprom::fetch_eeprom))]
 fn try_pair<L: Reach, C: Clock>(
-    line: &mut L,
+    line: &mut Sender<L>,
     clock: &C,
     slave: u16,
     half: &RomHalf,
@@ -141,6 +148,7 @@ fn try_pair<L: Reach, C: Clock>(
 ) -> Option<Tried>
     requires slave { slave < 64 }
     requires inside { word + 1 < length half.now.words }
+    ensures { TriesPair slave half.now word line.old.moment line.new.moment result }
 {
     let taken = line.pass(half, &read_frame(slave, word, held))?;
     let shown = wait_idle(line, clock, slave, half)?;
@@ -159,7 +167,10 @@ fn try_pair<L: Reach, C: Clock>(
 }
 
 /// Of two neighbouring words the one with this number.
-fn word_in(pair: [u8; 4], word: u16) -> u16 {
+fn word_in(pair: [u8; 4], word: u16) -> u16
+    ensures even { word % 2 ≡ 0 → result ≡ word_at pair 0 }
+    ensures odd { word % 2 ≡ 1 → result ≡ word_at pair 2 }
+{
     let [a, b, c, d] = pair;
     if word % 2 == 0 {
         u16::from_le_bytes([a, b])
@@ -171,13 +182,14 @@ fn word_in(pair: [u8; 4], word: u16) -> u16 {
 /// Reads the word in flight back from a slave that shows it as written. A try that isn't acknowledged is followed by command 000 and a
 /// pause; they take half a second. None where the word can't be read, the slave isn't seen idle, or the line has stopped.
 pub(crate) fn read_back<L: Reach, C: Clock>(
-    line: &mut L,
+    line: &mut Sender<L>,
     clock: &C,
     slave: u16,
     half: &RomHalf,
     write: WordWrite,
 ) -> Option<u16>
     requires { slave < 64 }
+    ensures { ReadsBack slave half.now write.word line.old.moment line.new.moment result }
 {
     let first = write.word - write.word % 2;
     if usize::from(first) + 1 >= half.words().len() {

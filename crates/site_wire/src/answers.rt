@@ -2,7 +2,7 @@
 ghost use Rattle.std.specs.Prelude.{◌≡◌, ◌≢◌, ◌<◌, ◌/◌, ◌↔◌, length, IsTrue, IfSome, None, Some};
 ghost use Rattle.ecat_frame.specs.Frame.{pdu};
 ghost use Rattle.site_wire.specs.Answers.{compared, ReadAlike, shown_status};
-ghost use Rattle.site_wire.specs.Answering.{found_of, shown_by, IsAnswer, difference_at, FirstDiffers, IsAlike, IsUnconfirmed};
+ghost use Rattle.site_wire.specs.Answering.{found_of, shown_by, ShowsPair, IsAnswer, difference_at, FirstDiffers, IsAlike, IsUnconfirmed};
 ghost use Rattle.site_wire.specs.declared.answers.Comparison.TheVariants.{Alike, Unconfirmed};
 
 use crate::faults::Difference;
@@ -91,7 +91,9 @@ impl Answer {
     }
 
     /// The two words in the answer to a read of them. None where it isn't one that one slave counted.
-    pub(crate) fn words_read(&self) -> Option<[u8; 4]> {
+    pub(crate) fn words_read(&self) -> Option<[u8; 4]>
+        ensures { IfSome result (λ pair. ShowsPair (found_of self.now) pair) }
+    {
         let [a, b, c, d, ..] = self.front;
         let is_read = self.command.code() == FPRD && register_of(self.address) == WORDS;
         if is_read && self.length == 4 && self.counter == 1 {

@@ -1,22 +1,30 @@
 //! The slaves on a wire and the journal's file, as the device behind a shadow.
-ghost use Rattle.std.specs.Prelude.{◌≡◌, ◌<◌, ◌∷◌, ◌==◌, [], true, false, None, Some, length, slice_set, if◌then◌else◌, IsTrue, IfSome, IsSome};
+ghost use Rattle.std.specs.Prelude.{◌≡◌, ◌↔◌, ℕ, ◌<◌, ◌∷◌, ◌==◌, ◌||◌, not, [], true, false, None, Some, length, slice_set, if◌then◌else◌, IsTrue, IfSome, IsSome};
 ghost use Rattle.ecat_frame.specs.Frame.{Pdu, pdu};
 ghost use Rattle.site_wire.specs.Due.{IsFit, WritesControl};
 ghost use Rattle.esc_model.specs.SlaveHalf.{in_flight, is_busy};
 ghost use Rattle.site_shadow.specs.declared.device.Resting.TheVariants as resting;
+ghost use Rattle.site_shadow.specs.declared.device.Passing.TheVariants.{Passes, Fails};
 ghost use Rattle.site_wire.specs.declared.answers.Shown.TheVariants as shown_as;
 ghost use Rattle.site_wire.specs.Answers.{shown_status};
 ghost use Rattle.site_wire.specs.Answering.{found_of, shown_by, next_by, AgreesWith};
 ghost use Rattle.wire_frames.specs.Sending.{IsForEeprom};
 ghost use Rattle.site_wire.specs.Known.{IsKnown};
+ghost use Rattle.std.specs.List.{All};
+ghost use Rattle.std.specs.Option.{option_map};
+ghost use Rattle.site_wire.specs.Sent.{exchanged, Sends};
+ghost use Rattle.site_wire.specs.Following.{SendsNothing, ReadsBack, rests_with, FollowsUp, SendsFor, IsDueTo, CarriesFrame};
+ghost use Rattle.esc_model.specs.Bytes.{station_of};
+ghost use Rattle.esc_model.specs.Orders.{station};
 
 use crate::amending::{issue_again, read_back};
 use crate::answers::{Answer, Comparison, Shown, compared_with, state_shown};
 use crate::faults::{Difference, StopReason};
-use crate::fitting::{is_fit, is_for_eeprom, is_known, only_datagram, waits_for_rest};
+use crate::fitting::{is_fit, is_for_eeprom, is_ignored, is_known, only_datagram};
 use crate::reach::{LiveLine, Reach, SharedLine};
+use crate::sending::Sender;
 use ecat_frame::{Datagram, Frame};
-use esc_model::{RomHalf, WordWrite};
+use esc_model::{RomHalf, WordWrite, station_address};
 use site_file::{FileDevice, RandomAccessFile};
 use site_shadow::{Device, Passing, Pattern, Resting, ShadowSite};
 use std::alloc::AllocError;
@@ -43,7 +51,7 @@ const LEFT: Pattern = Pattern::New;
 /// Over a `SharedLine` each part of a line can have a copy. Once one of them has stopped, no other sends a frame.
 #[derive(Drop)]
 pub struct WireDevice<'f, L, F, C> {
-    line: L,
+    sender: Sender<L>,
     clock: &'f C,
     journal: FileDevice<'f, F>,
     /// What came back of the last frame. None where it wasn't sent, or didn't come back, or the slave writes its word again.
@@ -55,7 +63,7 @@ pub struct WireDevice<'f, L, F, C> {
     /// By slave, whether its command was not counted as it was sent last, and the slave wasn't seen busy since. Of each command that is at
     /// an end the slave was seen idle, and so this is settled.
     is_unconfirmed: [bool; 64],
-    /// Whether this device has stopped its site.
+    /// Whether this device has stopped its site, or refuses to send.
     is_over: bool,
 }
 
@@ -96,7 +104,7 @@ impl<'f, L: Copy, F, C> Clone for WireDevice<'f, L, F, C> {
 
     fn clone(&self) -> Result<Self, AllocError> {
         Ok(WireDevice {
-            line: self.line,
+            sender: self.sender,
             clock: self.clock,
             journal: self.journal,
             returned: self.returned,
@@ -120,13 +128,13 @@ impl<'f, W: Wire, F: RandomAccessFile, C: Clock> WireDevice<'f, LiveLine<W>, F, 
 
     /// The wire, as work on it ends.
     pub fn into_wire(self) -> NumberedWire<W> {
-        let WireDevice { line, .. } = self;
-        line.into_wire()
+        let WireDevice { sender, .. } = self;
+        sender.line.into_wire()
     }
 
     /// How many frames were sent, and how many of them had been sent before.
     pub fn frames(&self) -> (u64, u64) {
-        self.line.frames()
+        self.sender.line.frames()
     }
 }
 
@@ -173,7 +181,7 @@ impl<'f, L: Reach, F: RandomAccessFile, C: Clock> WireDevice<'f, L, F, C> {
     /// The slaves on this line, and this journal.
     fn on(line: L, clock: &'f C, journal: FileDevice<'f, F>) -> WireDevice<'f, L, F, C> {
         WireDevice {
-            line,
+            sender: Sender::new(line),
             clock,
             journal,
             returned: None,
@@ -184,27 +192,38 @@ impl<'f, L: Reach, F: RandomAccessFile, C: Clock> WireDevice<'f, L, F, C> {
         }
     }
 
+    /// Whether nothing may be sent: the site is over, or the shadow behind which the device is put has seen a call.
+    fn must_refuse(&self, is_new: bool) -> bool
+        ensures { result ≡ (self.now.is_over || not is_new) }
+    {
+        self.is_over || !is_new
+    }
+
     /// Why the site has stopped, if it has.
     pub fn reason(&self) -> Option<StopReason> {
-        self.line.reason()
+        self.sender.line.reason()
     }
 
     /// What was seen of the slave for which the site has stopped, if it has.
     pub fn seen(&self) -> Option<Sighting> {
-        self.line.seen()
+        self.sender.line.seen()
     }
 
     /// The site stops with this reason, unless the line has one already. `about` says which slave it is about, and its last answer.
     fn stop(&mut self, reason: StopReason, about: Option<(u16, Last)>)
         ensures over { self.new.is_over ≡ true }
         ensures rests { self.new.resting ≡ self.old.resting }
+        ensures moment { self.new.sender.moment ≡ self.old.sender.moment }
     {
         self.is_over = true;
-        self.line.stop(reason, about);
+        self.sender.line.stop(reason, about);
     }
 
     /// A call on the journal that ended so.
-    fn end_call(&mut self, passing: Passing) -> Passing {
+    fn end_call(&mut self, passing: Passing) -> Passing
+        ensures quiet { SendsNothing self.old self.new }
+        ensures well { self.new.is_over ≡ false → result ≡ Passes }
+    {
         match passing {
             Passing::Passes => {}
             Passing::Fails | Passing::Stops(_) => self.stop(StopReason::Journal, None),
@@ -216,6 +235,7 @@ impl<'f, L: Reach, F: RandomAccessFile, C: Clock> WireDevice<'f, L, F, C> {
     fn compare(&mut self, slave: usize, half: &RomHalf, answer: &Frame) -> Option<Difference>
         ensures agrees { result ≡ None → IfSome self.old.returned (λ found. AgreesWith half.now answer.now found) }
         ensures over { self.new.is_over ≡ self.old.is_over }
+        ensures moment { self.new.sender.moment ≡ self.old.sender.moment }
     {
         let found = self.returned?;
         if answer.count() == 0 {
@@ -228,6 +248,17 @@ impl<'f, L: Reach, F: RandomAccessFile, C: Clock> WireDevice<'f, L, F, C> {
                 None
             }
             Comparison::Differs(what) => Some(what),
+        }
+    }
+
+    /// The site stops where the slave's answer is another than the shadow's.
+    fn judge(&mut self, slave: usize, half: &RomHalf, answer: &Frame)
+        ensures agrees { self.new.is_over ≡ false → IfSome self.old.returned (λ found. AgreesWith half.now answer.now found) }
+        ensures quiet { SendsNothing self.old self.new }
+    {
+        if let Some(what) = self.compare(slave, half, answer) {
+            let about = self.about(slave);
+            self.stop(StopReason::Differs { slave, what }, about);
         }
     }
 
@@ -244,49 +275,84 @@ impl<'f, L: Reach, F: RandomAccessFile, C: Clock> WireDevice<'f, L, F, C> {
         ensures set { slave < 64 → self.new.is_unconfirmed ≡ slice_set self.old.is_unconfirmed slave is_unconfirmed }
         ensures over { self.new.is_over ≡ self.old.is_over }
         ensures rests { self.new.resting ≡ self.old.resting }
+        ensures moment { self.new.sender.moment ≡ self.old.sender.moment }
     {
         if slave < 64 {
             self.is_unconfirmed[slave] = is_unconfirmed;
         }
     }
 
-    /// Sends a frame of one datagram, unless the half is busy and takes nothing of it. Where the half is busy, a pause comes first, and
-    /// then a word in flight ends as the answer shows.
+    /// Sends the frame, unless its datagram tells nothing new, or the half is busy and takes nothing of it, and notes how the half rests then.
+    fn carry(&mut self, slave: usize, half: &RomHalf, frame: &Frame)
+        ensures carries { CarriesFrame slave half.now frame.now self.old.sender.moment self.new.sender.moment self.new.is_over self.new.resting }
+        ensures known { (d : Pdu) → frame.now ≡ d ∷ [] → IsKnown half.now d → self.new.is_over ≡ false
+            → self.new ≡ record self.old { returned = None; resting = resting.Well } }
+    {
+        self.returned = None;
+        self.resting = Resting::Stays;
+        let Some(number) = number_of(slave) else {
+            return self.stop(StopReason::NotOneDatagram { slave }, None);
+        };
+        match fit_datagram(number, half, frame) {
+            Some(sent) if is_known(half, sent) => self.resting = Resting::Well,
+            Some(sent) if is_ignored(half, sent) => {}
+            Some(sent) => self.send(number, half, sent, frame),
+            None => self.stop(StopReason::NotOneDatagram { slave }, None),
+        }
+    }
+
+    /// Sends a frame of one datagram that the half takes. Where the half is busy, a pause comes first, and then a word in flight ends as the answer
+    /// shows.
     fn send(&mut self, slave: u16, half: &RomHalf, sent: Datagram<'_>, frame: &Frame)
         requires slave { slave < 64 }
         requires frame { frame.now ≡ pdu sent ∷ [] }
         requires fits { IsFit half.now (pdu sent) }
         requires eeprom { IsForEeprom (pdu sent) }
+        requires quiet { IsTrue (is_busy half.now.activity) → ¬ WritesControl (pdu sent) }
         requires news { ¬ IsKnown half.now (pdu sent) }
         requires stays { self.old.resting ≡ resting.Stays }
+        requires to { station_of (pdu sent).address ≡ station slave }
+        ensures { SendsFor slave half.now (pdu sent.entry) self.old.sender.moment self.new.sender.moment self.new.is_over self.new.resting }
     {
-        let place = usize::from(slave);
-        if !half.is_at_work() {
+        self.prepare(usize::from(slave), half);
+        self.pass(half, sent, frame);
+        let Some(write) = half.in_flight() else {
+            return;
+        };
+        let Some(answer) = self.returned else {
+            return;
+        };
+        self.follow(slave, half, write, answer);
+    }
+
+    /// An idle half begins anew; of a busy one a pause comes first.
+    fn prepare(&mut self, place: usize, half: &RomHalf)
+        requires { place < 64 }
+        ensures moment { self.new.sender.moment ≡ self.old.sender.moment }
+        ensures rests { self.new.resting ≡ self.old.resting }
+    {
+        if half.is_at_work() {
+            self.writes[place].polls.pause(self.clock);
+        } else {
             self.writes[place] = SlaveWrite::begun();
             self.is_unconfirmed[place] = false;
-        } else if waits_for_rest(sent) {
-            return;
-        } else {
-            self.writes[place].polls.pause(self.clock);
-        }
-        self.pass(half, sent, frame);
-        match (self.returned, half.in_flight()) {
-            (Some(answer), Some(write)) => self.follow(slave, half, write, answer),
-            _ => {}
         }
     }
 
     /// Sends a frame of one datagram that the half takes.
-    #[tactic(auto, using(crate::proofs::Due::sent_due, crate::proofs::Sending::all_of_one))]
+    #[tactic(auto, using(crate::proofs::Due::sent_due, crate::proofs::ForEeprom::all_of_one))]
     fn pass(&mut self, half: &RomHalf, sent: Datagram<'_>, frame: &Frame)
         requires frame { frame.now ≡ pdu sent ∷ [] }
         requires fits { IsFit half.now (pdu sent) }
         requires eeprom { IsForEeprom (pdu sent) }
         requires quiet { IsTrue (is_busy half.now.activity) → ¬ WritesControl (pdu sent) }
         requires news { ¬ IsKnown half.now (pdu sent) }
-        ensures { self.new.resting ≡ self.old.resting }
+        ensures rests { self.new.resting ≡ self.old.resting }
+        ensures sends { Sends self.old.sender.moment self.new.sender.moment
+            (exchanged (pdu sent.entry) (option_map found_of self.new.returned) ∷ []) }
+        ensures over { self.new.is_over ≡ false → IsSome self.new.returned }
     {
-        self.returned = self.line.pass(half, frame);
+        self.returned = self.sender.pass(half, frame);
         self.is_over = self.returned.is_none();
     }
 
@@ -297,7 +363,7 @@ impl<'f, L: Reach, F: RandomAccessFile, C: Clock> WireDevice<'f, L, F, C> {
         requires inside { write.word < length half.now.words }
         requires stays { self.old.resting ≡ resting.Stays }
         ensures busy { shown_by (shown_status (found_of answer)) ≡ shown_as.Busy → self.new.resting ≡ resting.Stays }
-        ensures failed { ¬ (self.new.resting ≡ resting.Failed) }
+        ensures up { FollowsUp slave half.now write self.old.sender.moment self.new.sender.moment self.new.resting }
     {
         let is_unconfirmed = self.is_unconfirmed[usize::from(slave)];
         let shown = state_shown(&answer);
@@ -308,20 +374,25 @@ impl<'f, L: Reach, F: RandomAccessFile, C: Clock> WireDevice<'f, L, F, C> {
                 }
             }
             Next::Again => self.try_again(slave, half, write, answer),
-            Next::ReadsBack => match self.read_back(slave, half, write) {
-                Some(value) if value == write.value => self.resting = Resting::Well,
-                _ => self.try_again(slave, half, write, answer),
-            },
+            Next::ReadsBack => {
+                let found = self.read_back(slave, half, write);
+                if is_value(found, write.value) {
+                    self.resting = Resting::Well;
+                } else {
+                    self.try_again(slave, half, write, answer);
+                }
+            }
         }
     }
 
     /// Reads the word in flight back.
     fn read_back(&mut self, slave: u16, half: &RomHalf, write: WordWrite) -> Option<u16>
         requires slave { slave < 64 }
-        ensures { self.new.resting ≡ self.old.resting }
+        ensures rests { self.new.resting ≡ self.old.resting }
+        ensures back { ReadsBack slave half.now write.word self.old.sender.moment self.new.sender.moment result }
     {
-        let found = read_back(&mut self.line, self.clock, slave, half, write);
-        self.is_over = self.line.reason().is_some();
+        let found = read_back(&mut self.sender, self.clock, slave, half, write);
+        self.is_over = self.sender.line.reason().is_some();
         found
     }
 
@@ -332,7 +403,7 @@ impl<'f, L: Reach, F: RandomAccessFile, C: Clock> WireDevice<'f, L, F, C> {
         requires flying { in_flight half.now.activity ≡ Some write }
         requires inside { write.word < length half.now.words }
         requires stays { self.old.resting ≡ resting.Stays }
-        ensures { ¬ (self.new.resting ≡ resting.Failed) }
+        ensures { FollowsUp slave half.now write self.old.sender.moment self.new.sender.moment self.new.resting }
     {
         let place = usize::from(slave);
         if self.is_over {
@@ -344,7 +415,7 @@ impl<'f, L: Reach, F: RandomAccessFile, C: Clock> WireDevice<'f, L, F, C> {
         self.returned = None;
         self.writes[place].tries += 1;
         self.writes[place].pauses.pause(self.clock);
-        match issue_again(&mut self.line, slave, half, write) {
+        match issue_again(&mut self.sender, slave, half, write) {
             Some(is_taken) => self.set_unconfirmed(place, !is_taken),
             None => self.is_over = true,
         }
@@ -354,7 +425,7 @@ impl<'f, L: Reach, F: RandomAccessFile, C: Clock> WireDevice<'f, L, F, C> {
     fn end_in_error(&mut self, slave: u16, half: &RomHalf, write: WordWrite, answer: Answer)
         requires slave { slave < 64 }
         requires stays { self.old.resting ≡ resting.Stays }
-        ensures { ¬ (self.new.resting ≡ resting.Failed) }
+        ensures { FollowsUp slave half.now write self.old.sender.moment self.new.sender.moment self.new.resting }
     {
         self.returned = None;
         match self.read_back(slave, half, write) {
@@ -369,9 +440,29 @@ impl<'f, L: Reach, F: RandomAccessFile, C: Clock> WireDevice<'f, L, F, C> {
     }
 }
 
+/// The number of a slave that a line may have.
+fn number_of(slave: usize) -> Option<u16>
+    ensures { IfSome result (λ number. (number ≡ slave) × (number < 64)) }
+{
+    match u16::try_from(slave) {
+        Ok(number) if number < 64 => Some(number),
+        _ => None,
+    }
+}
+
+/// Whether this value was read.
+fn is_value(found: Option<u16>, value: u16) -> bool
+    ensures { IsTrue result → found ≡ Some value }
+{
+    match found {
+        Some(read) => read == value,
+        None => false,
+    }
+}
+
 /// How a word ends that the slave holds as this value.
 fn ended_with(write: WordWrite, value: u16) -> Resting
-    ensures { result ≡ (if value == write.value then resting.Well else resting.FailedWith value) }
+    ensures { result ≡ rests_with write value }
 {
     if value == write.value {
         Resting::Well
@@ -380,81 +471,112 @@ fn ended_with(write: WordWrite, value: u16) -> Resting
     }
 }
 
-/// The datagram of a frame that has just one, if that is for registers of the EEPROM, and its command is one for this half.
-fn fit_datagram<'a>(half: &RomHalf, frame: &'a Frame) -> Option<Datagram<'a>>
-    ensures one { IfSome result (λ datagram. frame.now ≡ pdu datagram ∷ []) }
-    ensures fits { IfSome result (λ datagram. IsFit half.now (pdu datagram)) }
-    ensures eeprom { IfSome result (λ datagram. IsForEeprom (pdu datagram)) }
+/// Each byte is below 256.
+fn are_bytes(bytes: &[u8])
+    ensures { All (λ (byte : ℕ). byte < 256) bytes.now }
+{}
+
+/// The datagram of a frame that has just one, if that is for registers of the EEPROM of the slave at this place, and its command is one for this
+/// half.
+#[tactic(auto, using(crate::proofs::DueTo::due_to))]
+fn fit_datagram<'a>(slave: u16, half: &RomHalf, frame: &'a Frame) -> Option<Datagram<'a>>
+    requires { slave < 64 }
+    ensures { IfSome result (λ datagram. IsDueTo slave half.now frame.now (pdu datagram)) }
 {
-    match only_datagram(frame) {
-        Some(datagram) if is_for_eeprom(datagram) && is_fit(half, datagram) => Some(datagram),
-        _ => None,
+    let datagram = only_datagram(frame)?;
+    are_bytes(datagram.content);
+    let is_to = datagram.address % 65536 == u32::from(station_address(slave));
+    if is_to && is_for_eeprom(datagram) && is_fit(half, datagram) {
+        Some(datagram)
+    } else {
+        None
     }
 }
 
 impl<'f, L: Reach, F: RandomAccessFile, C: Clock> Device for WireDevice<'f, L, F, C> {
-    fn begin(&mut self, is_new: bool) {
+    ghost use Rattle.std.specs.Prelude.{[], ◌↔◌};
+    ghost use Rattle.site_core.specs.State.{Seen};
+    ghost use Rattle.site_shadow.specs.Following.{Keeps, WriteKeeps, SyncKeeps, RestKeeps};
+    ghost use Rattle.site_wire.specs.Following.{WireFollows};
+
+    ghost follows = { WireFollows };
+
+    ghost well = { λ device. device.is_over ≡ false };
+
+    /// What is sent is noted from here on. Behind a shadow that has seen a call the device would not know what the slaves are: it sends nothing.
+    fn begin(&mut self, is_new: bool)
+        ensures follows { (seen : Seen) → (IsTrue is_new ↔ seen.past ≡ []) → WireFollows self.new seen }
+    {
         self.journal.begin(is_new);
+        self.sender.begin();
+        self.is_over = self.must_refuse(is_new);
     }
 
-    fn len(&mut self, length: usize) -> Passing {
+    #[tactic(auto, using(crate::proofs::Following::nothing_keeps))]
+    fn len(&mut self, length: usize) -> Passing
+        ensures follows { Keeps WireFollows self.old self.new }
+    {
         let passing = self.journal.len(length);
         self.end_call(passing)
     }
 
-    fn read(&mut self, at: usize, held: &[u8]) -> Passing {
+    #[tactic(auto, using(crate::proofs::Following::nothing_keeps))]
+    fn read(&mut self, at: usize, held: &[u8]) -> Passing
+        ensures follows { Keeps WireFollows self.old self.new }
+    {
         let passing = self.journal.read(at, held);
         self.end_call(passing)
     }
 
-    fn write(&mut self, at: usize, bytes: &[u8]) -> Passing {
+    fn write(&mut self, at: usize, bytes: &[u8]) -> Passing
+        ensures follows { WriteKeeps WireFollows at bytes.now self.old result self.new }
+    {
         let passing = self.journal.write(at, bytes);
         self.end_call(passing)
     }
 
-    fn sync(&mut self) -> Passing {
+    fn sync(&mut self) -> Passing
+        ensures follows { SyncKeeps WireFollows self.old result self.new }
+    {
         let passing = self.journal.sync();
         self.end_call(passing)
     }
 
-    /// Sends the frame, unless its datagram tells nothing new, and the half rests and answers by itself; or the half is busy and takes nothing
-    /// of it. A frame that doesn't come back may have been taken, so the half takes it before the site stops.
+    /// Lets the frame pass, which `rest` sends. One that isn't a datagram for the EEPROM of this slave, and fit for its half, stops the site.
+    #[tactic(auto, using(crate::proofs::Following::nothing_keeps))]
     fn exchange(&mut self, slave: usize, half: &RomHalf, frame: &Frame) -> Passing
-        ensures known { (d : Pdu) → frame.now ≡ d ∷ [] → IsKnown half.now d → self.new.is_over ≡ false
-            → self.new ≡ record self.old { returned = None; resting = resting.Well } }
+        ensures follows { Keeps WireFollows self.old self.new }
     {
-        self.returned = None;
-        self.resting = Resting::Stays;
         if self.is_over {
             return Passing::Stops(LEFT);
         }
-        match (fit_datagram(half, frame), u16::try_from(slave)) {
-            (Some(sent), Ok(number)) if number < 64 => {
-                if is_known(half, sent) {
-                    self.resting = Resting::Well;
-                } else {
-                    self.send(number, half, sent, frame);
-                }
-            }
+        match number_of(slave) {
+            Some(number) if fit_datagram(number, half, frame).is_some() => Passing::Passes,
             _ => {
                 self.stop(StopReason::NotOneDatagram { slave }, None);
-                return Passing::Stops(LEFT);
+                Passing::Stops(LEFT)
             }
         }
-        Passing::Passes
     }
 
-    fn rest(&mut self, _slave: usize, _half: &RomHalf, _k: usize) -> Resting
-        ensures rests { self.old.is_over ≡ false → result ≡ self.old.resting }
-        ensures same { self.new ≡ self.old }
+    /// Sends the frame, unless its datagram tells nothing new, and the half rests and answers by itself; or the half is busy and takes nothing
+    /// of it. A frame that doesn't come back may have been taken, so the half takes it before the site stops.
+    fn rest(&mut self, slave: usize, half: &RomHalf, frame: &Frame, k: usize) -> Resting
+        ensures known { (d : Pdu) → frame.now ≡ d ∷ [] → IsKnown half.now d → self.new.is_over ≡ false
+            → self.new ≡ record self.old { returned = None; resting = resting.Well } }
+        ensures follows { RestKeeps WireFollows slave half.now frame.now k self.old result self.new }
     {
-        let resting = self.resting;
         if self.is_over {
             return Resting::Stays;
         }
-        resting
+        self.carry(slave, half, frame);
+        if self.is_over {
+            return Resting::Stays;
+        }
+        self.resting
     }
 
+    #[tactic(auto, using(crate::proofs::Following::nothing_keeps))]
     fn taken(
         &mut self,
         slave: usize,
@@ -465,13 +587,12 @@ impl<'f, L: Reach, F: RandomAccessFile, C: Clock> Device for WireDevice<'f, L, F
     ) -> Option<Pattern>
         ensures agrees { result ≡ None → IfSome self.old.returned (λ found. AgreesWith half.now answer.now found) }
         ensures stops { IsTrue self.old.is_over → IsSome result }
+        ensures follows { Keeps WireFollows self.old self.new }
     {
-        if !self.is_over {
-            if let Some(what) = self.compare(slave, half, answer) {
-                let about = self.about(slave);
-                self.stop(StopReason::Differs { slave, what }, about);
-            }
+        if self.is_over {
+            return Some(LEFT);
         }
+        self.judge(slave, half, answer);
         if self.is_over {
             return Some(LEFT);
         }
@@ -479,9 +600,18 @@ impl<'f, L: Reach, F: RandomAccessFile, C: Clock> Device for WireDevice<'f, L, F
     }
 
     /// Process data don't go over the wire: each frame for them is lost, and reaches no slave.
-    fn cycle(&mut self, _frame: &Frame) -> Passing {
+    fn cycle(&mut self, _frame: &Frame) -> Passing
+        ensures lost { result ≡ Fails }
+        ensures follows { Keeps WireFollows self.old self.new }
+    {
         Passing::Fails
     }
 
-    ghost goes_on = { λ _ _ _ _ _. tt };
+    fn is_well(&self) -> bool {
+        !self.is_over
+    }
+
+    ghost use Rattle.site_wire.specs.Following.{follows_on};
+
+    ghost goes_on = { follows_on };
 }

@@ -4,6 +4,7 @@ ghost use Rattle.ecat_frame.specs.Frame.{pdu};
 ghost use Rattle.site_wire.specs.Due.{WritesControl, IsFit, NamesInside, is_command};
 ghost use Rattle.wire_frames.specs.Sending.{IsForEeprom};
 ghost use Rattle.site_wire.specs.Known.{IsKnown};
+ghost use Rattle.esc_model.specs.SlaveHalf.{is_busy};
 
 use ecat_frame::{Datagram, Frame};
 use esc_model::RomHalf;
@@ -16,6 +17,13 @@ pub(crate) fn waits_for_rest(datagram: Datagram<'_>) -> bool
 {
     let end = register_of(datagram.address) + datagram.content.len();
     datagram.command.code() == FPWR && end > usize::from(CONTROL)
+}
+
+/// Whether the half is busy, and takes nothing of the datagram.
+pub(crate) fn is_ignored(half: &RomHalf, datagram: Datagram<'_>) -> bool
+    ensures { IsTrue result ↔ (IsTrue (is_busy half.now.activity) × WritesControl (pdu datagram.entry)) }
+{
+    half.is_at_work() && waits_for_rest(datagram)
 }
 
 /// Whether the datagram has a command for the EEPROM: it writes both bytes of control and status.

@@ -12,6 +12,7 @@ mod laws;
 mod order;
 mod ordering;
 mod reach;
+mod sending;
 
 pub use device::{SharedSite, WireDevice, WireSite};
 pub use faults::{Difference, StopReason};

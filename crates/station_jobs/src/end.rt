@@ -71,6 +71,13 @@ impl<S: Site, L: Leads> End<S, L> {
         &self.log
     }
 
+    /// The site.
+    pub fn site(&self) -> &S
+        ensures { result.now ≡ self.now.site }
+    {
+        &self.site
+    }
+
     /// The site, and the log of its jobs.
     pub fn into_parts(self) -> (S, L)
         ensures site { result.0 ≡ self.site }

@@ -52,7 +52,7 @@ impl Device for Tally {
         Passing::Passes
     }
 
-    fn rest(&mut self, _slave: usize, _half: &RomHalf, _k: usize) -> Resting {
+    fn rest(&mut self, _slave: usize, _half: &RomHalf, _frame: &Frame, _k: usize) -> Resting {
         Resting::InTime
     }
 
@@ -72,6 +72,10 @@ impl Device for Tally {
 
     fn cycle(&mut self, _frame: &Frame) -> Passing {
         Passing::Passes
+    }
+
+    fn is_well(&self) -> bool {
+        true
     }
 
     ghost goes_on = { λ _ _ _ _ _. tt };

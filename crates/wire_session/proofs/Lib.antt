@@ -2,3 +2,4 @@ mod BehindDesk
 mod Endings
 mod Recovering
 mod RunEnds
+mod SlavesHeld

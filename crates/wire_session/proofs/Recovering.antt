@@ -18,39 +18,49 @@ use Rattle.station_session.specs.Init.{Formats}
 use Rattle.station_files.specs.declared.faults.Fault.TheVariants.{Exists}
 use Rattle.wire_scan.specs.Opening.{IsFound}
 use Rattle.wire_session.specs.Recovery.{BeginsJournal, RefusesInit, EndsRecovery, Recovers, SavesRecovered}
+use Rattle.wire_session.specs.Slaves.{SlavesHold}
 use Rattle.wire_session.proofs.Endings.{ends_behind_open, unsaved_by}
 
 -- ---- the line is recovered
 
-saved_by : (result : Result (Unit {0}) WireFault) (new : Known) (line : LineFile) (before : Seen) (s : Station) (state : State) → HasRecovered s → BeginsRecovered before s → state ≡ s.seen.state → OnOk result (HoldsSite new line state)
-    → OnOk result (SavesRecovered new line before)
-saved_by (Ok done) new line before s state is_recovered begins is held =
-    record { s = s; recovered = is_recovered; begins = begins; held = subst (λ (x : State). HoldsSite new line x) is held }
-saved_by (Err fault) new line before s state is_recovered begins is held = tt
+saved_by : (Hold : Station → Type 0) (result : Result (Unit {0}) WireFault) (new : Known) (line : LineFile) (before : Seen) (s : Station) (state : State)
+    → HasRecovered s → BeginsRecovered before s → Hold s → state ≡ s.seen.state → OnOk result (HoldsSite new line state)
+    → OnOk result (SavesRecovered Hold new line before)
+saved_by Hold (Ok done) new line before s state is_recovered begins slaves is held =
+    record { s = s; recovered = is_recovered; begins = begins; held = subst (λ (x : State). HoldsSite new line x) is held; slaves = slaves }
+saved_by Hold (Err fault) new line before s state is_recovered begins slaves is held = tt
 
-pub ends_recovered : (result : Result (Unit {0}) WireFault) (old new : Known) (line : LineFile) (before : Seen) (s : Station) (state : State) → HasRecovered s → BeginsRecovered before s → state ≡ s.seen.state
-    → OnOk result (HoldsSite new line state) → ChangesAmong old new (files_of line) → IfErr result IsOfStream → EndsRecovery result old new line before
-ends_recovered result old new line before s state is_recovered begins is held others failed = record {
+pub ends_recovered : (Hold : Station → Type 0) (result : Result (Unit {0}) WireFault) (old new : Known) (line : LineFile) (before : Seen) (s : Station) (state : State)
+    → HasRecovered s → BeginsRecovered before s → Hold s → state ≡ s.seen.state
+    → OnOk result (HoldsSite new line state) → ChangesAmong old new (files_of line) → IfErr result IsOfStream → EndsRecovery Hold result old new line before
+ends_recovered Hold result old new line before s state is_recovered begins slaves is held others failed = record {
   others = others;
   unsaved = unsaved_by result old new line failed;
-  saved = saved_by result new line before s state is_recovered begins is held;
+  saved = saved_by Hold result new line before s state is_recovered begins slaves is held;
 }
 
 -- ---- the journal is opened
 
-pub recovers_opened : (result : Result (Unit {0}) WireFault) (old mid new : Known) (line : LineFile) (plant : List (List ℕ)) (bytes : List ℕ)
-    (site : SiteValue) → ChangesOnly old mid (string_bytes line.journal) → IsSiteOf plant bytes site → EndsRecovery result mid new line site.seen
-    → EndsRecovery result old new line (switched_on plant bytes)
-recovers_opened result old mid new line plant bytes site only made ends =
-    ends_behind_open (λ done. SavesRecovered new line site.seen) (λ done. SavesRecovered new line (switched_on plant bytes)) result old mid new line only
-    (λ done saves. subst (λ (seen : Seen). SavesRecovered new line seen) made.seen saves) ends
+pub recovers_opened : (Before After : Station → Type 0) (result : Result (Unit {0}) WireFault) (old mid new : Known) (line : LineFile) (plant : List (List ℕ))
+    (bytes : List ℕ) (site : SiteValue) → ChangesOnly old mid (string_bytes line.journal) → IsSiteOf plant bytes site
+    → ((s : Station) → HasRecovered s → Before s → After s) → EndsRecovery Before result mid new line site.seen
+    → EndsRecovery After result old new line (switched_on plant bytes)
+recovers_opened Before After result old mid new line plant bytes site only made says ends =
+    ends_behind_open (λ done. SavesRecovered Before new line site.seen) (λ done. SavesRecovered After new line (switched_on plant bytes)) result old mid new line only
+    (λ done saves. subst (λ (seen : Seen). SavesRecovered After new line seen) made.seen (record {
+      s = saves.s;
+      recovered = saves.recovered;
+      begins = saves.begins;
+      held = saves.held;
+      slaves = says saves.s saves.recovered saves.slaves;
+    })) ends
 
 -- ---- the whole
 
 pub recovers : (result : Result (Unit {0}) WireFault) (leads : Leads) (old found new : Known) (name : List ℕ) (line : LineFile) (plant : List (List ℕ)) (bytes : List ℕ) → IsFound old name line plant bytes → IsLineApart leads line name → found ≡ old
-    → EndsRecovery result found new line (switched_on plant bytes) → Recovers result leads old new name
+    → EndsRecovery (SlavesHold plant) result found new line (switched_on plant bytes) → Recovers result leads old new name
 recovers result leads old found new name line plant bytes given apart same ends =
-    let P : Known → Type 0 = λ files. EndsRecovery result files new line (switched_on plant bytes) in
+    let P : Known → Type 0 = λ files. EndsRecovery (SlavesHold plant) result files new line (switched_on plant bytes) in
     inr (record { line = line; plant = plant; bytes = bytes; found = given; apart = apart; ends = subst P same ends })
 
 -- ---- init

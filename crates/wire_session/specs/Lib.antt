@@ -4,3 +4,4 @@ pub mod Recovery
 pub mod Redoing
 pub mod Reporting
 pub mod Running
+pub mod Slaves

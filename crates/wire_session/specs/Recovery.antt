@@ -14,17 +14,19 @@ use Rattle.wire_faults.specs.declared.faults.WireFault.{WireFault}
 use Rattle.wire_faults.specs.declared.faults.WireFault.TheVariants as wire
 use Rattle.wire_scan.specs.Opening.{IsFound}
 use Rattle.wire_session.specs.Ending.{Ends}
+use Rattle.wire_session.specs.Slaves.{SlavesHold}
 
--- The files hold the state of a complete recovery of this site.
-pub record SavesRecovered (files : Known) (line : LineFile) (before : Seen) : Type 0 where
+-- The files hold the state of a complete recovery of this site, and so do the slaves.
+pub record SavesRecovered (Hold : Station → Type 0) (files : Known) (line : LineFile) (before : Seen) : Type 0 where
   pub s : Station
   pub recovered : HasRecovered s
   pub begins : BeginsRecovered before s
   pub held : HoldsSite files line s.seen.state
+  pub slaves : Hold s
 
--- If the result is `Ok`, the files hold the state of a complete recovery of this site.
-abbrev pub EndsRecovery : Result (Unit {0}) WireFault → Known → Known → LineFile → Seen → Type 0
-EndsRecovery result old new line before = Ends (λ done. SavesRecovered new line before) result old new line
+-- If the result is `Ok`, the files hold the state of a complete recovery of this site, and so do the slaves.
+abbrev pub EndsRecovery : (Station → Type 0) → Result (Unit {0}) WireFault → Known → Known → LineFile → Seen → Type 0
+EndsRecovery Hold result old new line before = Ends (λ done. SavesRecovered Hold new line before) result old new line
 
 -- The line was found, its files stand apart, and the site of the words on the wire and the journal's bytes was recovered as far as the result
 -- says.
@@ -34,7 +36,7 @@ pub record RecoversFound (result : Result (Unit {0}) WireFault) (leads : Leads) 
   pub bytes : List ℕ
   pub found : IsFound old name line plant bytes
   pub apart : IsLineApart leads line name
-  pub ends : EndsRecovery result old new line (switched_on plant bytes)
+  pub ends : EndsRecovery (SlavesHold plant) result old new line (switched_on plant bytes)
 
 -- what `recover` does: it stops before it writes, or it recovers the line
 abbrev pub Recovers : Result (Unit {0}) WireFault → Leads → Known → Known → List ℕ → Type 0

@@ -4,18 +4,21 @@ ghost use Rattle.esc_rom.specs.Owned.{OwnsAll};
 ghost use Rattle.station_files.specs.Files.{ChangesAmong};
 ghost use Rattle.station_session.specs.Site.{files_of, switched_on, HoldsSite};
 ghost use Rattle.wire_faults.specs.Faults.{IsOfStream};
+ghost use Rattle.script_session.specs.Parts.{Soundly};
 ghost use Rattle.wire_session.specs.Recovery.{EndsRecovery, Recovers};
+ghost use Rattle.wire_session.specs.Slaves.{EndsFollowed, SlavesHold};
 
 use crate::as_found::AsFound;
 use crate::redoing::recover_by_threads;
 use crate::reporting::{report_end, tell_why};
 use line_changes::Before;
+use script_session::is_sound;
 use sii_words::Plant;
 use site_file::FileDevice;
 use site_shadow::{Device, ShadowSite};
 use site_wire::{LiveLine, LockedLine, WireDevice};
 use station_alone::Recovered;
-use station_files::Store;
+use station_files::{Fault, Store};
 use station_session::{save_site, site_of, write_recovered};
 use station_text::LineFile;
 use std::alloc::Global;
@@ -84,7 +87,7 @@ fn recover_found<
     requires some { 1 ≤ length found.slaves.items }
     requires most { length found.slaves.items ≤ 64 }
     requires count { length found.slaves.items ≡ length found.line.images.items }
-    ensures { EndsRecovery result (S.files store.old) (S.files store.new) found.line
+    ensures { EndsRecovery (SlavesHold found.slaves.items) result (S.files store.old) (S.files store.new) found.line
         (switched_on found.slaves.items found.journal.items) }
 {
     let Found {
@@ -127,7 +130,7 @@ fn recover_opened<
     requires some { 1 ≤ length found.slaves.now }
     requires most { length found.slaves.now ≤ 64 }
     requires count { length found.slaves.now ≡ length found.line.now.images.items }
-    ensures { EndsRecovery result (S.files store.old) (S.files store.new) found.entry.line.now
+    ensures { EndsRecovery (SlavesHold found.entry.slaves.now) result (S.files store.old) (S.files store.new) found.entry.line.now
         (switched_on found.entry.slaves.now found.entry.journal.items) }
 {
     let AsFound {
@@ -141,7 +144,8 @@ fn recover_opened<
     recover_site(rt, line, site, store, output)
 }
 
-/// Recovers a line, and saves what its slaves hold to their image files.
+/// Recovers a line, and saves what its slaves hold to their image files. `Unserved` where something has failed that the device was asked, though
+/// the recovery was told of nothing.
 fn recover_site<
     R: Wait + Threads + AllocGlobal + Sync,
     D: Device + Copy + Send,
@@ -156,13 +160,19 @@ fn recover_site<
 ) -> Result<(), WireFault>
     requires disk { IsTrue site.line.has_disk }
     requires owned { OwnsAll site.line }
-    ensures { EndsRecovery result (S.files store.old) (S.files store.new) line.now site.seen }
+    ensures { EndsRecovery (EndsFollowed (Soundly D.follows D.well) site (length line.now.images.items))
+        result (S.files store.old) (S.files store.new) line.now site.seen }
 {
     match recover_by_threads(rt, site, line.images.len()) {
         Ok((alone, recovered)) => {
             let (core, left) = alone.into_parts();
             drop(core);
-            save_recovered(rt.alloc(), line, left, recovered, store, output)
+            if is_sound(&left) {
+                save_recovered(rt.alloc(), line, left, recovered, store, output)
+            } else {
+                drop(left);
+                Err(WireFault::Station(Fault::Unserved))
+            }
         }
         Err(fault) => Err(WireFault::Station(fault)),
     }

@@ -1,6 +1,11 @@
 use Rattle.std.proofs.Common.{arith}
+use Rattle.std.specs.Option.{option_map}
+use Rattle.esc_model.specs.Orders.{write_order}
+use Rattle.site_wire.specs.Answering.{found_of}
+use Rattle.site_wire.specs.Sent.{exchanged}
 use Rattle.site_wire.proofs.Due.{write_due}
-use Rattle.site_wire.proofs.Sending.{write_eeprom}
+use Rattle.site_wire.proofs.ForEeprom.{write_eeprom}
+use Rattle.site_wire.proofs.Sends.{own_once, own_then, write_own}
 use Rattle.site_wire.proofs.amending.issue_again.Goals as goal
 
 pub pass-requires : goal.pass-requires
@@ -9,3 +14,21 @@ pass-requires g c = record {
       (omega arith) (omega arith) c.requires.inside c.requires.flying c.write_frame.ensures;
   eeprom = write_eeprom c.write_frame.result c.args.slave c.args.write.word c.args.write.value c.requires.slave c.write_frame.ensures;
 }
+
+pub returns-in_err-answer : goal.returns-in_err-answer
+returns-in_err-answer g c =
+    let d = write_order c.args.slave c.args.write.word c.args.write.value in
+    let answer = option_map found_of c.pass.result in
+    own_then c.args.slave c.args.half.now c.args.line.now.moment c.clear.new.line.moment c.pass.new.self.moment c.clear.ensures
+    (own_once c.args.slave c.args.half.now c.clear.new.line.moment c.pass.new.self.moment (exchanged d answer)
+    (c.pass.ensures d c.write_frame.ensures)
+    (write_own c.args.slave c.args.half.now c.args.write answer c.requires.slave (omega arith) (omega arith) c.requires.flying))
+
+pub returns : goal.returns
+returns g c =
+    let d = write_order c.args.slave c.args.write.word c.args.write.value in
+    let answer = option_map found_of c.pass.result in
+    own_then c.args.slave c.args.half.now c.args.line.now.moment c.clear.new.line.moment c.pass.new.self.moment c.clear.ensures
+    (own_once c.args.slave c.args.half.now c.clear.new.line.moment c.pass.new.self.moment (exchanged d answer)
+    (c.pass.ensures d c.write_frame.ensures)
+    (write_own c.args.slave c.args.half.now c.args.write answer c.requires.slave (omega arith) (omega arith) c.requires.flying))

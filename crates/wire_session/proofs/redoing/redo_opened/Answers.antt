@@ -1,3 +1,5 @@
+use Rattle.script_session.specs.Parts.{Soundly}
+use Rattle.wire_session.proofs.BehindDesk.{followed-behind}
 use Rattle.wire_session.proofs.BehindDesk.{again-behind, counts-behind, line-behind}
 use Rattle.wire_session.proofs.redoing.redo_opened.Goals as goal
 
@@ -14,3 +16,8 @@ pub returns-clause-counts : goal.returns-clause-counts
 returns-clause-counts g c =
     counts-behind c.recover_behind.result c.args.alone c.args.found c.in_ok-redone.redone.site c.in_ok-redone.redone.words
     c.in_ok-redone.ensures.redone c.recover_behind.ensures.counts
+
+pub returns-clause-followed : goal.returns-clause-followed
+returns-clause-followed g c =
+    followed-behind (Soundly g.D.Device.follows g.D.Device.well) c.recover_behind.result c.args.alone c.in_ok-redone.redone.site c.in_ok-redone.ensures.followed
+    c.recover_behind.ensures.follows

@@ -1,5 +1,5 @@
 use Rattle.ecat_frame.specs.Frame.{pdu}
-use Rattle.site_wire.proofs.Sending.{one_of_all}
+use Rattle.site_wire.proofs.ForEeprom.{one_of_all}
 use Rattle.site_wire.proofs.reach.LiveLineReach.pass.Goals as goal
 
 pub pass-requires : goal.pass-requires

@@ -1,0 +1,164 @@
+-- A device on a wire has followed its site through each call.
+use Rattle.std.proofs.Common.{◌≡◌, not, ◌||◌, ◌≢◌, ◌⊎◌, ◌↔◌, ℕ, zero, suc, ◌<◌, Bool, true, false, List, [], ◌∷◌, ◌++◌, length, slice_get, slice_set, slice_index, eqb, Some, Ok, Err, Result, IsTrue, refl, sym, ap, subst, ◌∙◌, inl, inr, arith}
+use Rattle.std.specs.List.{All}
+use Rattle.std.proofs.lemmas.Bool.Decides.{eqb_tells, leb_tells}
+use Rattle.std.proofs.lemmas.List.{get_or_past}
+use Rattle.std.proofs.lemmas.List.Elements.{All-get_or}
+use Rattle.ecat_frame.specs.Frame.{Pdu}
+use Rattle.esc_model.specs.Orders.{station}
+use Rattle.esc_model.specs.SlaveHalf.{SlaveHalf}
+use Rattle.esc_model.specs.Datagrams.{served_datagram}
+use Rattle.site_core.specs.declared.fault.DeviceFault.{DeviceFault}
+use Rattle.site_core.specs.declared.fault.DeviceFault.TheVariants as faults
+use Rattle.site_core.specs.State.{State, Seen, Moment, with_half}
+use Rattle.site_core.specs.Calls.{WritesDisk, SyncsDisk}
+use Rattle.site_shadow.specs.Following.{begin_of, first_of, Keeps, WriteKeeps, SyncKeeps, RestKeeps}
+use Rattle.site_shadow.proofs.Keeping.{Extends-by}
+use Rattle.site_shadow.specs.declared.device.Passing.{Passing}
+use Rattle.site_shadow.specs.declared.device.Resting.{Resting}
+use Rattle.site_shadow.specs.Resting.{RestsAs}
+use Rattle.site_shadow.proofs.Towards.{Extends-first}
+use Rattle.site_shadow.proofs.GoingThrough.{get-set}
+use Rattle.site_wire.specs.Following.{SendsNothing, CarriesFrame, IsBehind, SlavesFollow, WireFollows, still_follows}
+use Rattle.site_wire.specs.declared.device.WireDevice.{WireDevice}
+use Rattle.site_wire.specs.Sent.{Exchanged, HasSent, nothing_sent}
+use Rattle.site_wire.specs.RealSlaves.{Lives, ends}
+use Rattle.site_wire.proofs.Living.{Between, lives_parts, lives_station, lives_untouched}
+use Rattle.site_wire.proofs.Carrying.{carries_behind}
+
+module _ {L F C : Type 0} where
+  -- a device that has sent nothing more
+  same_device : (before after : WireDevice L F C) → SendsNothing before after → (seen : Seen) → WireFollows before seen → WireFollows after seen
+  same_device before after nothing seen follows = record {
+    log = follows.log;
+    has = subst (λ (n : ℕ). HasSent n follows.log) (sym nothing.moment) follows.has;
+    follow = λ going running. follows.follow (nothing.over going) running;
+  }
+
+  pub nothing_keeps : (before after : WireDevice L F C) → SendsNothing before after → Keeps WireFollows before after
+  nothing_keeps before after nothing seen follows = same_device before after nothing seen follows
+
+  pub write_keeps : (at : ℕ) (bytes : List ℕ) (before after : WireDevice L F C) (result : Passing) → SendsNothing before after
+      → WriteKeeps WireFollows at bytes before result after
+  write_keeps at bytes before after result nothing old new given running inside wrote told follows =
+      still_follows after old new (Extends-by old new wrote.middle given wrote.call) (λ going. same given wrote going)
+      (same_device before after nothing old follows)
+    where
+      same : (given : Result (Unit {0}) DeviceFault) → WritesDisk old at bytes given new → ¬ IsTrue new.is_stopped → new.state.halves ≡ old.state.halves
+      same (Ok done) wrote going = ap (λ (s : State). s.halves) wrote.ok
+      same (Err faults.Disk) wrote going = (wrote.failed refl).1
+      same (Err faults.Lost) wrote going = absurd (wrote.not_lost refl)
+      same (Err faults.Stopped) wrote going = absurd (going (wrote.call.stopped.1 refl))
+
+  pub sync_keeps : (before after : WireDevice L F C) (result : Passing) → SendsNothing before after → SyncKeeps WireFollows before result after
+  sync_keeps before after result nothing old new given running syncs told follows =
+      still_follows after old new (Extends-by old new [] given syncs.call) (λ going. same given syncs going)
+      (same_device before after nothing old follows)
+    where
+      same : (given : Result (Unit {0}) DeviceFault) → SyncsDisk old given new → ¬ IsTrue new.is_stopped → new.state.halves ≡ old.state.halves
+      same (Ok done) syncs going = ap (λ (s : State). s.halves) syncs.ok
+      same (Err faults.Disk) syncs going = ap (λ (s : State). s.halves) (syncs.failed refl)
+      same (Err faults.Lost) syncs going = absurd (syncs.not_lost refl)
+      same (Err faults.Stopped) syncs going = absurd (going (syncs.call.stopped.1 refl))
+
+-- A REAL SLAVE FROM THE BEGINNING
+
+begins_to_follow : (state : State) → SlavesFollow [] state.halves state.halves
+begins_to_follow state slave first half real later at_first at_now station_is behind (ends _) =
+    let same : first ≡ half = (let e : Some first ≡ Some half = sym at_first ∙ at_now in cc) in
+    subst (λ (h : SlaveHalf). IsBehind h real) same behind
+
+pub begins : {L F C : Type 0} (device : WireDevice L F C) (was_over is_new : Bool) (seen : Seen) → device.sender.moment ≡ 0
+    → device.is_over ≡ (was_over || not is_new) → (IsTrue is_new ↔ seen.past ≡ []) → WireFollows device seen
+begins device was_over is_new seen none over told = record {
+  log = [];
+  has = subst (λ (n : ℕ). HasSent n []) (sym none) nothing_sent;
+  follow = λ going running.
+      subst (λ (begun : State). SlavesFollow [] begun.halves seen.state.halves) (sym (begun_first (told.0 (is_first was_over is_new (sym over ∙ going)))))
+      (begins_to_follow seen.state);
+}
+  where
+    is_first : (was is : Bool) → (was || not is) ≡ false → IsTrue is
+    is_first true is e = absurd cc
+    is_first false true e = refl
+    is_first false false e = absurd cc
+
+    begun_first : seen.past ≡ [] → first_of seen ≡ seen.state
+    begun_first new = ap (λ (past : List Moment). begin_of past seen.state) new
+
+-- ONE DATAGRAM
+
+-- a byte of the content, or 0 behind it
+bytes_below : (content : List ℕ) → All (λ (byte : ℕ). byte < 256) content → (k : ℕ) → slice_index content k < 256
+bytes_below content all k = elim (leb_tells (length content) k) [
+  | inl past ↦ subst (λ (n : ℕ). n < 256) (sym (get_or_past content k 0 past.1)) (omega arith)
+  | inr inside ↦ All-get_or (λ (byte : ℕ). byte < 256) content k 0 inside.1 all
+]
+
+-- the half of another slave
+get_other : (halves : List SlaveHalf) (slave other : ℕ) (half : SlaveHalf) → other ≢ slave → slice_get (slice_set halves slave half) other ≡ slice_get halves other
+get_other [] slave other half apart = refl
+get_other (h ∷ hs) zero zero half apart = absurd (apart refl)
+get_other (h ∷ hs) zero (suc other) half apart = refl
+get_other (h ∷ hs) (suc slave) zero half apart = refl
+get_other (h ∷ hs) (suc slave) (suc other) half apart = get_other hs slave other half (λ same. apart (ap suc same))
+
+-- the datagram of a frame of one
+only_datagram : (frame : List Pdu) (k : ℕ) (d e : Pdu) → frame ≡ e ∷ [] → slice_get frame k ≡ Some d → e ≡ d
+only_datagram frame k d e one at = by k (ap (λ (f : List Pdu). slice_get f k) (sym one) ∙ at)
+  where
+    by : (k : ℕ) → slice_get (e ∷ []) k ≡ Some d → e ≡ d
+    by zero is = cc
+    by (suc k) is = absurd cc
+
+module _ {L F C : Type 0} (slave : ℕ) (half : SlaveHalf) (frame : List Pdu) (k : ℕ) (before after : WireDevice L F C) (result : Resting)
+    (carried : CarriesFrame slave half frame before.sender.moment after.sender.moment after.is_over after.resting)
+    (was_going : before.is_over ≡ false) (is : after.is_over ≡ false → result ≡ after.resting) where
+  module _ (old new : Seen) (rested : SlaveHalf) (d : Pdu) (here : slice_get old.state.halves slave ≡ Some half) (at : slice_get frame k ≡ Some d)
+      (so : RestsAs result half rested) (state : new.state ≡ with_half old.state slave (served_datagram rested d).half) (log : List Exchanged)
+      (going : after.is_over ≡ false) where
+    -- the slave to which it goes
+    this_slave : (later : SlaveHalf) (first real : SlaveHalf) (mid : SlaveHalf) → mid.station ≡ station slave → IsBehind half mid → Lives carried.calls mid later
+        → IsBehind (served_datagram rested d).half later
+    this_slave later first real mid near behind lives =
+        let due = carried.carries going in
+        let same : due.0 ≡ d = only_datagram frame k d due.0 due.1.one at in
+        subst (λ (e : Pdu). IsBehind (served_datagram rested e).half later) same
+        (carries_behind slave half due.0 due.1.fits (bytes_below due.0.content due.1.bytes) due.1.to rested mid later near behind carried.calls after.resting due.2
+        (subst (λ (how : Resting). RestsAs how half rested) (is going) so) lives)
+
+    follow_on : (begun : List SlaveHalf) → SlavesFollow log begun old.state.halves → SlavesFollow (log ++ carried.calls) begun new.state.halves
+    follow_on begun followed other first now real later at_first at_now station_is behind lives = by (eqb_tells other slave)
+      where
+        parts : Between log carried.calls real later
+        parts = lives_parts log carried.calls real later lives
+
+        near : parts.mid.station ≡ station other
+        near = lives_station log real parts.mid parts.before ∙ behind.amended.station ∙ station_is
+
+        now_is : slice_get (slice_set old.state.halves slave (served_datagram rested d).half) other ≡ Some now
+        now_is = ap (λ (s : State). slice_get s.halves other) (sym state) ∙ at_now
+
+        by : ((eqb other slave ≡ true) × (other ≡ slave)) ⊎ ((eqb other slave ≡ false) × (other ≢ slave)) → IsBehind now later
+        by (inl same) =
+            let it : (served_datagram rested d).half ≡ now =
+            (let e : Some (served_datagram rested d).half ≡ Some now =
+            sym (get-set old.state.halves slave half (served_datagram rested d).half here) ∙ ap (slice_get (slice_set old.state.halves slave (served_datagram rested d).half)) (sym same.1) ∙ now_is in cc) in
+            subst (λ (h : SlaveHalf). IsBehind h later) it
+            (this_slave later first real parts.mid (near ∙ ap station same.1)
+            (followed other first half real parts.mid at_first (ap (slice_get old.state.halves) same.1 ∙ here) station_is behind parts.before) parts.behind)
+        by (inr apart) =
+            let untouched : later ≡ parts.mid =
+            lives_untouched carried.calls (station slave) parts.mid later carried.to (λ e. apart.1 (let f : station slave ≡ station other = e ∙ near in omega arith)) parts.behind in
+            subst (IsBehind now) (sym untouched)
+            (followed other first now real parts.mid at_first (sym (get_other old.state.halves slave other (served_datagram rested d).half apart.1) ∙ now_is) station_is behind parts.before)
+
+  pub rest_keeps : RestKeeps WireFollows slave half frame k before result after
+  rest_keeps old new rested d running here at so state extends follows = record {
+    log = follows.log ++ carried.calls;
+    has = carried.sends.goes_on follows.log follows.has;
+    follow = λ going still.
+        subst (λ (begun : State). SlavesFollow (follows.log ++ carried.calls) begun.halves new.state.halves) (sym (Extends-first old new extends))
+        (follow_on old new rested d here at so state follows.log going (first_of old).halves
+        (follows.follow was_going running));
+  }

@@ -1,0 +1,212 @@
+-- Real slaves hold the contents of a station whose line was recovered on a wire.
+use Rattle.std.proofs.Common.{◌≡◌, ℕ, zero, suc, ◌+◌, ◌<◌, false, List, [], ◌∷◌, ◌++◌, length, map, get_or, inl, Some, slice_get, refl, sym, ap, subst, ◌∙◌, arith}
+use Rattle.std.specs.List.{AllByRecursion}
+use Rattle.std.proofs.lemmas.List.{length-map}
+use Rattle.std.proofs.lemmas.Option.{slice_get_within, slice_get-get_or}
+use Rattle.site_core.specs.Line.{Line}
+use Rattle.esc_model.specs.SlaveHalf.{SlaveHalf, Idle, powered_up, MayLeave}
+use Rattle.esc_model.specs.Orders.{station}
+use Rattle.esc_model.proofs.Resting.{MayLeave-same}
+use Rattle.site_core.specs.State.{Seen, Pair, EachMayLeave}
+use Rattle.site_core.specs.Times.{Follows}
+use Rattle.site_core.proofs.StopImages.{StopImage-same}
+use Rattle.site_shadow.specs.Site.{SiteValue}
+use Rattle.site_wire.specs.Likeness.{IsLike}
+use Rattle.site_wire.specs.Sent.{Exchanged}
+use Rattle.site_wire.specs.RealSlaves.{Lives}
+use Rattle.site_wire.specs.Following.{IsBehind, WireFollows}
+use Rattle.site_wire.specs.declared.device.WireDevice.{WireDevice}
+use Rattle.site_wire.proofs.Living.{lives_parts, lives_station}
+use Rattle.kept_files.proofs.Extending.{first_stays}
+use Rattle.kept_files.proofs.AtDeskOnFiles.{worked_follows}
+use Rattle.book_model.specs.Book.{base_of}
+use Rattle.station_alone.specs.Station.{Station}
+use Rattle.station_alone.specs.Recovery.{HasRecovered}
+use Rattle.station_jobs.specs.declared.log.SlaveLog.{SlaveLog}
+use Rattle.station_jobs.specs.Ends.{Stay}
+use Rattle.station_threads.specs.Parts.{IsEndOfSlave}
+use Rattle.script_session.specs.Parts.{BeginsWith, EndsWith, IsFollowed, IsWorkFollowed, Soundly}
+use Rattle.script_session.specs.Redoing.{RedoesFollowed}
+use Rattle.script_session.proofs.SlaveLaws.{placed-at}
+use Rattle.station_session.specs.Site.{powered_up_from, switched_on}
+use Rattle.wire_session.specs.Slaves.{EndsFollowed, WasSent, SlavesHold}
+
+-- PLACES
+
+-- the half of a slave that was switched on
+powered_at : (at : ℕ) (plant : List (List ℕ)) (slave : ℕ) (words : List ℕ) → slice_get plant slave ≡ Some words
+    → slice_get (powered_up_from at plant) slave ≡ Some (powered_up words (at + slave))
+powered_at at [] slave words here = absurd cc
+powered_at at (first ∷ plant) zero words here =
+    let same : first ≡ words = cc in
+    let there : at ≡ at + 0 = omega arith in
+    ap (λ (w : List ℕ). Some (powered_up w at)) same ∙ ap (λ (n : ℕ). Some (powered_up words n)) there
+powered_at at (first ∷ plant) (suc slave) words here =
+    subst (λ (n : ℕ). slice_get (powered_up_from (at + 1) plant) slave ≡ Some (powered_up words n)) (omega arith) (powered_at (at + 1) plant slave words here)
+
+worker_at : {D : Type 0} (follows : D → Seen → Type 0) (ends : List (Stay SiteValue SlaveLog)) (k : ℕ) (end : Stay SiteValue SlaveLog)
+    → AllByRecursion (IsWorkFollowed follows) ends → slice_get ends k ≡ Some end → IsWorkFollowed follows end
+worker_at follows [] k end all here = absurd cc
+worker_at follows (e ∷ ends) zero end all here = let same : e ≡ end = cc in subst (IsWorkFollowed follows) same all.0
+worker_at follows (e ∷ ends) (suc k) end all here = worker_at follows ends k end all.1 here
+
+-- WHAT A POWER CUT LEAVES
+
+-- The words of all slaves, with those of one as a power cut may leave them.
+record LeftWith (halves : List SlaveHalf) (slave : ℕ) (left : List ℕ) : Type 0 where
+  words : List (List ℕ)
+  each : EachMayLeave halves words
+  here : slice_get words slave ≡ Some left
+
+left_same : (halves : List SlaveHalf) → (words : List (List ℕ)) × EachMayLeave halves words
+left_same [] = ([], tt)
+left_same (half ∷ halves) = let rest = left_same halves in (half.words ∷ rest.0, (MayLeave-same half, rest.1))
+
+left_with : (halves : List SlaveHalf) (slave : ℕ) (half : SlaveHalf) (left : List ℕ) → slice_get halves slave ≡ Some half → MayLeave half left
+    → LeftWith halves slave left
+left_with [] slave half left here may = absurd cc
+left_with (first ∷ halves) zero half left here may =
+    let same : first ≡ half = cc in
+    let rest = left_same halves in
+    record { words = left ∷ rest.0; each = (subst (λ (h : SlaveHalf). MayLeave h left) (sym same) may, rest.1); here = refl }
+left_with (first ∷ halves) (suc slave) half left here may =
+    let rest = left_with halves slave half left here may in
+    record { words = first.words ∷ rest.words; each = (MayLeave-same first, rest.each); here = rest.here }
+
+-- Of a station that has recovered each slave behind its half has the contents.
+holds_contents : (s : Station) (slave : ℕ) (half later : SlaveHalf) → HasRecovered s → slice_get s.seen.state.halves slave ≡ Some half → IsBehind half later
+    → slice_get (base_of s.book) slave ≡ Some later.words
+holds_contents s slave half later recovered here behind =
+    let left = left_with s.seen.state.halves slave half later.words here behind.amended.words in
+    let pair : Pair = record { disk = s.seen.state.disk.bytes; words = left.words } in
+    subst (λ (contents : List (List ℕ)). slice_get contents slave ≡ Some later.words)
+    (recovered.only pair (record { disk = StopImage-same s.seen.state.disk; words = left.each })) left.here
+
+-- THREE DEVICES
+
+-- what a slave is like from the beginning
+like_behind : (first real : SlaveHalf) → first.activity ≡ Idle → IsLike first real → IsBehind first real
+like_behind first real idle like = record {
+  amended = record {
+    station = like.station;
+    offered = like.registers.offered;
+    forced = like.registers.forced;
+    words = like.words;
+    activity = inl (like.activity ∙ idle);
+  };
+  idle = λ none. like.activity ∙ idle;
+}
+
+-- a slave goes on behind its half, where this is sent
+abbrev pub GoesOn : (slave : ℕ) → (first half : SlaveHalf) → List Exchanged → Type 0
+GoesOn slave first half log = (real later : SlaveHalf) → first.station ≡ station slave → IsBehind first real → Lives log real later → IsBehind half later
+
+-- one after the other
+goes_then : (slave : ℕ) (a b c : SlaveHalf) (first second : List Exchanged) → GoesOn slave a b first → GoesOn slave b c second → GoesOn slave a c (first ++ second)
+goes_then slave a b c first second one two real later at behind lives =
+    let parts = lives_parts first second real later lives in
+    let mid = one real parts.mid at behind parts.before in
+    two parts.mid later (sym mid.amended.station ∙ lives_station first real parts.mid parts.before ∙ behind.amended.station ∙ at) mid parts.behind
+
+-- what one device sent to a slave
+record OneLog (slave : ℕ) (first half : SlaveHalf) : Type 0 where
+  log : List Exchanged
+  sent : WasSent log
+  goes : GoesOn slave first half log
+
+-- what one device after the other sent to it
+record ThreeLogs (slave : ℕ) (first half : SlaveHalf) : Type 0 where
+  opening : List Exchanged
+  was_opened : WasSent opening
+  redoing : List Exchanged
+  was_redone : WasSent redoing
+  ending : List Exchanged
+  was_ended : WasSent ending
+  goes : GoesOn slave first half (opening ++ redoing ++ ending)
+
+joined : (slave : ℕ) (a b c d : SlaveHalf) → OneLog slave a b → OneLog slave b c → OneLog slave c d → ThreeLogs slave a d
+joined slave a b c d one two three = record {
+  opening = one.log;
+  was_opened = one.sent;
+  redoing = two.log;
+  was_redone = two.sent;
+  ending = three.log;
+  was_ended = three.sent;
+  goes = goes_then slave a c d (one.log ++ two.log) three.log (goes_then slave a b c one.log two.log one.goes two.goes) three.goes;
+}
+
+module _ {L F C : Type 0} where
+  abbrev sound : WireDevice L F C → Seen → Type 0
+  sound = Soundly WireFollows (λ device. device.is_over ≡ false)
+
+  -- one device, from the first call of its site on
+  one_device : (slave : ℕ) (before now : Seen) (first half : SlaveHalf) → before.past ≡ [] → Follows before now → IsFollowed sound now
+      → slice_get before.state.halves slave ≡ Some first → slice_get now.state.halves slave ≡ Some half → OneLog slave first half
+  one_device slave before now first half new goes followed at_first at_now =
+      let device = followed.0 in
+      let follows : WireFollows device now = followed.1.0 in
+      record {
+        log = follows.log;
+        sent = record { moment = device.sender.moment; sent = follows.has };
+        goes = λ real later station_is behind lives.
+            follows.follow followed.1.1 followed.1.2 slave first half real later
+            (ap (λ state. slice_get state.halves slave) (first_stays before now new goes) ∙ at_first) at_now station_is behind lives;
+      }
+
+  module _ (site : SiteValue) (slaves : ℕ) (s : Station) (new : site.seen.past ≡ []) (followed : EndsFollowed sound site slaves s) where
+    abbrev opened : Station
+    opened = followed.recovers.opened
+
+    abbrev left : SiteValue
+    left = followed.recovers.behind.left
+
+    abbrev redone : RedoesFollowed sound opened left
+    redone = followed.recovers.behind.redone
+
+    three_logs : (slave : ℕ) (first half : SlaveHalf) → slice_get site.seen.state.halves slave ≡ Some first → slice_get s.seen.state.halves slave ≡ Some half
+        → slave < length opened.seen.state.halves → ThreeLogs slave first half
+    three_logs slave first half at_first at_last inside =
+        let parts = redone.parts in
+        let at_opened = slice_get-get_or opened.seen.state.halves slave (powered_up [] 0) inside in
+        let mid = get_or opened.seen.state.halves slave (powered_up [] 0) in
+        let begun = placed-at BeginsWith 0 opened.seen.state.halves parts.sites.slaves.items slave mid parts.apart.slaves at_opened in
+        let end = placed-at (λ place (x : SiteValue) (e : Stay SiteValue SlaveLog). IsEndOfSlave place x e) 0 parts.sites.slaves.items parts.ends.workers.items slave begun.0
+        parts.of_sites.workers begun.1 in
+        let back = placed-at EndsWith 0 parts.ends.workers.items left.seen.state.halves slave end.0 parts.together.halves end.1 in
+        let work = worker_at sound parts.ends.workers.items slave end.0 redone.workers end.1 in
+        let one = one_device slave site.seen opened.seen first mid new followed.recovers.opens redone.before at_first at_opened in
+        let from_first : 0 + slave ≡ slave = omega arith in
+        let start_is : end.0.start ≡ begun.0 = end.2.start in
+        let two = one_device slave end.0.start.seen end.0.site.seen mid back.0
+        (ap (λ (x : SiteValue). x.seen.past) start_is ∙ begun.2.new) (worked_follows end.0.log.slave end.0.log.jobs end.0.start.seen end.0.site.seen work.worked)
+        work.followed (ap (λ (x : SiteValue). slice_get x.seen.state.halves slave) start_is
+        ∙ subst (λ (n : ℕ). slice_get begun.0.seen.state.halves n ≡ Some mid) from_first begun.2.has)
+        (subst (λ (n : ℕ). slice_get end.0.site.seen.state.halves n ≡ Some back.0) from_first back.2) in
+        let three = one_device slave left.seen s.seen back.0 half parts.together.new followed.recovers.behind.behind followed.ends back.1 at_last in
+        joined slave first mid back.0 half one two three
+
+    -- each slave that was found with these words holds the contents
+    pub slaves_hold : (plant : List (List ℕ)) (bytes : List ℕ) → site.seen ≡ switched_on plant bytes → site.line.sizes ≡ map length plant → slaves ≡ length plant
+        → HasRecovered s → SlavesHold plant s
+    slaves_hold plant bytes found sizes count recovered slave words here =
+        let within : slave < length plant = slice_get_within plant slave words here in
+        let inside : slave < length opened.seen.state.halves =
+        (let many : length plant ≡ length opened.seen.state.halves =
+        sym (length-map plant length) ∙ ap length (sym sizes) ∙ ap (λ (l : Line). length l.sizes) (sym followed.recovers.line) ∙ redone.count in omega (arith, within, many)) in
+        let last : slave < length s.seen.state.halves = (let many = followed.count in omega (arith, within, many, count)) in
+        let half = get_or s.seen.state.halves slave (powered_up [] 0) in
+        let at_last = slice_get-get_or s.seen.state.halves slave (powered_up [] 0) last in
+        let at_first : slice_get site.seen.state.halves slave ≡ Some (powered_up words (station slave)) =
+        ap (λ (seen : Seen). slice_get seen.state.halves slave) found ∙ powered_at 0x1001 plant slave words here in
+        let logs = three_logs slave (powered_up words (station slave)) half at_first at_last inside in
+        record {
+          opening = logs.opening;
+          opened = logs.was_opened;
+          redoing = logs.redoing;
+          redone = logs.was_redone;
+          ending = logs.ending;
+          ended = logs.was_ended;
+          holds = λ real later like lives.
+              holds_contents s slave half later recovered at_last
+              (logs.goes real later refl (like_behind (powered_up words (station slave)) real refl like) lives);
+        }

@@ -1,0 +1,5 @@
+use Rattle.kept_files.proofs.Extending.{recovers_on}
+use Rattle.wire_session.proofs.redoing.recover_behind.Goals as goal
+
+pub returns-in-Ok-clause-follows : goal.returns-in-Ok-clause-follows
+returns-in-Ok-clause-follows g c = recovers_on c.args.site.line c.args.site.seen c.in-Ok.alone c.in-Ok.ensures.steps
