@@ -5,7 +5,7 @@ use crate::wires::{Bench, bench_of, parts_on, practice_of};
 use ecat_frame::Frame;
 use runner_cases::line::THREE;
 use site_file::FileDevice;
-use site_shadow::ShadowSite;
+use site_shadow::{Parts, ShadowSite};
 use site_wire::{LiveLine, LockedLine, WireDevice};
 use std::alloc::Global;
 use std::rt::Clock;
@@ -46,6 +46,28 @@ impl<'r, W: Wire, C: Clock> Wire for SlowWire<'r, W, C> {
     }
 }
 
+/// What a run by threads on this line has printed. None: memory was refused, or the parts aren't a line's.
+fn printed<R: Wait + Threads + Sync, W: Wire + Send>(
+    rt: &R,
+    alloc: Global,
+    bench: &Bench,
+    locked: &LockedLine<W>,
+    parts: Parts,
+) -> Option<Vec<u8>> {
+    if !parts.is_whole() {
+        return None;
+    }
+    let device = WireDevice::shared(
+        locked.shared(rt),
+        &bench.clock,
+        FileDevice::new(&bench.files),
+    );
+    let site = ShadowSite::of_parts(alloc, parts, device);
+    let mut text = Vec::new(alloc);
+    run(rt, alloc, site, commands(alloc)?, &mut text)?;
+    Some(text)
+}
+
 /// What a run by threads has printed, and how many datagrams its frames had at most. None: memory was refused, or the line isn't brought up.
 fn ended<R: Wait + Threads + Clock + Sync>(
     rt: &R,
@@ -60,19 +82,9 @@ fn ended<R: Wait + Threads + Clock + Sync>(
     };
     let mut wire = NumberedWire::new(slow, 7);
     let parts = parts_on(alloc, bench, &mut wire)?;
-    if !parts.is_whole() {
-        return None;
-    }
     wire.wire().is_slow = true;
     let locked = LockedLine::new(LiveLine::new(wire));
-    let device = WireDevice::shared(
-        locked.shared(rt),
-        &bench.clock,
-        FileDevice::new(&bench.files),
-    );
-    let site = ShadowSite::of_parts(alloc, parts, device);
-    let mut text = Vec::new(alloc);
-    run(rt, alloc, site, commands(alloc)?, &mut text)?;
+    let text = printed(rt, alloc, bench, &locked, parts)?;
     let most = locked.into_line().into_wire().wire().most;
     Some((text, most))
 }
