@@ -1,15 +1,32 @@
 -- What real slaves are behind what was sent to them.
-use Rattle.std.proofs.Common.{◌≡◌, ◌≢◌, ℕ, List, [], ◌∷◌, ◌++◌, Some, None, refl, sym, subst, ◌∙◌}
+use Rattle.std.proofs.Common.{inl, ◌≡◌, ◌≢◌, ℕ, List, [], ◌∷◌, ◌++◌, Some, None, refl, sym, subst, ◌∙◌}
 use Rattle.std.specs.List.{All}
 use Rattle.std.proofs.lemmas.List.Elements.{All-head, All-tail}
 use Rattle.ecat_frame.specs.Command.{command_of}
 use Rattle.ecat_frame.specs.Frame.{Pdu}
 use Rattle.esc_model.specs.Bytes.{station_of}
 use Rattle.esc_model.specs.SlaveHalf.{SlaveHalf}
+use Rattle.esc_model.specs.Datagrams.{served_datagram}
 use Rattle.esc_model.proofs.Resting.{MayRest-station}
 use Rattle.esc_model.proofs.Serving.{Goes-served}
 use Rattle.site_wire.specs.Sent.{Exchanged}
-use Rattle.site_wire.specs.RealSlaves.{Serves, Servings, none, more, Answered, Lives, ends, answers, is_silent, of_another}
+use Rattle.site_wire.proofs.Liking.{IsLike-refl}
+use Rattle.site_wire.specs.RealSlaves.{DefinedServes, Serves, Servings, none, more, Answered, Lives, ends, answers, is_silent, of_another}
+
+-- THE SLAVE OF THE DEFINITION
+
+pub defined_serves : DefinedServes
+defined_serves d half = record {
+  takes = record {
+    rested = half;
+    rests = inl refl;
+    half = IsLike-refl (served_datagram half d).half;
+    answer = record { command = refl; index = refl; address = refl; length = refl; counter = refl; read = λ reads k inside. refl };
+  };
+  first = refl;
+  second = refl;
+  shows = λ reads at. refl;
+}
 
 -- WHAT A DATAGRAM KEEPS
 

@@ -3,7 +3,7 @@ use Rattle.std.specs.Prelude.{◌≡◌, ◌≢◌, List, [], ◌∷◌, Some, N
 use Rattle.ecat_frame.specs.Frame.{Pdu}
 use Rattle.esc_model.specs.Bytes.{station_of, register_of}
 use Rattle.esc_model.specs.SlaveHalf.{SlaveHalf}
-use Rattle.esc_model.specs.Datagrams.{served_datagram}
+use Rattle.esc_model.specs.Datagrams.{served_datagram, reply_of}
 use Rattle.site_wire.specs.Exchanges.{Takes}
 use Rattle.site_wire.specs.Sent.{Exchanged}
 
@@ -14,6 +14,10 @@ pub record Serves (d : Pdu) (real : SlaveHalf) (found : Pdu) (later : SlaveHalf)
   pub first : later.registers.first ≡ (served_datagram takes.rested d).half.registers.first
   pub second : later.registers.second ≡ (served_datagram takes.rested d).half.registers.second
   pub shows : d.command ≡ 4 → register_of d.address ≡ 0x0508 → found.content ≡ (served_datagram takes.rested d).content
+
+-- The slave of the definition is such a slave: it takes the datagram, and its own answer comes back.
+abbrev pub DefinedServes : Type 0
+DefinedServes = (d : Pdu) (half : SlaveHalf) → Serves d half (reply_of d (served_datagram half d)) (served_datagram half d).half
 
 -- It does so any number of times, and none of the answers comes back.
 pub data Servings (d : Pdu) (real : SlaveHalf) : (later : SlaveHalf) → Type 0 where

@@ -1,6 +1,7 @@
 //! Laws that hold for a real slave and its shadow, by definitions alone. The functions here do nothing: the contract of each is the law.
 
 ghost use Rattle.site_wire.specs.Amending.{PossibleIsAmended, AmendedStays, AmendedLeavesNoMore, BusyIsPossible, ReadBackIsPossible, OtherIsKept};
+ghost use Rattle.site_wire.specs.RealSlaves.{DefinedServes};
 ghost use Rattle.site_wire.specs.Laws.{BroughtUpIsLike, LikeIsPossible, IsLikeItself, PossibleLeavesNoMore, AgreedIsPossible, ReadAloneIsPossible, RunIsPossible, StopLeavesNoMore};
 
 /// A slave as bring-up leaves it is like its shadow. A slave that is like its shadow, but for what is the controller's own, is one that the
@@ -39,4 +40,10 @@ pub fn amending_is_possible()
     ensures busy { BusyIsPossible }
     ensures read_back { ReadBackIsPossible }
     ensures other { OtherIsKept }
+{}
+
+/// A slave that does just what the definition of a slave says is a real slave by what is sent to it: so for each course of datagrams there is one.
+#[tactic(auto, using(crate::proofs::Living::defined_serves))]
+pub fn defined_slave_serves()
+    ensures { DefinedServes }
 {}
