@@ -95,7 +95,7 @@ module _ (sizes : List ℕ) (its : Line) (old mid new : Seen) (capacity : ℕ) (
   mid-is : mid.state ≡ with_synced old.state
   mid-is = reads.syncs.first
 
-  disk-is : new.state.disk ≡ synced old.state.disk
+  pub disk-is : new.state.disk ≡ synced old.state.disk
   disk-is = read.disk ∙ ap (λ (s : State). s.disk) mid-is
 
   pub bytes-are : new.state.disk.bytes ≡ old.state.disk.bytes
@@ -127,6 +127,7 @@ reads-found its later sizes old mid new capacity journal words are later_is read
     record {
       quiet = Quiet-then {a = old} {b = mid} {c = new} {m = 3} {n = most_calls its.sizes} {most = most_calls_to_open its.sizes} (omega arith) (runs-quiet old 3 _ mid reads.syncs.runs) line.quiet;
       bytes = bytes;
+      disk = disk-is sizes its old mid new capacity journal words.items are reads line.read;
       is_journal = subst (λ (s : List ℕ). IsJournal old.state.disk.bytes s journal) are.of_line reads.finds.0;
       found = found-is sizes its old mid new capacity journal words.items are reads line.read;
       capacity = reads.finds.1 ∙ ap capacity_in (sym bytes);

@@ -5,6 +5,7 @@ use Rattle.jrn_format.specs.Journal.{IsJournal}
 use Rattle.esc_rom.specs.declared.fault.RomFault.{RomFault}
 use Rattle.esc_rom.specs.declared.fault.RomFault.TheVariants as rom
 use Rattle.esc_rom.specs.Runs.{Quiet}
+use Rattle.site_core.specs.Disk.{synced}
 use Rattle.site_core.specs.Line.{Line}
 use Rattle.site_core.specs.State.{Seen}
 use Rattle.site_core.specs.Passes.{LeavesOnly}
@@ -38,6 +39,7 @@ pub record ReadAll (sizes : List ℕ) (old new : Seen) : Type 0 where
 pub record ReadsFound (line : Line) (old : Seen) (reading : Reading) (new : Seen) : Type 0 where
   pub quiet : Quiet old (most_calls_to_open line.sizes) new
   pub bytes : new.state.disk.bytes ≡ old.state.disk.bytes
+  pub disk : new.state.disk ≡ synced old.state.disk
   pub is_journal : IsJournal old.state.disk.bytes line.sizes reading.journal
   pub found : IsFound reading.journal new.state
   pub capacity : reading.capacity ≡ capacity_in new.state.disk.bytes
@@ -55,6 +57,7 @@ pub record OpensOn (its : Line) (old : Seen) (journal : Journal) (new : Station)
   pub line : new.line ≡ its
   pub quiet : Quiet old (most_calls_to_open its.sizes) new.seen
   pub bytes : new.seen.state.disk.bytes ≡ old.state.disk.bytes
+  pub disk : new.seen.state.disk ≡ synced old.state.disk
   pub is_journal : IsJournal old.state.disk.bytes its.sizes journal
   pub found : IsFound journal new.seen.state
   pub book : new.book ≡ book_on new.seen.state journal

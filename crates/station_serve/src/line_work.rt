@@ -200,7 +200,7 @@ pub(crate) fn serve_run<
         output: &mut *output,
         faults: &mut *faults,
     };
-    let ended = run_script(watch, run.names, run.fuse, store, streams);
+    let ended = run_script(watch, run.names, run.fuse, store, streams).map(|ran| ran.status);
     end_report(alloc, looked, ended, store, output, faults)
 }
 

@@ -2,6 +2,8 @@
 use Rattle.std.proofs.Common.{◌≡◌, ℕ, Bool, true, false, List, [], length, refl, sym, ◌∙◌, ap, subst, inl, inr, Result, Ok, Err}
 use Rattle.std.specs.Prelude.{◌⊎◌, IsTrue, OnErr, OnOk, Option, string_bytes}
 use Rattle.std.proofs.lemmas.List.{length-map}
+use Rattle.site_core.specs.Disk.{Disk, synced}
+use Rattle.site_shadow.specs.Unsynced.{of_bytes}
 use Rattle.sii_edit.specs.declared.command.Command.{Command}
 use Rattle.site_core.specs.Line.{Line}
 use Rattle.site_core.specs.State.{State, Seen}
@@ -224,3 +226,11 @@ recovers leads old loaded new name line site status given apart journal same end
 pub starts-none : (was_old : Bool) (site : SiteValue) (s : Station) → StartsFrom was_old site s → s.book.accepted ≡ []
 starts-none true site s starts = ap (λ (b : Book). b.accepted) starts.opened.opens.1.book
 starts-none false site s starts = ap (λ (b : Book). b.accepted) starts.opens.1.book
+
+-- the disk is synced
+synced-as : (disk old : Disk) → disk ≡ synced old → disk ≡ of_bytes disk.bytes
+synced-as disk old is = is ∙ ap of_bytes (sym (ap (λ (d : Disk). d.bytes) is))
+
+pub starts-synced : (was_old : Bool) (site : SiteValue) (s : Station) → StartsFrom was_old site s → s.seen.state.disk ≡ of_bytes s.seen.state.disk.bytes
+starts-synced true site s starts = synced-as s.seen.state.disk starts.r.seen.state.disk starts.opened.opens.1.disk
+starts-synced false site s starts = synced-as s.seen.state.disk site.seen.state.disk starts.opens.1.disk

@@ -4,6 +4,7 @@ use Rattle.std.specs.Prelude.{◌⊎◌, is_some, option_map, IfOk, IfErr, IsErr
 use Rattle.std.specs.List.{AllByRecursion}
 use Rattle.sii_edit.specs.declared.command.Command.{Command}
 use Rattle.esc_model.specs.SlaveHalf.{SlaveHalf}
+use Rattle.site_core.specs.Disk.{Disk}
 use Rattle.site_core.specs.Line.{Line}
 use Rattle.site_core.specs.Passes.{LeavesOnly}
 use Rattle.site_core.specs.State.{State, Seen, Pair}
@@ -17,7 +18,8 @@ use Rattle.site_file.specs.declared.asking.LineFile.TheVariants.{Journal as Jour
 use Rattle.site_file.specs.declared.files.FileDevice.{FileDevice}
 use Rattle.site_file.specs.Following as files
 use Rattle.file_laws.specs.Held.{is_same}
-use Rattle.file_laws.specs.Following.{Shows}
+use Rattle.file_laws.specs.Files.{File, image_of}
+use Rattle.file_laws.specs.Following.{Holds, HoldsDisk, Shows}
 use Rattle.book_model.specs.Book.{Book}
 use Rattle.book_model.specs.Machine.{Machine}
 use Rattle.desk_book.specs.declared.call.Call.{Call}
@@ -46,7 +48,7 @@ use Rattle.script_session.specs.declared.closing.Ending.{Ending}
 use Rattle.script_session.specs.AtDesk.{BeginsAs, ServesParts, seen_of}
 use Rattle.script_session.specs.Parts.{AreFollowed, BeginsWith, IsFollowed, IsWorkFollowed}
 use Rattle.script_session.proofs.LeftLaws.{first, opened-on, placed-back}
-use Rattle.station_session.specs.RunFiles.{GoesKept, GoesFollowed, DeskGoes, RunGoes, RunsFollowed, KeepsAtDesk, KeepsRunFiles, RunKeepsFiles, unserved, served, unopened, opened}
+use Rattle.station_session.specs.RunFiles.{BeginsPart, GoesKept, GoesFollowed, DeskGoes, RunGoes, RunsFollowed, KeepsAtDesk, KeepsRunFiles, RunKeepsFiles, unserved, served, unopened, opened}
 use Rattle.station_session.specs.Session.{Loads}
 
 -- ---- one thread
@@ -91,6 +93,9 @@ goes_behind before r left (Err e) one same two = goes_then before r.seen e.0.see
 
 -- ---- on files
 
+same-half : (halves : List SlaveHalf) (slave : ℕ) (one other : SlaveHalf) → slice_get halves slave ≡ Some one → slice_get halves slave ≡ Some other → one ≡ other
+same-half halves slave one other here there = let same : Some one ≡ Some other = sym here ∙ there in cc
+
 at-place : {A : Type 0} (P : A → Type 0) (xs : List A) (k : ℕ) (a : A) → AllByRecursion P xs → slice_get xs k ≡ Some a → P a
 at-place P [] k a all at = absurd cc
 at-place P (b ∷ xs) zero a all at = let same : b ≡ a = cc in subst P same all.0
@@ -102,7 +107,7 @@ module _ (F : Type 0) {D : Type 0} (follows : D → Seen → Type 0) (to_file : 
       let device = to_file stage.followed.0 now stage.followed.1 in
       site_keeps_on F device.0 before now device.1 new (first_stays before now new stage.goes.goes_on) stage.goes.keeps
 
-  module _ (station : Station) (commands : List Command) (ending : Ending) (site : SiteValue) (parts : ServesParts station commands ending site) (followed : AreFollowed follows parts.ends) where
+  module _ (station : Station) (synced : station.seen.state.disk ≡ of_bytes station.seen.state.disk.bytes) (commands : List Command) (ending : Ending) (site : SiteValue) (parts : ServesParts station commands ending site) (followed : AreFollowed follows parts.ends) where
     journal_part : PartOnFiles F (is_same JournalFile) parts.ends.flusher.start.seen parts.ends.flusher.site.seen
     journal_part =
         let start = parts.ends.flusher.start.seen in
@@ -128,9 +133,25 @@ module _ (F : Type 0) {D : Type 0} (follows : D → Seen → Type 0) (to_file : 
     LeftKept machine calls images book =
         (pair : Pair) × IsKeptPair machine (replayed book calls) pair × ((name : FileName) → IsTrue (has_file station.seen.state name) → Shows pair name (images name))
 
+    begins : (name : FileName) (file : File) → Holds station.seen.state name file → BeginsPart parts.ends name file
+    begins JournalFile file holds =
+        let same : station.seen.state.disk ≡ parts.ends.flusher.start.seen.state.disk =
+        synced ∙ sym parts.apart.disk ∙ sym (ap (λ (s : SiteValue). s.seen.state.disk) parts.of_sites.flusher) in
+        subst (λ (d : Disk). HoldsDisk d file) same holds
+    begins (Image slave) file holds = λ end here.
+        let worker = placed-back (λ place (x : SiteValue) (e : Stay SiteValue SlaveLog). IsEndOfSlave place x e) 0 parts.sites.slaves.items parts.ends.workers.items slave end parts.of_sites.workers here in
+        let half = placed-back BeginsWith 0 station.seen.state.halves parts.sites.slaves.items slave worker.0 parts.apart.slaves worker.1 in
+        let same_place : 0 + slave ≡ slave = omega arith in
+        record {
+          half = half.0;
+          here = ap (λ (s : SiteValue). slice_get s.seen.state.halves slave) worker.2.start ∙ subst (λ (k : ℕ). slice_get worker.0.seen.state.halves k ≡ Some half.0) same_place half.2.has;
+          file_is = holds.file_is ∙ ap (λ (h : SlaveHalf). image_of h.words) (same-half station.seen.state.halves slave holds.half half.0 holds.here half.1);
+        }
+
     keeps_at_desk : KeepsAtDesk F station parts.ends
     keeps_at_desk = record {
       desk = desk;
+      begins = begins;
       kept = λ machine calls begun images begins answered bytes cut.
           subst (LeftKept machine calls images) (sym begins.book)
           (cut_leaves_kept_parts F SiteValue seen_of parts.ends.flusher parts.ends.workers.items desk machine begins.journal old calls begun images
@@ -139,17 +160,17 @@ module _ (F : Type 0) {D : Type 0} (follows : D → Seen → Type 0) (to_file : 
           (first station calls parts.sites parts.ends site parts.apart parts.of_sites parts.together) bytes cut);
     }
 
-  desk_on_files : (station : Station) (commands : List Command) (status : ExitStatus) → DeskGoes (GoesFollowed follows) (λ s ends. AreFollowed follows ends) station commands status
+  desk_on_files : (station : Station) → station.seen.state.disk ≡ of_bytes station.seen.state.disk.bytes → (commands : List Command) (status : ExitStatus) → DeskGoes (GoesFollowed follows) (λ s ends. AreFollowed follows ends) station commands status
       → DeskGoes (KeepsOn F) (KeepsAtDesk F) station commands status
-  desk_on_files station commands status (unserved bad) = unserved bad
-  desk_on_files station commands status (served ending site parts followed closes) =
-      served ending site parts (keeps_at_desk station commands ending site parts followed)
+  desk_on_files station synced commands status (unserved bad) = unserved bad
+  desk_on_files station synced commands status (served ending site parts followed closes) =
+      served ending site parts (keeps_at_desk station synced commands ending site parts followed)
       (λ closed driven. let last = closes closed driven in (last.0, goes_on_files site.seen last.0 parts.together.new last.1))
 
   pub run_on_files : (before : Seen) (commands : List Command) (status : ExitStatus) → before.past ≡ [] → RunsFollowed follows before commands status → RunKeepsFiles F before commands status
-  run_on_files before commands status new (unopened last stage bad) = inr (unopened last (goes_on_files before last new stage) bad)
-  run_on_files before commands status new (opened station stage goes) =
-      inr (opened station (goes_on_files before station.seen new stage) (desk_on_files station commands status goes))
+  run_on_files before commands status new (unopened last stage bad) = unopened last (goes_on_files before last new stage) bad
+  run_on_files before commands status new (opened station stage synced goes) =
+      opened station (goes_on_files before station.seen new stage) synced (desk_on_files station synced commands status goes)
 
 -- ---- the run
 
@@ -166,9 +187,8 @@ desk_told F station commands one final worse (served ending site parts desk clos
 -- a fault of the capture ends the run as a fault, or the status stays
 pub told_as : (F : Type 0) (before : Seen) (commands : List Command) (one final : ExitStatus) → (final ≡ one) ⊎ (¬ IsFaultless final) → RunKeepsFiles F before commands one → RunKeepsFiles F before commands final
 told_as F before commands one final (inl same) kept = subst (λ (s : ExitStatus). RunKeepsFiles F before commands s) (sym same) kept
-told_as F before commands one final (inr bad) (inl was) = inl bad
-told_as F before commands one final (inr bad) (inr (unopened last stage was)) = inr (unopened last stage bad)
-told_as F before commands one final (inr bad) (inr (opened station stage goes)) = inr (opened station stage (desk_told F station commands one final (λ was. bad) goes))
+told_as F before commands one final (inr bad) (unopened last stage was) = unopened last stage bad
+told_as F before commands one final (inr bad) (opened station stage synced goes) = opened station stage synced (desk_told F station commands one final (λ was. bad) goes)
 
 pub runs_kept : (F : Type 0) (old : Known) (name script : List ℕ) (line : LineFile) (site : SiteValue) (commands : List Command) (status : ExitStatus) → Loads old name line site → SpellsCommands old script commands → RunKeepsFiles F site.seen commands status
     → KeepsRunFiles F old name script status

@@ -1,14 +1,18 @@
 -- A run on the files of a line: what a power cut leaves in them as the station is opened, while its desk is at work, and as the line is recovered
 -- behind it.
-use Rattle.std.specs.Prelude.{◌≡◌, ◌⊎◌, ℕ, true, List, Ok, IsTrue}
+use Rattle.std.specs.Prelude.{◌≡◌, ℕ, true, List, Ok, Some, slice_get, IsTrue}
 use Rattle.sii_edit.specs.declared.command.Command.{Command}
 use Rattle.site_core.specs.State.{Pair, Seen}
 use Rattle.site_core.specs.Times.{Follows}
 use Rattle.site_shadow.specs.Site.{SiteValue}
+use Rattle.site_shadow.specs.Unsynced.{of_bytes}
 use Rattle.site_file.specs.declared.asking.LineFile.{LineFile as FileName}
+use Rattle.site_file.specs.declared.asking.LineFile.TheVariants.{Journal, Image}
 use Rattle.file_laws.specs.Files.{File, IsBytes}
-use Rattle.file_laws.specs.Following.{Shows}
+use Rattle.file_laws.specs.Following.{Holds, Shows}
 use Rattle.book_model.specs.Machine.{Machine}
+use Rattle.station_jobs.specs.declared.log.SlaveLog.{SlaveLog}
+use Rattle.station_jobs.specs.Ends.{Stay}
 use Rattle.desk_book.specs.declared.call.Call.{Call}
 use Rattle.desk_book.specs.Calls.{AreAnswered, replayed}
 use Rattle.station_alone.specs.Keeping.{KeepsThroughout}
@@ -44,11 +48,11 @@ pub data DeskGoes (Stage : Seen → Seen → Type 0) (Desk : Station → Ends Si
   served : (ending : Ending) (site : SiteValue) (parts : ServesParts station commands ending site) → Desk station parts.ends
       → (ending.closed ≡ Ok tt → IsTrue ending.is_driven → (last : Seen) × Stage site.seen last) → DeskGoes Stage Desk station commands status
 
--- The station was opened, perhaps behind a recovery, and its line served so; or it couldn't be opened.
+-- The station was opened, perhaps behind a recovery, with its disk synced, and its line served so; or it couldn't be opened.
 pub data RunGoes (Stage : Seen → Seen → Type 0) (Desk : Station → Ends SiteValue → Type 0) (before : Seen) (commands : List Command)
     (status : ExitStatus) : Type 0 where
   unopened : (last : Seen) → Stage before last → ¬ IsFaultless status → RunGoes Stage Desk before commands status
-  opened : (station : Station) → Stage before station.seen → DeskGoes Stage Desk station commands status → RunGoes Stage Desk before commands status
+  opened : (station : Station) → Stage before station.seen → station.seen.state.disk ≡ of_bytes station.seen.state.disk.bytes → DeskGoes Stage Desk station commands status → RunGoes Stage Desk before commands status
 
 -- ---- by devices
 
@@ -67,20 +71,27 @@ ServesFollowedBy follows station commands status = DeskGoes (GoesFollowed follow
 
 -- ---- on files
 
--- Each part of the desk stands on its file. Whatever calls its book has answered by then: a power cut, each device anywhere in its job, leaves in the
+-- The file holds the desk's part that works on it, as the part's thread begins.
+abbrev pub BeginsPart : Ends SiteValue → FileName → File → Type 0
+BeginsPart ends Journal file = Holds ends.flusher.start.seen.state Journal file
+BeginsPart ends (Image slave) file =
+    (end : Stay SiteValue SlaveLog) → slice_get ends.workers.items slave ≡ Some end → Holds end.start.seen.state (Image slave) file
+
+-- Each part of the desk stands on its file, which holds the part as its thread begins if it held the line as the station was opened. Whatever calls its book has answered by then: a power cut, each device anywhere in its job, leaves in the
 -- files, all at once, only what is kept for the session of each machine that the station begins as, with all commands that the book has accepted,
 -- and each durable one acknowledged.
 pub record KeepsAtDesk (F : Type 0) (station : Station) (ends : Ends SiteValue) : Type 0 where
   pub desk : DeskOnFiles F seen_of ends.flusher ends.workers.items
+  pub begins : (name : FileName) (file : File) → Holds station.seen.state name file → BeginsPart ends name file
   pub kept : (machine : Machine) (calls : List Call) (begun : FileName → File) (images : FileName → List ℕ) → BeginsAs machine calls station
       → AreAnswered station.book calls → ((name : FileName) → IsBytes (images name)) → DeskIsCut desk calls begun images
       → (pair : Pair) × IsKeptPair machine (replayed station.book calls) pair
       × ((name : FileName) → IsTrue (has_file station.seen.state name) → Shows pair name (images name))
 
--- What a power cut has left in the files of a run is kept, as far as the run came: as the station was opened, at its desk, and in the recovery behind
--- the desk, each since the log of its device began. Or a fault ended it before a file was asked.
+-- What a power cut has left in the files of a run is kept, as far as the run came, however it ended: as the station was opened, at its desk, and in
+-- the recovery behind the desk, each since the log of its device began.
 abbrev pub RunKeepsFiles : (F : Type 0) → (before : Seen) → List Command → ExitStatus → Type 0
-RunKeepsFiles F before commands status = (¬ IsFaultless status) ⊎ RunGoes (KeepsOn F) (KeepsAtDesk F) before commands status
+RunKeepsFiles F before commands status = RunGoes (KeepsOn F) (KeepsAtDesk F) before commands status
 
 -- The line and the script were read, and what a power cut has left in the line's files as the commands were run on them is kept so.
 pub record KeepsRunFiles (F : Type 0) (old : Known) (name script : List ℕ) (status : ExitStatus) : Type 0 where

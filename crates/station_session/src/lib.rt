@@ -23,7 +23,7 @@ pub use faults::of_open;
 pub use init::init_line;
 pub use opening::open_files;
 pub use recovery::{recover_line, write_recovered};
-pub use run::{Fuse, Given, RunNames, load, open_station, run_script};
+pub use run::{Fuse, Given, Ran, RunNames, load, open_station, run_script};
 pub use session::{Session, is_old, load_session};
 pub use site::{save_site, site_of};
 pub use streams::Streams;

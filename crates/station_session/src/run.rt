@@ -1,5 +1,6 @@
 //! The subcommand `run`.
 ghost use Rattle.std.specs.Prelude.{◌≡◌, [], length, is_some, option_map, false, true, IfErr, IfOk, IsTrue, MatchResult, OnErr, OnOk};
+ghost use Rattle.station_files.specs.Faults.{IsFaultless};
 ghost use Rattle.esc_rom.specs.Owned.{OwnsAll};
 ghost use Rattle.station_files.specs.ScriptFiles.{SpellsCommands};
 ghost use Rattle.station_files.specs.FileNames.{spelt};
@@ -63,6 +64,15 @@ pub struct Given<L> {
     pub commands: Vec<Command>,
 }
 
+/// How far a run came, and its exit status.
+#[derive(Clone, Copy)]
+pub struct Ran {
+    /// Whether the files of the line were open. Otherwise one couldn't be opened, or the capture couldn't begin, and nothing was asked of them.
+    pub is_begun: bool,
+    /// The exit status.
+    pub status: ExitStatus,
+}
+
 /// A line to be opened, and the commands for it.
 #[derive(Drop)]
 struct Ready<D: Device> {
@@ -73,7 +83,7 @@ struct Ready<D: Device> {
 }
 
 /// Runs a script on a line: submits its commands in order, serves them by threads on the line's files, and prints the answer to each command
-/// and the totals. Returns the exit status.
+/// and the totals. Returns how far it came, and the exit status.
 ///
 /// The files are read in this order: line file, images of the slaves, journal, script, images that the script names. After any later fault,
 /// which is printed, the files hold what was written so far, and a recovery completes it.
@@ -102,11 +112,12 @@ pub fn run_script<
     fuse: Option<Fuse>,
     store: &mut S,
     streams: Streams<'_, W, E>,
-) -> Result<ExitStatus, Fault>
-    ensures ran { IfOk result (RunsFiles S.leads (is_some fuse) (option_map (λ given. given.now) names.entry.capture)
-        (S.files store.old) (S.files store.new) names.entry.line.now names.entry.script.now) }
-    ensures kept { is_some fuse ≡ false
-        → IfOk result (KeepsRunFiles S.File (S.files store.old) names.entry.line.now names.entry.script.now) }
+) -> Result<Ran, Fault>
+    ensures ran { IfOk result (λ ran. RunsFiles S.leads (is_some fuse) (option_map (λ given. given.now) names.entry.capture)
+        (S.files store.old) (S.files store.new) names.entry.line.now names.entry.script.now ran.status) }
+    ensures begun { IfOk result (λ ran. IsFaultless ran.status → IsTrue ran.is_begun) }
+    ensures kept { is_some fuse ≡ false → IfOk result (λ ran. IsTrue ran.is_begun
+        → KeepsRunFiles S.File (S.files store.old) names.entry.line.now names.entry.script.now ran.status) }
     ensures refused { IfErr result (RefusesRun (S.files store.old) S.leads (option_map (λ given. given.now) names.entry.capture)
         names.entry.line.now names.entry.script.now) }
     ensures same { OnErr result (S.files store.new ≡ S.files store.old) }
@@ -136,21 +147,25 @@ fn run_captured<
     capture: Option<&str>,
     store: &mut S,
     streams: Streams<'_, W, E>,
-) -> ExitStatus
+) -> Ran
     requires disk { IsTrue given.session.site.line.has_disk }
     requires owned { OwnsAll given.session.site.line }
     requires new { given.session.site.seen.past ≡ [] }
     requires slaves { length given.session.site.line.sizes ≡ length given.session.line.images.items }
     requires old { given.session.is_old ≡ is_old given.session.site.seen.state.disk.bytes }
     ensures ends { EndsCaptured (is_some fuse) (option_map (λ given. given.now) capture.entry) (S.files store.old) (S.files store.new)
-        given.session.line given.session.site given.commands.items result }
-    ensures kept { is_some fuse ≡ false → RunKeepsFiles S.File given.session.site.seen given.commands.items result }
+        given.session.line given.session.site given.commands.items result.status }
+    ensures begun { IsFaultless result.status → IsTrue result.is_begun }
+    ensures kept { is_some fuse ≡ false → IsTrue result.is_begun → RunKeepsFiles S.File given.session.site.seen given.commands.items result.status }
 {
     match begin_capture(capture, store) {
         Ok(begun) => run_begun(watch, given, fuse, begun, store, streams),
         Err(fault) => {
             drop(given);
-            report_fault(fault, streams.faults)
+            Ran {
+                is_begun: false,
+                status: report_fault(fault, streams.faults),
+            }
         }
     }
 }
@@ -169,22 +184,26 @@ fn run_begun<
     capture: Option<Capture<S::File>>,
     store: &mut S,
     streams: Streams<'_, W, E>,
-) -> ExitStatus
+) -> Ran
     requires disk { IsTrue given.session.site.line.has_disk }
     requires owned { OwnsAll given.session.site.line }
     requires new { given.session.site.seen.past ≡ [] }
     requires slaves { length given.session.site.line.sizes ≡ length given.session.line.images.items }
     requires old { given.session.is_old ≡ is_old given.session.site.seen.state.disk.bytes }
-    ensures ends { EndsRun (is_some fuse) (S.files store.old) (S.files store.new) given.session.line given.session.site given.commands.items result }
-    ensures kept { is_some fuse ≡ false → RunKeepsFiles S.File given.session.site.seen given.commands.items result }
+    ensures ends { EndsRun (is_some fuse) (S.files store.old) (S.files store.new) given.session.line given.session.site given.commands.items result.status }
+    ensures begun { IsFaultless result.status → IsTrue result.is_begun }
+    ensures kept { is_some fuse ≡ false → IsTrue result.is_begun → RunKeepsFiles S.File given.session.site.seen given.commands.items result.status }
 {
     let Streams { output, faults } = streams;
     let lent = Streams {
         output,
         faults: &mut *faults,
     };
-    let status = run_given(watch, given, fuse, capture.as_ref(), store, lent);
-    end_capture(capture, status, faults)
+    let ran = run_given(watch, given, fuse, capture.as_ref(), store, lent);
+    Ran {
+        is_begun: ran.is_begun,
+        status: end_capture(capture, ran.status, faults),
+    }
 }
 
 /// Serves the commands on the line's files, or with a fuse in memory.
@@ -201,17 +220,21 @@ fn run_given<
     capture: Option<&Capture<S::File>>,
     store: &mut S,
     streams: Streams<'_, W, E>,
-) -> ExitStatus
+) -> Ran
     requires disk { IsTrue given.session.site.line.has_disk }
     requires owned { OwnsAll given.session.site.line }
     requires new { given.session.site.seen.past ≡ [] }
     requires slaves { length given.session.site.line.sizes ≡ length given.session.line.images.items }
     requires old { given.session.is_old ≡ is_old given.session.site.seen.state.disk.bytes }
-    ensures ends { EndsRun (is_some fuse) (S.files store.old) (S.files store.new) given.session.line given.session.site given.commands.items result }
-    ensures kept { is_some fuse ≡ false → RunKeepsFiles S.File given.session.site.seen given.commands.items result }
+    ensures ends { EndsRun (is_some fuse) (S.files store.old) (S.files store.new) given.session.line given.session.site given.commands.items result.status }
+    ensures begun { IsFaultless result.status → IsTrue result.is_begun }
+    ensures kept { is_some fuse ≡ false → IsTrue result.is_begun → RunKeepsFiles S.File given.session.site.seen given.commands.items result.status }
 {
     match fuse {
-        Some(fuse) => run_fused(watch.rt, given, fuse, capture, store, streams),
+        Some(fuse) => Ran {
+            is_begun: true,
+            status: run_fused(watch.rt, given, fuse, capture, store, streams),
+        },
         None => run_on_files(watch, given, capture, store, streams),
     }
 }
@@ -267,14 +290,15 @@ fn run_on_files<
     capture: Option<&'a Capture<S::File>>,
     store: &mut S,
     streams: Streams<'_, W, E>,
-) -> ExitStatus
+) -> Ran
     requires disk { IsTrue given.session.site.line.has_disk }
     requires owned { OwnsAll given.session.site.line }
     requires new { given.session.site.seen.past ≡ [] }
     requires slaves { length given.session.site.line.sizes ≡ length given.session.line.images.items }
     requires old { given.session.is_old ≡ is_old given.session.site.seen.state.disk.bytes }
-    ensures ends { EndsRun false (S.files store.old) (S.files store.new) given.session.line given.session.site given.commands.items result }
-    ensures kept { RunKeepsFiles S.File given.session.site.seen given.commands.items result }
+    ensures ends { EndsRun false (S.files store.old) (S.files store.new) given.session.line given.session.site given.commands.items result.status }
+    ensures begun { IsFaultless result.status → IsTrue result.is_begun }
+    ensures kept { IsTrue result.is_begun → RunKeepsFiles S.File given.session.site.seen given.commands.items result.status }
 {
     let Watch { rt, progress } = watch;
     let Streams { output, faults } = streams;
@@ -305,12 +329,18 @@ fn run_on_files<
                 &mut Cleared::new(faults, progress, rt),
             );
             watch.erase();
-            status
+            Ran {
+                is_begun: true,
+                status,
+            }
         }
         Err(fault) => {
             drop(site);
             drop(commands);
-            report_fault(fault, faults)
+            Ran {
+                is_begun: false,
+                status: report_fault(fault, faults),
+            }
         }
     }
 }

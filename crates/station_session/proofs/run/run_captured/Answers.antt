@@ -7,7 +7,7 @@ pub returns-in-Ok-clause-ends : goal.returns-in-Ok-clause-ends
 returns-in-Ok-clause-ends g c =
     let given = c.args.given in
     ends-captured (is_some c.args.fuse) (option_map (λ (name : Bor (List ℕ)). name.now) c.args.capture) (g.S.Store.files c.args.store.now) (g.S.Store.files c.begin_capture.new.store) (g.S.Store.files c.run_begun.new.store) given.session.line given.session.site given.commands.items
-    c.run_begun.result c.run_begun.result c.begin_capture.ensures c.run_begun.ensures.ends (inl refl)
+    c.run_begun.result.status c.run_begun.result.status c.begin_capture.ensures c.run_begun.ensures.ends (inl refl)
 
 pub returns-in-Err-clause-ends : goal.returns-in-Err-clause-ends
 returns-in-Err-clause-ends g c =
@@ -16,7 +16,4 @@ returns-in-Err-clause-ends g c =
     c.begin_capture.ensures c.report_fault.ensures.fault
 
 pub returns-in-Ok-clause-kept : goal.returns-in-Ok-clause-kept
-returns-in-Ok-clause-kept g c none = c.run_begun.ensures.kept none
-
-pub returns-in-Err-clause-kept : goal.returns-in-Err-clause-kept
-returns-in-Err-clause-kept g c none = inl c.report_fault.ensures.fault
+returns-in-Ok-clause-kept g c none begun = c.run_begun.ensures.kept none begun

@@ -1,4 +1,4 @@
-use Rattle.std.proofs.Common.{false, inl, ap, ◌∙◌}
+use Rattle.std.proofs.Common.{false, ap, ◌∙◌}
 use Rattle.site_shadow.specs.Site.{SiteValue}
 use denote.Param.Send.{sendable}
 use Rattle.site_file.proofs.Sent.{device-send}
@@ -20,11 +20,8 @@ returns-clause-ends g c =
     ends-unopened false (g.S.Store.files c.args.store.now) (g.S.Store.files c.open_files.new.store) c.args.given.session.line c.args.given.session.site c.args.given.commands.items c.report_fault.result c.open_files.ensures.others c.report_fault.ensures.fault
 
 pub returns-in-Ok-clause-kept : goal.returns-in-Ok-clause-kept
-returns-in-Ok-clause-kept g c =
+returns-in-Ok-clause-kept g c begun =
     let given = c.args.given in
     let site = c.with_device-site in
     kept_as _ given.session.site site.result given.commands.items c.run_site-status.result site.ensures
     (run_on_files _ _ (λ device seen follows. (device.device.device, follows)) site.result.seen given.commands.items c.run_site-status.result (ap (λ (s : SiteValue). s.seen.past) site.ensures ∙ c.requires.new) c.run_site-status.ensures.goes)
-
-pub returns-clause-kept : goal.returns-clause-kept
-returns-clause-kept g c = inl c.report_fault.ensures.fault

@@ -16,13 +16,13 @@ run_captured-requires-clause-slaves g c κs lives = c.in-Ok.ensures.loaded.count
 
 pub returns-in-Ok-clause-ran : goal.returns-in-Ok-clause-ran
 returns-in-Ok-clause-ran g c =
-    runs g.S.Store.leads (is_some c.args.fuse) (option_map (λ (name : Bor (List ℕ)). name.now) c.args.names.capture) (g.S.Store.files c.args.store.now) (g.S.Store.files c.load.new.store) (g.S.Store.files c.run_captured.new.store) c.args.names.line.now c.args.names.script.now c.in-Ok.given.session.line c.in-Ok.given.session.site c.in-Ok.given.commands.items c.run_captured.result
+    runs g.S.Store.leads (is_some c.args.fuse) (option_map (λ (name : Bor (List ℕ)). name.now) c.args.names.capture) (g.S.Store.files c.args.store.now) (g.S.Store.files c.load.new.store) (g.S.Store.files c.run_captured.new.store) c.args.names.line.now c.args.names.script.now c.in-Ok.given.session.line c.in-Ok.given.session.site c.in-Ok.given.commands.items c.run_captured.result.status
     c.in-Ok.ensures.loaded c.in-Ok.ensures.apart c.in-Ok.ensures.journal c.in-Ok.ensures.spelt c.load.ensures.same c.run_captured.ensures.ends
 
 pub run_captured-requires-clause-new : goal.run_captured-requires-clause-new
 run_captured-requires-clause-new g c κs lives = ap (λ (seen : Seen). seen.past) c.in-Ok.ensures.loaded.made.seen
 
 pub returns-in-Ok-clause-kept : goal.returns-in-Ok-clause-kept
-returns-in-Ok-clause-kept g c none =
+returns-in-Ok-clause-kept g c none begun =
     let given = c.in-Ok.given in
-    runs_kept _ (g.S.Store.files c.args.store.now) c.args.names.line.now c.args.names.script.now given.session.line given.session.site given.commands.items c.run_captured.result c.in-Ok.ensures.loaded c.in-Ok.ensures.spelt (c.run_captured.ensures.kept none)
+    runs_kept _ (g.S.Store.files c.args.store.now) c.args.names.line.now c.args.names.script.now given.session.line given.session.site given.commands.items c.run_captured.result.status c.in-Ok.ensures.loaded c.in-Ok.ensures.spelt (c.run_captured.ensures.kept none begun)

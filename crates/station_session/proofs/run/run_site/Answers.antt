@@ -1,5 +1,5 @@
 use Rattle.std.proofs.Common.{false, refl}
-use Rattle.station_session.proofs.Ending.{ends-opened, ends-unopened, starts-none}
+use Rattle.station_session.proofs.Ending.{ends-opened, ends-unopened, starts-none, starts-synced}
 use Rattle.station_session.specs.RunFiles.{opened, unopened}
 use Rattle.station_session.proofs.run.run_site.Goals as goal
 
@@ -14,7 +14,8 @@ pub returns-in-Err-clause-ends : goal.returns-in-Err-clause-ends
 returns-in-Err-clause-ends g c = let files = g.S.Store.files c.args.store.now in ends-unopened false files files c.args.line.now c.args.ready.site c.args.ready.commands.items c.report_fault.result (λ other out. refl) c.report_fault.ensures.fault
 
 pub returns-in-Ok-clause-goes : goal.returns-in-Ok-clause-goes
-returns-in-Ok-clause-goes g c = opened c.in-Ok.alone (record { goes = c.in-Ok.ensures.goes; followed = c.run_threads.ensures.followed }) c.run_threads.ensures.serves
+returns-in-Ok-clause-goes g c =
+    opened c.in-Ok.alone (record { goes = c.in-Ok.ensures.goes; followed = c.run_threads.ensures.followed }) (starts-synced c.args.ready.is_old c.args.ready.site c.in-Ok.alone c.in-Ok.ensures.starts) c.run_threads.ensures.serves
 
 pub returns-in-Err-clause-goes : goal.returns-in-Err-clause-goes
 returns-in-Err-clause-goes g c =
