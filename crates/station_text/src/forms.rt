@@ -5,11 +5,14 @@ use toml::Value;
 
 /// What a value has to be.
 #[derive(Clone, Copy)]
-pub(crate) enum Shape {
+pub enum Shape {
+    /// A text.
     Text,
     /// An integer, at least and at most these.
     Number(i64, i64),
+    /// A table.
     Table,
+    /// An array of tables.
     Array,
     /// An array of two integers of 0 to 65535.
     Pair,
@@ -19,17 +22,19 @@ pub(crate) enum Shape {
 
 /// A key of a table, and what its value has to be.
 #[derive(Clone, Copy)]
-pub(crate) enum Field {
+pub enum Field {
     /// It must be there.
     Needed(&'static str, Shape),
     /// It may be left out.
     Free(&'static str, Shape),
 }
 
-/// The keys of a table, and their names in words.
+/// The keys of a table.
 #[derive(Clone, Copy)]
-pub(crate) struct Form {
+pub struct Form {
+    /// The names of the keys, in words.
     pub names: &'static str,
+    /// The keys, in the order in which they are read.
     pub fields: &'static [Field],
 }
 
@@ -38,7 +43,7 @@ const SMALL: Shape = Shape::Number(0, 65_535);
 const LARGE: Shape = Shape::Number(0, 4_294_967_295);
 
 /// A line file.
-pub(crate) const LINE: Form = Form {
+pub const LINE: Form = Form {
     names: "journal, area and slave",
     fields: &[
         Field::Needed("journal", Shape::Text),
@@ -48,19 +53,19 @@ pub(crate) const LINE: Form = Form {
 };
 
 /// A slave of a line file.
-pub(crate) const SLAVE: Form = Form {
+pub const SLAVE: Form = Form {
     names: "image",
     fields: &[Field::Needed("image", Shape::Text)],
 };
 
 /// A script.
-pub(crate) const SCRIPT: Form = Form {
+pub const SCRIPT: Form = Form {
     names: "command",
     fields: &[Field::Needed("command", Shape::Array)],
 };
 
-/// A command of a script.
-pub(crate) const COMMAND: Form = Form {
+/// A command of a script, which has one of these keys.
+pub const COMMAND: Form = Form {
     names: "alias, swap, category, image and group",
     fields: &[
         Field::Free("alias", Shape::Table),
@@ -71,8 +76,21 @@ pub(crate) const COMMAND: Form = Form {
     ],
 };
 
+/// The kinds of an edit of a group, of which it has one.
+pub const EDIT_KINDS: Form = Form {
+    names: "alias, category and image",
+    fields: &[
+        Field::Free("alias", Shape::Table),
+        Field::Free("category", Shape::Table),
+        Field::Free("image", Shape::Table),
+    ],
+};
+
+/// What stands at the key of each kind of edit.
+pub const EDITS: &[(&str, Form)] = &[("alias", ALIAS), ("category", CATEGORY), ("image", IMAGE)];
+
 /// An edit of a group.
-pub(crate) const EDIT: Form = Form {
+pub const EDIT: Form = Form {
     names: "alias, category, image and expect",
     fields: &[
         Field::Free("alias", Shape::Table),
@@ -83,7 +101,7 @@ pub(crate) const EDIT: Form = Form {
 };
 
 /// The identity that an edit expects.
-pub(crate) const EXPECT: Form = Form {
+pub const EXPECT: Form = Form {
     names: "vendor, product and revision",
     fields: &[
         Field::Needed("vendor", LARGE),
@@ -93,13 +111,13 @@ pub(crate) const EXPECT: Form = Form {
 };
 
 /// An alias edit.
-pub(crate) const ALIAS: Form = Form {
+pub const ALIAS: Form = Form {
     names: "slave and value",
     fields: &[Field::Needed("slave", SMALL), Field::Needed("value", SMALL)],
 };
 
 /// A category edit.
-pub(crate) const CATEGORY: Form = Form {
+pub const CATEGORY: Form = Form {
     names: "slave, kind and content",
     fields: &[
         Field::Needed("slave", SMALL),
@@ -109,7 +127,7 @@ pub(crate) const CATEGORY: Form = Form {
 };
 
 /// An image edit.
-pub(crate) const IMAGE: Form = Form {
+pub const IMAGE: Form = Form {
     names: "slave and file",
     fields: &[
         Field::Needed("slave", SMALL),
@@ -118,26 +136,29 @@ pub(crate) const IMAGE: Form = Form {
 };
 
 impl Field {
-    pub(crate) fn key(self) -> &'static str {
+    /// The key.
+    pub fn key(self) -> &'static str {
         match self {
             Field::Needed(key, _) | Field::Free(key, _) => key,
         }
     }
 
-    pub(crate) fn shape(self) -> Shape {
+    /// What its value has to be.
+    pub fn shape(self) -> Shape {
         match self {
             Field::Needed(_, shape) | Field::Free(_, shape) => shape,
         }
     }
 
-    pub(crate) fn is_needed(self) -> bool {
+    /// Whether it must be there.
+    pub fn is_needed(self) -> bool {
         matches!(self, Field::Needed(..))
     }
 }
 
 impl Shape {
     /// Whether a value has this shape.
-    pub(crate) fn fits(self, value: &Value) -> bool {
+    pub fn fits(self, value: &Value) -> bool {
         match self {
             Shape::Text => value.is_str(),
             Shape::Number(least, most) => is_number(value, least, most),
