@@ -8,8 +8,7 @@ ghost use Rattle.desk_book.specs.Closing.{StandsAt, HasNumber, AreApart};
 use crate::naming::{Refusals, Tickets};
 use crate::share::Share;
 use crate::ticket::Receipt;
-use sii_edit::Command;
-use station_jobs::is_same_command;
+use sii_edit::{Command, is_same_command};
 
 /// How many tickets the shares count together. `None` if these are more than `u64::MAX`.
 pub(crate) fn all_tickets<T: Tickets, R: Refusals>(shares: &[Share<T, R>]) -> Option<u64>

@@ -3,8 +3,8 @@ mod NameLaws
 pub mod UnlessLaws
 pub mod ShapeLaws
 mod CategoryLaws
-mod ExchangeLaws
-mod OneEdit
+pub mod ExchangeLaws
+pub mod OneEdit
 pub mod CommandLaws
 mod DraftLaws
 mod DraftRuns

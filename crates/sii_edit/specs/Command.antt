@@ -26,6 +26,13 @@ slave_of (Alias slave value) = slave
 slave_of (Category slave kind content) = slave
 slave_of (Image slave image) = slave
 
+-- the slaves that a command may change, in the order of its edits; a swap has two
+abbrev pub slaves_of : Command → List ℕ
+slaves_of (One edit) = slave_of edit ∷ []
+slaves_of (Swap a b) = a ∷ b ∷ []
+slaves_of (Group edits) = map slave_of edits
+slaves_of (Guarded edits) = map (λ (guarded : GuardedEdit). slave_of guarded.edit) edits
+
 -- why an alias edit of a slave with these words is refused, in order
 abbrev pub alias_causes : Option Expect → List ℕ → List (Bool × Cause)
 alias_causes expect words =

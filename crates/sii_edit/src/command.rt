@@ -1,5 +1,5 @@
-ghost use Rattle.std.specs.Prelude.{◌≡◌, IfOk};
-ghost use Rattle.sii_edit.specs.Command.{slave_of, edited_words};
+ghost use Rattle.std.specs.Prelude.{◌≡◌, slice_get, IfOk};
+ghost use Rattle.sii_edit.specs.Command.{slave_of, slaves_of, edited_words};
 ghost use Rattle.sii_edit.specs.Draft.{Renews};
 
 use crate::alias::renamed;
@@ -149,6 +149,18 @@ impl GuardedEdit {
 }
 
 impl Command {
+    /// The slave that its edit of this place, from 0, may change; `None` behind the last one. A swap counts as two edits.
+    pub fn slave_at(&self, place: usize) -> Option<u16>
+        ensures { result ≡ slice_get (slaves_of self.now) place }
+    {
+        match self {
+            Command::One(edit) => [edit.slave()].get(place).copied(),
+            Command::Swap { a, b } => [*a, *b].get(place).copied(),
+            Command::Group(edits) => edits.as_slice().get(place).map(|edit| edit.slave()),
+            Command::Guarded(edits) => edits.as_slice().get(place).map(|one| one.edit.slave()),
+        }
+    }
+
     /// Copies the command.
     ///
     /// # Errors

@@ -1,5 +1,5 @@
-//! Commands as edits of a line's contents: what each changes, as runs of words, or why it is refused; and the law that commands keep
-//! contents within words of 16 bits.
+//! Commands as edits of a line's contents: what each changes, as runs of words, or why it is refused; which slaves it may change, and
+//! whether two are the same.
 #![tactic(auto)]
 
 mod alias;
@@ -8,13 +8,12 @@ mod category;
 mod command;
 mod draft;
 mod edit_lists;
-pub mod fitting;
 mod group;
 mod guard;
 mod image;
-pub mod laws;
 mod layouts;
 mod refusal;
+mod sameness;
 mod slave_words;
 mod typed;
 
@@ -23,5 +22,6 @@ pub use applying::{Change, apply, changes};
 pub use command::{Command, Edit, Expect, GuardedEdit};
 pub use edit_lists::{EditList, GuardedEditList};
 pub use refusal::{Cause, Refusal};
+pub use sameness::is_same_command;
 pub use sii_words::WordList;
 pub use typed::command_fits;

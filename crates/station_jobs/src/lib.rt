@@ -11,7 +11,6 @@ pub mod laws;
 mod log;
 mod matching;
 mod notes;
-mod sameness;
 mod working;
 
 pub use cycle::{CycleJob, CycleNote, CycleOutcome};
@@ -23,5 +22,4 @@ pub use hook::{Hook, NoHook};
 pub use log::{Assignment, CycleLog, DiskLog, Log, RomLog, SlaveLog};
 pub use matching::{DiskEntry, RomEntry, are_same_actions, are_same_calls, are_same_turns};
 pub use notes::Notes;
-pub use sameness::is_same_command;
 pub use working::work;

@@ -2,6 +2,7 @@
 #![tactic(auto)]
 
 mod document;
+pub mod forms;
 mod hexadecimal;
 mod line_file;
 mod script_command;

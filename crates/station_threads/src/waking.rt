@@ -17,12 +17,9 @@
 //!
 //! (2) Where more commands are settled then, or none is yet: the entries found at the open aren't counted as settled commands.
 
-ghost use Rattle.std.specs.Prelude.{◌≡◌};
-ghost use Rattle.sii_edit.specs.Command.{slave_of};
-
 use book_model::{RomOutcome, Status};
 use desk_book::{Refusals, Served, Tickets};
-use sii_edit::{Command, Edit, GuardedEdit};
+use sii_edit::Command;
 use site_core::DeviceFault;
 use std::alloc::{AllocError, Global};
 use std::sync::{Condvar, MutexGuard, Wait};
@@ -161,46 +158,19 @@ fn bit_of(slave: u16) -> u64 {
     if slave < 64 { 1 << slave } else { u64::MAX }
 }
 
-/// The number of the slave that the edit changes.
-fn slave_of(edit: &Edit) -> u16
-    ensures { result ≡ slave_of edit.now }
-{
-    match edit {
-        Edit::Alias { slave, .. } => *slave,
-        Edit::Category { slave, .. } => *slave,
-        Edit::Image { slave, .. } => *slave,
-    }
-}
-
-/// The bits of the slaves that these edits change.
-fn bits_of_edits(edits: &[Edit]) -> u64 {
-    let mut bits = 0;
-    for edit in edits {
-        bits |= bit_of(slave_of(edit));
-    }
-    bits
-}
-
-/// The bits of the slaves that these guarded edits change.
-fn bits_of_guarded(edits: &[GuardedEdit]) -> u64 {
-    let mut bits = 0;
-    for guarded in edits {
-        bits |= bit_of(slave_of(&guarded.edit));
-    }
-    bits
-}
-
-/// The bits of the slaves that the command names.
+/// The bits of the slaves that the command may change.
 fn bits_of_command(command: &Command) -> u64 {
-    match command {
-        Command::One(edit) => bit_of(slave_of(edit)),
-        Command::Swap { a, b } => bit_of(*a) | bit_of(*b),
-        Command::Group(edits) => bits_of_edits(edits.as_slice()),
-        Command::Guarded(edits) => bits_of_guarded(edits.as_slice()),
+    let mut bits = 0;
+    for place in 0..usize::MAX {
+        match command.slave_at(place) {
+            Some(slave) => bits |= bit_of(slave),
+            None => return bits,
+        }
     }
+    bits
 }
 
-/// The bits of the slaves that the commands name.
+/// The bits of the slaves that the commands may change.
 fn bits_of_commands(commands: &[Command]) -> u64 {
     let mut bits = 0;
     for command in commands {

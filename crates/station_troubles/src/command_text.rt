@@ -1,15 +1,9 @@
 //! What is wrong in the commands of a script.
 
 use crate::flaws::{Flaw, Found, Spot, spot_in};
-use crate::forms::{ALIAS, CATEGORY, COMMAND, EDIT, EXPECT, Form, IMAGE, SCRIPT, Shape};
 use crate::places::{Stretch, entry, from_key};
+use station_text::forms::{COMMAND, EDIT, EDIT_KINDS, EDITS, EXPECT, Form, SCRIPT, Shape};
 use toml::{Table, Value};
-
-/// The keys of which a command has one.
-const COMMAND_KINDS: &[&str] = &["alias", "swap", "category", "image", "group"];
-
-/// The keys of which an edit of a group has one.
-const EDIT_KINDS: &[&str] = &["alias", "category", "image"];
 
 /// What is wrong in a script with this document, whose first bad command is the one of this place, from 0. The text's strings and comments are
 /// blanked.
@@ -31,7 +25,7 @@ fn command_spot<'a>(text: &[u8], within: Stretch, command: &'a Value) -> Option<
     if let Some(spot) = spot_in(text, within, table, COMMAND) {
         return Some(spot);
     }
-    if let Some(spot) = kinds_spot(within, table, COMMAND_KINDS, COMMAND.names) {
+    if let Some(spot) = kinds_spot(within, table, COMMAND) {
         return Some(spot);
     }
     match table.get("group") {
@@ -47,18 +41,16 @@ fn no_table<'a>(within: Stretch, value: &Value) -> Spot<'a> {
     }
 }
 
-/// What is wrong where a table has none of these keys, whose names follow, or two of them.
-fn kinds_spot<'a>(
-    within: Stretch,
-    table: &Table,
-    kinds: &'static [&'static str],
-    names: &'static str,
-) -> Option<Spot<'a>> {
-    let mut found = kinds.iter().filter(|key| table.contains_key(**key));
+/// What is wrong where a table has none of the keys of this form, or two of them.
+fn kinds_spot<'a>(within: Stretch, table: &Table, form: Form) -> Option<Spot<'a>> {
+    let mut found = form
+        .fields
+        .iter()
+        .filter(|field| table.contains_key(field.key()));
     let flaw = match (found.next(), found.next()) {
-        (None, _) => Flaw::NoneOf(names),
+        (None, _) => Flaw::NoneOf(form.names),
         (Some(_), None) => return None,
-        (Some(one), Some(other)) => Flaw::Two(*one, *other),
+        (Some(one), Some(other)) => Flaw::Two(one.key(), other.key()),
     };
     Some(Spot {
         flaw,
@@ -89,7 +81,7 @@ fn group_edit_spot<'a>(text: &[u8], within: Stretch, edit: &'a Value) -> Option<
     if let Some(spot) = fields_spot(text, within, table, "expect", EXPECT) {
         return Some(spot);
     }
-    match kinds_spot(within, table, EDIT_KINDS, "alias, category and image") {
+    match kinds_spot(within, table, EDIT_KINDS) {
         Some(spot) => Some(spot),
         None => edit_spot(text, within, table),
     }
@@ -97,13 +89,12 @@ fn group_edit_spot<'a>(text: &[u8], within: Stretch, edit: &'a Value) -> Option<
 
 /// What is wrong in the fields of the edit that a table has.
 fn edit_spot<'a>(text: &[u8], within: Stretch, table: &'a Table) -> Option<Spot<'a>> {
-    if let Some(spot) = fields_spot(text, within, table, "alias", ALIAS) {
-        return Some(spot);
+    for (key, form) in EDITS {
+        if let Some(spot) = fields_spot(text, within, table, key, *form) {
+            return Some(spot);
+        }
     }
-    if let Some(spot) = fields_spot(text, within, table, "category", CATEGORY) {
-        return Some(spot);
-    }
-    fields_spot(text, within, table, "image", IMAGE)
+    None
 }
 
 /// What is wrong in the table at a key; nothing where there is none.

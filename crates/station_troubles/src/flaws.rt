@@ -1,9 +1,9 @@
 //! What is wrong in a text, in words, and where.
 
 use crate::command_text::script_spot;
-use crate::forms::{Field, Form, Shape};
 use crate::line_text::line_spot;
 use crate::places::{Stretch, blanked, from_key, line_at};
+use station_text::forms::{Field, Form, Shape};
 use std::alloc::{AllocError, Global};
 use std::fmt;
 use toml::{Table, Value};

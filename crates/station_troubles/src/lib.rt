@@ -4,7 +4,6 @@
 mod command_text;
 mod contents;
 mod flaws;
-mod forms;
 mod heard;
 mod line_text;
 mod looking;

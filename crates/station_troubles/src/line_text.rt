@@ -4,8 +4,8 @@ ghost use Rattle.station_files.specs.LineFiles.{DescribesLine};
 ghost use Rattle.station_text.specs.declared.line_file.LineFile.{LineFile};
 
 use crate::flaws::{Flaw, Found, Spot, TextKind, TextTrouble, spot_in, trouble_of};
-use crate::forms::{LINE, SLAVE, Shape};
 use crate::places::{Stretch, entry, from_key};
+use station_text::forms::{LINE, SLAVE, Shape};
 use station_text::{LineFault, read_line};
 use std::alloc::{AllocError, Global};
 use toml::{Table, Value};

@@ -5,9 +5,9 @@ use crate::looking::{LineNames, script_again};
 use crate::search::{End, Search, Shown};
 use station_files::{Clash, FileNames, Store, find_clash, image_names};
 use station_listing::Code;
-use station_text::{LineFile, ScriptCommand, ScriptEdit};
+use station_text::{LineFile, ScriptCommand};
 use std::alloc::{AllocError, Global};
-use std::fmt;
+use std::{fmt, slice};
 
 /// What is said of the file of a capture that is there, and is none of the others.
 const TAKEN: &str = "the file is there, and is no capture of this program";
@@ -80,8 +80,8 @@ fn look_at_files<S: Store>(search: Search, files: FilesOfLine<'_>, store: &mut S
     let names = files.names(search.alloc)?;
     match find_clash(search.alloc, &names, store) {
         Ok(Some(clash)) => {
-            let one = files.told(&names, clash.one);
-            let other = files.told(&names, clash.other);
+            let one = files.told(search.alloc, &names, clash.one)?;
+            let other = files.told(search.alloc, &names, clash.other)?;
             Err(meeting(search.alloc, one, other, store))
         }
         Ok(None) => look_at_capture(search, files.names.capture),
@@ -131,39 +131,42 @@ impl FilesOfLine<'_> {
     }
 
     /// The file at this place of their names.
-    fn told<'n>(self, names: &'n FileNames, place: usize) -> Told<'n> {
+    fn told<'n>(
+        self,
+        alloc: Global,
+        names: &'n FileNames,
+        place: usize,
+    ) -> Result<Told<'n>, AllocError> {
         let name = match names.names.get(place) {
             Some(name) => name.as_str(),
             None => "",
         };
-        Told {
-            role: self.role(place),
-            name,
-        }
+        let role = self.role(alloc, place)?;
+        Ok(Told { role, name })
     }
 
     /// What the file at this place of their names is.
-    fn role(self, place: usize) -> Role {
+    fn role(self, alloc: Global, place: usize) -> Result<Role, AllocError> {
         match (self.names.capture, place) {
-            (Some(_), 0) => Role::Capture,
-            (Some(_), _) => self.role_behind(place - 1),
-            (None, _) => self.role_behind(place),
+            (Some(_), 0) => Ok(Role::Capture),
+            (Some(_), _) => self.role_behind(alloc, place - 1),
+            (None, _) => self.role_behind(alloc, place),
         }
     }
 
     /// What the file at this place behind the capture is.
-    fn role_behind(self, place: usize) -> Role {
+    fn role_behind(self, alloc: Global, place: usize) -> Result<Role, AllocError> {
         let slaves = self.line.images.len();
         if place == 0 {
-            return Role::Journal;
+            return Ok(Role::Journal);
         }
         if place <= slaves {
-            return Role::Slave(place - 1);
+            return Ok(Role::Slave(place - 1));
         }
         match place - slaves {
-            1 => Role::LineFile,
-            2 => Role::Script,
-            behind => Role::Image(command_of(self.commands, behind - 3)),
+            1 => Ok(Role::LineFile),
+            2 => Ok(Role::Script),
+            behind => Ok(Role::Image(command_of(alloc, self.commands, behind - 3)?)),
         }
     }
 }
@@ -182,29 +185,20 @@ fn with_script(
 }
 
 /// The place of the command that names the image of this place, both from 0.
-fn command_of(commands: &[ScriptCommand], image: usize) -> usize {
+fn command_of(
+    alloc: Global,
+    commands: &[ScriptCommand],
+    image: usize,
+) -> Result<usize, AllocError> {
     let mut left = image;
     for (command, spelt) in commands.iter().enumerate() {
-        let count = images_in(spelt);
+        let count = image_names(alloc, slice::from_ref(spelt))?.len();
         if left < count {
-            return command;
+            return Ok(command);
         }
         left -= count;
     }
-    commands.len()
-}
-
-/// How many images a command names.
-fn images_in(command: &ScriptCommand) -> usize {
-    match command {
-        ScriptCommand::One(edit) => usize::from(is_image(edit)),
-        ScriptCommand::Swap { .. } => 0,
-        ScriptCommand::Group(edits) => edits.iter().filter(|one| is_image(&one.edit)).count(),
-    }
-}
-
-fn is_image(edit: &ScriptEdit) -> bool {
-    matches!(edit, ScriptEdit::Image { .. })
+    Ok(commands.len())
 }
 
 impl fmt::Display for Role {

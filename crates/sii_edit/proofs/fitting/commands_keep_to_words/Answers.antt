@@ -1,5 +1,0 @@
-use Rattle.sii_edit.proofs.PlantLaws.{fit-outcome}
-use Rattle.sii_edit.proofs.fitting.commands_keep_to_words.Goals as goal
-
-pub returns : goal.returns
-returns c = fit-outcome

@@ -1,5 +1,0 @@
-use Rattle.sii_edit.proofs.PlantLaws.{fit-contents}
-use Rattle.sii_edit.proofs.fitting.contents_keep_to_words.Goals as goal
-
-pub returns : goal.returns
-returns c = fit-contents

@@ -1,5 +1,0 @@
-use Rattle.sii_edit.proofs.AliasLaws.{with_alias-from_ChangesAlias}
-use Rattle.sii_edit.proofs.laws.alias_change_is_determined.Goals as goal
-
-pub returns : goal.returns
-returns c = with_alias-from_ChangesAlias

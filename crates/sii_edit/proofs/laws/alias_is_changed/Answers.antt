@@ -1,5 +1,0 @@
-use Rattle.sii_edit.proofs.AliasLaws.{ChangesAlias-with_alias}
-use Rattle.sii_edit.proofs.laws.alias_is_changed.Goals as goal
-
-pub returns : goal.returns
-returns c = ChangesAlias-with_alias

@@ -1,5 +1,0 @@
-use Rattle.sii_edit.proofs.ExchangeLaws.{category_changes}
-use Rattle.sii_edit.proofs.laws.category_is_changed.Goals as goal
-
-pub returns : goal.returns
-returns c = λ expect slave kind content words new judged. category_changes c.readings.ensures expect kind content words new judged

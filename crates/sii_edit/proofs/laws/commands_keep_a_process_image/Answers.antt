@@ -1,6 +1,0 @@
-use Rattle.std.proofs.Common.{take}
-use Rattle.sii_edit.proofs.FoldLaws.{process_image-contents}
-use Rattle.sii_edit.proofs.laws.commands_keep_a_process_image.Goals as goal
-
-pub returns : goal.returns
-returns c = λ base commands count some. process_image-contents base (take count commands) some

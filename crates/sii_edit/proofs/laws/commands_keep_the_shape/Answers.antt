@@ -1,5 +1,0 @@
-use Rattle.sii_edit.proofs.CommandLaws.{SameShape-outcome}
-use Rattle.sii_edit.proofs.laws.commands_keep_the_shape.Goals as goal
-
-pub returns : goal.returns
-returns c = SameShape-outcome

@@ -1,5 +1,0 @@
-use Rattle.sii_edit.proofs.FoldLaws.{contents-push}
-use Rattle.sii_edit.proofs.laws.contents_after_one_more.Goals as goal
-
-pub returns : goal.returns
-returns c = contents-push

@@ -1,5 +1,0 @@
-use Rattle.sii_edit.proofs.FoldLaws.{SameShape-contents}
-use Rattle.sii_edit.proofs.laws.contents_keep_the_shape.Goals as goal
-
-pub returns : goal.returns
-returns c = SameShape-contents
