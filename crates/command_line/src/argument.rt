@@ -1,5 +1,6 @@
 //! The arguments of a subcommand, as rows of a table.
 
+use clap::builder::ValueParser;
 use clap::{Arg, ArgAction, value_parser};
 use std::alloc::{AllocError, Global};
 
@@ -57,6 +58,16 @@ impl Kind {
             Kind::Flag | Kind::ShortFlag(_) | Kind::GlobalFlag | Kind::FlagWith(_)
         )
     }
+
+    /// Whether the argument is a word, which has to be there.
+    fn is_required(self) -> bool {
+        matches!(self, Kind::Word | Kind::SmallWord | Kind::WordOf(_))
+    }
+
+    /// Whether the argument is no option.
+    fn is_word(self) -> bool {
+        self.is_required() || matches!(self, Kind::OptionalWord | Kind::WordUnless(_))
+    }
 }
 
 impl Argument {
@@ -68,14 +79,15 @@ impl Argument {
     pub(crate) fn described<'a>(self, alloc: Global) -> Result<Arg<'a>, AllocError> {
         let arg = Arg::new(alloc, self.id)
             .help(self.help)
-            .long_help(text_or(self.long_help, self.help));
-        match self.kind {
-            Kind::Word
-            | Kind::OptionalWord
-            | Kind::WordUnless(_)
-            | Kind::SmallWord
-            | Kind::WordOf(_) => { word(arg, self.kind) }
-            _ => option(arg.long(self.id), self.kind),
+            .long_help(text_or(self.long_help, self.help))
+            .required(self.kind.is_required());
+        if self.kind.is_word() {
+            ruled(parsed(arg, self.kind), self.kind)
+        } else {
+            ruled(
+                parsed(option(arg.long(self.id), self.kind), self.kind),
+                self.kind,
+            )
         }
     }
 }
@@ -85,40 +97,52 @@ pub(crate) fn text_or(text: &'static str, other: &'static str) -> &'static str {
     if text.is_empty() { other } else { text }
 }
 
-/// The argument as a word of this kind.
-fn word<'a>(arg: Arg<'a>, kind: Kind) -> Result<Arg<'a>, AllocError> {
+/// The argument as an option of this kind, with the name of its value, or as a flag.
+fn option<'a>(arg: Arg<'a>, kind: Kind) -> Arg<'a> {
     match kind {
-        Kind::Word => Ok(arg.required(true)),
+        Kind::Text(name) | Kind::TextWithout(name, _) | Kind::Small(name) | Kind::Large(name) =>
+            arg.value_name(name),
+        Kind::Texts(name, letter, _) => arg
+            .value_name(name)
+            .short(letter)
+            .action(ArgAction::Append),
+        _ => flag(arg.action(ArgAction::SetTrue), kind),
+    }
+}
+
+/// The argument as a flag of this kind.
+fn flag<'a>(arg: Arg<'a>, kind: Kind) -> Arg<'a> {
+    match kind {
+        Kind::ShortFlag(letter) => arg.short(letter),
+        Kind::GlobalFlag => arg.global(true),
+        _ => arg,
+    }
+}
+
+/// The argument with what reads a text of this kind, where not every text is taken.
+fn parsed<'a>(arg: Arg<'a>, kind: Kind) -> Arg<'a> {
+    match parser_of(kind) {
+        Some(parser) => arg.value_parser(parser),
+        None => arg,
+    }
+}
+
+/// What reads a text of this kind, where not every text is taken.
+fn parser_of<'a>(kind: Kind) -> Option<ValueParser<'a>> {
+    match kind {
+        Kind::SmallWord | Kind::Small(_) => Some(value_parser!(u16)),
+        Kind::Large(_) => Some(value_parser!(u32)),
+        Kind::WordOf(words) => Some(ValueParser::Names(words)),
+        _ => None,
+    }
+}
+
+/// The argument with what this kind says of another argument.
+fn ruled<'a>(arg: Arg<'a>, kind: Kind) -> Result<Arg<'a>, AllocError> {
+    match kind {
         Kind::WordUnless(other) => arg.required_unless_present(other),
-        Kind::SmallWord => Ok(arg.required(true).value_parser(value_parser!(u16))),
-        Kind::WordOf(words) => Ok(arg.required(true).value_parser(words)),
+        Kind::FlagWith(other) => arg.requires_arg(other),
+        Kind::TextWithout(_, other) | Kind::Texts(_, _, other) => arg.conflicts_with(other),
         _ => Ok(arg),
     }
-}
-
-/// The argument as an option of this kind.
-fn option<'a>(arg: Arg<'a>, kind: Kind) -> Result<Arg<'a>, AllocError> {
-    match kind {
-        Kind::ShortFlag(letter) => Ok(flag(arg).short(letter)),
-        Kind::GlobalFlag => Ok(flag(arg).global(true)),
-        Kind::FlagWith(other) => flag(arg).requires_arg(other),
-        Kind::Text(name) => Ok(arg.value_name(name)),
-        Kind::TextWithout(name, other) => arg.value_name(name).conflicts_with(other),
-        Kind::Small(name) => Ok(arg.value_name(name).value_parser(value_parser!(u16))),
-        Kind::Large(name) => Ok(arg.value_name(name).value_parser(value_parser!(u32))),
-        Kind::Texts(name, letter, other) => texts(arg.value_name(name), letter).conflicts_with(
-            other,
-        ),
-        _ => Ok(flag(arg)),
-    }
-}
-
-/// The argument as an option without a value.
-fn flag<'a>(arg: Arg<'a>) -> Arg<'a> {
-    arg.action(ArgAction::SetTrue)
-}
-
-/// The argument as an option that may be given again, and is spelt by this letter too.
-fn texts<'a>(arg: Arg<'a>, letter: char) -> Arg<'a> {
-    arg.short(letter).action(ArgAction::Append)
 }

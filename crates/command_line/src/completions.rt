@@ -24,7 +24,7 @@ pub fn completion_script(
 ) -> Result<String, AllocError> {
     let mut command = described(alloc, program)?;
     let mut text = String::new(alloc);
-    let ended = push_script(alloc, shell, &mut command, &mut text);
+    let ended = push_script(shell, &mut command, &mut text);
     drop(command);
     match ended {
         Ok(()) => Ok(text),
@@ -33,16 +33,15 @@ pub fn completion_script(
 }
 
 fn push_script(
-    alloc: Global,
     shell: Shell,
     command: &mut Command<'_>,
     text: &mut String,
 ) -> Result<(), AllocError> {
     command.build()?;
     match shell {
-        Shell::Bash => push_bash(alloc, command, text),
-        Shell::Zsh => push_zsh(alloc, command, text),
-        Shell::Fish => push_fish(alloc, command, text),
+        Shell::Bash => push_bash(command, text),
+        Shell::Zsh => push_zsh(command, text),
+        Shell::Fish => push_fish(command, text),
     }
 }
 
@@ -66,51 +65,60 @@ const BASH_TAIL: &str = "    esac
 ";
 
 /// Of each subcommand a line `show) options='--hex --help' ;;`, after one of the program itself.
-fn push_bash(alloc: Global, command: &Command<'_>, text: &mut String) -> Result<(), AllocError> {
+fn push_bash(command: &Command<'_>, text: &mut String) -> Result<(), AllocError> {
     let program = command.get_name();
-    text.push_str(bash_head(alloc, command)?.as_str())?;
+    push_all(text, &["_", program, BASH_HEAD])?;
+    push_bash_head(command, text)?;
     for subcommand in command.get_subcommands() {
-        text.push_str(bash_line(alloc, subcommand)?.as_str())?;
+        push_bash_line(subcommand, text)?;
     }
-    text.push_str(BASH_TAIL)?;
-    text.push_str(format!(in alloc; "complete -o filenames -F _{program} {program}\n")?.as_str())
-}
-
-fn bash_head(alloc: Global, command: &Command<'_>) -> Result<String, AllocError> {
-    let program = command.get_name();
-    let names = bash_names(alloc, command.get_subcommands())?;
-    let options = bash_options(alloc, command.get_arguments())?;
-    format!(in alloc;
-        "_{program}{BASH_HEAD}    '') names='{names}' options='{options}' ;;\n    help) names='{names}' ;;\n"
+    push_all(
+        text,
+        &[
+            BASH_TAIL,
+            "complete -o filenames -F _",
+            program,
+            " ",
+            program,
+            "\n",
+        ],
     )
 }
 
-fn bash_line(alloc: Global, subcommand: &Command<'_>) -> Result<String, AllocError> {
-    let name = subcommand.get_name();
-    let options = bash_options(alloc, subcommand.get_arguments())?;
-    format!(in alloc; "    {name}) options='{options}' ;;\n")
+/// The program itself, and its subcommand `help`, which is followed by a subcommand's name.
+fn push_bash_head(command: &Command<'_>, text: &mut String) -> Result<(), AllocError> {
+    let subcommands = command.get_subcommands();
+    text.push_str("    '') names='")?;
+    push_bash_names(subcommands, text)?;
+    text.push_str("' options='")?;
+    push_bash_options(command.get_arguments(), text)?;
+    text.push_str("' ;;\n    help) names='")?;
+    push_bash_names(subcommands, text)?;
+    text.push_str("' ;;\n")
+}
+
+fn push_bash_line(command: &Command<'_>, text: &mut String) -> Result<(), AllocError> {
+    push_all(text, &["    ", command.get_name(), ") options='"])?;
+    push_bash_options(command.get_arguments(), text)?;
+    text.push_str("' ;;\n")
 }
 
 /// The names of subcommands, each behind a blank.
-fn bash_names(alloc: Global, subcommands: &[Command<'_>]) -> Result<String, AllocError> {
-    let mut names = String::new(alloc);
+fn push_bash_names(subcommands: &[Command<'_>], text: &mut String) -> Result<(), AllocError> {
     for subcommand in subcommands {
-        names.push_str(" ")?;
-        names.push_str(subcommand.get_name())?;
+        push_all(text, &[" ", subcommand.get_name()])?;
     }
-    Ok(names)
+    Ok(())
 }
 
 /// The options among these arguments, each behind a blank.
-fn bash_options(alloc: Global, arguments: &[Arg<'_>]) -> Result<String, AllocError> {
-    let mut options = String::new(alloc);
+fn push_bash_options(arguments: &[Arg<'_>], text: &mut String) -> Result<(), AllocError> {
     for argument in arguments {
         if let Some(long) = argument.get_long() {
-            options.push_str(" --")?;
-            options.push_str(long)?;
+            push_all(text, &[" --", long])?;
         }
     }
-    Ok(options)
+    Ok(())
 }
 
 const ZSH_HEAD: &str = "() {
@@ -130,106 +138,148 @@ const ZSH_TAIL: &str = "    esac
 ";
 
 /// Of each subcommand a line `'show:What it does'`, and a line `show) _arguments '--hex[What it does]' '*:file:_files' ;;`.
-fn push_zsh(alloc: Global, command: &Command<'_>, text: &mut String) -> Result<(), AllocError> {
+fn push_zsh(command: &Command<'_>, text: &mut String) -> Result<(), AllocError> {
     let program = command.get_name();
-    text.push_str(format!(in alloc; "#compdef {program}\n_{program}{ZSH_HEAD}")?.as_str())?;
+    push_all(text, &["#compdef ", program, "\n_", program, ZSH_HEAD])?;
     for subcommand in command.get_subcommands() {
-        text.push_str(zsh_name(alloc, subcommand)?.as_str())?;
+        push_zsh_name(subcommand, text)?;
     }
     text.push_str(ZSH_MIDDLE)?;
+    push_zsh_cases(command, text)?;
+    push_all(text, &[ZSH_TAIL, "compdef _", program, " ", program, "\n"])
+}
+
+/// The options of each subcommand, which are followed by files, and those of the program itself.
+fn push_zsh_cases(command: &Command<'_>, text: &mut String) -> Result<(), AllocError> {
     for subcommand in command.get_subcommands() {
-        text.push_str(zsh_options(alloc, subcommand)?.as_str())?;
+        push_zsh_case(subcommand.get_name(), subcommand, " '*:file:_files'", text)?;
     }
-    text.push_str(zsh_end(alloc, command)?.as_str())
+    push_zsh_case("-*", command, "", text)
 }
 
-/// The options of the program itself, and the end.
-fn zsh_end(alloc: Global, command: &Command<'_>) -> Result<String, AllocError> {
-    let program = command.get_name();
-    let options = zsh_arguments(alloc, command.get_arguments())?;
-    format!(in alloc; "    -*) _arguments{options} ;;\n{ZSH_TAIL}compdef _{program} {program}\n")
+fn push_zsh_name(command: &Command<'_>, text: &mut String) -> Result<(), AllocError> {
+    push_all(text, &["        '", command.get_name(), ":"])?;
+    push_quoted(command.get_about().unwrap_or(""), text)?;
+    text.push_str("'\n")
 }
 
-fn zsh_name(alloc: Global, subcommand: &Command<'_>) -> Result<String, AllocError> {
-    let name = subcommand.get_name();
-    let about = quoted(alloc, subcommand.get_about().unwrap_or(""))?;
-    format!(in alloc; "        '{name}:{about}'\n")
-}
-
-fn zsh_options(alloc: Global, subcommand: &Command<'_>) -> Result<String, AllocError> {
-    let name = subcommand.get_name();
-    let options = zsh_arguments(alloc, subcommand.get_arguments())?;
-    format!(in alloc; "    {name}) _arguments{options} '*:file:_files' ;;\n")
-}
-
-/// The options among these arguments, as `_arguments` wants them, each behind a blank.
-fn zsh_arguments(alloc: Global, arguments: &[Arg<'_>]) -> Result<String, AllocError> {
-    let mut options = String::new(alloc);
-    for argument in arguments {
+/// The options of a command where the second word is of this pattern, as `_arguments` wants them, each behind a blank.
+fn push_zsh_case(
+    pattern: &str,
+    command: &Command<'_>,
+    more: &str,
+    text: &mut String,
+) -> Result<(), AllocError> {
+    push_all(text, &["    ", pattern, ") _arguments"])?;
+    for argument in command.get_arguments() {
         if let Some(long) = argument.get_long() {
-            let help = quoted(alloc, argument.get_help().unwrap_or(""))?;
-            options.push_str(format!(in alloc; " '--{long}[{help}]'")?.as_str())?;
+            push_option(&[" '--", long, "["], argument, "]'", text)?;
         }
     }
-    Ok(options)
+    push_all(text, &[more, " ;;\n"])
 }
 
 /// Of each subcommand a line, and a line of each of its options.
-fn push_fish(alloc: Global, command: &Command<'_>, text: &mut String) -> Result<(), AllocError> {
+fn push_fish(command: &Command<'_>, text: &mut String) -> Result<(), AllocError> {
     let program = command.get_name();
-    let options = command.get_arguments();
-    text.push_str(fish_options(alloc, program, "__fish_use_subcommand", options)?.as_str())?;
+    push_fish_options(
+        program,
+        "__fish_use_subcommand",
+        "",
+        command.get_arguments(),
+        text,
+    )?;
     for subcommand in command.get_subcommands() {
-        text.push_str(fish_lines(alloc, program, subcommand)?.as_str())?;
+        push_fish_lines(program, subcommand, text)?;
     }
     Ok(())
 }
 
-fn fish_lines(
-    alloc: Global,
+fn push_fish_lines(
     program: &str,
-    subcommand: &Command<'_>,
-) -> Result<String, AllocError> {
-    let name = subcommand.get_name();
-    let about = quoted(alloc, subcommand.get_about().unwrap_or(""))?;
-    let seen = format!(in alloc; "__fish_seen_subcommand_from {name}")?;
-    let options = fish_options(alloc, program, seen.as_str(), subcommand.get_arguments())?;
-    format!(in alloc;
-        "complete -c {program} -n __fish_use_subcommand -f -a {name} -d '{about}'\n{options}"
+    command: &Command<'_>,
+    text: &mut String,
+) -> Result<(), AllocError> {
+    let name = command.get_name();
+    push_all(
+        text,
+        &[
+            "complete -c ",
+            program,
+            " -n __fish_use_subcommand -f -a ",
+            name,
+            " -d '",
+        ],
+    )?;
+    push_quoted(command.get_about().unwrap_or(""), text)?;
+    text.push_str("'\n")?;
+    push_fish_options(
+        program,
+        "__fish_seen_subcommand_from ",
+        name,
+        command.get_arguments(),
+        text,
     )
 }
 
-/// A line of each option among these arguments, which is offered where a condition holds.
-fn fish_options(
-    alloc: Global,
+/// A line of each option among these arguments, which is offered where a condition with this name at its end holds.
+fn push_fish_options(
     program: &str,
     condition: &str,
+    name: &str,
     arguments: &[Arg<'_>],
-) -> Result<String, AllocError> {
-    let mut lines = String::new(alloc);
+    text: &mut String,
+) -> Result<(), AllocError> {
     for argument in arguments {
         if let Some(long) = argument.get_long() {
-            let help = quoted(alloc, argument.get_help().unwrap_or(""))?;
-            let line = format!(in alloc;
-                "complete -c {program} -n '{condition}' -l {long} -d '{help}'\n"
+            push_all(
+                text,
+                &[
+                    "complete -c ",
+                    program,
+                    " -n '",
+                    condition,
+                    name,
+                    "' -l ",
+                    long,
+                ],
             )?;
-            lines.push_str(line.as_str())?;
+            push_option(&[" -d '"], argument, "'\n", text)?;
         }
     }
-    Ok(lines)
+    Ok(())
+}
+
+/// What an option does, between these texts.
+fn push_option(
+    before: &[&str],
+    option: &Arg<'_>,
+    after: &str,
+    text: &mut String,
+) -> Result<(), AllocError> {
+    push_all(text, before)?;
+    push_quoted(option.get_help().unwrap_or(""), text)?;
+    text.push_str(after)
 }
 
 /// A text as it stands between single quotes of a shell, with signs in place of brackets and colons, which mean something to zsh.
-fn quoted(alloc: Global, text: &str) -> Result<String, AllocError> {
-    let mut spelt = String::new(alloc);
-    for letter in text.chars() {
+fn push_quoted(quoted: &str, text: &mut String) -> Result<(), AllocError> {
+    for letter in quoted.chars() {
         match letter {
-            '\'' => spelt.push_str("'\\''")?,
-            '[' => spelt.push('(')?,
-            ']' => spelt.push(')')?,
-            ':' => spelt.push(',')?,
-            _ => spelt.push(letter)?,
+            '\'' => text.push_str("'\\''")?,
+            '[' => text.push('(')?,
+            ']' => text.push(')')?,
+            ':' => text.push(',')?,
+            _ => text.push(letter)?,
         }
     }
-    Ok(spelt)
+    Ok(())
+}
+
+/// These texts, one behind the other.
+pub(crate) fn push_all(text: &mut String, parts: &[&str]) -> Result<(), AllocError> {
+    for part in parts {
+        text.push_str(part)?;
+    }
+    Ok(())
 }

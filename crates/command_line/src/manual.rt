@@ -1,5 +1,6 @@
 //! A manual page, made of the help of each subcommand.
 
+use crate::completions::push_all;
 use crate::program::Program;
 use crate::reading::read_words;
 use crate::unread::Unread;
@@ -26,13 +27,16 @@ fn push_section(
     name: &str,
     text: &mut String,
 ) -> Result<(), AllocError> {
-    let of = program.name;
-    text.push_str(format!(in alloc; ".SH \"{of} {name}\"\n.nf\n")?.as_str())?;
+    push_heading(program.name, name, text)?;
     let help = help_of(alloc, program, name)?;
     for line in help.as_str().lines() {
         push_line(line, text)?;
     }
     text.push_str(".fi\n")
+}
+
+fn push_heading(program: &str, name: &str, text: &mut String) -> Result<(), AllocError> {
+    push_all(text, &[".SH \"", program, " ", name, "\"\n.nf\n"])
 }
 
 /// Adds a line as roff prints it: a backslash before each `-` and `\`, and nothing is taken for a request.
@@ -50,15 +54,21 @@ fn push_line(line: &str, text: &mut String) -> Result<(), AllocError> {
 
 /// What `--help` prints of a subcommand, or with no name of the program.
 fn help_of(alloc: Global, program: Program<'_>, name: &str) -> Result<String, AllocError> {
-    let mut words = Vec::new(alloc);
-    words.push(String::from_str(alloc, program.name)?)?;
-    if !name.is_empty() {
-        words.push(String::from_str(alloc, name)?)?;
-    }
-    words.push(String::from_str(alloc, "--help")?)?;
+    let words = words_of(alloc, program.name, name)?;
     match read_words(alloc, program, &words) {
         Err(Unread::Asked(text)) => Ok(text),
         Err(Unread::Memory) => Err(AllocError),
         _ => Ok(String::new(alloc)),
     }
+}
+
+/// The words that ask for this help.
+fn words_of(alloc: Global, program: &str, name: &str) -> Result<Vec<String>, AllocError> {
+    let mut words = Vec::new(alloc);
+    for word in &[program, name, "--help"] {
+        if !word.is_empty() {
+            words.push(String::from_str(alloc, word)?)?;
+        }
+    }
+    Ok(words)
 }

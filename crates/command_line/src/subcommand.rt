@@ -42,19 +42,24 @@ pub(crate) fn with_arguments<'a>(
     command: Command<'a>,
     arguments: &[Argument],
 ) -> Result<Command<'a>, AllocError> {
-    let mut command = command;
-    for argument in arguments {
-        command = with_described(command, argument.described(alloc))?;
+    match described_arguments(alloc, arguments) {
+        Ok(described) => command.args(described),
+        Err(error) => {
+            drop(command);
+            Err(error)
+        }
     }
-    Ok(command)
 }
 
-/// The command with one more argument, if that one could be made.
-fn with_described<'a>(
-    command: Command<'a>,
-    argument: Result<Arg<'a>, AllocError>,
-) -> Result<Command<'a>, AllocError> {
-    command.arg(argument?)
+fn described_arguments<'a>(
+    alloc: Global,
+    arguments: &[Argument],
+) -> Result<Vec<Arg<'a>>, AllocError> {
+    let mut described = Vec::new(alloc);
+    for argument in arguments {
+        described.push(argument.described(alloc)?)?;
+    }
+    Ok(described)
 }
 
 /// The command with these subcommands behind those that it has.
@@ -63,17 +68,22 @@ pub(crate) fn with_subcommands<'a>(
     command: Command<'a>,
     subcommands: &[Subcommand],
 ) -> Result<Command<'a>, AllocError> {
-    let mut command = command;
-    for subcommand in subcommands {
-        command = with_subcommand(command, subcommand.described(alloc))?;
+    match described_subcommands(alloc, subcommands) {
+        Ok(described) => command.subcommands(described),
+        Err(error) => {
+            drop(command);
+            Err(error)
+        }
     }
-    Ok(command)
 }
 
-/// The command with one more subcommand, if that one could be made.
-fn with_subcommand<'a>(
-    command: Command<'a>,
-    subcommand: Result<Command<'a>, AllocError>,
-) -> Result<Command<'a>, AllocError> {
-    command.subcommand(subcommand?)
+fn described_subcommands<'a>(
+    alloc: Global,
+    subcommands: &[Subcommand],
+) -> Result<Vec<Command<'a>>, AllocError> {
+    let mut described = Vec::new(alloc);
+    for subcommand in subcommands {
+        described.push(subcommand.described(alloc)?)?;
+    }
+    Ok(described)
 }
