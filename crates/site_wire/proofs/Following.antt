@@ -15,11 +15,18 @@ use Rattle.site_core.specs.Calls.{WritesDisk, SyncsDisk}
 use Rattle.site_shadow.specs.Following.{begin_of, first_of, Keeps, WriteKeeps, SyncKeeps, RestKeeps}
 use Rattle.site_shadow.proofs.Keeping.{Extends-by}
 use Rattle.site_shadow.specs.declared.device.Passing.{Passing}
+use Rattle.site_shadow.specs.declared.device.Passing.TheVariants.{Passes}
 use Rattle.site_shadow.specs.declared.device.Resting.{Resting}
 use Rattle.site_shadow.specs.Resting.{RestsAs}
 use Rattle.site_shadow.proofs.Towards.{Extends-first}
 use Rattle.site_shadow.proofs.GoingThrough.{get-set}
-use Rattle.site_wire.specs.Following.{SendsNothing, CarriesFrame, IsBehind, SlavesFollow, WireFollows, still_follows}
+use Rattle.site_file.specs.declared.files.FileDevice.{FileDevice}
+use Rattle.site_file.specs.Calls.{writes, syncs}
+use Rattle.site_file.specs.Asking.{HasLog}
+use Rattle.site_file.specs.Device.{CallsJournal, AsksLength, ReadsJournal}
+use Rattle.site_wire.specs.Journal.{JournalFollows}
+use Rattle.site_wire.specs.Following.{SendsNothing, CarriesFrame, IsBehind, SlavesFollow, SlavesFollowed, WireFollows, still_follows}
+use Rattle.site_wire.proofs.Journal.{length_follows, length_sound, read_follows, read_sound, write_follows, call_sound, sync_follows, rest_follows, journal_begins}
 use Rattle.site_wire.specs.declared.device.WireDevice.{WireDevice}
 use Rattle.site_wire.specs.Sent.{Exchanged, HasSent, nothing_sent}
 use Rattle.site_wire.specs.RealSlaves.{Lives, ends}
@@ -28,21 +35,50 @@ use Rattle.site_wire.proofs.Carrying.{carries_behind}
 
 module _ {L F C : Type 0} where
   -- a device that has sent nothing more
-  same_device : (before after : WireDevice L F C) → SendsNothing before after → (seen : Seen) → WireFollows before seen → WireFollows after seen
-  same_device before after nothing seen follows = record {
+  same_slaves : (before after : WireDevice L F C) → SendsNothing before after → (seen : Seen) → SlavesFollowed before seen → SlavesFollowed after seen
+  same_slaves before after nothing seen follows = record {
     log = follows.log;
     has = subst (λ (n : ℕ). HasSent n follows.log) (sym nothing.moment) follows.has;
     follow = λ going running. follows.follow (nothing.over going) running;
   }
 
-  pub nothing_keeps : (before after : WireDevice L F C) → SendsNothing before after → Keeps WireFollows before after
-  nothing_keeps before after nothing seen follows = same_device before after nothing seen follows
+  -- a device whose journal was asked nothing more
+  still_sound : (before after : WireDevice L F C) → after.journal ≡ before.journal → (after.is_over ≡ false → before.is_over ≡ false)
+      → (before.is_over ≡ false → before.journal.has_failed ≡ false) → after.is_over ≡ false → after.journal.has_failed ≡ false
+  still_sound before after same over was going = ap (λ (j : FileDevice F). j.has_failed) same ∙ was (over going)
 
-  pub write_keeps : (at : ℕ) (bytes : List ℕ) (before after : WireDevice L F C) (result : Passing) → SendsNothing before after
+  pub nothing_keeps : (before after : WireDevice L F C) → after.journal ≡ before.journal → SendsNothing before after → Keeps WireFollows before after
+  nothing_keeps before after same nothing seen follows = record {
+    slaves = same_slaves before after nothing seen follows.slaves;
+    journal = subst (λ (j : FileDevice F). JournalFollows j seen) (sym same) follows.journal;
+    sound = still_sound before after same nothing.over follows.sound;
+  }
+
+  pub length_keeps : (before after : WireDevice L F C) (result : Passing) → AsksLength before.journal result after.journal → SendsNothing before after
+      → (after.is_over ≡ false → result ≡ Passes) → Keeps WireFollows before after
+  length_keeps before after result asks nothing well seen follows = record {
+    slaves = same_slaves before after nothing seen follows.slaves;
+    journal = length_follows before.journal after.journal result seen asks follows.journal;
+    sound = λ going. length_sound before.journal after.journal result asks (well going);
+  }
+
+  pub read_keeps : (before after : WireDevice L F C) (result : Passing) → ReadsJournal before.journal result after.journal → SendsNothing before after
+      → (after.is_over ≡ false → result ≡ Passes) → Keeps WireFollows before after
+  read_keeps before after result asks nothing well seen follows = record {
+    slaves = same_slaves before after nothing seen follows.slaves;
+    journal = read_follows before.journal after.journal result seen asks follows.journal;
+    sound = λ going. read_sound before.journal after.journal result asks (well going);
+  }
+
+  pub write_keeps : (at : ℕ) (bytes : List ℕ) (before after : WireDevice L F C) (result : Passing)
+      → CallsJournal (writes at bytes) before.journal result after.journal → SendsNothing before after → (after.is_over ≡ false → result ≡ Passes)
       → WriteKeeps WireFollows at bytes before result after
-  write_keeps at bytes before after result nothing old new given running inside wrote told follows =
-      still_follows after old new (Extends-by old new wrote.middle given wrote.call) (λ going. same given wrote going)
-      (same_device before after nothing old follows)
+  write_keeps at bytes before after result calls nothing well old new given running inside wrote told follows = record {
+    slaves = still_follows after old new (Extends-by old new wrote.middle given wrote.call) (λ going. same given wrote going)
+        (same_slaves before after nothing old follows.slaves);
+    journal = write_follows at bytes before.journal after.journal result old new given calls running inside wrote told follows.journal;
+    sound = λ going. call_sound (writes at bytes) before.journal after.journal result calls (well going);
+  }
     where
       same : (given : Result (Unit {0}) DeviceFault) → WritesDisk old at bytes given new → ¬ IsTrue new.is_stopped → new.state.halves ≡ old.state.halves
       same (Ok done) wrote going = ap (λ (s : State). s.halves) wrote.ok
@@ -50,16 +86,20 @@ module _ {L F C : Type 0} where
       same (Err faults.Lost) wrote going = absurd (wrote.not_lost refl)
       same (Err faults.Stopped) wrote going = absurd (going (wrote.call.stopped.1 refl))
 
-  pub sync_keeps : (before after : WireDevice L F C) (result : Passing) → SendsNothing before after → SyncKeeps WireFollows before result after
-  sync_keeps before after result nothing old new given running syncs told follows =
-      still_follows after old new (Extends-by old new [] given syncs.call) (λ going. same given syncs going)
-      (same_device before after nothing old follows)
+  pub sync_keeps : (before after : WireDevice L F C) (result : Passing) → CallsJournal syncs before.journal result after.journal
+      → SendsNothing before after → (after.is_over ≡ false → result ≡ Passes) → SyncKeeps WireFollows before result after
+  sync_keeps before after result calls nothing well old new given running syncs_it told follows = record {
+    slaves = still_follows after old new (Extends-by old new [] given syncs_it.call) (λ going. same given syncs_it going)
+        (same_slaves before after nothing old follows.slaves);
+    journal = sync_follows before.journal after.journal result old new given calls running syncs_it told follows.journal;
+    sound = λ going. call_sound syncs before.journal after.journal result calls (well going);
+  }
     where
       same : (given : Result (Unit {0}) DeviceFault) → SyncsDisk old given new → ¬ IsTrue new.is_stopped → new.state.halves ≡ old.state.halves
-      same (Ok done) syncs going = ap (λ (s : State). s.halves) syncs.ok
-      same (Err faults.Disk) syncs going = ap (λ (s : State). s.halves) (syncs.failed refl)
-      same (Err faults.Lost) syncs going = absurd (syncs.not_lost refl)
-      same (Err faults.Stopped) syncs going = absurd (going (syncs.call.stopped.1 refl))
+      same (Ok done) syncs_it going = ap (λ (s : State). s.halves) syncs_it.ok
+      same (Err faults.Disk) syncs_it going = ap (λ (s : State). s.halves) (syncs_it.failed refl)
+      same (Err faults.Lost) syncs_it going = absurd (syncs_it.not_lost refl)
+      same (Err faults.Stopped) syncs_it going = absurd (going (syncs_it.call.stopped.1 refl))
 
 -- A REAL SLAVE FROM THE BEGINNING
 
@@ -68,23 +108,38 @@ begins_to_follow state slave first half real later at_first at_now station_is be
     let same : first ≡ half = (let e : Some first ≡ Some half = sym at_first ∙ at_now in cc) in
     subst (λ (h : SlaveHalf). IsBehind h real) same behind
 
-pub begins : {L F C : Type 0} (device : WireDevice L F C) (was_over is_new : Bool) (seen : Seen) → device.sender.moment ≡ 0
-    → device.is_over ≡ (was_over || not is_new) → (IsTrue is_new ↔ seen.past ≡ []) → WireFollows device seen
-begins device was_over is_new seen none over told = record {
+slaves_begin : {L F C : Type 0} (device : WireDevice L F C) (seen : Seen) → device.sender.moment ≡ 0 → (device.is_over ≡ false → seen.past ≡ [])
+    → SlavesFollowed device seen
+slaves_begin device seen none new = record {
   log = [];
   has = subst (λ (n : ℕ). HasSent n []) (sym none) nothing_sent;
   follow = λ going running.
-      subst (λ (begun : State). SlavesFollow [] begun.halves seen.state.halves) (sym (begun_first (told.0 (is_first was_over is_new (sym over ∙ going)))))
-      (begins_to_follow seen.state);
+      subst (λ (begun : State). SlavesFollow [] begun.halves seen.state.halves) (sym (begun_first (new going))) (begins_to_follow seen.state);
 }
   where
+    begun_first : seen.past ≡ [] → first_of seen ≡ seen.state
+    begun_first new = ap (λ (past : List Moment). begin_of past seen.state) new
+
+pub begins : {L F C : Type 0} (device : WireDevice L F C) (was_over had_failed is_new : Bool) (seen : Seen) → device.sender.moment ≡ 0
+    → HasLog device.journal.asking.calls [] → device.journal.has_failed ≡ (had_failed || not is_new)
+    → device.is_over ≡ (was_over || device.journal.has_failed) → (IsTrue is_new ↔ seen.past ≡ []) → WireFollows device seen
+begins device was_over had_failed is_new seen none unasked failed over told = record {
+  slaves = slaves_begin device seen none (λ going. told.0 (is_first had_failed is_new (sym failed ∙ sound going)));
+  journal = journal_begins device.journal had_failed is_new seen unasked failed told;
+  sound = sound;
+}
+  where
+    neither : (was is : Bool) → (was || is) ≡ false → is ≡ false
+    neither true is e = absurd cc
+    neither false is e = e
+
+    sound : device.is_over ≡ false → device.journal.has_failed ≡ false
+    sound going = neither was_over device.journal.has_failed (sym over ∙ going)
+
     is_first : (was is : Bool) → (was || not is) ≡ false → IsTrue is
     is_first true is e = absurd cc
     is_first false true e = refl
     is_first false false e = absurd cc
-
-    begun_first : seen.past ≡ [] → first_of seen ≡ seen.state
-    begun_first new = ap (λ (past : List Moment). begin_of past seen.state) new
 
 -- ONE DATAGRAM
 
@@ -113,7 +168,7 @@ only_datagram frame k d e one at = by k (ap (λ (f : List Pdu). slice_get f k) (
 
 module _ {L F C : Type 0} (slave : ℕ) (half : SlaveHalf) (frame : List Pdu) (k : ℕ) (before after : WireDevice L F C) (result : Resting)
     (carried : CarriesFrame slave half frame before.sender.moment after.sender.moment after.is_over after.resting)
-    (was_going : before.is_over ≡ false) (is : after.is_over ≡ false → result ≡ after.resting) where
+    (was_going : before.is_over ≡ false) (is : after.is_over ≡ false → result ≡ after.resting) (same : after.journal ≡ before.journal) where
   module _ (old new : Seen) (rested : SlaveHalf) (d : Pdu) (here : slice_get old.state.halves slave ≡ Some half) (at : slice_get frame k ≡ Some d)
       (so : RestsAs result half rested) (state : new.state ≡ with_half old.state slave (served_datagram rested d).half) (log : List Exchanged)
       (going : after.is_over ≡ false) where
@@ -155,10 +210,34 @@ module _ {L F C : Type 0} (slave : ℕ) (half : SlaveHalf) (frame : List Pdu) (k
 
   pub rest_keeps : RestKeeps WireFollows slave half frame k before result after
   rest_keeps old new rested d running here at so state extends follows = record {
-    log = follows.log ++ carried.calls;
-    has = carried.sends.goes_on follows.log follows.has;
-    follow = λ going still.
-        subst (λ (begun : State). SlavesFollow (follows.log ++ carried.calls) begun.halves new.state.halves) (sym (Extends-first old new extends))
-        (follow_on old new rested d here at so state follows.log going (first_of old).halves
-        (follows.follow was_going running));
+    slaves = record {
+      log = follows.slaves.log ++ carried.calls;
+      has = carried.sends.goes_on follows.slaves.log follows.slaves.has;
+      follow = λ going still.
+          subst (λ (begun : State). SlavesFollow (follows.slaves.log ++ carried.calls) begun.halves new.state.halves) (sym (Extends-first old new extends))
+          (follow_on old new rested d here at so state follows.slaves.log going (first_of old).halves
+          (follows.slaves.follow was_going running));
+    };
+    journal = rest_follows slave (served_datagram rested d).half before.journal after.journal old new same running state extends follows.journal;
+    sound = still_sound before after same (λ going. was_going) follows.sound;
   }
+
+-- a half that rests while the device is over: the slaves may be anything
+module _ {L F C : Type 0} (slave : ℕ) (half : SlaveHalf) (frame : List Pdu) (k : ℕ) (before after : WireDevice L F C) (result : Resting)
+    (over : IsTrue after.is_over) (same : after.journal ≡ before.journal) where
+  over_keeps : ((log : List Exchanged) → HasSent before.sender.moment log → (later : List Exchanged) × HasSent after.sender.moment later)
+      → RestKeeps WireFollows slave half frame k before result after
+  over_keeps sends old new rested d running here at so state extends follows =
+      let sent = sends follows.slaves.log follows.slaves.has in
+      record {
+        slaves = record { log = sent.0; has = sent.1; follow = λ going still. absurd (let e : true ≡ false = sym over ∙ going in cc) };
+        journal = rest_follows slave (served_datagram rested d).half before.journal after.journal old new same running state extends follows.journal;
+        sound = λ going. absurd (let e : true ≡ false = sym over ∙ going in cc);
+      }
+
+  pub over_before : after.sender.moment ≡ before.sender.moment → RestKeeps WireFollows slave half frame k before result after
+  over_before none = over_keeps (λ log has. (log, subst (λ (n : ℕ). HasSent n log) (sym none) has))
+
+  pub over_behind : CarriesFrame slave half frame before.sender.moment after.sender.moment after.is_over after.resting
+      → RestKeeps WireFollows slave half frame k before result after
+  over_behind carried = over_keeps (λ log has. (log ++ carried.calls, carried.sends.goes_on log has))

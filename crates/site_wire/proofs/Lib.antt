@@ -19,5 +19,7 @@ mod ReadingBack
 mod Behind
 mod Carrying
 mod FollowingUp
+mod Journal
+mod JournalFile
 mod Following
 mod DueTo

@@ -20,6 +20,7 @@ use Rattle.site_wire.specs.Answers.{shown_status}
 use Rattle.site_wire.specs.Answering.{shown_by}
 use Rattle.site_wire.specs.Sent.{Exchanged, exchanged, HasSent, Sends}
 use Rattle.site_wire.specs.RealSlaves.{Lives}
+use Rattle.site_wire.specs.Journal.{JournalFollows, journal_on}
 use Rattle.site_wire.specs.declared.amending.Tried.{Tried}
 use Rattle.site_wire.specs.declared.amending.Tried.TheVariants as tried
 use Rattle.site_wire.specs.declared.answers.Shown.{Shown}
@@ -148,15 +149,15 @@ abbrev pub SlavesFollow : List Exchanged → (begun now : List SlaveHalf) → Ty
 SlavesFollow log begun now = (slave : ℕ) (first half real later : SlaveHalf) → slice_get begun slave ≡ Some first
     → slice_get now slave ≡ Some half → first.station ≡ station slave → IsBehind first real → Lives log real later → IsBehind half later
 
--- A device on a wire has followed its site: unless it or the site has stopped, so the real slaves do.
-pub record WireFollows {L F C : Type 0} (device : WireDevice L F C) (seen : Seen) : Type 0 where
+-- The slaves have followed the site behind a device on a wire: unless it or the site has stopped.
+pub record SlavesFollowed {L F C : Type 0} (device : WireDevice L F C) (seen : Seen) : Type 0 where
   pub log : List Exchanged
   pub has : HasSent device.sender.moment log
   pub follow : device.is_over ≡ false → seen.is_stopped ≡ false → SlavesFollow log (first_of seen).halves seen.state.halves
 
--- it goes on where no half changes
+-- they go on where no half changes
 pub still_follows : {L F C : Type 0} (device : WireDevice L F C) (old new : Seen) → Extends old new
-    → (¬ IsTrue new.is_stopped → new.state.halves ≡ old.state.halves) → WireFollows device old → WireFollows device new
+    → (¬ IsTrue new.is_stopped → new.state.halves ≡ old.state.halves) → SlavesFollowed device old → SlavesFollowed device new
 still_follows device old new extends same follows = record {
   log = follows.log;
   has = follows.has;
@@ -173,6 +174,17 @@ still_follows device old new extends same follows = record {
     before false is running = refl
     before true is running = absurd (let over : new.is_stopped ≡ true = extends.stopped is in cc)
 
+-- A device on a wire has followed its site: so have the real slaves, and the journal's file. As long as it isn't over, no call on the journal has
+-- failed.
+pub record WireFollows {L F C : Type 0} (device : WireDevice L F C) (seen : Seen) : Type 0 where
+  pub slaves : SlavesFollowed device seen
+  pub journal : JournalFollows device.journal seen
+  pub sound : device.is_over ≡ false → device.journal.has_failed ≡ false
+
 -- the law of the trait: a step in which the device isn't asked
 pub follows_on : {L F C : Type 0} (device : WireDevice L F C) (old new : Seen) → IsUnasked old new → WireFollows device old → WireFollows device new
-follows_on device old new unasked = still_follows device old new unasked.goes.extends unasked.halves
+follows_on device old new unasked follows = record {
+  slaves = still_follows device old new unasked.goes.extends unasked.halves follows.slaves;
+  journal = journal_on device.journal old new unasked.goes follows.journal;
+  sound = follows.sound;
+}

@@ -10,4 +10,6 @@ pub mod Known
 pub mod Orders
 pub mod Sent
 pub mod RealSlaves
+pub mod Journal
 pub mod Following
+pub mod JournalLaws

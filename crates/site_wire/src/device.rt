@@ -192,11 +192,11 @@ impl<'f, L: Reach, F: RandomAccessFile, C: Clock> WireDevice<'f, L, F, C> {
         }
     }
 
-    /// Whether nothing may be sent: the site is over, or the shadow behind which the device is put has seen a call.
-    fn must_refuse(&self, is_new: bool) -> bool
-        ensures { result ≡ (self.now.is_over || not is_new) }
+    /// Whether nothing may be sent: the site is over, or the journal refuses, as it does behind a shadow that has seen a call.
+    fn must_refuse(&self) -> bool
+        ensures { result ≡ (self.now.is_over || self.now.journal.has_failed) }
     {
-        self.is_over || !is_new
+        self.is_over || self.journal.has_failed()
     }
 
     /// Why the site has stopped, if it has.
@@ -214,6 +214,7 @@ impl<'f, L: Reach, F: RandomAccessFile, C: Clock> WireDevice<'f, L, F, C> {
         ensures over { self.new.is_over ≡ true }
         ensures rests { self.new.resting ≡ self.old.resting }
         ensures moment { self.new.sender.moment ≡ self.old.sender.moment }
+        ensures journal { self.new.journal ≡ self.old.journal }
     {
         self.is_over = true;
         self.sender.line.stop(reason, about);
@@ -223,6 +224,8 @@ impl<'f, L: Reach, F: RandomAccessFile, C: Clock> WireDevice<'f, L, F, C> {
     fn end_call(&mut self, passing: Passing) -> Passing
         ensures quiet { SendsNothing self.old self.new }
         ensures well { self.new.is_over ≡ false → result ≡ Passes }
+        ensures same { result ≡ passing }
+        ensures journal { self.new.journal ≡ self.old.journal }
     {
         match passing {
             Passing::Passes => {}
@@ -236,6 +239,7 @@ impl<'f, L: Reach, F: RandomAccessFile, C: Clock> WireDevice<'f, L, F, C> {
         ensures agrees { result ≡ None → IfSome self.old.returned (λ found. AgreesWith half.now answer.now found) }
         ensures over { self.new.is_over ≡ self.old.is_over }
         ensures moment { self.new.sender.moment ≡ self.old.sender.moment }
+        ensures journal { self.new.journal ≡ self.old.journal }
     {
         let found = self.returned?;
         if answer.count() == 0 {
@@ -255,6 +259,7 @@ impl<'f, L: Reach, F: RandomAccessFile, C: Clock> WireDevice<'f, L, F, C> {
     fn judge(&mut self, slave: usize, half: &RomHalf, answer: &Frame)
         ensures agrees { self.new.is_over ≡ false → IfSome self.old.returned (λ found. AgreesWith half.now answer.now found) }
         ensures quiet { SendsNothing self.old self.new }
+        ensures journal { self.new.journal ≡ self.old.journal }
     {
         if let Some(what) = self.compare(slave, half, answer) {
             let about = self.about(slave);
@@ -276,6 +281,7 @@ impl<'f, L: Reach, F: RandomAccessFile, C: Clock> WireDevice<'f, L, F, C> {
         ensures over { self.new.is_over ≡ self.old.is_over }
         ensures rests { self.new.resting ≡ self.old.resting }
         ensures moment { self.new.sender.moment ≡ self.old.sender.moment }
+        ensures journal { self.new.journal ≡ self.old.journal }
     {
         if slave < 64 {
             self.is_unconfirmed[slave] = is_unconfirmed;
@@ -287,6 +293,7 @@ impl<'f, L: Reach, F: RandomAccessFile, C: Clock> WireDevice<'f, L, F, C> {
         ensures carries { CarriesFrame slave half.now frame.now self.old.sender.moment self.new.sender.moment self.new.is_over self.new.resting }
         ensures known { (d : Pdu) → frame.now ≡ d ∷ [] → IsKnown half.now d → self.new.is_over ≡ false
             → self.new ≡ record self.old { returned = None; resting = resting.Well } }
+        ensures journal { self.new.journal ≡ self.old.journal }
     {
         self.returned = None;
         self.resting = Resting::Stays;
@@ -312,7 +319,8 @@ impl<'f, L: Reach, F: RandomAccessFile, C: Clock> WireDevice<'f, L, F, C> {
         requires news { ¬ IsKnown half.now (pdu sent) }
         requires stays { self.old.resting ≡ resting.Stays }
         requires to { station_of (pdu sent).address ≡ station slave }
-        ensures { SendsFor slave half.now (pdu sent.entry) self.old.sender.moment self.new.sender.moment self.new.is_over self.new.resting }
+        ensures sends { SendsFor slave half.now (pdu sent.entry) self.old.sender.moment self.new.sender.moment self.new.is_over self.new.resting }
+        ensures journal { self.new.journal ≡ self.old.journal }
     {
         self.prepare(usize::from(slave), half);
         self.pass(half, sent, frame);
@@ -330,6 +338,7 @@ impl<'f, L: Reach, F: RandomAccessFile, C: Clock> WireDevice<'f, L, F, C> {
         requires { place < 64 }
         ensures moment { self.new.sender.moment ≡ self.old.sender.moment }
         ensures rests { self.new.resting ≡ self.old.resting }
+        ensures journal { self.new.journal ≡ self.old.journal }
     {
         if half.is_at_work() {
             self.writes[place].polls.pause(self.clock);
@@ -351,6 +360,7 @@ impl<'f, L: Reach, F: RandomAccessFile, C: Clock> WireDevice<'f, L, F, C> {
         ensures sends { Sends self.old.sender.moment self.new.sender.moment
             (exchanged (pdu sent.entry) (option_map found_of self.new.returned) ∷ []) }
         ensures over { self.new.is_over ≡ false → IsSome self.new.returned }
+        ensures journal { self.new.journal ≡ self.old.journal }
     {
         self.returned = self.sender.pass(half, frame);
         self.is_over = self.returned.is_none();
@@ -364,6 +374,7 @@ impl<'f, L: Reach, F: RandomAccessFile, C: Clock> WireDevice<'f, L, F, C> {
         requires stays { self.old.resting ≡ resting.Stays }
         ensures busy { shown_by (shown_status (found_of answer)) ≡ shown_as.Busy → self.new.resting ≡ resting.Stays }
         ensures up { FollowsUp slave half.now write self.old.sender.moment self.new.sender.moment self.new.resting }
+        ensures journal { self.new.journal ≡ self.old.journal }
     {
         let is_unconfirmed = self.is_unconfirmed[usize::from(slave)];
         let shown = state_shown(&answer);
@@ -390,6 +401,7 @@ impl<'f, L: Reach, F: RandomAccessFile, C: Clock> WireDevice<'f, L, F, C> {
         requires slave { slave < 64 }
         ensures rests { self.new.resting ≡ self.old.resting }
         ensures back { ReadsBack slave half.now write.word self.old.sender.moment self.new.sender.moment result }
+        ensures journal { self.new.journal ≡ self.old.journal }
     {
         let found = read_back(&mut self.sender, self.clock, slave, half, write);
         self.is_over = self.sender.line.reason().is_some();
@@ -403,7 +415,8 @@ impl<'f, L: Reach, F: RandomAccessFile, C: Clock> WireDevice<'f, L, F, C> {
         requires flying { in_flight half.now.activity ≡ Some write }
         requires inside { write.word < length half.now.words }
         requires stays { self.old.resting ≡ resting.Stays }
-        ensures { FollowsUp slave half.now write self.old.sender.moment self.new.sender.moment self.new.resting }
+        ensures up { FollowsUp slave half.now write self.old.sender.moment self.new.sender.moment self.new.resting }
+        ensures journal { self.new.journal ≡ self.old.journal }
     {
         let place = usize::from(slave);
         if self.is_over {
@@ -425,7 +438,8 @@ impl<'f, L: Reach, F: RandomAccessFile, C: Clock> WireDevice<'f, L, F, C> {
     fn end_in_error(&mut self, slave: u16, half: &RomHalf, write: WordWrite, answer: Answer)
         requires slave { slave < 64 }
         requires stays { self.old.resting ≡ resting.Stays }
-        ensures { FollowsUp slave half.now write self.old.sender.moment self.new.sender.moment self.new.resting }
+        ensures up { FollowsUp slave half.now write self.old.sender.moment self.new.sender.moment self.new.resting }
+        ensures journal { self.new.journal ≡ self.old.journal }
     {
         self.returned = None;
         match self.read_back(slave, half, write) {
@@ -494,34 +508,40 @@ fn fit_datagram<'a>(slave: u16, half: &RomHalf, frame: &'a Frame) -> Option<Data
 }
 
 impl<'f, L: Reach, F: RandomAccessFile, C: Clock> Device for WireDevice<'f, L, F, C> {
-    ghost use Rattle.std.specs.Prelude.{[], ◌↔◌};
+    ghost use Rattle.std.specs.Prelude.{[], ◌↔◌, ◌||◌, not};
     ghost use Rattle.site_core.specs.State.{Seen};
     ghost use Rattle.site_shadow.specs.Following.{Keeps, WriteKeeps, SyncKeeps, RestKeeps};
+    ghost use Rattle.site_file.specs.Calls.{writes, syncs};
+    ghost use Rattle.site_file.specs.Asking.{HasLog};
+    ghost use Rattle.site_file.specs.Device.{CallsJournal, AsksLength, ReadsJournal};
     ghost use Rattle.site_wire.specs.Following.{WireFollows};
 
     ghost follows = { WireFollows };
 
     ghost well = { λ device. device.is_over ≡ false };
 
-    /// What is sent is noted from here on. Behind a shadow that has seen a call the device would not know what the slaves are: it sends nothing.
+    /// What is sent, and what the journal is asked, is noted from here on. Behind a shadow that has seen a call the device would not know what the
+    /// slaves and the journal are: it sends and asks nothing.
     fn begin(&mut self, is_new: bool)
+        ensures nothing { HasLog self.new.journal.asking.calls [] }
+        ensures sound { self.new.journal.has_failed ≡ (self.old.journal.has_failed || not is_new) }
         ensures follows { (seen : Seen) → (IsTrue is_new ↔ seen.past ≡ []) → WireFollows self.new seen }
     {
         self.journal.begin(is_new);
         self.sender.begin();
-        self.is_over = self.must_refuse(is_new);
+        self.is_over = self.must_refuse();
     }
 
-    #[tactic(auto, using(crate::proofs::Following::nothing_keeps))]
     fn len(&mut self, length: usize) -> Passing
+        ensures asks { AsksLength self.old.journal result self.new.journal }
         ensures follows { Keeps WireFollows self.old self.new }
     {
         let passing = self.journal.len(length);
         self.end_call(passing)
     }
 
-    #[tactic(auto, using(crate::proofs::Following::nothing_keeps))]
     fn read(&mut self, at: usize, held: &[u8]) -> Passing
+        ensures asks { ReadsJournal self.old.journal result self.new.journal }
         ensures follows { Keeps WireFollows self.old self.new }
     {
         let passing = self.journal.read(at, held);
@@ -529,6 +549,7 @@ impl<'f, L: Reach, F: RandomAccessFile, C: Clock> Device for WireDevice<'f, L, F
     }
 
     fn write(&mut self, at: usize, bytes: &[u8]) -> Passing
+        ensures asks { CallsJournal (writes at bytes.now) self.old.journal result self.new.journal }
         ensures follows { WriteKeeps WireFollows at bytes.now self.old result self.new }
     {
         let passing = self.journal.write(at, bytes);
@@ -536,6 +557,7 @@ impl<'f, L: Reach, F: RandomAccessFile, C: Clock> Device for WireDevice<'f, L, F
     }
 
     fn sync(&mut self) -> Passing
+        ensures asks { CallsJournal syncs self.old.journal result self.new.journal }
         ensures follows { SyncKeeps WireFollows self.old result self.new }
     {
         let passing = self.journal.sync();
@@ -545,6 +567,7 @@ impl<'f, L: Reach, F: RandomAccessFile, C: Clock> Device for WireDevice<'f, L, F
     /// Lets the frame pass, which `rest` sends. One that isn't a datagram for the EEPROM of this slave, and fit for its half, stops the site.
     #[tactic(auto, using(crate::proofs::Following::nothing_keeps))]
     fn exchange(&mut self, slave: usize, half: &RomHalf, frame: &Frame) -> Passing
+        ensures journal { self.new.journal ≡ self.old.journal }
         ensures follows { Keeps WireFollows self.old self.new }
     {
         if self.is_over {
@@ -564,6 +587,7 @@ impl<'f, L: Reach, F: RandomAccessFile, C: Clock> Device for WireDevice<'f, L, F
     fn rest(&mut self, slave: usize, half: &RomHalf, frame: &Frame, k: usize) -> Resting
         ensures known { (d : Pdu) → frame.now ≡ d ∷ [] → IsKnown half.now d → self.new.is_over ≡ false
             → self.new ≡ record self.old { returned = None; resting = resting.Well } }
+        ensures journal { self.new.journal ≡ self.old.journal }
         ensures follows { RestKeeps WireFollows slave half.now frame.now k self.old result self.new }
     {
         if self.is_over {
@@ -587,6 +611,7 @@ impl<'f, L: Reach, F: RandomAccessFile, C: Clock> Device for WireDevice<'f, L, F
     ) -> Option<Pattern>
         ensures agrees { result ≡ None → IfSome self.old.returned (λ found. AgreesWith half.now answer.now found) }
         ensures stops { IsTrue self.old.is_over → IsSome result }
+        ensures journal { self.new.journal ≡ self.old.journal }
         ensures follows { Keeps WireFollows self.old self.new }
     {
         if self.is_over {
@@ -602,6 +627,7 @@ impl<'f, L: Reach, F: RandomAccessFile, C: Clock> Device for WireDevice<'f, L, F
     /// Process data don't go over the wire: each frame for them is lost, and reaches no slave.
     fn cycle(&mut self, _frame: &Frame) -> Passing
         ensures lost { result ≡ Fails }
+        ensures same { self.new ≡ self.old }
         ensures follows { Keeps WireFollows self.old self.new }
     {
         Passing::Fails

@@ -1,7 +1,8 @@
-//! Laws that hold for a real slave and its shadow, by definitions alone. The functions here do nothing: the contract of each is the law.
+//! Laws that hold for a real slave and its shadow, and for the journal's file. The functions here do nothing: the contract of each is the law.
 
 ghost use Rattle.site_wire.specs.Amending.{PossibleIsAmended, AmendedStays, AmendedLeavesNoMore, BusyIsPossible, ReadBackIsPossible, OtherIsKept};
 ghost use Rattle.site_wire.specs.RealSlaves.{DefinedServes};
+ghost use Rattle.site_wire.specs.JournalLaws.{JournalIsFollowed};
 ghost use Rattle.site_wire.specs.Laws.{BroughtUpIsLike, LikeIsPossible, IsLikeItself, PossibleLeavesNoMore, AgreedIsPossible, ReadAloneIsPossible, RunIsPossible, StopLeavesNoMore};
 
 /// A slave as bring-up leaves it is like its shadow. A slave that is like its shadow, but for what is the controller's own, is one that the
@@ -46,4 +47,12 @@ pub fn amending_is_possible()
 #[tactic(auto, using(crate::proofs::Living::defined_serves))]
 pub fn defined_slave_serves()
     ensures { DefinedServes }
+{}
+
+/// A file that holds the disk of a site, as the device is put behind it before its first call, follows the disk from then on, as `files_follow` of
+/// `file_laws` says: at any moment a power cut leaves in it what it may leave of the disk, and as long as no call on it fails and the site goes
+/// on, it holds the disk's bytes, and what is synced of the disk is synced in it.
+#[tactic(auto, using(crate::proofs::JournalFile::journal_is_followed))]
+pub fn journal_follows<L, F, C>()
+    ensures { JournalIsFollowed L F C }
 {}

@@ -19,4 +19,4 @@ returns-then-is_value-clause-up g c =
 pub returns-else-is_value-clause-up : goal.returns-else-is_value-clause-up
 returns-else-is_value-clause-up g c =
     up_then c.args.slave c.args.half.now c.args.write c.args.self.now.sender.moment c.read_back-found.new.self.sender.moment c.try_again-else-is_value.new.self.sender.moment
-    c.read_back-found.result c.try_again-else-is_value.new.self.resting c.read_back-found.ensures.back c.try_again-else-is_value.ensures
+    c.read_back-found.result c.try_again-else-is_value.new.self.resting c.read_back-found.ensures.back c.try_again-else-is_value.ensures.up

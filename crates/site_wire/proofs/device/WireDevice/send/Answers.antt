@@ -9,8 +9,8 @@ use Rattle.site_wire.proofs.FollowingUp.{for_once, for_word, is_busy_of}
 use Rattle.site_wire.proofs.device.WireDevice.send.Goals as goal
 
 -- src/device.rt:320:13
-pub returns-in_default : goal.returns-in_default
-returns-in_default g c =
+pub returns-in_default-clause-sends : goal.returns-in_default-clause-sends
+returns-in_default-clause-sends g c =
     for_once c.args.slave c.args.half.now (pdu c.args.sent) c.args.self.now.sender.moment c.pass.new.self.sender.moment c.pass.new.self.returned
     c.pass.new.self.is_over c.pass.new.self.resting
     (c.pass.ensures.rests ∙ c.prepare.ensures.rests ∙ c.requires.stays) c.requires.to
@@ -19,8 +19,8 @@ returns-in_default g c =
     c.pass.ensures.over c.requires.quiet c.requires.news (λ going. sym c.in_flight.ensures.write ∙ c.in_default.is)
 
 -- src/device.rt:305:5
-pub returns : goal.returns
-returns g c =
+pub returns-clause-sends : goal.returns-clause-sends
+returns-clause-sends g c =
     let flying = sym c.in_flight.ensures.write ∙ c.in-Some.is in
     for_word c.args.slave c.args.half.now (pdu c.args.sent) c.args.self.now.sender.moment c.pass.new.self.sender.moment c.follow.new.self.sender.moment
     c.in-Some-returned.answer c.in-Some.write c.follow.new.self.is_over c.follow.new.self.resting c.requires.to

@@ -1,10 +1,12 @@
+use Rattle.site_file.specs.Calls.{writes}
+use Rattle.site_file.specs.Device.{CallsJournal}
+use Rattle.site_wire.proofs.Journal.{handed_on}
 use Rattle.site_wire.proofs.Following.{write_keeps}
 use Rattle.site_wire.proofs.device.WireDeviceDevice.write.Goals as goal
 
-pub returns : goal.returns
-returns g c = record {
-  follows = write_keeps c.args.at c.args.bytes.now c.args.self.now c.end_call.new.self c.end_call.result (record {
-    moment = c.end_call.ensures.quiet.moment;
-    over = c.end_call.ensures.quiet.over;
-  });
-}
+pub returns-clause-follows : goal.returns-clause-follows
+returns-clause-follows g c =
+    write_keeps c.args.at c.args.bytes.now c.args.self.now c.end_call.new.self c.end_call.result
+    (handed_on (CallsJournal (writes c.args.at c.args.bytes.now) c.args.self.now.journal) c.write-passing.result c.end_call.result c.write-passing.new.self c.end_call.new.self.journal
+    c.end_call.ensures.same c.end_call.ensures.journal c.write-passing.ensures.asks)
+    (record { moment = c.end_call.ensures.quiet.moment; over = c.end_call.ensures.quiet.over }) c.end_call.ensures.well
