@@ -51,6 +51,17 @@ fn print_difference<W: Write>(
     ensures failed { IfErr result IsOfStream }
 {
     let difference = compare(alloc, first, second)?;
+    print_compared(alloc, &difference, output)?;
+    Ok(difference.status())
+}
+
+fn print_compared<W: Write>(
+    alloc: Global,
+    difference: &Difference,
+    output: &mut W,
+) -> Result<(), Fault>
+    ensures failed { IfErr result IsOfStream }
+{
     let mut categories = String::new(alloc);
     tell_categories(
         &difference.old_items,
@@ -58,11 +69,10 @@ fn print_difference<W: Write>(
         &mut categories,
     )?;
     let shown = Shown {
-        difference: &difference,
+        difference,
         categories: categories.as_str(),
     };
-    print_listing(alloc, &shown, output)?;
-    Ok(difference.status())
+    print_listing(alloc, &shown, output)
 }
 
 /// What is printed: what two images differ in.

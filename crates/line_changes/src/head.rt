@@ -35,20 +35,33 @@ impl Head {
 
 /// Prints a line for each number in which two heads differ: its name, and both values.
 pub fn print_heads<W: fmt::Write>(f: &mut fmt::Formatter<W>, old: Head, new: Head) -> fmt::Result {
-    if old.count != new.count {
-        writeln!(f, "words {} {}", old.count, new.count)?;
-    }
-    if old.alias != new.alias {
-        writeln!(f, "alias {} {}", old.alias, new.alias)?;
-    }
-    if old.check != new.check {
-        writeln!(f, "check 0x{:02x} 0x{:02x}", old.check, new.check)?;
-    }
+    print_decimal(f, "words", old.count, new.count)?;
+    print_decimal(f, "alias", usize::from(old.alias), usize::from(new.alias))?;
+    print_check(f, old.check, new.check)?;
     let (was, is) = (old.identity, new.identity);
     print_number(f, "vendor", was.vendor, is.vendor)?;
     print_number(f, "product", was.product, is.product)?;
     print_number(f, "revision", was.revision, is.revision)?;
     print_number(f, "serial", was.serial, is.serial)
+}
+
+fn print_decimal<W: fmt::Write>(
+    f: &mut fmt::Formatter<W>,
+    name: &str,
+    old: usize,
+    new: usize,
+) -> fmt::Result {
+    if old == new {
+        return Ok(());
+    }
+    writeln!(f, "{name} {old} {new}")
+}
+
+fn print_check<W: fmt::Write>(f: &mut fmt::Formatter<W>, old: u8, new: u8) -> fmt::Result {
+    if old == new {
+        return Ok(());
+    }
+    writeln!(f, "check 0x{old:02x} 0x{new:02x}")
 }
 
 fn print_number<W: fmt::Write>(

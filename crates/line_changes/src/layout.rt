@@ -7,7 +7,9 @@ use sii_image::ImageFault;
 use sii_words::Plant;
 use station_files::{Fault, Store};
 use station_listing::{Code, list_layout};
+use station_text::LineFile;
 use std::alloc::{AllocError, Global};
+use std::io;
 use std::io::Write;
 
 /// The process image of a line with these contents, as `layout` prints it.
@@ -34,15 +36,39 @@ pub fn print_image<S: Store, W: Write>(
     ensures failed { IfErr result IsOfStream }
     ensures same { S.files store.new ≡ S.files store.old }
 {
-    let words = words_now(alloc, &before.line, store)?;
-    let old = spell_layout(alloc, &before.words)?;
-    let new = spell_layout(alloc, &words)?;
-    if old.as_str() != new.as_str() {
-        writeln!(output, "event image {}", lines_of(new.as_bytes()))?;
-        write!(output, "{new}")?;
-        output.flush()?;
+    let now = layout_now(alloc, &before.line, store)?;
+    print_other(alloc, &before.words, now.as_str(), output)
+}
+
+/// The process image of a line with the words that its image files hold.
+fn layout_now<S: Store>(alloc: Global, line: &LineFile, store: &mut S) -> Result<String, Fault>
+    ensures failed { IfErr result IsOfStream }
+    ensures same { S.files store.new ≡ S.files store.old }
+{
+    let words = words_now(alloc, line, store)?;
+    Ok(spell_layout(alloc, &words)?)
+}
+
+/// Prints a process image, if it is another one than that of these contents.
+fn print_other<W: Write>(
+    alloc: Global,
+    before: &Plant,
+    now: &str,
+    output: &mut W,
+) -> Result<(), Fault>
+    ensures failed { IfErr result IsOfStream }
+{
+    let old = spell_layout(alloc, before)?;
+    if old.as_str() != now {
+        write_image(now, output)?;
     }
     Ok(())
+}
+
+fn write_image<W: Write>(image: &str, output: &mut W) -> io::Result<()> {
+    writeln!(output, "event image {}", lines_of(image.as_bytes()))?;
+    write!(output, "{image}")?;
+    output.flush()
 }
 
 /// How many lines a text has.

@@ -81,14 +81,18 @@ fn print_words<W: fmt::Write>(
         return writeln!(f, "word 0x{at:04x} 0x{old:04x} 0x{new:04x}");
     }
     let last = at.saturating_add(olds.len()).saturating_sub(1);
-    write!(f, "words 0x{at:04x} to 0x{last:04x} old")?;
-    print_values(f, olds)?;
-    write!(f, " new")?;
-    print_values(f, news)?;
-    writeln!(f)
+    write!(f, "words 0x{at:04x} to 0x{last:04x}")?;
+    print_values(f, " old", olds)?;
+    print_values(f, " new", news)?;
+    f.write_str("\n")
 }
 
-fn print_values<W: fmt::Write>(f: &mut fmt::Formatter<W>, words: &[u16]) -> fmt::Result {
+fn print_values<W: fmt::Write>(
+    f: &mut fmt::Formatter<W>,
+    name: &str,
+    words: &[u16],
+) -> fmt::Result {
+    f.write_str(name)?;
     for word in words {
         write!(f, " 0x{word:04x}")?;
     }
