@@ -146,10 +146,10 @@ module _ {L F C : Type 0} where
       let device = followed.0 in
       let follows : WireFollows device now = followed.1.0 in
       record {
-        log = follows.log;
-        sent = record { moment = device.sender.moment; sent = follows.has };
+        log = follows.slaves.log;
+        sent = record { moment = device.sender.moment; sent = follows.slaves.has };
         goes = λ real later station_is behind lives.
-            follows.follow followed.1.1 followed.1.2 slave first half real later
+            follows.slaves.follow followed.1.1 followed.1.2 slave first half real later
             (ap (λ state. slice_get state.halves slave) (first_stays before now new goes) ∙ at_first) at_now station_is behind lives;
       }
 
