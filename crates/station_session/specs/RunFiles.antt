@@ -52,7 +52,8 @@ pub data DeskGoes (Stage : Seen → Seen → Type 0) (Desk : Station → Ends Si
 pub data RunGoes (Stage : Seen → Seen → Type 0) (Desk : Station → Ends SiteValue → Type 0) (before : Seen) (commands : List Command)
     (status : ExitStatus) : Type 0 where
   unopened : (last : Seen) → Stage before last → ¬ IsFaultless status → RunGoes Stage Desk before commands status
-  opened : (station : Station) → Stage before station.seen → station.seen.state.disk ≡ of_bytes station.seen.state.disk.bytes → DeskGoes Stage Desk station commands status → RunGoes Stage Desk before commands status
+  opened : (station : Station) → Stage before station.seen → station.seen.state.disk ≡ of_bytes station.seen.state.disk.bytes
+      → DeskGoes Stage Desk station commands status → RunGoes Stage Desk before commands status
 
 -- ---- by devices
 
@@ -77,9 +78,9 @@ BeginsPart ends Journal file = Holds ends.flusher.start.seen.state Journal file
 BeginsPart ends (Image slave) file =
     (end : Stay SiteValue SlaveLog) → slice_get ends.workers.items slave ≡ Some end → Holds end.start.seen.state (Image slave) file
 
--- Each part of the desk stands on its file, which holds the part as its thread begins if it held the line as the station was opened. Whatever calls its book has answered by then: a power cut, each device anywhere in its job, leaves in the
--- files, all at once, only what is kept for the session of each machine that the station begins as, with all commands that the book has accepted,
--- and each durable one acknowledged.
+-- Each part of the desk stands on its file, which holds the part as its thread begins if it held the line as the station was opened. Whatever calls
+-- its book has answered by then: a power cut, each device anywhere in its job, leaves in the files, all at once, only what is kept for the session
+-- of each machine that the station begins as, with all commands that the book has accepted, and each durable one acknowledged.
 pub record KeepsAtDesk (F : Type 0) (station : Station) (ends : Ends SiteValue) : Type 0 where
   pub desk : DeskOnFiles F seen_of ends.flusher ends.workers.items
   pub begins : (name : FileName) (file : File) → Holds station.seen.state name file → BeginsPart ends name file

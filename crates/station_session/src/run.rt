@@ -190,7 +190,8 @@ fn run_begun<
     requires new { given.session.site.seen.past ≡ [] }
     requires slaves { length given.session.site.line.sizes ≡ length given.session.line.images.items }
     requires old { given.session.is_old ≡ is_old given.session.site.seen.state.disk.bytes }
-    ensures ends { EndsRun (is_some fuse) (S.files store.old) (S.files store.new) given.session.line given.session.site given.commands.items result.status }
+    ensures ends { EndsRun (is_some fuse) (S.files store.old) (S.files store.new) given.session.line given.session.site given.commands.items
+        result.status }
     ensures begun { IsFaultless result.status → IsTrue result.is_begun }
     ensures kept { is_some fuse ≡ false → IsTrue result.is_begun → RunKeepsFiles S.File given.session.site.seen given.commands.items result.status }
 {
@@ -226,7 +227,8 @@ fn run_given<
     requires new { given.session.site.seen.past ≡ [] }
     requires slaves { length given.session.site.line.sizes ≡ length given.session.line.images.items }
     requires old { given.session.is_old ≡ is_old given.session.site.seen.state.disk.bytes }
-    ensures ends { EndsRun (is_some fuse) (S.files store.old) (S.files store.new) given.session.line given.session.site given.commands.items result.status }
+    ensures ends { EndsRun (is_some fuse) (S.files store.old) (S.files store.new) given.session.line given.session.site given.commands.items
+        result.status }
     ensures begun { IsFaultless result.status → IsTrue result.is_begun }
     ensures kept { is_some fuse ≡ false → IsTrue result.is_begun → RunKeepsFiles S.File given.session.site.seen given.commands.items result.status }
 {
