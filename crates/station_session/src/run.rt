@@ -67,7 +67,7 @@ pub struct Given<L> {
 /// How far a run came, and its exit status.
 #[derive(Clone, Copy)]
 pub struct Ran {
-    /// Whether the files of the line were open. Otherwise one couldn't be opened, or the capture couldn't begin, and nothing was asked of them.
+    /// Whether it began. If not, a file of the line couldn't be opened, or the capture couldn't begin, and nothing was asked of these files.
     pub is_begun: bool,
     /// The exit status.
     pub status: ExitStatus,
