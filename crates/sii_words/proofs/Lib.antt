@@ -7,3 +7,4 @@ pub mod RedoLaws
 mod GivenLaws
 pub mod StretchLaws
 pub mod RunLaws
+pub mod Copying

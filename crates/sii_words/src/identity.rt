@@ -1,5 +1,5 @@
 /// The identity of a slave (ETG.1000.6: words 8 to 15). Each number has 32 bits, the low word first.
-#[derive(Clone, Copy, Debug, PartialEq, Eq)]
+#[derive(Clone, Copy)]
 pub struct Identity {
     /// The vendor id: words 8 and 9.
     pub vendor: u32,

@@ -12,7 +12,7 @@ use std::marker::Model;
 
 /// The words of an EEPROM image file (ETG.1000.6, slave information interface): 64 to 4,096 of them. In contracts its value is
 /// the list of the words.
-#[derive(Debug, Drop)]
+#[derive(Drop)]
 pub struct ImageFile {
     words: Vec<u16>,
 }

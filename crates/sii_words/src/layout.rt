@@ -42,10 +42,8 @@ fn read_bytes(bytes: &[u8], words: &mut [u16])
 pub fn bytes_of_words(alloc: Global, words: &[u16]) -> Result<Vec<u8>, AllocError>
     ensures { IfOk result (λ bytes. bytes.items ≡ bytes_of words.now) }
 {
-    let mut bytes = Vec::with_capacity(alloc, words.len() * 2)?;
-    for word in words {
-        bytes.extend_from_slice(&word.to_le_bytes())?;
-    }
+    let mut bytes = vec![in alloc; 0u8; 2 * words.len()]?;
+    write_bytes(words, &mut bytes);
     Ok(bytes)
 }
 

@@ -1,4 +1,4 @@
-ghost use Rattle.std.specs.Prelude.{◌≡◌, ◌<◌, ◌≤◌, length, vec_len, IfOk};
+ghost use Rattle.std.specs.Prelude.{◌≡◌, ◌<◌, ◌≤◌, ◌++◌, ◌∷◌, [], length, vec_len, IfOk, OnOk};
 ghost use Rattle.sii_words.specs.Plant.{words_of, with_word};
 
 use crate::words::Words;
@@ -7,7 +7,7 @@ use std::marker::Model;
 
 /// The contents of a line: the EEPROM words of its 1 to 64 slaves. In contracts its value is the list of the slaves' word
 /// lists.
-#[derive(Debug, Drop)]
+#[derive(Drop)]
 pub struct Plant {
     slaves: Vec<Words>,
 }
@@ -20,6 +20,13 @@ impl Model for Plant {
     ghost view = { λ plant. plant.slaves.items };
 
     ghost invariant = { λ plant. (1 ≤ length plant.slaves.items) × (length plant.slaves.items ≤ 64) };
+}
+
+fn push_copy(slaves: &mut Vec<Words>, words: &Words) -> Result<(), AllocError>
+    ensures { OnOk result (slaves.new.items ≡ slaves.old.items ++ words.now ∷ []) }
+{
+    slaves.push(words.try_copy()?)?;
+    Ok(())
 }
 
 impl Plant {
@@ -68,7 +75,7 @@ impl Plant {
     {
         let mut slaves = Vec::with_capacity(*self.slaves.allocator(), self.slaves.len())?;
         for words in &self.slaves {
-            slaves.push(words.try_copy()?)?;
+            push_copy(&mut slaves, words)?;
         }
         Ok(Plant { slaves })
     }

@@ -4,7 +4,7 @@ use crate::WordList;
 use std::alloc::AllocError;
 
 /// Neighbouring words of one slave with their new values.
-#[derive(Debug, Drop)]
+#[derive(Drop)]
 pub struct Run {
     /// The number of the slave, from 0 in the order of the line.
     pub slave: u16,

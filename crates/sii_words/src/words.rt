@@ -12,7 +12,7 @@ use std::marker::Model;
 
 /// All words of a device's EEPROM (ETG.1000.6, slave information interface): 64 to 4,096 of them, a multiple of 64. In
 /// contracts its value is the list of the words.
-#[derive(Debug, Drop)]
+#[derive(Drop)]
 pub struct Words {
     words: Vec<u16>,
 }

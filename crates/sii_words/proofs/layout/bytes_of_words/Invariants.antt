@@ -1,6 +1,0 @@
-use Rattle.std.proofs.Common.{◌≡◌, take}
-use Rattle.sii_words.specs.Words.{bytes_of}
-use Rattle.sii_words.proofs.layout.bytes_of_words.Given as goal
-
-abbrev pub invariant-loop-word : goal.invariant-loop-word
-invariant-loop-word l = l.bytes.items ≡ bytes_of (take l.word-index l.words)
