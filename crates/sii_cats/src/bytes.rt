@@ -1,6 +1,6 @@
 //! The bytes of a content: its words, low byte first.
 
-ghost use Rattle.std.specs.Prelude.{◌≡◌, ◌<◌, ◌/◌, ◌%◌, ◌++◌, ◌∷◌, [], length, IfOk, MatchOption};
+ghost use Rattle.std.specs.Prelude.{◌≡◌, ◌<◌, ◌/◌, ◌%◌, ◌++◌, ◌∷◌, [], length, IfOk, OnOk, MatchOption};
 ghost use Rattle.sii_cats.specs.Bytes.{bytes_of, padded};
 
 use std::alloc::{AllocError, Global};
@@ -17,6 +17,13 @@ pub fn halves(word: u16) -> (u8, u8)
     ensures { result ≡ (word % 256, word / 256) }
 {
     ((word % 256) as u8, (word / 256) as u8)
+}
+
+/// Adds four words.
+pub fn push_four(words: &mut Vec<u16>, four: [u16; 4]) -> Result<(), AllocError>
+    ensures { OnOk result (words.new.items ≡ words.old.items ++ four) }
+{
+    words.extend_from_slice(&four)
 }
 
 /// The word that begins the bytes, and the bytes behind it; `None` if there are no bytes. A single byte is a word with the high

@@ -13,7 +13,7 @@ pub const FIRST_HEADER: usize = 0x40;
 
 /// Where a category stands among the words (ETG.1000.6): a type word, a word with the length of its content in words, and the
 /// content.
-#[derive(Clone, Copy, Debug, PartialEq, Eq)]
+#[derive(Clone, Copy, PartialEq, Eq)]
 pub struct Category {
     /// The type.
     pub kind: u16,

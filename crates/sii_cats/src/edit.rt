@@ -80,6 +80,24 @@ fn spelled_len(content: &[u16]) -> usize
     }
 }
 
+/// Adds this category, the categories `kept`, the end mark, and the old words behind it.
+fn push_behind(
+    out: &mut Vec<u16>,
+    words: &[u16],
+    kept: &[u16],
+    kind: u16,
+    content: &[u16],
+) -> Result<(), AllocError>
+    requires content { length content.now < 65536 }
+    requires room { length (out.old.items ++ new_words kind content.now ++ kept.now) ≤ length words.now }
+    ensures { let front = out.old.items ++ new_words kind content.now ++ kept.now in
+        OnOk result (out.new.items ≡ front ++ closing (drop (length front) words.now)) }
+{
+    push_member(out, kind, content)?;
+    out.extend_from_slice(kept)?;
+    close(out, words)
+}
+
 /// The words before word `first`, this category, the categories `kept`, the end mark, and the old words behind it.
 fn rebuilt(
     alloc: Global,
@@ -99,9 +117,7 @@ fn rebuilt(
         return Err(CatFault::NoRoom);
     }
     let mut out = Vec::from_slice(alloc, &words[..first])?;
-    push_member(&mut out, kind, content)?;
-    out.extend_from_slice(kept)?;
-    close(&mut out, words)?;
+    push_behind(&mut out, words, kept, kind, content)?;
     Ok(out)
 }
 

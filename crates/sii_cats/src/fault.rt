@@ -6,7 +6,7 @@ use std::alloc::{AllocError, AllocFailed};
 use thiserror::Error;
 
 /// Why the chain of categories can't be read.
-#[derive(Clone, Copy, Debug, PartialEq, Eq, Error)]
+#[derive(Clone, Copy, Debug, Error)]
 pub enum ChainFault {
     /// Memory was refused.
     #[error("out of memory")]
@@ -17,7 +17,7 @@ pub enum ChainFault {
 }
 
 /// Why a category can't be read, written or replaced.
-#[derive(Clone, Copy, Debug, PartialEq, Eq, Error)]
+#[derive(Clone, Copy, Debug, Error)]
 pub enum CatFault {
     /// Memory was refused.
     #[error("out of memory")]

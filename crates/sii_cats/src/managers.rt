@@ -7,11 +7,11 @@ ghost use Rattle.sii_cats.specs.steps.Items.Front.{Ended, Item};
 ghost use Rattle.sii_cats.specs.Contents.{AreManagers, manager_bytes};
 ghost use Rattle.sii_cats.specs.steps.Contents.{manager_at, managers_of};
 
-use crate::bytes::{halves, pair};
+use crate::bytes::{halves, pair, push_four};
 use std::alloc::{AllocError, Global};
 
 /// A sync manager as a SyncM category describes it (ETG.1000.6 and ETG.2010): eight bytes.
-#[derive(Clone, Copy, Debug, PartialEq, Eq)]
+#[derive(Clone, Copy)]
 pub struct Manager {
     /// Physical start address.
     pub start: u16,
@@ -92,7 +92,7 @@ pub fn write_syncms(alloc: Global, managers: &[Manager]) -> Result<Vec<u16>, All
 {
     let mut words = Vec::new(alloc);
     for manager in managers {
-        words.extend_from_slice(&manager_words(*manager))?;
+        push_four(&mut words, manager_words(*manager))?;
     }
     Ok(words)
 }

@@ -8,12 +8,12 @@ ghost use Rattle.sii_cats.specs.steps.Pdos.{pdo_at, pdos_of};
 ghost use Rattle.sii_cats.specs.Reading.{Answers, Writes};
 ghost use Rattle.sii_cats.specs.steps.Reading.{Gives, Takes};
 
-use crate::bytes::{halves, pair};
+use crate::bytes::{halves, pair, push_four};
 use crate::fault::CatFault;
 use std::alloc::{AllocError, Global};
 
 /// An entry of a PDO (ETG.1000.6 and ETG.2010, categories TXPDO and RXPDO): eight bytes.
-#[derive(Clone, Copy, Debug, PartialEq, Eq)]
+#[derive(Clone, Copy)]
 pub struct PdoEntry {
     /// Index of the object.
     pub index: u16,
@@ -30,7 +30,7 @@ pub struct PdoEntry {
 }
 
 /// A process data object (ETG.1000.6 and ETG.2010, categories TXPDO and RXPDO): a head of eight bytes, and its entries.
-#[derive(Debug, Drop)]
+#[derive(Drop)]
 pub struct Pdo {
     /// Index of the PDO.
     pub index: u16,
@@ -47,7 +47,7 @@ pub struct Pdo {
 }
 
 /// The head of a PDO (ETG.1000.6 and ETG.2010, categories TXPDO and RXPDO): what it says besides its entries.
-#[derive(Clone, Copy, Debug, PartialEq, Eq)]
+#[derive(Clone, Copy)]
 pub struct PdoHead {
     /// Index of the PDO.
     pub index: u16,
@@ -196,9 +196,9 @@ fn write_pdo(words: &mut Vec<u16>, pdo: &Pdo) -> Result<(), AllocError>
     ensures { OnOk result (bytes_of words.new.items
         ≡ bytes_of words.old.items ++ pdo_bytes (view pdo.now)) }
 {
-    words.extend_from_slice(&head_words(pdo))?;
+    push_four(words, head_words(pdo))?;
     for entry in &pdo.entries {
-        words.extend_from_slice(&entry_words(*entry))?;
+        push_four(words, entry_words(*entry))?;
     }
     Ok(())
 }

@@ -1,10 +1,10 @@
 //! STRINGS categories (type 10; ETG.1000.6 and ETG.2010).
 
-ghost use Rattle.std.specs.Prelude.{◌≡◌, ◌<◌, ◌++◌, ◌∷◌, ◌↔◌, length, IsTrue, All, IfOk, Ok};
+ghost use Rattle.std.specs.Prelude.{◌≡◌, ◌<◌, ◌++◌, ◌∷◌, ◌↔◌, length, IsTrue, All, IfOk, OnOk, Ok};
 ghost use Rattle.std.specs.List.{flat_map};
 ghost use Rattle.sii_cats.specs.Bytes.{bytes_of, padded};
 ghost use Rattle.sii_cats.specs.steps.Items.{counted};
-ghost use Rattle.sii_cats.specs.Strings.{AreStrings, texts, AreWritable, all_bytes};
+ghost use Rattle.sii_cats.specs.Strings.{AreStrings, texts, AreWritable, all_bytes, string_bytes};
 ghost use Rattle.sii_cats.specs.steps.Strings.{string_at, strings_in, strings_of};
 ghost use Rattle.sii_cats.specs.Reading.{Answers, Writes};
 ghost use Rattle.sii_cats.specs.steps.Reading.{Gives};
@@ -75,6 +75,15 @@ fn are_writable(strings: &[Vec<u8>]) -> bool
     strings.len() < 256 && strings.iter().all(|string| string.as_slice().len() < 256)
 }
 
+/// Adds a string: its length, and its bytes.
+fn write_string(bytes: &mut Vec<u8>, string: &[u8]) -> Result<(), AllocError>
+    requires { length string.now < 256 }
+    ensures { OnOk result (bytes.new.items ≡ bytes.old.items ++ string_bytes string.now) }
+{
+    bytes.push(string.len() as u8)?;
+    bytes.extend_from_slice(string)
+}
+
 fn write_all(alloc: Global, strings: &[Vec<u8>]) -> Result<Vec<u8>, AllocError>
     requires few { length strings.now < 256 }
     requires short { All (λ string. length string.items < 256) strings.now }
@@ -83,9 +92,7 @@ fn write_all(alloc: Global, strings: &[Vec<u8>]) -> Result<Vec<u8>, AllocError>
     let mut bytes = Vec::new(alloc);
     bytes.push(strings.len() as u8)?;
     for string in strings {
-        let string = string.as_slice();
-        bytes.push(string.len() as u8)?;
-        bytes.extend_from_slice(string)?;
+        write_string(&mut bytes, string.as_slice())?;
     }
     Ok(bytes)
 }

@@ -9,14 +9,14 @@ use sii_words::bytes_of_words;
 use std::alloc::{AllocError, Global};
 
 /// One FMMU in an FMMU category (ETG.1000.6 and ETG.2010).
-#[derive(Clone, Copy, Debug, PartialEq, Eq)]
+#[derive(Clone, Copy)]
 pub struct FmmuUnit {
     /// Its byte, kept as it is: 0x00 or 0xFF unused, 1 outputs, 2 inputs, 3 SyncM status.
     pub byte: u8,
 }
 
 /// What an FMMU is used for (ETG.1000.6 and ETG.2010, category FMMU).
-#[derive(Clone, Copy, Debug, PartialEq, Eq)]
+#[derive(Clone, Copy)]
 pub enum FmmuUse {
     /// Not used: 0x00 or 0xFF.
     Unused,

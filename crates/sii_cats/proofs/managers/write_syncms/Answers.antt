@@ -7,7 +7,7 @@ use Rattle.sii_cats.proofs.WordBytes.{written_more}
 use Rattle.sii_cats.proofs.managers.write_syncms.Goals as goal
 
 pub loop-manager-preserved : goal.loop-manager-preserved
-loop-manager-preserved c = rw c.in_ok-extend_from_slice.ensures.items
+loop-manager-preserved c = rw c.in_ok-push_four.ensures
     (written_more manager_bytes [] c.loop-manager.words.items c.manager_words.result c.args.managers.now c.loop-manager.manager-index _ (omega arith) c.loop-manager.invariant c.manager_words.ensures)
 
 pub returns-clause-read_back : goal.returns-clause-read_back

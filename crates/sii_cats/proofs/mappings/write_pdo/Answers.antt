@@ -7,12 +7,12 @@ use Rattle.sii_cats.proofs.WordBytes.{written_more, bytes_of-append}
 use Rattle.sii_cats.proofs.mappings.write_pdo.Goals as goal
 
 pub loop-entry-init : goal.loop-entry-init
-loop-entry-init c = rw c.in_ok-extend_from_slice.ensures.items
+loop-entry-init c = rw c.in_ok-push_four.ensures
     (bytes_of-append c.args.words.now.items c.head_words.result ∙ ap (λ bytes. bytes_of c.args.words.now.items ++ bytes) c.head_words.ensures
     ∙ sym (append-nil (bytes_of c.args.words.now.items ++ head_bytes (view c.args.pdo.now))))
 
 pub loop-entry-preserved : goal.loop-entry-preserved
-loop-entry-preserved c = rw c.in_ok-extend_from_slice-2.ensures.items
+loop-entry-preserved c = rw c.in_ok-push_four-2.ensures
     (written_more entry_bytes (bytes_of c.args.words.now.items ++ head_bytes (view c.args.pdo.now)) c.loop-entry.words.items c.entry_words.result c.deref-entry-items.result.now c.loop-entry.entry-index _ (omega arith) c.loop-entry.invariant c.entry_words.ensures)
 
 pub returns : goal.returns
