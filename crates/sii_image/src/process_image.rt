@@ -6,7 +6,7 @@ use std::marker::Model;
 
 /// The process data of one sync manager in the process image. Its manager, direction and length come from the SyncM, TXPDO and
 /// RXPDO categories of the slave (ETG.1000.6 and ETG.2010).
-#[derive(Clone, Copy, Debug, PartialEq, Eq)]
+#[derive(Clone, Copy, PartialEq, Eq)]
 pub struct Segment {
     /// The number of the slave, from 0 in the order of the line.
     pub slave: u16,
