@@ -13,7 +13,7 @@ use sii_words::{ImageFile, WordList};
 use std::alloc::{AllocError, Global};
 
 /// A change of one slave's EEPROM. Slaves are numbered from 0, in the order of the line.
-#[derive(Debug, Drop)]
+#[derive(Drop)]
 pub enum Edit {
     /// Sets the configured station alias of `slave` to `value`, and its check byte with it.
     Alias {
@@ -35,7 +35,7 @@ pub enum Edit {
 }
 
 /// The identity that a slave is expected to have (ETG.1000.6: words 8 to 13). The serial number isn't compared.
-#[derive(Clone, Copy, Debug, PartialEq, Eq)]
+#[derive(Clone, Copy, PartialEq, Eq)]
 pub struct Expect {
     /// The vendor id.
     pub vendor: u32,
@@ -46,7 +46,7 @@ pub struct Expect {
 }
 
 /// An edit that is refused unless its slave has the expected identity just before it.
-#[derive(Debug, Drop)]
+#[derive(Drop)]
 pub struct GuardedEdit {
     /// The expected identity; any if it is `None`.
     pub expect: Option<Expect>,
@@ -55,7 +55,7 @@ pub struct GuardedEdit {
 }
 
 /// A change of the contents of a line, accepted as a whole or refused.
-#[derive(Debug, Drop)]
+#[derive(Drop)]
 pub enum Command {
     /// One edit.
     One(Edit),
