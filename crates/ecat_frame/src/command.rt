@@ -6,7 +6,7 @@ ghost use Rattle.std.specs.Int.{w16, w32, to_le_bytes};
 /// The command of a datagram (ETG.1000.4).
 ///
 /// A frame stores only the code. A code that has a named variant is always read as that variant, also if it was written as `Other`.
-#[derive(Clone, Copy, Debug, PartialEq, Eq)]
+#[derive(Clone, Copy, PartialEq, Eq)]
 pub enum Command {
     /// Configured address physical read, code 4.
     Fprd,

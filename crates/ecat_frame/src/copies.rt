@@ -9,7 +9,7 @@ use crate::command::Command;
 use crate::frame::Frame;
 
 /// A datagram without its content (ETG.1000.4).
-#[derive(Clone, Copy, Debug)]
+#[derive(Clone, Copy)]
 pub struct DatagramHeader {
     /// What the slaves are to do.
     pub command: Command,
@@ -22,7 +22,7 @@ pub struct DatagramHeader {
 }
 
 /// A copy of the only datagram of a frame.
-#[derive(Clone, Copy, Debug)]
+#[derive(Clone, Copy)]
 pub struct OnlyDatagram {
     /// All but the content.
     pub header: DatagramHeader,

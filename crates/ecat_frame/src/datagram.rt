@@ -6,7 +6,7 @@ ghost use Rattle.ecat_frame.specs.Command.{code_of, command_of};
 use crate::command::Command;
 
 /// A datagram of a frame (ETG.1000.4).
-#[derive(Clone, Copy, Debug)]
+#[derive(Clone, Copy)]
 pub struct Datagram<'a> {
     /// What the slaves are to do.
     pub command: Command,

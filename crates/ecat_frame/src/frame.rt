@@ -15,7 +15,7 @@ use std::marker::Model;
 ///
 /// It holds the datagrams in one canonical encoding: reserved bits, the circulating bit and the IRQ word are zero, and there is no
 /// padding. `parse` turns what it reads into that encoding.
-#[derive(Debug, Drop)]
+#[derive(Drop)]
 pub struct Frame {
     bytes: ArrayVec<u8, MAX_LEN>,
     count: usize,
@@ -37,7 +37,7 @@ impl Model for Frame {
 }
 
 /// An iterator over the datagrams of a frame (ETG.1000.4), in order.
-#[derive(Debug, Drop)]
+#[derive(Drop)]
 pub struct Datagrams<'a> {
     rest: &'a [u8],
     // how many datagrams are left
