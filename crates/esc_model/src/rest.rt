@@ -1,5 +1,5 @@
 /// A word of the EEPROM that is being written (ETG.1000.4, slave information interface).
-#[derive(Clone, Copy, Debug, PartialEq, Eq)]
+#[derive(Clone, Copy, PartialEq, Eq)]
 pub struct WordWrite {
     /// The word's number.
     pub word: u16,
