@@ -115,15 +115,16 @@ pub fn step_in(a: Access) -> Option<Step>
     or_else(opening_in(a), or_else(word_step_in(a), or_ended(end_in(a))))
 }
 
-fn numbers(phase: u32, more: u32, tries: u32, first: u16, second: u16) -> Access
-    ensures { result ≡ record { phase = phase; more = more; tries = tries; first = first; second = second } }
+/// The numbers of a step without words, or of an end.
+fn numbers(phase: u32, more: u32) -> Access
+    ensures { result ≡ record { phase = phase; more = more; tries = 0; first = 0; second = 0 } }
 {
     Access {
         phase,
         more,
-        tries,
-        first,
-        second,
+        tries: 0,
+        first: 0,
+        second: 0,
     }
 }
 
@@ -131,15 +132,19 @@ fn end_as_numbers(end: End) -> Access
     ensures { step_in result ≡ Some (Ended end) }
 {
     match end {
-        End::Opened => numbers(13, 0, 0, 0, 0),
-        End::Read { first, second } => numbers(14, 0, 0, first, second),
-        End::Issued(Issued::Taken) => numbers(15, 0, 0, 0, 0),
-        End::Issued(Issued::NotTaken) => numbers(16, 0, 0, 0, 0),
-        End::Issued(Issued::Lost) => numbers(17, 0, 0, 0, 0),
-        End::Settled(Settled::Written) => numbers(18, 0, 0, 0, 0),
-        End::Settled(Settled::Again) => numbers(19, 0, 0, 0, 0),
-        End::Settled(Settled::Dead) => numbers(20, 0, 0, 0, 0),
-        End::Dead => numbers(21, 0, 0, 0, 0),
+        End::Opened => numbers(13, 0),
+        End::Read { first, second } => Access {
+            first,
+            second,
+            ..numbers(14, 0)
+        },
+        End::Issued(Issued::Taken) => numbers(15, 0),
+        End::Issued(Issued::NotTaken) => numbers(16, 0),
+        End::Issued(Issued::Lost) => numbers(17, 0),
+        End::Settled(Settled::Written) => numbers(18, 0),
+        End::Settled(Settled::Again) => numbers(19, 0),
+        End::Settled(Settled::Dead) => numbers(20, 0),
+        End::Dead => numbers(21, 0),
     }
 }
 
@@ -148,18 +153,34 @@ pub fn access_of(step: Step) -> Access
     ensures { step_in result ≡ Some step }
 {
     match step {
-        Step::Forces { more } => numbers(1, more, 0, 0, 0),
-        Step::Frees { more } => numbers(2, more, 0, 0, 0),
-        Step::WaitsToClear { more } => numbers(3, more, 0, 0, 0),
-        Step::Clears { more } => numbers(4, more, 0, 0, 0),
-        Step::Commands { word, tries } => numbers(5, 0, tries, word, 0),
-        Step::WaitsToFetch { word, tries, more } => numbers(6, more, tries, word, 0),
-        Step::Fetches { word, tries } => numbers(7, 0, tries, word, 0),
-        Step::Issues { word, value } => numbers(8, 0, 0, word, value),
-        Step::WaitsToSettle { taken: true, more } => numbers(9, more, 0, 0, 0),
-        Step::WaitsToSettle { taken: false, more } => numbers(10, more, 0, 0, 0),
-        Step::Tidies => numbers(11, 0, 0, 0, 0),
-        Step::Stopped => numbers(12, 0, 0, 0, 0),
+        Step::Forces { more } => numbers(1, more),
+        Step::Frees { more } => numbers(2, more),
+        Step::WaitsToClear { more } => numbers(3, more),
+        Step::Clears { more } => numbers(4, more),
+        Step::Commands { word, tries } => Access {
+            tries,
+            first: word,
+            ..numbers(5, 0)
+        },
+        Step::WaitsToFetch { word, tries, more } => Access {
+            tries,
+            first: word,
+            ..numbers(6, more)
+        },
+        Step::Fetches { word, tries } => Access {
+            tries,
+            first: word,
+            ..numbers(7, 0)
+        },
+        Step::Issues { word, value } => Access {
+            first: word,
+            second: value,
+            ..numbers(8, 0)
+        },
+        Step::WaitsToSettle { taken: true, more } => numbers(9, more),
+        Step::WaitsToSettle { taken: false, more } => numbers(10, more),
+        Step::Tidies => numbers(11, 0),
+        Step::Stopped => numbers(12, 0),
         Step::Ended(end) => end_as_numbers(end),
     }
 }

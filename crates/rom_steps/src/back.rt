@@ -77,8 +77,8 @@ pub(crate) fn read_pair(back: Back) -> Option<WordPair>
                 return None;
             }
             Some(WordPair {
-                first: u16::from(content[0]) + 256 * u16::from(content[1]),
-                second: u16::from(content[2]) + 256 * u16::from(content[3]),
+                first: u16::from_le_bytes([content[0], content[1]]),
+                second: u16::from_le_bytes([content[2], content[3]]),
             })
         }
         Back::Lost => None,

@@ -6,7 +6,7 @@ ghost use Rattle.rom_steps.specs.Remaining.{Begins, left, IssueCourse, OpenCours
 use site_core::{Issued, Settled};
 
 /// How a word access ended.
-#[derive(Clone, Copy, Debug, PartialEq, Eq)]
+#[derive(Clone, Copy)]
 pub enum End {
     /// The slave is open: idle, without an error.
     Opened,
@@ -24,7 +24,7 @@ pub enum End {
 /// How far a word access is: what is sent next, and how often.
 ///
 /// `more` is the number of times that it is sent again at most, and `tries` the number of tries to read that are left behind this one.
-#[derive(Clone, Copy, Debug, PartialEq, Eq)]
+#[derive(Clone, Copy)]
 pub enum Step {
     /// Opening: the datagram that forces ECAT access.
     Forces { more: u32 },
