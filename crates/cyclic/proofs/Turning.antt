@@ -144,3 +144,6 @@ pub rest_is : (content : List ℕ) (from n : ℕ) → from ≡ n → take (lengt
 rest_is content from n same =
     let all : length (drop from content) ≤ length content - from = omega (arith, length-drop from content) in
     take_all (length content - from) (drop from content) all ∙ ap (λ k. drop k content) same
+
+pub rest_size : (content : List ℕ) (from n : ℕ) → length content ≡ from + n → length (drop from content) ≡ n
+rest_size content from n size = omega (arith, length-drop from content)
