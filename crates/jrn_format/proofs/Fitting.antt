@@ -1,8 +1,8 @@
 -- What fits into its fields, from what holds of each part.
-use Rattle.std.proofs.Common.{ℕ, ◌<◌, ◌≤◌, ◌^◌, List, [], ◌∷◌, length, take, subst}
+use Rattle.std.proofs.Common.{◌≡◌, ℕ, ◌+◌, ◌<◌, ◌≤◌, ◌^◌, List, [], ◌∷◌, ◌++◌, length, take, get_or, ap, sym, subst, ◌∙◌}
 use Rattle.std.specs.Prelude.{All}
-use Rattle.std.specs.List.{AllByRecursion}
-use Rattle.std.proofs.lemmas.List.{take_all}
+use Rattle.std.specs.List.{AllByRecursion, flat_map}
+use Rattle.std.proofs.lemmas.List.{take_all, take_more, flat_map_more}
 use Rattle.std.proofs.lemmas.List.Elements.{All-head, All-tail}
 use Rattle.sii_words.specs.declared.run.Run.{Run}
 use Rattle.jrn_format.specs.declared.journal.Entry.{Entry}
@@ -24,3 +24,11 @@ entry_fits entry i number counted end all = record { number = number; count = co
 
 pub payload_fits : (entries : List Entry) (i : ℕ) → AreCounted entries → length entries ≤ i → All EntryFits (take i entries) → PayloadFits entries
 payload_fits entries i counted end all = record { some = counted.some; count = counted.count; each = all_of EntryFits entries i end all; bytes = counted.bytes }
+
+-- ---- what is spelt so far, and one item more
+
+pub spelt_more : {X : Type 0} (spell : X → List ℕ) (front now new : List ℕ) (xs : List X) (i : ℕ) (x d : X) → i < length xs → x ≡ get_or xs i d
+    → now ≡ front ++ flat_map spell (take i xs) → new ≡ now ++ spell x → new ≡ front ++ flat_map spell (take (i + 1) xs)
+spelt_more {X = X} spell front now new xs i x d lt is so_far more =
+    more ∙ ap (λ (bytes : List ℕ). bytes ++ spell x) so_far ∙ flat_map_more spell front (take i xs) x
+    ∙ ap (λ (ys : List X). front ++ flat_map spell ys) (ap (λ (y : X). take i xs ++ y ∷ []) is ∙ sym (take_more xs i d lt))

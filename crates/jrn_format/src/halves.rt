@@ -1,6 +1,6 @@
 //! Reads the two halves of an area of version 2.
 
-ghost use Rattle.std.specs.Prelude.{◌≡◌, ◌≤◌, length};
+ghost use Rattle.std.specs.Prelude.{◌≡◌, ◌≤◌, ◌++◌, length, Ok};
 ghost use Rattle.jrn_format.specs.steps.Reading.{Answers, are_of, halves_of, in_order, is_followed_by, older_generation};
 
 use crate::area::batches;
@@ -34,18 +34,23 @@ fn is_followed_by(older: &[Batch], newer: &[Batch]) -> bool
     are_of(generation, older) && are_of(generation.wrapping_add(1), newer)
 }
 
+fn joined(mut older: Vec<Batch>, mut newer: Vec<Batch>) -> Result<Vec<Batch>, JournalFault>
+    ensures { Answers (λ v. v.items) result (Ok (older.items ++ newer.items)) }
+{
+    older.append(&mut newer)?;
+    Ok(older)
+}
+
 /// Joins the batches of both halves, those of the older half first. The generations decide which half that is.
 #[tactic(auto, unfolding(crate::specs::steps::Reading::in_order))]
-fn in_order(mut firsts: Vec<Batch>, mut seconds: Vec<Batch>) -> Result<Vec<Batch>, JournalFault>
+fn in_order(firsts: Vec<Batch>, seconds: Vec<Batch>) -> Result<Vec<Batch>, JournalFault>
     ensures { Answers (λ v. v.items) result (in_order firsts.items seconds.items) }
 {
     if is_followed_by(&firsts, &seconds) {
-        firsts.append(&mut seconds)?;
-        return Ok(firsts);
+        return joined(firsts, seconds);
     }
     if is_followed_by(&seconds, &firsts) {
-        seconds.append(&mut firsts)?;
-        return Ok(seconds);
+        return joined(seconds, firsts);
     }
     Err(JournalFault::BadJournal { at: AREA_START })
 }

@@ -63,10 +63,10 @@ fn run_of(alloc: Global, bytes: &[u8]) -> Result<(Run, &[u8]), ReadFault>
     let (slave, rest) = u16_at(bytes)?;
     let (first, rest) = u16_at(rest)?;
     let (count, rest) = u16_at(rest)?;
-    let (words, rest) = words_of(alloc, count, rest)?;
     if count == 0 {
         return Err(ReadFault::Malformed);
     }
+    let (words, rest) = words_of(alloc, count, rest)?;
     let run = Run {
         slave,
         first,

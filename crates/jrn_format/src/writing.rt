@@ -1,6 +1,7 @@
 //! Writes the bytes of a batch.
 
 ghost use Rattle.std.specs.Prelude.{◌≡◌, ◌+◌, ◌<◌, ◌^◌, ◌++◌, [], ◌∷◌, ℕ, length, OnOk, IfOk, All};
+ghost use Rattle.std.specs.Int.{w16, w32, to_le_bytes};
 ghost use Rattle.jrn_format.specs.Batch.{AreCounted, AreCountedRuns, IsCountedRun, EntryFits, PayloadFits, RunFits, entry_size, spelt_behind, spelt_entry, spelt_payload, spelt_run};
 ghost use Rattle.jrn_format.specs.declared.journal.Entry.{Entry};
 
@@ -11,17 +12,23 @@ use std::alloc::{AllocError, Global};
 /// The value of a closed gate as this crate writes it, after each batch.
 pub const CLOSED: u8 = 0x00;
 
+fn put_u16(out: &mut Vec<u8>, number: u16) -> Result<(), AllocError>
+    ensures { OnOk result (out.new.items ≡ out.old.items ++ to_le_bytes w16 number) }
+{
+    out.extend_from_slice(&number.to_le_bytes())
+}
+
 fn put_run(out: &mut Vec<u8>, run: &Run) -> Result<(), AllocError>
     requires { IsCountedRun run.now }
     ensures spelt { OnOk result (out.new.items ≡ out.old.items ++ spelt_run run.now) }
     ensures fits { OnOk result (RunFits run.now) }
 {
     let words = run.words.as_slice();
-    out.extend_from_slice(&run.slave.to_le_bytes())?;
-    out.extend_from_slice(&run.first.to_le_bytes())?;
-    out.extend_from_slice(&(words.len() as u16).to_le_bytes())?;
+    put_u16(out, run.slave)?;
+    put_u16(out, run.first)?;
+    put_u16(out, words.len() as u16)?;
     for word in words {
-        out.extend_from_slice(&word.to_le_bytes())?;
+        put_u16(out, *word)?;
     }
     Ok(())
 }
@@ -33,7 +40,7 @@ fn put_entry(out: &mut Vec<u8>, entry: &Entry) -> Result<(), AllocError>
 {
     let runs = entry.runs.as_slice();
     out.extend_from_slice(&entry.number.to_le_bytes())?;
-    out.extend_from_slice(&(runs.len() as u16).to_le_bytes())?;
+    put_u16(out, runs.len() as u16)?;
     for run in runs {
         put_run(out, run)?;
     }
@@ -46,11 +53,23 @@ fn payload(alloc: Global, entries: &[Entry]) -> Result<Vec<u8>, AllocError>
     ensures fit { OnOk result (PayloadFits entries.now) }
 {
     let mut bytes = Vec::new(alloc);
-    bytes.extend_from_slice(&(entries.len() as u16).to_le_bytes())?;
+    put_u16(&mut bytes, entries.len() as u16)?;
     for entry in entries {
         put_entry(&mut bytes, entry)?;
     }
     Ok(bytes)
+}
+
+fn put_batch(bytes: &mut Vec<u8>, generation: u8, payload: &[u8]) -> Result<(), AllocError>
+    requires { length payload.now < 2 ^ 32 }
+    ensures { OnOk result (bytes.new.items
+        ≡ bytes.old.items ++ generation ∷ to_le_bytes w32 (length payload.now) ++ payload.now ++ CLOSED ∷ []) }
+{
+    bytes.push(generation)?;
+    bytes.extend_from_slice(&(payload.len() as u32).to_le_bytes())?;
+    bytes.extend_from_slice(payload)?;
+    bytes.push(CLOSED)?;
+    Ok(())
 }
 
 /// Encodes a batch of version 2: the bytes after its gate, and a closed gate at the end.
@@ -69,10 +88,7 @@ pub fn encode_batch(alloc: Global, generation: u8, entries: &[Entry]) -> Result<
 {
     let payload = payload(alloc, entries)?;
     let mut bytes = Vec::new(alloc);
-    bytes.push(generation)?;
-    bytes.extend_from_slice(&(payload.len() as u32).to_le_bytes())?;
-    bytes.extend_from_slice(&payload)?;
-    bytes.push(CLOSED)?;
+    put_batch(&mut bytes, generation, &payload)?;
     Ok(bytes)
 }
 

@@ -1,13 +1,12 @@
-use Rattle.std.proofs.Common.{arith, rules, subst}
-use Rattle.std.proofs.lemmas.Grind.{common_steps}
+use Rattle.std.proofs.Common.{arith, subst}
 use Rattle.std.proofs.lemmas.List.Elements.{All-more}
-use Rattle.jrn_format.specs.Batch.{EntryFits}
-use Rattle.jrn_format.proofs.Fitting.{payload_fits}
+use Rattle.jrn_format.specs.Batch.{EntryFits, spelt_entry}
+use Rattle.jrn_format.proofs.Fitting.{payload_fits, spelt_more}
 use Rattle.jrn_format.proofs.writing.payload.Goals as goal
 
 pub loop-entry-preserved : goal.loop-entry-preserved
 loop-entry-preserved c = record {
-  spelt = first_of (search rules, grind (arith, common_steps));
+  spelt = spelt_more spelt_entry _ c.loop-entry.bytes.items c.put_entry.new.out.items c.args.entries.now c.loop-entry.entry-index c.entry-item.result c.entry-item.result (omega arith) c.entry-item.is c.loop-entry.invariant.spelt c.in_ok-put_entry.ensures.spelt;
   fit = All-more EntryFits c.args.entries.now c.loop-entry.entry-index c.entry-item.result (omega arith) c.loop-entry.invariant.fit (subst EntryFits c.entry-item.is c.in_ok-put_entry.ensures.fits);
 }
 
