@@ -3,7 +3,6 @@ ghost use Rattle.std.specs.Prelude.{◌≡◌};
 ghost use Rattle.wire_frames.specs.declared.faults.LineFault.TheVariants as line;
 
 use std::alloc::{AllocError, AllocFailed};
-use std::fmt;
 
 /// What was seen of a slave that didn't do what it was asked to.
 #[derive(Clone, Copy, PartialEq, Eq)]
@@ -43,9 +42,10 @@ pub enum Cause {
     Ignores,
 }
 
-impl fmt::Display for Cause {
-    fn fmt<W: fmt::Write>(&self, f: &mut fmt::Formatter<W>) -> fmt::Result {
-        f.write_str(match self {
+impl Cause {
+    /// The cause in words.
+    pub fn text(self) -> &'static str {
+        match self {
             Cause::Silence => "the frame doesn't come back",
             Cause::Shared => "several slaves answer to its station address",
             Cause::CableOrPower => "no slave answers at its place of the line",
@@ -53,7 +53,7 @@ impl fmt::Display for Cause {
             Cause::StuckBusy => "it stays busy",
             Cause::NoAcknowledge => "its EEPROM doesn't acknowledge",
             Cause::Ignores => "it doesn't take what is sent to it",
-        })
+        }
     }
 }
 
