@@ -96,6 +96,19 @@ fn write_parts<W: fmt::Write>(f: &mut fmt::Formatter<W>, parts: &[Part]) -> fmt:
     Ok(())
 }
 
+/// Writes a number between two texts.
+fn write_number<W: fmt::Write>(
+    f: &mut fmt::Formatter<W>,
+    before: &'static str,
+    number: usize,
+    behind: &'static str,
+) -> fmt::Result {
+    write_parts(
+        f,
+        &[Part::Text(before), Part::Number(number), Part::Text(behind)],
+    )
+}
+
 /// Tells which slaves of a line still answer, of which so many take a broadcast, up to the place of a slave.
 fn write_answering<W: fmt::Write>(
     f: &mut fmt::Formatter<W>,
@@ -121,14 +134,7 @@ fn write_answering<W: fmt::Write>(
 /// Tells what came back of the last datagram to a slave.
 fn write_counter<W: fmt::Write>(f: &mut fmt::Formatter<W>, counter: Option<u16>) -> fmt::Result {
     match counter {
-        Some(counter) => write_parts(
-            f,
-            &[
-                Part::Text("and counter "),
-                Part::from(counter),
-                Part::Text(" came back"),
-            ],
-        ),
+        Some(counter) => { write_number(f, "and counter ", usize::from(counter), " came back") }
         None => f.write_str("and nothing came back"),
     }
 }
@@ -183,18 +189,6 @@ fn write_seen<W: fmt::Write>(
     write_parts(f, &[Part::Text("; "), Part::Text(remedy_of(cause))])
 }
 
-/// Tells of a slave what its number is followed by.
-fn write_slave<W: fmt::Write>(
-    f: &mut fmt::Formatter<W>,
-    slave: usize,
-    text: &'static str,
-) -> fmt::Result {
-    write_parts(
-        f,
-        &[Part::Text("slave "), Part::Number(slave), Part::Text(text)],
-    )
-}
-
 /// What is told of a slave whose EEPROM its PDI has.
 const HELD: &str = ": its PDI has the EEPROM (0x0500, 0x0501): bring it to Init, or say --force";
 
@@ -206,7 +200,7 @@ fn write_unfit<W: fmt::Write>(
 ) -> fmt::Result {
     match why {
         SlaveFault::Dead(seen) => write_seen(f, slave, seen),
-        SlaveFault::Held => write_slave(f, slave, HELD),
+        SlaveFault::Held => write_number(f, "slave ", slave, HELD),
         SlaveFault::Smaller { given, found } => write_parts(
             f,
             &[
@@ -226,8 +220,9 @@ fn write_unfit<W: fmt::Write>(
 fn write_line<W: fmt::Write>(f: &mut fmt::Formatter<W>, fault: LineFault) -> fmt::Result {
     match fault {
         LineFault::Slave { slave, why } => write_unfit(f, usize::from(slave), why),
-        LineFault::Unaddressed { slave } => write_slave(
+        LineFault::Unaddressed { slave } => write_number(
             f,
+            "slave ",
             usize::from(slave),
             " has the station address 0: the master gives it one before it starts the station",
         ),
@@ -247,26 +242,20 @@ fn write_line<W: fmt::Write>(f: &mut fmt::Formatter<W>, fault: LineFault) -> fmt
                 Part::Text(": the master gives each one of its own before it starts the station"),
             ],
         ),
-        LineFault::Silent => write_parts(
+        LineFault::Silent => write_number(
             f,
-            &[
-                Part::Text("a frame was sent "),
-                Part::Number(TRIES as usize),
-                Part::Text(
-                    " times, and none came back: look at the interface, the cable and the slaves' power",
-                ),
-            ],
+            "a frame was sent ",
+            TRIES as usize,
+            " times, and none came back: look at the interface, the cable and the slaves' power",
         ),
         LineFault::NoSlaves => f.write_str(
             "a broadcast came back with counter 0: what the interface is connected to is no EtherCAT slave",
         ),
-        LineFault::TooManySlaves { slaves } => write_parts(
+        LineFault::TooManySlaves { slaves } => write_number(
             f,
-            &[
-                Part::Text("a broadcast came back with counter "),
-                Part::from(slaves),
-                Part::Text(": work on 64 slaves at a time"),
-            ],
+            "a broadcast came back with counter ",
+            usize::from(slaves),
+            ": work on 64 slaves at a time",
         ),
         LineFault::Memory => Ok(()),
     }
@@ -330,28 +319,28 @@ impl fmt::Display for Told {
         match self.fault {
             WireFault::Line(fault) => write_line(f, fault),
             WireFault::Stopped { reason, seen } => write_stop(f, reason, seen),
-            WireFault::OtherCount { slaves } => write_parts(
+            WireFault::OtherCount { slaves } => write_number(
                 f,
-                &[
-                    Part::Text("the line has "),
-                    Part::Number(slaves),
-                    Part::Text(" slaves, and the line file names another number of them"),
-                ],
+                "the line has ",
+                slaves,
+                " slaves, and the line file names another number of them",
             ),
             WireFault::UnknownSize { slave, says } => write_unknown(f, slave, says),
-            WireFault::Running { slave } => write_slave(
+            WireFault::Running { slave } => write_number(
                 f,
+                "slave ",
                 slave,
                 " is in Safe-Operational or Operational (0x0130): bring it to Init, or say --force",
             ),
-            WireFault::Held { slave } => write_slave(f, slave, HELD),
+            WireFault::Held { slave } => write_number(f, "slave ", slave, HELD),
             WireFault::OtherSize {
                 command,
                 slave,
                 words,
             } => write_resizing(f, command, slave, words),
-            WireFault::Station(Fault::SlaveDead { slave }) => write_slave(
+            WireFault::Station(Fault::SlaveDead { slave }) => write_number(
                 f,
+                "slave ",
                 usize::from(slave),
                 ": it stays busy, or its EEPROM doesn't acknowledge: switch it off and on, and recover the line",
             ),
