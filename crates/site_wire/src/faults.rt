@@ -1,10 +1,9 @@
 //! Why a site on a wire has stopped.
 
-use std::{error, fmt};
-use thiserror::Error;
+use std::fmt;
 
 /// In what a slave's answer is another than that of the shadow.
-#[derive(Clone, Copy, Debug, PartialEq, Eq)]
+#[derive(Clone, Copy, PartialEq, Eq)]
 pub enum Difference {
     /// It isn't the datagram that was sent, or a write that comes back with other content.
     Datagram,
@@ -31,24 +30,34 @@ impl fmt::Display for Difference {
     }
 }
 
-impl error::Error for Difference {}
-
 /// Why a site on a wire has stopped.
-#[derive(Clone, Copy, Debug, PartialEq, Eq, Error)]
+#[derive(Clone, Copy, PartialEq, Eq)]
 pub enum StopReason {
     /// A frame was sent three times, and didn't come back.
-    #[error("no frame comes back")]
     Silent,
     /// A slave answered what the shadow could not have answered.
-    #[error("slave {slave}: {what}")]
     Differs { slave: usize, what: Difference },
     /// A slave ended the write of a word in error, so that the word may hold anything.
-    #[error("slave {slave} failed to write a word")]
     WordFailed { slave: usize },
     /// A frame for one slave hasn't just one datagram, or that isn't for registers of the EEPROM. It wasn't sent.
-    #[error("a frame for slave {slave} hasn't just one short datagram")]
     NotOneDatagram { slave: usize },
     /// The journal's file can't be read, written or synced, or has other bytes.
-    #[error("the journal can't be used")]
     Journal,
+}
+
+impl fmt::Display for StopReason {
+    fn fmt<W: fmt::Write>(&self, f: &mut fmt::Formatter<W>) -> fmt::Result {
+        match *self {
+            StopReason::Silent => f.write_str("no frame comes back"),
+            StopReason::Differs { slave, what } => write!(f, "slave {slave}: {what}"),
+            StopReason::WordFailed { slave } => write!(f, "slave {slave} failed to write a word"),
+            StopReason::NotOneDatagram { slave } => {
+                write!(
+                    f,
+                    "a frame for slave {slave} hasn't just one short datagram"
+                )
+            }
+            StopReason::Journal => f.write_str("the journal can't be used"),
+        }
+    }
 }

@@ -17,7 +17,7 @@ pub struct Sizes {
 }
 
 /// What a slave was in as it was found. None: it doesn't answer that register.
-#[derive(Clone, Copy, Debug, PartialEq, Eq)]
+#[derive(Clone, Copy, PartialEq, Eq)]
 pub struct SlaveState {
     /// AL status, 0x0130: bits 0 to 3 are 1 for Init, 2 for Pre-Operational, 3 for Bootstrap, 4 for Safe-Operational, and 8 for
     /// Operational; bit 4 is an error (ETG.1000.4).

@@ -34,12 +34,12 @@ impl<R: Read, W: Write> EthernetWire<R, W> {
     }
 }
 
-/// The EtherCAT frame in an Ethernet frame, with what pads it. None where it has another EtherType.
-fn frame_in(packet: &[u8]) -> Option<&[u8]> {
+/// The EtherCAT frame in an Ethernet frame, with what pads it. Nothing where that has another EtherType.
+fn frame_in(packet: &[u8]) -> &[u8] {
     if packet.len() < BEFORE || packet[12] != HEADER[12] || packet[13] != HEADER[13] {
-        return None;
+        return &[];
     }
-    Some(&packet[BEFORE..])
+    &packet[BEFORE..]
 }
 
 impl<R: Read, W: Write> Wire for EthernetWire<R, W> {
@@ -63,9 +63,7 @@ impl<R: Read, W: Write> Wire for EthernetWire<R, W> {
     fn receive(&mut self, bytes: &mut [u8]) -> io::Result<usize> {
         let mut packet = [0u8; LONGEST];
         let count = self.input.read(&mut packet)?;
-        let Some(frame) = frame_in(&packet[..count]) else {
-            return Ok(0);
-        };
+        let frame = frame_in(&packet[..count]);
         let length = frame.len().min(bytes.len());
         bytes[..length].copy_from_slice(&frame[..length]);
         Ok(length)

@@ -3,10 +3,9 @@ ghost use Rattle.std.specs.Prelude.{◌≡◌};
 ghost use Rattle.wire_frames.specs.declared.faults.LineFault.TheVariants as line;
 
 use std::alloc::{AllocError, AllocFailed};
-use thiserror::Error;
 
 /// What was seen of a slave that didn't do what it was asked to.
-#[derive(Clone, Copy, Debug, PartialEq, Eq)]
+#[derive(Clone, Copy, PartialEq, Eq)]
 pub struct Sighting {
     /// The code of the command of the last datagram to it: 1 APRD, 2 APWR, 4 FPRD, 5 FPWR (ETG.1000.4).
     pub command: u8,
@@ -25,29 +24,37 @@ pub struct Sighting {
 }
 
 /// What is the matter with a slave that doesn't do what it is asked to.
-#[derive(Clone, Copy, Debug, PartialEq, Eq, Error)]
+#[derive(Clone, Copy, PartialEq, Eq)]
 pub enum Cause {
     /// The frame doesn't come back.
-    #[error("the frame doesn't come back")]
     Silence,
     /// Several slaves answer to its station address.
-    #[error("several slaves answer to its station address")]
     Shared,
     /// No slave answers at its place of the line.
-    #[error("no slave answers at its place of the line")]
     CableOrPower,
     /// A slave answers at its place, and has another station address than it was given: it was switched off and on.
-    #[error("the slave at its place has lost its station address")]
     Restarted,
     /// It stays busy.
-    #[error("it stays busy")]
     StuckBusy,
     /// It ends each command in error: bit 13 or 14 of control and status.
-    #[error("its EEPROM doesn't acknowledge")]
     NoAcknowledge,
     /// It is there, and doesn't count what is sent to it.
-    #[error("it doesn't take what is sent to it")]
     Ignores,
+}
+
+impl Cause {
+    /// The cause in words.
+    pub fn text(self) -> &'static str {
+        match self {
+            Cause::Silence => "the frame doesn't come back",
+            Cause::Shared => "several slaves answer to its station address",
+            Cause::CableOrPower => "no slave answers at its place of the line",
+            Cause::Restarted => "the slave at its place has lost its station address",
+            Cause::StuckBusy => "it stays busy",
+            Cause::NoAcknowledge => "its EEPROM doesn't acknowledge",
+            Cause::Ignores => "it doesn't take what is sent to it",
+        }
+    }
 }
 
 impl Sighting {
@@ -83,50 +90,40 @@ fn cause_uncounted(station: Option<u16>, given: u16) -> Cause {
 }
 
 /// Why a slave can't be worked on.
-#[derive(Clone, Copy, Debug, PartialEq, Eq, Error)]
+#[derive(Clone, Copy, PartialEq, Eq)]
 pub enum SlaveFault {
     /// It doesn't do what it is asked to.
-    #[error("it doesn't do what it is asked to")]
     Dead(Sighting),
     /// Its PDI has the EEPROM, and doesn't lose it unless by force.
-    #[error("its PDI has the EEPROM")]
     Held,
     /// Its EEPROM is sure to have fewer words than it was said to have.
-    #[error("it has {found} words, and was said to have {given}")]
     Smaller { given: u16, found: u16 },
 }
 
 /// Why a line can't be brought up.
-#[derive(Clone, Copy, Debug, PartialEq, Eq, Error)]
+#[derive(Clone, Copy, PartialEq, Eq)]
 pub enum LineFault {
     /// Out of memory.
-    #[error("out of memory")]
     Memory,
     /// A frame was sent three times, and didn't come back.
-    #[error("no frame comes back")]
     Silent,
     /// Frames come back, and no slave has taken one.
-    #[error("the line has no slaves")]
     NoSlaves,
     /// The line has more than 64 slaves.
-    #[error("the line has {slaves} slaves, more than 64")]
     TooManySlaves {
         slaves: u16,
     },
     /// The slave at this place has no station address from the master whose line it is.
-    #[error("slave {slave} has no station address")]
     Unaddressed {
         slave: u16,
     },
     /// Two slaves have the same station address.
-    #[error("slaves {other} and {slave} have the station address 0x{station:04x}")]
     SharedAddress {
         slave: u16,
         other: u16,
         station: u16,
     },
     /// The slave at this place of the line can't be worked on.
-    #[error("slave {slave}: {why}")]
     Slave {
         slave: u16,
         why: SlaveFault,

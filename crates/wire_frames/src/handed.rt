@@ -1,7 +1,7 @@
 //! What becomes of the access to a slave's EEPROM.
 
 /// What became of the access to the EEPROM of a slave as it was handed back: of bits 0 and 1 of 0x0500 (ETG.1000.4).
-#[derive(Clone, Copy, Debug, PartialEq, Eq)]
+#[derive(Clone, Copy, PartialEq, Eq)]
 pub enum Handed {
     /// Nothing was to be put back: the bits were clear as the slave was found, or they aren't known.
     Nothing,

@@ -163,8 +163,8 @@ impl<W: Wire> NumberedWire<W> {
         ensures reached { IfSome result (λ returned. Reaches self.old.stations.by_slave (pdu sent.entry) returned.address) }
     {
         let address = self.stations.translated(sent);
-        let numbered = self.numbered(sent, address)?;
-        let Carried { frame, again } = self.carried(&numbered)?;
+        let asked = frame_of(sent, address)?;
+        let Carried { frame, again } = self.pass_all(asked)?;
         Some(Returned {
             frame,
             address,
@@ -216,24 +216,6 @@ impl<W: Wire> NumberedWire<W> {
         }
     }
 
-    /// A frame of the datagram, sent to this address, and the next number behind it.
-    fn numbered(&mut self, sent: Datagram<'_>, address: u32) -> Option<Frame>
-        requires register { address / 2 ^ 16 ≡ sent.address / 2 ^ 16 }
-        requires broadcast { code_of sent.command ≡ 7 → address ≡ sent.address }
-        requires may { self.old.is_lent ≡ true → LeavesRunning (pdu sent) }
-        ensures may { IfSome result (λ frame. self.old.is_lent ≡ true → OnlyEeprom frame) }
-        ensures lent { self.new.is_lent ≡ self.old.is_lent }
-        ensures same { self.new.stations ≡ self.old.stations }
-    {
-        self.number = self.number.wrapping_add(1);
-        let mut numbered = Frame::new();
-        numbered
-            .push(sent.command, sent.index, address, sent.content)
-            .ok()?;
-        numbered.push(NOP, 0, self.number, &[]).ok()?;
-        Some(numbered)
-    }
-
     /// Sends the frame once. One that can't be sent doesn't come back, and that is enough to know.
     fn send(&mut self, numbered: &Frame, again: bool)
         requires may { self.old.is_lent ≡ true → OnlyEeprom numbered.now }
@@ -267,6 +249,19 @@ impl<W: Wire> NumberedWire<W> {
             }
         }
         None
+    }
+}
+
+/// A frame of this datagram alone, sent to this address. None where it is too long.
+fn frame_of(sent: Datagram<'_>, address: u32) -> Option<Frame>
+    requires register { address / 2 ^ 16 ≡ sent.address / 2 ^ 16 }
+    requires broadcast { code_of sent.command ≡ 7 → address ≡ sent.address }
+    ensures { IfSome result (λ frame. LeavesRunning (pdu sent.entry) → OnlyEeprom frame) }
+{
+    let mut alone = Frame::new();
+    match alone.push(sent.command, sent.index, address, sent.content) {
+        Ok(()) => return Some(alone),
+        Err(_) => return None,
     }
 }
 

@@ -64,26 +64,76 @@ pub fn find_line<R: Clock + AllocGlobal, W: Wire, S: Store>(
     };
     let line = load_line(rt.alloc(), name, store)?;
     let lock = lock_journal(rt.alloc(), name, &line, store)?;
-    let sizes = sizes_of_images(rt.alloc(), &line.images, asked.trusts_images, store)?;
-    if !asked.is_forced {
-        let seen = look_along(wire)?;
-        judge_states(&seen.states, usize::from(seen.slaves))?;
-    }
-    let found = bring_up(rt.alloc(), wire, rt, &sizes)?;
-    let states = found.states();
-    match read_found(rt.alloc(), &line, found, store) {
-        Ok((slaves, journal)) => Ok(Found {
+    match read_line(rt, wire, &line, asked, store) {
+        Ok(read) => Ok(Found {
             line,
+            slaves: read.slaves,
+            states: read.states,
+            journal: read.journal,
+            lock,
+            tells: asked.tells(),
+        }),
+        Err(fault) => Err(fault),
+    }
+}
+
+/// What is read of a line.
+#[derive(Drop)]
+struct LineRead {
+    slaves: Vec<Words>,
+    states: [SlaveState; 64],
+    journal: Vec<u8>,
+}
+
+/// Brings up a line, and reads its journal. After a fault the EEPROMs are handed back.
+fn read_line<R: Clock + AllocGlobal, W: Wire, S: Store>(
+    rt: &R,
+    wire: &mut NumberedWire<W>,
+    line: &LineFile,
+    asked: Asked,
+    store: &mut S,
+) -> Result<LineRead, WireFault>
+    ensures count { IfOk result (λ read. length read.slaves.items ≡ length line.now.images.items) }
+    ensures journal { IfOk result (λ read. HasBytes (S.files store.old) (string_bytes line.now.journal) read.journal.items) }
+    ensures some { IfOk result (λ read. 1 ≤ length read.slaves.items) }
+    ensures most { IfOk result (λ read. length read.slaves.items ≤ 64) }
+    ensures same { S.files store.new ≡ S.files store.old }
+{
+    let found = bring_up_judged(rt, wire, line, asked, store)?;
+    let states = found.states();
+    match read_found(rt.alloc(), line, found, store) {
+        Ok((slaves, journal)) => Ok(LineRead {
             slaves,
             states,
             journal,
-            lock,
-            tells: asked.tells(),
         }),
         Err(fault) => {
             hand_back(wire, &states);
             Err(fault)
         }
+    }
+}
+
+/// Brings up a line. Each slave has the size of its image file, where there is one.
+fn bring_up_judged<R: Clock + AllocGlobal, W: Wire, S: Store>(
+    rt: &R,
+    wire: &mut NumberedWire<W>,
+    line: &LineFile,
+    asked: Asked,
+    store: &mut S,
+) -> Result<FoundLine, WireFault>
+    ensures some { IfOk result (λ found. 1 ≤ length found.slaves.items) }
+    ensures most { IfOk result (λ found. length found.slaves.items ≤ 64) }
+    ensures same { S.files store.new ≡ S.files store.old }
+{
+    let sizes = sizes_of_images(rt.alloc(), &line.images, asked.trusts_images, store)?;
+    if !asked.is_forced {
+        let seen = look_along(wire)?;
+        judge_states(&seen.states, usize::from(seen.slaves))?;
+    }
+    match bring_up(rt.alloc(), wire, rt, &sizes) {
+        Ok(found) => Ok(found),
+        Err(fault) => Err(WireFault::Line(fault)),
     }
 }
 

@@ -1,7 +1,7 @@
 //! The subcommand `scan`.
 use crate::scan_rows::write_slaves;
 use line_changes::check_of;
-use sii_words::{Identity, Words};
+use sii_words::Words;
 use station_json::Form;
 use std::io::Write;
 use std::rt::Clock;
@@ -77,20 +77,22 @@ fn print_slave<O: Write>(slave: u16, found: &FoundSlave, output: &mut O) -> io::
 
 fn print_words<O: Write>(slave: u16, words: &Words, output: &mut O) -> io::Result<()> {
     let (count, alias, check) = (words.len(), words.alias(), check_of(words));
-    let Identity {
-        vendor,
-        product,
-        revision,
-        serial,
-    } = words.identity();
     write!(
         output,
-        "slave {slave} words {count} alias {alias} check {check} "
+        "slave {slave} words {count} alias {alias} check {check}"
     )?;
-    write!(
-        output,
-        "vendor 0x{vendor:08x} product 0x{product:08x} revision 0x{revision:08x} serial 0x{serial:08x}"
-    )
+    let identity = words.identity();
+    let numbers = [
+        ("vendor", identity.vendor),
+        ("product", identity.product),
+        ("revision", identity.revision),
+        ("serial", identity.serial),
+    ];
+    for row in &numbers {
+        let (name, number) = *row;
+        write!(output, " {name} 0x{number:08x}")?;
+    }
+    Ok(())
 }
 
 /// The name of a state (ETG.1000.6).

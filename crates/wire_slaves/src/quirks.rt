@@ -175,8 +175,9 @@ impl<'a> QuirkList<'a> {
             }
             let item = item_of(text)?;
             let with = with_item(found, item)?;
-            if item.slave.is_none_or(|number| number as usize == slave) {
-                found = with;
+            match item.slave {
+                Some(number) if number as usize != slave => {}
+                _ => found = with,
             }
         }
         Some(found)

@@ -22,7 +22,7 @@ const STARTS: [u16; 7] = [64, 128, 256, 512, 1024, 2048, 4096];
 type Block = [[u8; 4]; 32];
 
 /// How large a chip is, as far as reading its words up to word 4,096 tells.
-#[derive(Clone, Copy, Debug, PartialEq, Eq)]
+#[derive(Clone, Copy, PartialEq, Eq)]
 pub enum Extent {
     /// Its words repeat from this one on, so it has so many. A larger chip whose contents repeat looks the same.
     Repeats(u16),
@@ -45,7 +45,7 @@ impl Extent {
 }
 
 /// The size of a slave's EEPROM.
-#[derive(Clone, Copy, Debug, PartialEq, Eq)]
+#[derive(Clone, Copy, PartialEq, Eq)]
 pub struct SizeFound {
     /// So many words are worked on: 64 to 4,096, a multiple of 64.
     pub words: u16,
@@ -210,8 +210,8 @@ fn look_along<W: Wire, C: Clock>(
         unlike: 0,
         ends: None,
     };
-    for step in 0..STARTS.len() {
-        let start = STARTS[step].min(MOST);
+    for first in &STARTS {
+        let start = (*first).min(MOST);
         match compare_block(wire, clock, slave, start, block, ahead)? {
             Compared::Alike => {}
             Compared::Other => along.unlike = start,
@@ -254,10 +254,27 @@ fn find_extent<W: Wire, C: Clock>(
     if along.unlike == 0 && is_uniform {
         return Ok(Extent::Uniform);
     }
-    for step in 0..STARTS.len() {
-        let words = STARTS[step].min(MOST);
-        if words > along.unlike {
-            let is_plain = u32::from(words) == says && !is_uniform;
+    let plain = if is_uniform { None } else { Some(says) };
+    find_repeat(wire, clock, slave, along.unlike, plain, ahead)
+}
+
+/// Finds from where on the words of a chip repeat, behind the last start whose block is another. At the size `plain`, if there is one, its
+/// first block alone tells.
+fn find_repeat<W: Wire, C: Clock>(
+    wire: &mut NumberedWire<W>,
+    clock: &C,
+    slave: u16,
+    unlike: u16,
+    plain: Option<u32>,
+    ahead: &Ahead,
+) -> Result<Extent, Hitch>
+    requires { slave < 64 }
+    ensures { wire.new.stations ≡ wire.old.stations }
+{
+    for first in &STARTS {
+        let words = (*first).min(MOST);
+        if words > unlike {
+            let is_plain = plain == Some(u32::from(words));
             if is_plain || is_rolled(wire, clock, slave, words, ahead)? {
                 return Ok(Extent::Repeats(words));
             }
@@ -285,9 +302,9 @@ pub(crate) fn words_ahead(pair: [u8; 4], given: Option<u16>) -> u16 {
 
 /// The first place from this word on at which a chip may begin to repeat, and `u16::MAX` where there is none.
 pub(crate) fn block_behind(word: u16) -> u16 {
-    for start in STARTS {
-        if start >= word {
-            return start;
+    for start in &STARTS {
+        if *start >= word {
+            return *start;
         }
     }
     u16::MAX
