@@ -73,12 +73,16 @@ impl Content {
 impl fmt::Display for Content {
     fn fmt<W: fmt::Write>(&self, f: &mut fmt::Formatter<W>) -> fmt::Result {
         match self {
-            Content::Strings(count) => write!(f, " strings {count}"),
-            Content::Units(count) => write!(f, " units {count}"),
-            Content::Managers(count) => write!(f, " managers {count}"),
-            Content::Pdos(count) => write!(f, " pdos {count}"),
-            Content::Malformed => write!(f, " bad"),
+            Content::Strings(count) => print_count(f, "strings", *count),
+            Content::Units(count) => print_count(f, "units", *count),
+            Content::Managers(count) => print_count(f, "managers", *count),
+            Content::Pdos(count) => print_count(f, "pdos", *count),
+            Content::Malformed => f.write_str(" bad"),
             Content::Opaque => Ok(()),
         }
     }
+}
+
+fn print_count<W: fmt::Write>(f: &mut fmt::Formatter<W>, name: &str, count: usize) -> fmt::Result {
+    write!(f, " {name} {count}")
 }
