@@ -2,10 +2,11 @@
 ghost use Rattle.std.specs.Prelude.{IfErr};
 ghost use Rattle.station_files.specs.Faults.{IsOfStream};
 
+use crate::changes::print_value;
 use station_files::Fault;
 use station_listing::{CategoryLines, Field, ItemListing, Label, Line};
 use std::fmt;
-use std::fmt::Write;
+use std::fmt::{Display, Write};
 
 /// One of the two images.
 #[derive(Clone, Copy)]
@@ -263,11 +264,12 @@ fn tell_fields<T: CategoryTeller>(old: &Line, new: &Line, teller: &mut T) -> Res
     Ok(())
 }
 
-impl fmt::Display for Side {
-    fn fmt<W: fmt::Write>(&self, f: &mut fmt::Formatter<W>) -> fmt::Result {
+impl Side {
+    /// The letter that is printed for it.
+    fn letter(self) -> &'static str {
         match self {
-            Side::A => f.write_str("A"),
-            Side::B => f.write_str("B"),
+            Side::A => "A",
+            Side::B => "B",
         }
     }
 }
@@ -275,18 +277,55 @@ impl fmt::Display for Side {
 impl fmt::Display for CategoryChange<'_> {
     fn fmt<W: fmt::Write>(&self, f: &mut fmt::Formatter<W>) -> fmt::Result {
         match self {
-            CategoryChange::RunsOut { image, at } => write!(f, "runs out at {at} in {image}"),
+            CategoryChange::RunsOut { image, at } => {
+                write!(f, "runs out at {at} in {}", image.letter())
+            }
             CategoryChange::Lonely { image, kind, count } => {
-                write!(f, "category {kind} words {count} only in {image}")
+                print_number(f, *kind, "words", *count)?;
+                print_side(f, *image)
             }
             CategoryChange::Count { kind, old, new } => {
-                write!(f, "category {kind} words {old} {new}")
+                print_number(f, *kind, "words", *old)?;
+                write!(f, " {new}")
             }
             CategoryChange::Word { kind, at, old, new } => {
-                write!(f, "category {kind} word {at} 0x{old:04x} 0x{new:04x}")
+                print_number(f, *kind, "word", *at)?;
+                print_value(f, *old)?;
+                print_value(f, *new)
             }
-            CategoryChange::LonelyItem { image, item } => write!(f, "{item} only in {image}"),
-            CategoryChange::Field { item, old, new } => write!(f, "{item}{old} {}", new.value),
+            CategoryChange::LonelyItem { image, item } => {
+                item.fmt(f)?;
+                print_side(f, *image)
+            }
+            CategoryChange::Field { item, old, new } => print_field(f, *item, old, new),
         }
     }
+}
+
+/// Prints the type of a category, and a number of it with this name.
+fn print_number<W: fmt::Write>(
+    f: &mut fmt::Formatter<W>,
+    kind: u16,
+    name: &str,
+    number: usize,
+) -> fmt::Result {
+    write!(f, "category {kind} {name} {number}")
+}
+
+/// Prints that only this image has what stands before.
+fn print_side<W: fmt::Write>(f: &mut fmt::Formatter<W>, image: Side) -> fmt::Result {
+    f.write_str(" only in ")?;
+    f.write_str(image.letter())
+}
+
+fn print_field<W: fmt::Write>(
+    f: &mut fmt::Formatter<W>,
+    item: Label,
+    old: &Field,
+    new: &Field,
+) -> fmt::Result {
+    item.fmt(f)?;
+    old.fmt(f)?;
+    f.write_str(" ")?;
+    f.write_str(new.value.as_str())
 }

@@ -3,6 +3,7 @@ ghost use Rattle.std.specs.Prelude.{◌≡◌, ◌≤◌, IfOk, length};
 ghost use Rattle.sii_words.specs.Run.{stretches};
 ghost use Rattle.line_changes.specs.Difference.{AreChanges};
 
+use crate::changes::print_value;
 use sii_words::{Run, push_stretches};
 use std::alloc::{AllocError, Global};
 use std::fmt;
@@ -78,13 +79,26 @@ fn print_words<W: fmt::Write>(
     news: &[u16],
 ) -> fmt::Result {
     if let ([old], [new]) = (olds, news) {
-        return writeln!(f, "word 0x{at:04x} 0x{old:04x} 0x{new:04x}");
+        return print_word(f, at, *old, *new);
     }
-    let last = at.saturating_add(olds.len()).saturating_sub(1);
-    write!(f, "words 0x{at:04x} to 0x{last:04x}")?;
+    print_range(f, at, olds.len())?;
     print_values(f, " old", olds)?;
     print_values(f, " new", news)?;
     f.write_str("\n")
+}
+
+fn print_word<W: fmt::Write>(
+    f: &mut fmt::Formatter<W>,
+    at: usize,
+    old: u16,
+    new: u16,
+) -> fmt::Result {
+    writeln!(f, "word 0x{at:04x} 0x{old:04x} 0x{new:04x}")
+}
+
+fn print_range<W: fmt::Write>(f: &mut fmt::Formatter<W>, at: usize, count: usize) -> fmt::Result {
+    let last = at.saturating_add(count).saturating_sub(1);
+    write!(f, "words 0x{at:04x} to 0x{last:04x}")
 }
 
 fn print_values<W: fmt::Write>(
@@ -94,7 +108,7 @@ fn print_values<W: fmt::Write>(
 ) -> fmt::Result {
     f.write_str(name)?;
     for word in words {
-        write!(f, " 0x{word:04x}")?;
+        print_value(f, *word)?;
     }
     Ok(())
 }
