@@ -7,7 +7,7 @@ use std::alloc::{AllocError, Global};
 use std::fmt;
 
 /// The content of a category, as the number of items that it has.
-#[derive(Clone, Copy, PartialEq, Eq)]
+#[derive(Clone, Copy)]
 pub enum Content {
     /// Strings of a category STRINGS (type 10).
     Strings(usize),
@@ -66,23 +66,20 @@ impl Content {
     pub fn is_malformed(self) -> bool
         ensures { IsTrue result ↔ (self ≡ Content.Malformed) }
     {
-        self == Content::Malformed
+        matches!(self, Content::Malformed)
     }
 }
 
 impl fmt::Display for Content {
     fn fmt<W: fmt::Write>(&self, f: &mut fmt::Formatter<W>) -> fmt::Result {
-        match self {
-            Content::Strings(count) => print_count(f, "strings", *count),
-            Content::Units(count) => print_count(f, "units", *count),
-            Content::Managers(count) => print_count(f, "managers", *count),
-            Content::Pdos(count) => print_count(f, "pdos", *count),
-            Content::Malformed => f.write_str(" bad"),
-            Content::Opaque => Ok(()),
-        }
+        let (name, count) = match *self {
+            Content::Strings(count) => ("strings", count),
+            Content::Units(count) => ("units", count),
+            Content::Managers(count) => ("managers", count),
+            Content::Pdos(count) => ("pdos", count),
+            Content::Malformed => return f.write_str(" bad"),
+            Content::Opaque => return Ok(()),
+        };
+        write!(f, " {name} {count}")
     }
-}
-
-fn print_count<W: fmt::Write>(f: &mut fmt::Formatter<W>, name: &str, count: usize) -> fmt::Result {
-    write!(f, " {name} {count}")
 }

@@ -204,10 +204,7 @@ fn push_line(
     Ok(lines.push(Line { label, fields })?)
 }
 
-fn fields_of(
-    alloc: Global,
-    said: &[(&'static str, Value<'_>)],
-) -> Result<Vec<Field>, AllocError> {
+fn fields_of(alloc: Global, said: &[(&'static str, Value<'_>)]) -> Result<Vec<Field>, AllocError> {
     let mut fields = Vec::with_capacity(alloc, said.len())?;
     for (name, value) in said {
         let value = format!(in alloc; "{value}")?;
@@ -252,11 +249,7 @@ fn push_general(
     push_line(alloc, lines, Label::General, &said)
 }
 
-fn push_units(
-    alloc: Global,
-    lines: &mut Vec<Line>,
-    units: &[FmmuUnit],
-) -> Result<(), AllocError> {
+fn push_units(alloc: Global, lines: &mut Vec<Line>, units: &[FmmuUnit]) -> Result<(), AllocError> {
     for (place, unit) in units.iter().enumerate() {
         let usage = word_or_byte(usage_word(*unit), unit.byte);
         push_line(alloc, lines, Label::Fmmu(place), &[("", usage)])?;
@@ -444,15 +437,15 @@ impl fmt::Display for Field {
 
 impl fmt::Display for Label {
     fn fmt<W: fmt::Write>(&self, f: &mut fmt::Formatter<W>) -> fmt::Result {
-        match self {
-            Label::Text(number) => print_number(f, "string", *number),
+        match *self {
+            Label::Text(number) => print_number(f, "string", number),
             Label::General => f.write_str("general"),
-            Label::Fmmu(number) => print_number(f, "fmmu", *number),
-            Label::Manager(number) => print_number(f, "sm", *number),
-            Label::Pdo { kind, index } => print_pdo(f, *kind, *index),
+            Label::Fmmu(number) => print_number(f, "fmmu", number),
+            Label::Manager(number) => print_number(f, "sm", number),
+            Label::Pdo { kind, index } => print_pdo(f, kind, index),
             Label::Entry { kind, pdo, number } => {
-                print_pdo(f, *kind, *pdo)?;
-                print_number(f, " entry", *number)
+                print_pdo(f, kind, pdo)?;
+                print_number(f, " entry", number)
             }
         }
     }
@@ -480,7 +473,7 @@ fn pdo_word(kind: u16) -> &'static str {
 
 impl fmt::Display for Value<'_> {
     fn fmt<W: fmt::Write>(&self, f: &mut fmt::Formatter<W>) -> fmt::Result {
-        match self {
+        match *self {
             Value::Word(word) => f.write_str(word),
             Value::Number(number) => number.fmt(f),
             Value::Current(current) => current.fmt(f),

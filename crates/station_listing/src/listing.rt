@@ -166,7 +166,7 @@ impl fmt::Display for Listing {
 
 impl fmt::Display for CheckByte {
     fn fmt<W: fmt::Write>(&self, f: &mut fmt::Formatter<W>) -> fmt::Result {
-        match self {
+        match *self {
             CheckByte::Right => f.write_str("ok"),
             CheckByte::Wrong { found, expected } => {
                 write!(f, "bad 0x{found:02x} expected 0x{expected:02x}")
