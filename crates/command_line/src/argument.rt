@@ -81,14 +81,16 @@ impl Argument {
             .help(self.help)
             .long_help(text_or(self.long_help, self.help))
             .required(self.kind.is_required());
-        if self.kind.is_word() {
-            ruled(parsed(arg, self.kind), self.kind)
-        } else {
-            ruled(
-                parsed(option(arg.long(self.id), self.kind), self.kind),
-                self.kind,
-            )
-        }
+        ruled(parsed(spelt(arg, self), self.kind), self.kind)
+    }
+}
+
+/// The argument with its spelling, where it is an option.
+fn spelt<'a>(arg: Arg<'a>, argument: Argument) -> Arg<'a> {
+    if argument.kind.is_word() {
+        arg
+    } else {
+        option(arg.long(argument.id), argument.kind)
     }
 }
 
@@ -102,20 +104,24 @@ fn option<'a>(arg: Arg<'a>, kind: Kind) -> Arg<'a> {
     match kind {
         Kind::Text(name) | Kind::TextWithout(name, _) | Kind::Small(name) | Kind::Large(name) =>
             arg.value_name(name),
-        Kind::Texts(name, letter, _) => arg
-            .value_name(name)
-            .short(letter)
-            .action(ArgAction::Append),
-        _ => flag(arg.action(ArgAction::SetTrue), kind),
+        Kind::Texts(name, letter, _) => repeated(arg.value_name(name), letter),
+        _ => flag(arg, kind),
     }
+}
+
+/// The argument as an option that may be given again, and is spelt by this letter too.
+fn repeated<'a>(arg: Arg<'a>, letter: char) -> Arg<'a> {
+    arg.short(letter).action(ArgAction::Append)
 }
 
 /// The argument as a flag of this kind.
 fn flag<'a>(arg: Arg<'a>, kind: Kind) -> Arg<'a> {
+    let flag = arg
+        .action(ArgAction::SetTrue)
+        .global(matches!(kind, Kind::GlobalFlag));
     match kind {
-        Kind::ShortFlag(letter) => arg.short(letter),
-        Kind::GlobalFlag => arg.global(true),
-        _ => arg,
+        Kind::ShortFlag(letter) => flag.short(letter),
+        _ => flag,
     }
 }
 
