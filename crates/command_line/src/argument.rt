@@ -80,17 +80,14 @@ impl Argument {
         let arg = Arg::new(alloc, self.id)
             .help(self.help)
             .long_help(text_or(self.long_help, self.help))
-            .required(self.kind.is_required());
-        ruled(parsed(spelt(arg, self), self.kind), self.kind)
-    }
-}
-
-/// The argument with its spelling, where it is an option.
-fn spelt<'a>(arg: Arg<'a>, argument: Argument) -> Arg<'a> {
-    if argument.kind.is_word() {
-        arg
-    } else {
-        option(arg.long(argument.id), argument.kind)
+            .required(self.kind.is_required())
+            .global(matches!(self.kind, Kind::GlobalFlag));
+        let spelt = if self.kind.is_word() {
+            arg
+        } else {
+            option(arg.long(self.id), self.kind)
+        };
+        ruled(parsed(spelt, self.kind), self.kind)
     }
 }
 
@@ -104,24 +101,12 @@ fn option<'a>(arg: Arg<'a>, kind: Kind) -> Arg<'a> {
     match kind {
         Kind::Text(name) | Kind::TextWithout(name, _) | Kind::Small(name) | Kind::Large(name) =>
             arg.value_name(name),
-        Kind::Texts(name, letter, _) => repeated(arg.value_name(name), letter),
-        _ => flag(arg, kind),
-    }
-}
-
-/// The argument as an option that may be given again, and is spelt by this letter too.
-fn repeated<'a>(arg: Arg<'a>, letter: char) -> Arg<'a> {
-    arg.short(letter).action(ArgAction::Append)
-}
-
-/// The argument as a flag of this kind.
-fn flag<'a>(arg: Arg<'a>, kind: Kind) -> Arg<'a> {
-    let flag = arg
-        .action(ArgAction::SetTrue)
-        .global(matches!(kind, Kind::GlobalFlag));
-    match kind {
-        Kind::ShortFlag(letter) => flag.short(letter),
-        _ => flag,
+        Kind::Texts(name, letter, _) => arg
+            .value_name(name)
+            .short(letter)
+            .action(ArgAction::Append),
+        Kind::ShortFlag(letter) => arg.short(letter).action(ArgAction::SetTrue),
+        _ => arg.action(ArgAction::SetTrue),
     }
 }
 
