@@ -2,11 +2,10 @@
 ghost use Rattle.std.specs.Prelude.{IfErr};
 ghost use Rattle.station_files.specs.Faults.{IsOfStream};
 
-use crate::changes::print_value;
 use station_files::Fault;
 use station_listing::{CategoryLines, Field, ItemListing, Label, Line};
 use std::fmt;
-use std::fmt::{Display, Write};
+use std::fmt::Write;
 
 /// One of the two images.
 #[derive(Clone, Copy)]
@@ -264,12 +263,11 @@ fn tell_fields<T: CategoryTeller>(old: &Line, new: &Line, teller: &mut T) -> Res
     Ok(())
 }
 
-impl Side {
-    /// The letter that is printed for it.
-    fn letter(self) -> &'static str {
+impl fmt::Display for Side {
+    fn fmt<W: fmt::Write>(&self, f: &mut fmt::Formatter<W>) -> fmt::Result {
         match self {
-            Side::A => "A",
-            Side::B => "B",
+            Side::A => f.write_str("A"),
+            Side::B => f.write_str("B"),
         }
     }
 }
@@ -277,55 +275,18 @@ impl Side {
 impl fmt::Display for CategoryChange<'_> {
     fn fmt<W: fmt::Write>(&self, f: &mut fmt::Formatter<W>) -> fmt::Result {
         match self {
-            CategoryChange::RunsOut { image, at } => {
-                write!(f, "runs out at {at} in {}", image.letter())
-            }
+            CategoryChange::RunsOut { image, at } => write!(f, "runs out at {at} in {image}"),
             CategoryChange::Lonely { image, kind, count } => {
-                print_number(f, *kind, "words", *count)?;
-                print_side(f, *image)
+                write!(f, "category {kind} words {count} only in {image}")
             }
             CategoryChange::Count { kind, old, new } => {
-                print_number(f, *kind, "words", *old)?;
-                write!(f, " {new}")
+                write!(f, "category {kind} words {old} {new}")
             }
             CategoryChange::Word { kind, at, old, new } => {
-                print_number(f, *kind, "word", *at)?;
-                print_value(f, *old)?;
-                print_value(f, *new)
+                write!(f, "category {kind} word {at} 0x{old:04x} 0x{new:04x}")
             }
-            CategoryChange::LonelyItem { image, item } => {
-                item.fmt(f)?;
-                print_side(f, *image)
-            }
-            CategoryChange::Field { item, old, new } => print_field(f, *item, old, new),
+            CategoryChange::LonelyItem { image, item } => write!(f, "{item} only in {image}"),
+            CategoryChange::Field { item, old, new } => write!(f, "{item}{old} {}", new.value),
         }
     }
-}
-
-/// Prints the type of a category, and a number of it with this name.
-fn print_number<W: fmt::Write>(
-    f: &mut fmt::Formatter<W>,
-    kind: u16,
-    name: &str,
-    number: usize,
-) -> fmt::Result {
-    write!(f, "category {kind} {name} {number}")
-}
-
-/// Prints that only this image has what stands before.
-fn print_side<W: fmt::Write>(f: &mut fmt::Formatter<W>, image: Side) -> fmt::Result {
-    f.write_str(" only in ")?;
-    f.write_str(image.letter())
-}
-
-fn print_field<W: fmt::Write>(
-    f: &mut fmt::Formatter<W>,
-    item: Label,
-    old: &Field,
-    new: &Field,
-) -> fmt::Result {
-    item.fmt(f)?;
-    old.fmt(f)?;
-    f.write_str(" ")?;
-    f.write_str(new.value.as_str())
 }

@@ -6,8 +6,8 @@ ghost use Rattle.line_changes.specs.Changes.{change_at, changes_between, changes
 use sii_words::Plant;
 use std::alloc::{AllocError, Global};
 use std::fmt::Display;
+use std::io;
 use std::io::Write;
-use std::{fmt, io};
 
 /// The longest run of words that is printed word by word.
 pub const MOST_PRINTED: usize = 8;
@@ -90,42 +90,15 @@ fn note_word(
 ///
 /// As the output answers.
 pub fn write_changes<W: Write>(changes: &[ChangedWord], output: &mut W) -> io::Result<()> {
-    write!(output, "{}", Changes(changes))
-}
-
-/// Writes the slave and the addresses of a run of words, without the end of the line.
-///
-/// # Errors
-///
-/// As the output answers.
-pub fn write_range<W: Write>(slave: u16, first: u16, last: u16, output: &mut W) -> io::Result<()> {
-    write!(output, "{}", Range { slave, first, last })
-}
-
-/// Changed words, as they are printed.
-#[derive(Clone, Copy)]
-pub(crate) struct Changes<'a>(pub &'a [ChangedWord]);
-
-/// The slave and the addresses of a run of words.
-#[derive(Clone, Copy)]
-struct Range {
-    slave: u16,
-    first: u16,
-    last: u16,
-}
-
-impl fmt::Display for Changes<'_> {
-    fn fmt<W: fmt::Write>(&self, f: &mut fmt::Formatter<W>) -> fmt::Result {
-        let changes = self.0;
-        let mut printed = 0;
-        for at in 0..changes.len() {
-            if ends_run(changes, at) {
-                print_run(f, changes.get(printed..at + 1).unwrap_or(&[]))?;
-                printed = at + 1;
-            }
+    let mut written = 0;
+    for at in 0..changes.len() {
+        if ends_run(changes, at) {
+            let run = changes.get(written..at + 1).unwrap_or(&[]);
+            write_run(run, output)?;
+            written = at + 1;
         }
-        Ok(())
     }
+    Ok(())
 }
 
 /// Whether the change at this position is the last one of its run.
@@ -140,61 +113,44 @@ fn ends_run(changes: &[ChangedWord], at: usize) -> bool
     }
 }
 
-fn print_run<W: fmt::Write>(f: &mut fmt::Formatter<W>, run: &[ChangedWord]) -> fmt::Result {
+fn write_run<W: Write>(run: &[ChangedWord], output: &mut W) -> io::Result<()> {
     let (Some(first), Some(last)) = (run.first(), run.last()) else {
         return Ok(());
     };
-    let range = Range {
-        slave: first.slave,
-        first: first.at,
-        last: last.at,
-    };
-    range.fmt(f)?;
+    write_range(first.slave, first.at, last.at, output)?;
     if run.len() > MOST_PRINTED {
-        return writeln!(f, " count {}", run.len());
+        return writeln!(output, " count {}", run.len());
     }
-    print_old(f, run)?;
-    print_new(f, run)?;
-    f.write_str("\n")
+    write_old(run, output)?;
+    write_new(run, output)?;
+    writeln!(output)
 }
 
-fn print_old<W: fmt::Write>(f: &mut fmt::Formatter<W>, run: &[ChangedWord]) -> fmt::Result {
-    f.write_str(" old")?;
+fn write_old<W: Write>(run: &[ChangedWord], output: &mut W) -> io::Result<()> {
+    write!(output, " old")?;
     for word in run {
-        print_value(f, word.old)?;
+        write!(output, " 0x{:04x}", word.old)?;
     }
     Ok(())
 }
 
-fn print_new<W: fmt::Write>(f: &mut fmt::Formatter<W>, run: &[ChangedWord]) -> fmt::Result {
-    f.write_str(" new")?;
+fn write_new<W: Write>(run: &[ChangedWord], output: &mut W) -> io::Result<()> {
+    write!(output, " new")?;
     for word in run {
-        print_value(f, word.new)?;
+        write!(output, " 0x{:04x}", word.new)?;
     }
     Ok(())
 }
 
-/// Prints a value behind a blank.
-pub(crate) fn print_value<W: fmt::Write>(f: &mut fmt::Formatter<W>, value: u16) -> fmt::Result {
-    write!(f, " 0x{value:04x}")
-}
-
-impl fmt::Display for Range {
-    fn fmt<W: fmt::Write>(&self, f: &mut fmt::Formatter<W>) -> fmt::Result {
-        let (slave, first, last) = (self.slave, self.first, self.last);
-        if first == last {
-            return print_place(f, slave, "word", first);
-        }
-        print_place(f, slave, "words", first)?;
-        write!(f, " to 0x{last:04x}")
+/// Writes the slave and the addresses of a run of words, without the end of the line.
+///
+/// # Errors
+///
+/// As the output answers.
+pub fn write_range<W: Write>(slave: u16, first: u16, last: u16, output: &mut W) -> io::Result<()> {
+    if first == last {
+        write!(output, "slave {slave} word 0x{first:04x}")
+    } else {
+        write!(output, "slave {slave} words 0x{first:04x} to 0x{last:04x}")
     }
-}
-
-fn print_place<W: fmt::Write>(
-    f: &mut fmt::Formatter<W>,
-    slave: u16,
-    name: &str,
-    at: u16,
-) -> fmt::Result {
-    write!(f, "slave {slave} {name} 0x{at:04x}")
 }

@@ -4,14 +4,14 @@ ghost use Rattle.station_files.specs.Faults.{IsOfStream};
 ghost use Rattle.station_files.specs.LineFiles.{SpellsLine, SpellsSlaves};
 ghost use Rattle.line_changes.specs.Report.{Reports};
 
-use crate::changes::{ChangedWord, Changes, changed_words};
+use crate::changes::{ChangedWord, changed_words, write_changes};
 use crate::checks::checks_of;
 use sii_words::Plant;
 use station_files::{ExitStatus, Fault, Store, load_line, load_slaves, status_of, worse};
 use station_listing::CheckByte;
 use station_text::LineFile;
 use std::alloc::Global;
-use std::fmt;
+use std::io;
 use std::io::Write;
 
 /// The help text on the option that asks for a report.
@@ -98,32 +98,33 @@ pub fn print_report<S: Store, W: Write>(
     ensures same { S.files store.new ≡ S.files store.old }
 {
     let report = changes_since(alloc, before, store)?;
-    write!(output, "{report}")?;
-    output.flush()?;
+    write_report(&report, output)?;
     Ok(())
 }
 
-impl fmt::Display for Report {
-    fn fmt<W: fmt::Write>(&self, f: &mut fmt::Formatter<W>) -> fmt::Result {
-        Changes(&self.changes).fmt(f)?;
-        let mut wrong = 0usize;
-        for (slave, check) in self.checks.iter().enumerate() {
-            writeln!(f, "slave {slave} check {check}")?;
-            if *check != CheckByte::Right {
-                wrong = wrong.saturating_add(1);
-            }
+fn write_report<W: Write>(report: &Report, output: &mut W) -> io::Result<()> {
+    write_changes(&report.changes, output)?;
+    let mut wrong = 0usize;
+    for (slave, check) in report.checks.iter().enumerate() {
+        writeln!(output, "slave {slave} check {check}")?;
+        if *check != CheckByte::Right {
+            wrong = wrong.saturating_add(1);
         }
-        print_end(f, wrong)
     }
+    write_end(wrong, output)?;
+    output.flush()
 }
 
-/// Prints the last line of a report on a line with so many wrong check bytes.
-fn print_end<W: fmt::Write>(f: &mut fmt::Formatter<W>, wrong: usize) -> fmt::Result {
+/// Writes the last line of a report on a line with so many wrong check bytes.
+fn write_end<W: Write>(wrong: usize, output: &mut W) -> io::Result<()> {
     match wrong {
-        0 => f.write_str("line in order")?,
-        _ => write!(f, "line not in order, wrong check bytes {wrong}")?,
+        0 => write!(output, "line in order")?,
+        _ => write!(output, "line not in order, wrong check bytes {wrong}")?,
     }
-    f.write_str("; a slave acts on its new words only when it starts again\n")
+    writeln!(
+        output,
+        "; a slave acts on its new words only when it starts again"
+    )
 }
 
 /// Reads a line and its words as its files hold them, if a report is asked for. No file changes.
@@ -161,7 +162,6 @@ pub fn report_behind<S: Store, W: Write, E: Write>(
     ensures same { S.files store.new ≡ S.files store.old }
 {
     if !matches!(status, ExitStatus::Done | ExitStatus::Refused) {
-        drop(looked);
         return status;
     }
     let reported = report_looked(alloc, looked, store, output);
@@ -178,11 +178,7 @@ fn report_looked<S: Store, W: Write>(
     ensures same { S.files store.new ≡ S.files store.old }
 {
     match looked {
-        Ok(Some(before)) => {
-            let printed = print_report(alloc, &before, store, output);
-            drop(before);
-            printed
-        }
+        Ok(Some(before)) => print_report(alloc, &before, store, output),
         Ok(None) => Ok(()),
         Err(fault) => Err(fault),
     }

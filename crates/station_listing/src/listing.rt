@@ -158,8 +158,10 @@ impl fmt::Display for Listing {
         } = self.identity;
         let (count, alias, check) = (self.count, self.alias, self.check);
         write!(f, "words {count}\nalias {alias}\ncheck {check}\n")?;
-        write!(f, "vendor 0x{vendor:08x} product 0x{product:08x}")?;
-        writeln!(f, " revision 0x{revision:08x} serial 0x{serial:08x}")?;
+        writeln!(
+            f,
+            "vendor 0x{vendor:08x} product 0x{product:08x} revision 0x{revision:08x} serial 0x{serial:08x}"
+        )?;
         self.chain.fmt(f)
     }
 }

@@ -6,7 +6,6 @@ use crate::places::{Stretch, blanked, from_key, line_at};
 use station_text::forms::{Field, Form, Shape};
 use std::alloc::{AllocError, Global};
 use std::fmt;
-use std::fmt::Display;
 use toml::{Table, Value};
 
 /// What is wrong in a text, and the line in which it stands.
@@ -217,39 +216,13 @@ impl fmt::Display for Found {
 impl fmt::Display for Flaw<'_> {
     fn fmt<W: fmt::Write>(&self, f: &mut fmt::Formatter<W>) -> fmt::Result {
         match self {
-            Flaw::Unknown(key, names) => print_unknown(f, key, names),
-            Flaw::Missing(key) => print_all(f, &["the key ", key, " is missing"]),
-            Flaw::Wrong(key, found, shape) => print_wrong(f, key, *found, *shape),
-            Flaw::NoTable(found) => {
-                f.write_str("an entry must be a table")?;
-                found.fmt(f)
-            }
+            Flaw::Unknown(key, names) => write!(f, "unknown key {key:?}, known here: {names}"),
+            Flaw::Missing(key) => write!(f, "the key {key} is missing"),
+            Flaw::Wrong(key, found, shape) => write!(f, "{key} must be {shape}{found}"),
+            Flaw::NoTable(found) => write!(f, "an entry must be a table{found}"),
             Flaw::Slaves(count) => write!(f, "{count} slaves, and a line has 1 to 64"),
-            Flaw::NoneOf(names) => print_all(f, &["one of the keys ", names, " is missing"]),
-            Flaw::Two(one, other) => {
-                print_all(f, &[one, " and ", other, " can't stand side by side"])
-            }
+            Flaw::NoneOf(names) => write!(f, "one of the keys {names} is missing"),
+            Flaw::Two(one, other) => write!(f, "{one} and {other} can't stand side by side"),
         }
     }
-}
-
-fn print_unknown<W: fmt::Write>(f: &mut fmt::Formatter<W>, key: &str, names: &str) -> fmt::Result {
-    write!(f, "unknown key {key:?}, known here: {names}")
-}
-
-fn print_wrong<W: fmt::Write>(
-    f: &mut fmt::Formatter<W>,
-    key: &str,
-    found: Found,
-    shape: Shape,
-) -> fmt::Result {
-    write!(f, "{key} must be {shape}{found}")
-}
-
-/// Prints these texts, one behind the other.
-fn print_all<W: fmt::Write>(f: &mut fmt::Formatter<W>, texts: &[&str]) -> fmt::Result {
-    for text in texts {
-        f.write_str(text)?;
-    }
-    Ok(())
 }
