@@ -3,7 +3,6 @@ ghost use Rattle.std.specs.Prelude.{◌≡◌, ◌≤◌, IfOk, length};
 ghost use Rattle.sii_words.specs.Run.{stretches};
 ghost use Rattle.line_changes.specs.Difference.{AreChanges};
 
-use crate::changes::print_value;
 use sii_words::{Run, push_stretches};
 use std::alloc::{AllocError, Global};
 use std::fmt;
@@ -108,7 +107,7 @@ fn print_values<W: fmt::Write>(
 ) -> fmt::Result {
     f.write_str(name)?;
     for word in words {
-        print_value(f, *word)?;
+        write!(f, " 0x{word:04x}")?;
     }
     Ok(())
 }
