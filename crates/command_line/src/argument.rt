@@ -80,15 +80,14 @@ impl Argument {
         let arg = Arg::new(alloc, self.id)
             .help(self.help)
             .long_help(text_or(self.long_help, self.help))
-            .required(self.kind.is_required());
-        if self.kind.is_word() {
-            ruled(parsed(arg, self.kind), self.kind)
+            .required(self.kind.is_required())
+            .global(matches!(self.kind, Kind::GlobalFlag));
+        let spelt = if self.kind.is_word() {
+            arg
         } else {
-            ruled(
-                parsed(option(arg.long(self.id), self.kind), self.kind),
-                self.kind,
-            )
-        }
+            option(arg.long(self.id), self.kind)
+        };
+        ruled(parsed(spelt, self.kind), self.kind)
     }
 }
 
@@ -106,16 +105,8 @@ fn option<'a>(arg: Arg<'a>, kind: Kind) -> Arg<'a> {
             .value_name(name)
             .short(letter)
             .action(ArgAction::Append),
-        _ => flag(arg.action(ArgAction::SetTrue), kind),
-    }
-}
-
-/// The argument as a flag of this kind.
-fn flag<'a>(arg: Arg<'a>, kind: Kind) -> Arg<'a> {
-    match kind {
-        Kind::ShortFlag(letter) => arg.short(letter),
-        Kind::GlobalFlag => arg.global(true),
-        _ => arg,
+        Kind::ShortFlag(letter) => arg.short(letter).action(ArgAction::SetTrue),
+        _ => arg.action(ArgAction::SetTrue),
     }
 }
 

@@ -22,14 +22,21 @@ pub fn completion_script(
     program: Program<'_>,
     shell: Shell,
 ) -> Result<String, AllocError> {
-    let mut command = described(alloc, program)?;
     let mut text = String::new(alloc);
-    let ended = push_script(shell, &mut command, &mut text);
+    push_described(alloc, program, shell, &mut text)?;
+    Ok(text)
+}
+
+fn push_described(
+    alloc: Global,
+    program: Program<'_>,
+    shell: Shell,
+    text: &mut String,
+) -> Result<(), AllocError> {
+    let mut command = described(alloc, program)?;
+    let ended = push_script(shell, &mut command, text);
     drop(command);
-    match ended {
-        Ok(()) => Ok(text),
-        Err(error) => Err(error),
-    }
+    ended
 }
 
 fn push_script(

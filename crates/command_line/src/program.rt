@@ -31,11 +31,17 @@ pub(crate) fn described<'a>(
     alloc: Global,
     program: Program<'_>,
 ) -> Result<Command<'a>, AllocError> {
-    let plain = Command::new(alloc, program.name)
+    match with_arguments(alloc, named(alloc, program), program.options) {
+        Ok(command) => with_subcommands(alloc, command, program.subcommands),
+        Err(error) => Err(error),
+    }
+}
+
+/// The program with its texts, without its options and subcommands.
+fn named<'a>(alloc: Global, program: Program<'_>) -> Command<'a> {
+    Command::new(alloc, program.name)
         .about(program.about)
         .version(program.version)
         .after_help(program.after_help)
-        .subcommand_required(true);
-    let command = with_arguments(alloc, plain, program.options)?;
-    with_subcommands(alloc, command, program.subcommands)
+        .subcommand_required(true)
 }

@@ -3,7 +3,8 @@
 use crate::argument::{Argument, Kind};
 use crate::typed::{is_line, typed_script};
 use crate::unread::Flaw;
-use std::alloc::{AllocError, Global};
+use std::alloc::Global;
+use toml::de::Error;
 
 /// The help text on typed commands.
 const COMMANDS: &str =
@@ -26,25 +27,31 @@ pub const TYPED_COMMANDS: Argument = Argument {
 /// What is wrong with a command that isn't one line of TOML on its own; or memory was refused.
 pub(crate) fn typed_text(alloc: Global, commands: &[&str]) -> Result<Vec<u8>, Flaw> {
     for command in commands {
-        if let Some(flaw) = flaw_of(alloc, command)? {
-            return Err(Flaw::Wrong(flaw));
-        }
+        judge(alloc, command)?;
     }
     Ok(typed_script(alloc, commands)?)
 }
 
-/// Why a typed command can't stand in a script, if it isn't one line of TOML on its own.
-fn flaw_of(alloc: Global, line: &str) -> Result<Option<String>, AllocError> {
+/// Refuses a typed command that isn't one line of TOML on its own.
+fn judge(alloc: Global, line: &str) -> Result<(), Flaw> {
     if !is_line(line) {
         let flaw = "a command behind -e is one line, as in a script behind [[command]]";
-        return Ok(Some(String::from_str(alloc, flaw)?));
+        return Err(Flaw::of_text(String::from_str(alloc, flaw)));
     }
     match toml::table_from_str(alloc, line) {
-        Ok(_) => Ok(None),
-        Err(error) if error.is_memory() => Err(AllocError),
-        Err(error) => {
-            let why = error.message();
-            Ok(Some(format!(in alloc; "-e '{line}' is no TOML: {why}")?))
+        Ok(table) => {
+            drop(table);
+            Ok(())
         }
+        Err(error) => Err(no_toml(alloc, line, &error)),
     }
+}
+
+/// The flaw of a line that is no TOML.
+fn no_toml(alloc: Global, line: &str, error: &Error) -> Flaw {
+    if error.is_memory() {
+        return Flaw::Memory;
+    }
+    let why = error.message();
+    Flaw::of_text(format!(in alloc; "-e '{line}' is no TOML: {why}"))
 }

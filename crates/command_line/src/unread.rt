@@ -27,6 +27,16 @@ pub(crate) enum Flaw {
     Wrong(String),
 }
 
+impl Flaw {
+    /// The flaw that this text says, if there was memory for it.
+    pub(crate) fn of_text(text: Result<String, AllocError>) -> Flaw {
+        match text {
+            Ok(text) => Flaw::Wrong(text),
+            Err(_) => Flaw::Memory,
+        }
+    }
+}
+
 impl From<AllocError> for Flaw {
     fn from(_error: AllocError) -> Flaw {
         Flaw::Memory

@@ -78,13 +78,26 @@ fn print_words<W: fmt::Write>(
     news: &[u16],
 ) -> fmt::Result {
     if let ([old], [new]) = (olds, news) {
-        return writeln!(f, "word 0x{at:04x} 0x{old:04x} 0x{new:04x}");
+        return print_word(f, at, *old, *new);
     }
-    let last = at.saturating_add(olds.len()).saturating_sub(1);
-    write!(f, "words 0x{at:04x} to 0x{last:04x}")?;
+    print_range(f, at, olds.len())?;
     print_values(f, " old", olds)?;
     print_values(f, " new", news)?;
     f.write_str("\n")
+}
+
+fn print_word<W: fmt::Write>(
+    f: &mut fmt::Formatter<W>,
+    at: usize,
+    old: u16,
+    new: u16,
+) -> fmt::Result {
+    writeln!(f, "word 0x{at:04x} 0x{old:04x} 0x{new:04x}")
+}
+
+fn print_range<W: fmt::Write>(f: &mut fmt::Formatter<W>, at: usize, count: usize) -> fmt::Result {
+    let last = at.saturating_add(count).saturating_sub(1);
+    write!(f, "words 0x{at:04x} to 0x{last:04x}")
 }
 
 fn print_values<W: fmt::Write>(

@@ -1,5 +1,5 @@
 //! Refuses files of which one would be lost where another one is written.
-ghost use Rattle.std.specs.Prelude.{◌≡◌, ◌≤◌, ◌<◌, ◌∷◌, ◌++◌, length, is_some, option_map, string_bytes, vec_len, IfErr, IfOk, MatchOption, OnOk};
+ghost use Rattle.std.specs.Prelude.{◌≡◌, ◌≤◌, ◌<◌, ◌∷◌, ◌++◌, [], length, is_some, option_map, string_bytes, vec_len, IfErr, IfOk, MatchOption, OnOk};
 ghost use Rattle.std.specs.List.{AllByRecursion, AllZip, HoldsAt};
 ghost use Rattle.station_files.specs.Faults.{IsOfStream};
 ghost use Rattle.station_files.specs.FileNames.{fault_for, files_with, listed, spelt, written_of, IsLineApart, RefusesLineNames, RefusesNames};
@@ -51,10 +51,10 @@ impl FileNames {
         ensures capture { IfOk result (λ files. files.has_capture ≡ is_some capture.entry) }
     {
         let mut names = captured(alloc, capture)?;
-        names.push(String::from_str(alloc, line.journal.as_str())?)?;
+        push_name(alloc, line.journal.as_str(), &mut names)?;
         push_names(alloc, &line.images, &mut names)?;
         let written = names.len();
-        names.push(String::from_str(alloc, line_file)?)?;
+        push_name(alloc, line_file, &mut names)?;
         Ok(FileNames {
             names,
             written,
@@ -82,7 +82,7 @@ impl FileNames {
             written,
             has_capture,
         } = self;
-        names.push(String::from_str(alloc, script)?)?;
+        push_name(alloc, script, &mut names)?;
         push_names(alloc, images, &mut names)?;
         Ok(FileNames {
             names,
@@ -98,9 +98,21 @@ fn captured(alloc: Global, capture: Option<&str>) -> Result<Vec<String>, AllocEr
 {
     let mut names = Vec::new(alloc);
     if let Some(capture) = capture {
-        names.push(String::from_str(alloc, capture)?)?;
+        push_name(alloc, capture, &mut names)?;
     }
     Ok(names)
+}
+
+/// Appends a name.
+pub(crate) fn push_name(
+    alloc: Global,
+    name: &str,
+    names: &mut Vec<String>,
+) -> Result<(), AllocError>
+    ensures { OnOk result (spelt names.new.items ≡ spelt names.old.items ++ name.now ∷ []) }
+{
+    names.push(String::from_str(alloc, name)?)?;
+    Ok(())
 }
 
 /// Appends names.
@@ -108,7 +120,7 @@ fn push_names(alloc: Global, others: &[String], names: &mut Vec<String>) -> Resu
     ensures { OnOk result (spelt names.new.items ≡ spelt names.old.items ++ spelt others.now) }
 {
     for other in others {
-        names.push(String::from_str(alloc, other.as_str())?)?;
+        push_name(alloc, other.as_str(), names)?;
     }
     Ok(())
 }

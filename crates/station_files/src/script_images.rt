@@ -4,6 +4,7 @@ ghost use Rattle.std.specs.List.{AllZip};
 ghost use Rattle.station_files.specs.ScriptFiles.{image_of, images_of, IsPlain, LoadsCommand, LoadsEdit, LoadsGroup, LoadsGuarded, RefusesCommand, RefusesCommands, RefusesEdit, RefusesGroup};
 
 use crate::faults::Fault;
+use crate::same_files::push_name;
 use crate::store::{Store, read_file};
 use sii_edit::{Command, Edit, EditList, GuardedEdit, GuardedEditList};
 use sii_words::ImageFile;
@@ -81,7 +82,7 @@ fn push_image(alloc: Global, edit: &ScriptEdit, names: &mut Vec<String>) -> Resu
         ≡ map (λ name. string_bytes name) names.old.items ++ image_of edit.now) }
 {
     if let ScriptEdit::Image { file, .. } = edit {
-        names.push(String::from_str(alloc, file.as_str())?)?;
+        push_name(alloc, file.as_str(), names)?;
     }
     Ok(())
 }

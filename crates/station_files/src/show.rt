@@ -50,19 +50,31 @@ fn print_image<W: Write>(
     ensures failed { IfErr result IsOfStream }
 {
     let listing = list_image(alloc, image)?;
-    let items = items_of(alloc, all, image)?;
-    let text = spell_listing(alloc, &listing, &items)?;
-    write_whole(text.as_bytes(), output)?;
+    print_listed(alloc, all, image, &listing, output)?;
     Ok(status_of(&listing))
 }
 
-/// What is printed: the listing of an image, and behind it its items, where they are asked for.
+/// Prints this listing of an image, with `all` its items behind it.
+fn print_listed<W: Write>(
+    alloc: Global,
+    all: bool,
+    image: &ImageFile,
+    listing: &Listing,
+    output: &mut W,
+) -> Result<(), Fault>
+    ensures { IfErr result IsOfStream }
+{
+    let text = spell_listing(alloc, all, image, listing)?;
+    write_whole(text.as_bytes(), output)
+}
+
 fn spell_listing(
     alloc: Global,
+    all: bool,
+    image: &ImageFile,
     listing: &Listing,
-    items: &Option<ItemListing>,
 ) -> Result<String, AllocError> {
-    match items {
+    match items_of(alloc, all, image)? {
         Some(items) => format!(in alloc; "{listing}{items}"),
         None => format!(in alloc; "{listing}"),
     }

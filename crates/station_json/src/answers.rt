@@ -2,7 +2,7 @@
 ghost use Rattle.std.specs.Prelude.{IfErr};
 ghost use Rattle.station_files.specs.Faults.{IsOfStream};
 
-use crate::cell::Cause;
+use crate::cell::{Cause, Cell};
 use crate::row::write_cells;
 use station_files::Fault;
 use std::alloc::Global;
@@ -41,18 +41,32 @@ fn write_command<W: Write>(alloc: Global, answer: &str, output: &mut W) -> Resul
 {
     let mut words = answer.split(' ');
     let command = number_of(words.next());
-    let (key, cell) = match words.next() {
-        Some("accepted") => ("accepted", number_of(words.next()).into()),
-        Some("refused") => (
-            "refused",
-            cause_of(words.next(), words.next(), words.nth(1)).into(),
-        ),
-        _ => return Ok(()),
-    };
+    match words.next() {
+        Some("accepted") => {
+            let number = number_of(words.next());
+            write_judged(alloc, command, ("accepted", number.into()), output)
+        }
+        Some("refused") => {
+            let cause = cause_of(words.next(), words.next(), words.nth(1));
+            write_judged(alloc, command, ("refused", cause.into()), output)
+        }
+        _ => Ok(()),
+    }
+}
+
+/// Writes that a command was judged so.
+fn write_judged<W: Write>(
+    alloc: Global,
+    command: u64,
+    judged: (&'static str, Cell<'_>),
+    output: &mut W,
+) -> Result<(), Fault>
+    ensures { IfErr result IsOfStream }
+{
     let row = [
         ("row", "answer".into()),
         ("command", command.into()),
-        (key, cell),
+        judged,
     ];
     write_cells(alloc, &row, output)
 }

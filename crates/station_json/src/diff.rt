@@ -78,16 +78,28 @@ fn write_heads<W: Write>(alloc: Global, old: Head, new: Head, output: &mut W) ->
     ];
     for (field, a, b) in &fields {
         if *a != *b {
-            let row = [
-                ("row", "head".into()),
-                ("field", (*field).into()),
-                ("a", (*a).into()),
-                ("b", (*b).into()),
-            ];
-            write_cells(alloc, &row, output)?;
+            write_head(alloc, field, *a, *b, output)?;
         }
     }
     Ok(())
+}
+
+fn write_head<W: Write>(
+    alloc: Global,
+    field: &str,
+    a: u64,
+    b: u64,
+    output: &mut W,
+) -> Result<(), Fault>
+    ensures { IfErr result IsOfStream }
+{
+    let row = [
+        ("row", "head".into()),
+        ("field", field.into()),
+        ("a", a.into()),
+        ("b", b.into()),
+    ];
+    write_cells(alloc, &row, output)
 }
 
 /// Writes a row for each word in which the images differ.

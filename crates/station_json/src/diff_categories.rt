@@ -31,40 +31,16 @@ fn write_change<W: Write>(
     ensures { IfErr result IsOfStream }
 {
     match change {
-        CategoryChange::RunsOut { image, at } => {
-            let row = [
-                ("row", "runs_out".into()),
-                ("image", key_of(image).into()),
-                ("at", at.into()),
-            ];
-            write_cells(alloc, &row, output)
-        }
-        CategoryChange::Lonely { image, kind, count } => {
-            let row = [
-                ("row", "category".into()),
-                ("category", kind.into()),
-                (key_of(image), count.into()),
-            ];
-            write_cells(alloc, &row, output)
-        }
+        CategoryChange::RunsOut { image, at } => write_cut(alloc, image, at, output),
+        CategoryChange::Lonely { image, kind, count } => match image {
+            Side::A => write_category(alloc, kind, Some(count), None, output),
+            Side::B => write_category(alloc, kind, None, Some(count), output),
+        },
         CategoryChange::Count { kind, old, new } => {
-            let row = [
-                ("row", "category".into()),
-                ("category", kind.into()),
-                ("a", old.into()),
-                ("b", new.into()),
-            ];
-            write_cells(alloc, &row, output)
+            write_category(alloc, kind, Some(old), Some(new), output)
         }
         CategoryChange::Word { kind, at, old, new } => {
-            let row = [
-                ("row", "content".into()),
-                ("category", kind.into()),
-                ("word", at.into()),
-                ("a", old.into()),
-                ("b", new.into()),
-            ];
-            write_cells(alloc, &row, output)
+            write_word(alloc, kind, at, (old, new), output)
         }
         CategoryChange::LonelyItem { image, item } => write_lonely(alloc, image, item, output),
         CategoryChange::Field { item, old, new } => {
@@ -73,12 +49,59 @@ fn write_change<W: Write>(
     }
 }
 
-/// The key of what this image has.
-fn key_of(image: Side) -> &'static str {
-    match image {
+/// Writes where the chain of this image is cut off.
+fn write_cut<W: Write>(alloc: Global, image: Side, at: usize, output: &mut W) -> Result<(), Fault>
+    ensures { IfErr result IsOfStream }
+{
+    let name = match image {
         Side::A => "a",
         Side::B => "b",
-    }
+    };
+    let row = [
+        ("row", "runs_out".into()),
+        ("image", name.into()),
+        ("at", at.into()),
+    ];
+    write_cells(alloc, &row, output)
+}
+
+/// Writes how many words a category has in each image that has it.
+fn write_category<W: Write>(
+    alloc: Global,
+    kind: u16,
+    a: Option<usize>,
+    b: Option<usize>,
+    output: &mut W,
+) -> Result<(), Fault>
+    ensures { IfErr result IsOfStream }
+{
+    let row = [
+        ("row", "category".into()),
+        ("category", kind.into()),
+        ("a", a.into()),
+        ("b", b.into()),
+    ];
+    write_cells(alloc, &row, output)
+}
+
+/// Writes both values of a word of a content.
+fn write_word<W: Write>(
+    alloc: Global,
+    kind: u16,
+    at: usize,
+    values: (u16, u16),
+    output: &mut W,
+) -> Result<(), Fault>
+    ensures { IfErr result IsOfStream }
+{
+    let row = [
+        ("row", "content".into()),
+        ("category", kind.into()),
+        ("word", at.into()),
+        ("a", values.0.into()),
+        ("b", values.1.into()),
+    ];
+    write_cells(alloc, &row, output)
 }
 
 /// Writes a row for each field of an item that only this image has.

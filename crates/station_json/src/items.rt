@@ -40,12 +40,26 @@ fn write_category<W: Write>(
 ) -> Result<(), Fault>
     ensures { IfErr result IsOfStream }
 {
-    match read_items(alloc, category.kind, &category.words)? {
+    let items = read_items(alloc, category.kind, &category.words)?;
+    write_read(alloc, category, &items, names, output)
+}
+
+/// Writes the items that the content of a category was read into.
+fn write_read<W: Write>(
+    alloc: Global,
+    category: &CategoryLines,
+    items: &Items,
+    names: Names<'_>,
+    output: &mut W,
+) -> Result<(), Fault>
+    ensures { IfErr result IsOfStream }
+{
+    match items {
         Items::Strings(_) => write_strings(alloc, &category.lines, output),
-        Items::General(general) => write_general(alloc, general, names, output),
-        Items::Units(units) => write_units(alloc, &units, output),
-        Items::Managers(managers) => write_managers(alloc, &managers, output),
-        Items::Pdos(pdos) => write_pdos(alloc, category.kind, &pdos, names, output),
+        Items::General(general) => write_general(alloc, *general, names, output),
+        Items::Units(units) => write_units(alloc, units, output),
+        Items::Managers(managers) => write_managers(alloc, managers, output),
+        Items::Pdos(pdos) => write_pdos(alloc, category.kind, pdos, names, output),
         Items::Words => Ok(()),
     }
 }

@@ -28,9 +28,19 @@ pub fn show_as_json<R: Read, S: Store, W: Write>(
     ensures same { S.files store.new ≡ S.files store.old }
 {
     let image = read_image(alloc, hex, file, input, store)?;
-    let status = write_image(alloc, &image, output)?;
+    write_all(alloc, all, &image, output)
+}
+
+/// Writes what an image says, with `all` its items too. Returns the status of `show`.
+fn write_all<W: Write>(
+    alloc: Global,
+    all: bool,
+    image: &ImageFile,
+    output: &mut W,
+) -> Result<ExitStatus, Fault> {
+    let status = write_image(alloc, image, output)?;
     if all {
-        write_all_items(alloc, &image, output)?;
+        write_all_items(alloc, image, output)?;
     }
     output.flush()?;
     Ok(status)

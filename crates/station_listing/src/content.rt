@@ -7,7 +7,7 @@ use std::alloc::{AllocError, Global};
 use std::fmt;
 
 /// The content of a category, as the number of items that it has.
-#[derive(Clone, Copy, PartialEq, Eq)]
+#[derive(Clone, Copy)]
 pub enum Content {
     /// Strings of a category STRINGS (type 10).
     Strings(usize),
@@ -66,19 +66,20 @@ impl Content {
     pub fn is_malformed(self) -> bool
         ensures { IsTrue result ↔ (self ≡ Content.Malformed) }
     {
-        self == Content::Malformed
+        matches!(self, Content::Malformed)
     }
 }
 
 impl fmt::Display for Content {
     fn fmt<W: fmt::Write>(&self, f: &mut fmt::Formatter<W>) -> fmt::Result {
-        match self {
-            Content::Strings(count) => write!(f, " strings {count}"),
-            Content::Units(count) => write!(f, " units {count}"),
-            Content::Managers(count) => write!(f, " managers {count}"),
-            Content::Pdos(count) => write!(f, " pdos {count}"),
-            Content::Malformed => write!(f, " bad"),
-            Content::Opaque => Ok(()),
-        }
+        let (name, count) = match *self {
+            Content::Strings(count) => ("strings", count),
+            Content::Units(count) => ("units", count),
+            Content::Managers(count) => ("managers", count),
+            Content::Pdos(count) => ("pdos", count),
+            Content::Malformed => return f.write_str(" bad"),
+            Content::Opaque => return Ok(()),
+        };
+        write!(f, " {name} {count}")
     }
 }

@@ -123,8 +123,8 @@ impl fmt::Display for ListedSegment {
 impl fmt::Display for Direction {
     fn fmt<W: fmt::Write>(&self, f: &mut fmt::Formatter<W>) -> fmt::Result {
         match self {
-            Direction::Out => write!(f, "out"),
-            Direction::In => write!(f, "in"),
+            Direction::Out => f.write_str("out"),
+            Direction::In => f.write_str("in"),
         }
     }
 }

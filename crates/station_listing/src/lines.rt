@@ -171,36 +171,66 @@ fn lines_of(
     items: &Items,
     names: &[Vec<u8>],
 ) -> Result<Vec<Line>, AllocError> {
+    let mut lines = Vec::new(alloc);
+    push_items(alloc, &mut lines, kind, items, names)?;
+    Ok(lines)
+}
+
+fn push_items(
+    alloc: Global,
+    lines: &mut Vec<Line>,
+    kind: u16,
+    items: &Items,
+    names: &[Vec<u8>],
+) -> Result<(), AllocError> {
     match items {
-        Items::Strings(strings) => string_lines(alloc, strings),
-        Items::General(general) => general_lines(alloc, *general, names),
-        Items::Units(units) => unit_lines(alloc, units),
-        Items::Managers(managers) => manager_lines(alloc, managers),
-        Items::Pdos(pdos) => pdo_lines(alloc, kind, pdos, names),
-        Items::Words => Ok(Vec::new(alloc)),
+        Items::Strings(strings) => push_strings(alloc, lines, strings),
+        Items::General(general) => push_general(alloc, lines, *general, names),
+        Items::Units(units) => push_units(alloc, lines, units),
+        Items::Managers(managers) => push_managers(alloc, lines, managers),
+        Items::Pdos(pdos) => push_pdos(alloc, lines, kind, pdos, names),
+        Items::Words => Ok(()),
     }
 }
 
-fn string_lines(alloc: Global, strings: &[Vec<u8>]) -> Result<Vec<Line>, AllocError> {
-    let mut lines = Vec::new(alloc);
+/// Adds the line of an item of which this is said.
+fn push_line(
+    alloc: Global,
+    lines: &mut Vec<Line>,
+    label: Label,
+    said: &[(&'static str, Value<'_>)],
+) -> Result<(), AllocError> {
+    let fields = fields_of(alloc, said)?;
+    Ok(lines.push(Line { label, fields })?)
+}
+
+fn fields_of(alloc: Global, said: &[(&'static str, Value<'_>)]) -> Result<Vec<Field>, AllocError> {
+    let mut fields = Vec::with_capacity(alloc, said.len())?;
+    for (name, value) in said {
+        let value = format!(in alloc; "{value}")?;
+        fields.push(Field { name: *name, value })?;
+    }
+    Ok(fields)
+}
+
+fn push_strings(
+    alloc: Global,
+    lines: &mut Vec<Line>,
+    strings: &[Vec<u8>],
+) -> Result<(), AllocError> {
     for (place, string) in strings.iter().enumerate() {
         let label = Label::Text(place.saturating_add(1));
-        lines.push(Line::of(alloc, label, &[("", Value::Text(string))])?)?;
+        push_line(alloc, lines, label, &[("", Value::Text(string))])?;
     }
-    Ok(lines)
+    Ok(())
 }
 
-fn general_lines(
+fn push_general(
     alloc: Global,
+    lines: &mut Vec<Line>,
     general: General,
     names: &[Vec<u8>],
-) -> Result<Vec<Line>, AllocError> {
-    let mut lines = Vec::new(alloc);
-    lines.push(general_line(alloc, general, names)?)?;
-    Ok(lines)
-}
-
-fn general_line(alloc: Global, general: General, names: &[Vec<u8>]) -> Result<Line, AllocError> {
+) -> Result<(), AllocError> {
     let current = i16::from_le_bytes(general.current.to_le_bytes());
     let said = [
         ("group", name_of(general.group, names)),
@@ -216,16 +246,15 @@ fn general_line(alloc: Global, general: General, names: &[Vec<u8>]) -> Result<Li
         ("flags", Value::Byte(general.flags)),
         ("current", Value::Current(current)),
     ];
-    Line::of(alloc, Label::General, &said)
+    push_line(alloc, lines, Label::General, &said)
 }
 
-fn unit_lines(alloc: Global, units: &[FmmuUnit]) -> Result<Vec<Line>, AllocError> {
-    let mut lines = Vec::new(alloc);
+fn push_units(alloc: Global, lines: &mut Vec<Line>, units: &[FmmuUnit]) -> Result<(), AllocError> {
     for (place, unit) in units.iter().enumerate() {
         let usage = word_or_byte(usage_word(*unit), unit.byte);
-        lines.push(Line::of(alloc, Label::Fmmu(place), &[("", usage)])?)?;
+        push_line(alloc, lines, Label::Fmmu(place), &[("", usage)])?;
     }
-    Ok(lines)
+    Ok(())
 }
 
 /// The word for what an FMMU is used for, where there is one.
@@ -246,15 +275,23 @@ fn word_or_byte(word: Option<&'static str>, byte: u8) -> Value<'static> {
     }
 }
 
-fn manager_lines(alloc: Global, managers: &[Manager]) -> Result<Vec<Line>, AllocError> {
-    let mut lines = Vec::new(alloc);
+fn push_managers(
+    alloc: Global,
+    lines: &mut Vec<Line>,
+    managers: &[Manager],
+) -> Result<(), AllocError> {
     for (place, manager) in managers.iter().enumerate() {
-        lines.push(manager_line(alloc, place, *manager)?)?;
+        push_manager(alloc, lines, place, *manager)?;
     }
-    Ok(lines)
+    Ok(())
 }
 
-fn manager_line(alloc: Global, place: usize, manager: Manager) -> Result<Line, AllocError> {
+fn push_manager(
+    alloc: Global,
+    lines: &mut Vec<Line>,
+    place: usize,
+    manager: Manager,
+) -> Result<(), AllocError> {
     let said = [
         (
             "type",
@@ -266,7 +303,7 @@ fn manager_line(alloc: Global, place: usize, manager: Manager) -> Result<Line, A
         ("status", Value::Byte(manager.status)),
         ("enable", Value::Byte(manager.enable)),
     ];
-    Line::of(alloc, Label::Manager(place), &said)
+    push_line(alloc, lines, Label::Manager(place), &said)
 }
 
 /// The word for a type of sync managers, where there is one.
@@ -281,21 +318,27 @@ pub fn manager_word(kind: u8) -> Option<&'static str> {
     }
 }
 
-fn pdo_lines(
+fn push_pdos(
     alloc: Global,
+    lines: &mut Vec<Line>,
     kind: u16,
     pdos: &[Pdo],
     names: &[Vec<u8>],
-) -> Result<Vec<Line>, AllocError> {
-    let mut lines = Vec::new(alloc);
+) -> Result<(), AllocError> {
     for pdo in pdos {
-        lines.push(pdo_line(alloc, kind, pdo, names)?)?;
-        push_entries(alloc, &mut lines, kind, pdo, names)?;
+        push_pdo(alloc, lines, kind, pdo, names)?;
+        push_entries(alloc, lines, kind, pdo, names)?;
     }
-    Ok(lines)
+    Ok(())
 }
 
-fn pdo_line(alloc: Global, kind: u16, pdo: &Pdo, names: &[Vec<u8>]) -> Result<Line, AllocError> {
+fn push_pdo(
+    alloc: Global,
+    lines: &mut Vec<Line>,
+    kind: u16,
+    pdo: &Pdo,
+    names: &[Vec<u8>],
+) -> Result<(), AllocError> {
     let said = [
         ("entries", Value::Number(pdo.entries.len())),
         ("sm", assigned_to(pdo.manager)),
@@ -304,7 +347,7 @@ fn pdo_line(alloc: Global, kind: u16, pdo: &Pdo, names: &[Vec<u8>]) -> Result<Li
         ("name", name_of(pdo.name, names)),
     ];
     let index = pdo.index;
-    Line::of(alloc, Label::Pdo { kind, index }, &said)
+    push_line(alloc, lines, Label::Pdo { kind, index }, &said)
 }
 
 /// The number of the sync manager that a PDO is assigned to, or `none`.
@@ -328,17 +371,18 @@ fn push_entries(
             pdo: pdo.index,
             number: place.saturating_add(1),
         };
-        lines.push(entry_line(alloc, label, *entry, names)?)?;
+        push_entry(alloc, lines, label, *entry, names)?;
     }
     Ok(())
 }
 
-fn entry_line(
+fn push_entry(
     alloc: Global,
+    lines: &mut Vec<Line>,
     label: Label,
     entry: PdoEntry,
     names: &[Vec<u8>],
-) -> Result<Line, AllocError> {
+) -> Result<(), AllocError> {
     let said = [
         ("object", Value::Object(entry.index, entry.subindex)),
         ("type", Value::Byte(entry.data_type)),
@@ -346,7 +390,7 @@ fn entry_line(
         ("flags", Value::Register(entry.flags)),
         ("name", name_of(entry.name, names)),
     ];
-    Line::of(alloc, label, &said)
+    push_line(alloc, lines, label, &said)
 }
 
 /// What a reference to a string says: `none`, or the number of the string and, where there is one of this number, the string.
@@ -358,24 +402,6 @@ fn name_of(index: u8, names: &[Vec<u8>]) -> Value<'_> {
     match names.get(place) {
         Some(name) => Value::Name(number, name),
         None => Value::Number(number),
-    }
-}
-
-impl Line {
-    /// The line of an item of which this is said.
-    fn of(
-        alloc: Global,
-        label: Label,
-        said: &[(&'static str, Value<'_>)],
-    ) -> Result<Line, AllocError> {
-        let mut fields = Vec::with_capacity(alloc, said.len())?;
-        for (name, value) in said {
-            fields.push(Field {
-                name: *name,
-                value: format!(in alloc; "{value}")?,
-            })?;
-        }
-        Ok(Line { label, fields })
     }
 }
 
@@ -392,9 +418,9 @@ impl fmt::Display for ItemListing {
 
 impl fmt::Display for Line {
     fn fmt<W: fmt::Write>(&self, f: &mut fmt::Formatter<W>) -> fmt::Result {
-        write!(f, "{}", self.label)?;
+        self.label.fmt(f)?;
         for field in &self.fields {
-            write!(f, "{field}")?;
+            field.fmt(f)?;
         }
         Ok(())
     }
@@ -411,17 +437,30 @@ impl fmt::Display for Field {
 
 impl fmt::Display for Label {
     fn fmt<W: fmt::Write>(&self, f: &mut fmt::Formatter<W>) -> fmt::Result {
-        match self {
-            Label::Text(number) => write!(f, "string {number}"),
-            Label::General => write!(f, "general"),
-            Label::Fmmu(number) => write!(f, "fmmu {number}"),
-            Label::Manager(number) => write!(f, "sm {number}"),
-            Label::Pdo { kind, index } => write!(f, "{} 0x{index:04x}", pdo_word(*kind)),
+        match *self {
+            Label::Text(number) => print_number(f, "string", number),
+            Label::General => f.write_str("general"),
+            Label::Fmmu(number) => print_number(f, "fmmu", number),
+            Label::Manager(number) => print_number(f, "sm", number),
+            Label::Pdo { kind, index } => print_pdo(f, kind, index),
             Label::Entry { kind, pdo, number } => {
-                write!(f, "{} 0x{pdo:04x} entry {number}", pdo_word(*kind))
+                print_pdo(f, kind, pdo)?;
+                print_number(f, " entry", number)
             }
         }
     }
+}
+
+fn print_number<W: fmt::Write>(
+    f: &mut fmt::Formatter<W>,
+    name: &str,
+    number: usize,
+) -> fmt::Result {
+    write!(f, "{name} {number}")
+}
+
+fn print_pdo<W: fmt::Write>(f: &mut fmt::Formatter<W>, kind: u16, index: u16) -> fmt::Result {
+    write!(f, "{} 0x{index:04x}", pdo_word(kind))
 }
 
 /// The word for a PDO of a category of this type.
@@ -434,14 +473,14 @@ fn pdo_word(kind: u16) -> &'static str {
 
 impl fmt::Display for Value<'_> {
     fn fmt<W: fmt::Write>(&self, f: &mut fmt::Formatter<W>) -> fmt::Result {
-        match self {
+        match *self {
             Value::Word(word) => f.write_str(word),
-            Value::Number(number) => write!(f, "{number}"),
-            Value::Current(current) => write!(f, "{current}"),
+            Value::Number(number) => number.fmt(f),
+            Value::Current(current) => current.fmt(f),
             Value::Byte(byte) => write!(f, "0x{byte:02x}"),
             Value::Register(value) => write!(f, "0x{value:04x}"),
             Value::Object(index, subindex) => write!(f, "0x{index:04x}:{subindex:02x}"),
-            Value::Text(text) => write!(f, "{}", Quoted(text)),
+            Value::Text(text) => Quoted(text).fmt(f),
             Value::Name(number, name) => write!(f, "{number} {}", Quoted(name)),
         }
     }
@@ -449,11 +488,11 @@ impl fmt::Display for Value<'_> {
 
 impl fmt::Display for Quoted<'_> {
     fn fmt<W: fmt::Write>(&self, f: &mut fmt::Formatter<W>) -> fmt::Result {
-        write!(f, "\"")?;
+        f.write_str("\"")?;
         for byte in self.0 {
             print_byte(f, *byte)?;
         }
-        write!(f, "\"")
+        f.write_str("\"")
     }
 }
 

@@ -162,14 +162,14 @@ impl fmt::Display for Listing {
             f,
             "vendor 0x{vendor:08x} product 0x{product:08x} revision 0x{revision:08x} serial 0x{serial:08x}"
         )?;
-        write!(f, "{}", self.chain)
+        self.chain.fmt(f)
     }
 }
 
 impl fmt::Display for CheckByte {
     fn fmt<W: fmt::Write>(&self, f: &mut fmt::Formatter<W>) -> fmt::Result {
-        match self {
-            CheckByte::Right => write!(f, "ok"),
+        match *self {
+            CheckByte::Right => f.write_str("ok"),
             CheckByte::Wrong { found, expected } => {
                 write!(f, "bad 0x{found:02x} expected 0x{expected:02x}")
             }
@@ -184,7 +184,7 @@ impl fmt::Display for ListedChain {
                 for category in categories {
                     writeln!(f, "{category}")?;
                 }
-                writeln!(f, "end")
+                f.write_str("end\n")
             }
             ListedChain::RunsOut { at } => writeln!(f, "runs out at {at}"),
         }

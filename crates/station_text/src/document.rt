@@ -7,17 +7,14 @@ ghost use Rattle.station_text.specs.Document.{HasNumberBelow, IsNumberBelow, has
 ghost use Rattle.station_text.specs.Reading.{Finds, Reads};
 
 use std::alloc::Global;
-use thiserror::Error;
 use toml::{Table, Value};
 
 /// Why a text gives no document.
-#[derive(Clone, Copy, Debug, PartialEq, Eq, Error)]
+#[derive(Clone, Copy)]
 pub enum DocumentFault {
     /// Memory was refused.
-    #[error("out of memory")]
     Memory,
     /// The text is not a TOML document.
-    #[error("the text is no TOML")]
     NoDocument,
 }
 

@@ -8,16 +8,13 @@ ghost use Rattle.station_text.specs.Reading.{Reads};
 use hex::FromHexError;
 use sii_words::words_of_bytes;
 use std::alloc::{AllocError, Global};
-use thiserror::Error;
 
 /// Why a text gives no bytes.
-#[derive(Clone, Copy, Debug, PartialEq, Eq, Error)]
+#[derive(Clone, Copy)]
 pub enum HexFault {
     /// Memory was refused.
-    #[error("out of memory")]
     Memory,
     /// The text is not pairs of hexadecimal digits.
-    #[error("the text is not pairs of hexadecimal digits")]
     BadHex,
 }
 

@@ -10,14 +10,13 @@ ghost use Rattle.station_text.specs.Reading.{Reads};
 
 use crate::document::{DocumentFault, find, find_text, find_values, has_only, read_document};
 use std::alloc::{AllocError, AllocFailed, Global};
-use thiserror::Error;
 use toml::{Table, Value};
 
 /// The size of the journal's area in bytes if the line file has no key `area`.
 const DEFAULT_AREA: u32 = 65_536;
 
 /// The content of a line file.
-#[derive(Debug, Drop)]
+#[derive(Drop)]
 pub struct LineFile {
     /// The name of the journal's file.
     pub journal: String,
@@ -32,13 +31,11 @@ pub struct LineFile {
 }
 
 /// Why a text gives no line file.
-#[derive(Clone, Copy, Debug, PartialEq, Eq, Error)]
+#[derive(Clone, Copy)]
 pub enum LineFault {
     /// Memory was refused.
-    #[error("out of memory")]
     Memory,
     /// The text is not a line file.
-    #[error("the text is no line file")]
     BadLine,
 }
 

@@ -3,7 +3,7 @@ ghost use Rattle.std.specs.Prelude.{◌≡◌, codes, map, IsSomeAnd};
 ghost use Rattle.std.specs.List.{AllZip};
 ghost use Rattle.toml.specs.Data.{as_table, get_member};
 ghost use Rattle.toml.specs.View.{view, table_view};
-ghost use Rattle.station_text.specs.Document.{table_at};
+ghost use Rattle.station_text.specs.Document.{IsNumberBelow, table_at};
 ghost use Rattle.station_text.specs.Reading.{Finds, Reads};
 ghost use Rattle.station_text.specs.ScriptText.{SpellsAlias, SpellsCategory, SpellsCommand, SpellsEdit, SpellsExpect, SpellsGroup, SpellsGroupEdit, SpellsGuard, SpellsGuarded, SpellsImage, SpellsSwap, SpellsTableCommand};
 
@@ -109,9 +109,16 @@ fn read_swap(table: &Table) -> Option<(u16, u16)>
     ensures { Finds (λ pair. SpellsSwap (table_view table.now) pair.0 pair.1) result }
 {
     match find_values(table, "swap")? {
-        [a, b] => Some((read_number(a)?, read_number(b)?)),
+        [a, b] => read_pair(a, b),
         _ => None,
     }
+}
+
+/// Two integers of 0 to 65535.
+fn read_pair(a: &Value, b: &Value) -> Option<(u16, u16)>
+    ensures { Finds (λ pair. IsNumberBelow 65536 (view a.now) pair.0 × IsNumberBelow 65536 (view b.now) pair.1) result }
+{
+    Some((read_number(a)?, read_number(b)?))
 }
 
 /// Reads `group = [{ alias = { slave = 0, value = 1 } }]`.

@@ -8,17 +8,14 @@ ghost use Rattle.station_text.specs.ScriptText.{SpellsCommand, SpellsScript, Spe
 use crate::document::{DocumentFault, find_values, has_only, read_document};
 use crate::script_command::{CommandFault, ScriptCommand, read_command};
 use std::alloc::{AllocError, AllocFailed, Global};
-use thiserror::Error;
 use toml::{Table, Value};
 
 /// Why a text gives no script.
-#[derive(Clone, Copy, Debug, PartialEq, Eq, Error)]
+#[derive(Clone, Copy)]
 pub enum ScriptFault {
     /// Memory was refused.
-    #[error("out of memory")]
     Memory,
     /// The text is not a script. `command` is the place of the first bad command, from 0, and 0 where the text as a whole is bad.
-    #[error("command {command} is none that the program knows")]
     BadScript { command: usize },
 }
 

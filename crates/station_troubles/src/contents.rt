@@ -7,6 +7,7 @@ use station_listing::Code;
 use station_text::{HexFault, read_hex};
 use std::alloc::{AllocError, Global};
 use std::fmt;
+use std::fmt::Display;
 
 /// What an image file has to hold.
 #[derive(Clone, Copy)]
@@ -172,23 +173,44 @@ impl fmt::Display for BadImage {
 
 impl fmt::Display for BadJournal {
     fn fmt<W: fmt::Write>(&self, f: &mut fmt::Formatter<W>) -> fmt::Result {
-        let (fault, bytes) = (self.fault, self.bytes);
-        let (count, slaves) = (self.count, self.slaves);
-        match fault {
-            JournalFault::NotAJournal => write!(
-                f,
-                "{fault}: it has {bytes} bytes, and a journal has 8 or more and begins with 0xA5"
-            ),
-            JournalFault::BadVersion { .. } => write!(f, "{fault}, and 1 and 2 are known"),
-            JournalFault::WrongLine if usize::from(count) == slaves => f.write_str(
-                "the journal names a slave or a word that this line doesn't have",
-            ),
-            JournalFault::WrongLine => write!(
-                f,
-                "the journal is of {count} slaves, and the line has {slaves}"
-            ),
-            JournalFault::Memory => write!(f, "{fault}"),
-            JournalFault::BadJournal { .. } => write!(f, "{fault} of {bytes}"),
+        match self.fault {
+            JournalFault::WrongLine => print_wrong_line(f, self.count, self.slaves),
+            fault => {
+                fault.fmt(f)?;
+                print_more(f, fault, self.bytes)
+            }
         }
+    }
+}
+
+/// Prints why a journal of so many slaves is refused on a line of so many.
+fn print_wrong_line<W: fmt::Write>(
+    f: &mut fmt::Formatter<W>,
+    count: u16,
+    slaves: usize,
+) -> fmt::Result {
+    if usize::from(count) == slaves {
+        return f.write_str("the journal names a slave or a word that this line doesn't have");
+    }
+    write!(
+        f,
+        "the journal is of {count} slaves, and the line has {slaves}"
+    )
+}
+
+/// Prints what is said behind a fault of a journal of so many bytes.
+fn print_more<W: fmt::Write>(
+    f: &mut fmt::Formatter<W>,
+    fault: JournalFault,
+    bytes: usize,
+) -> fmt::Result {
+    match fault {
+        JournalFault::NotAJournal => write!(
+            f,
+            ": it has {bytes} bytes, and a journal has 8 or more and begins with 0xA5"
+        ),
+        JournalFault::BadVersion { .. } => f.write_str(", and 1 and 2 are known"),
+        JournalFault::BadJournal { .. } => write!(f, " of {bytes}"),
+        JournalFault::Memory | JournalFault::WrongLine => Ok(()),
     }
 }

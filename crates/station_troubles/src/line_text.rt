@@ -19,7 +19,10 @@ pub fn line_trouble(alloc: Global, text: &str) -> Result<Option<TextTrouble>, Al
     ensures bad { IfOk result (λ found. IfSome found (λ trouble. (line : LineFile) → ¬ DescribesLine text.now line)) }
 {
     match read_line(alloc, text) {
-        Ok(_) => Ok(None),
+        Ok(line) => {
+            drop(line);
+            Ok(None)
+        }
         Err(LineFault::Memory) => Err(AllocError),
         Err(LineFault::BadLine) => Ok(Some(trouble_of(alloc, text, TextKind::Line)?)),
     }

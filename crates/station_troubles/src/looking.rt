@@ -184,9 +184,16 @@ fn look_behind_line<S: Store>(
 fn look_at_script<S: Store>(search: Search, name: &str, store: &mut S) -> Result<(), End>
     ensures same { S.files store.new ≡ S.files store.old }
 {
-    let commands = script_again(search, name, store)?;
-    let images = image_names(search.alloc, &commands)?;
+    let images = images_of(search, name, store)?;
     images_again(search, &images, Image::Written, store)
+}
+
+/// The names of the images of a script.
+fn images_of<S: Store>(search: Search, name: &str, store: &mut S) -> Result<Vec<String>, End>
+    ensures same { S.files store.new ≡ S.files store.old }
+{
+    let commands = script_again(search, name, store)?;
+    Ok(image_names(search.alloc, &commands)?)
 }
 
 /// Reads a file that must be there.

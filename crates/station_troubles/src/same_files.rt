@@ -79,13 +79,27 @@ fn look_at_files<S: Store>(search: Search, files: FilesOfLine<'_>, store: &mut S
 {
     let names = files.names(search.alloc)?;
     match find_clash(search.alloc, &names, store) {
-        Ok(Some(clash)) => {
-            let one = files.told(search.alloc, &names, clash.one)?;
-            let other = files.told(search.alloc, &names, clash.other)?;
-            Err(meeting(search.alloc, one, other, store))
-        }
+        Ok(Some(clash)) => Err(meeting_of(search.alloc, files, &names, clash, store)),
         Ok(None) => look_at_capture(search, files.names.capture),
         Err(_) => Err(End::Memory),
+    }
+}
+
+/// Says how the two files of a clash among these names meet.
+fn meeting_of<S: Store>(
+    alloc: Global,
+    files: FilesOfLine<'_>,
+    names: &FileNames,
+    clash: Clash,
+    store: &mut S,
+) -> End
+    ensures same { S.files store.new ≡ S.files store.old }
+{
+    let one = files.told(alloc, names, clash.one);
+    let other = files.told(alloc, names, clash.other);
+    match (one, other) {
+        (Ok(one), Ok(other)) => meeting(alloc, one, other, store),
+        _ => End::Memory,
     }
 }
 

@@ -16,7 +16,10 @@ pub fn script_trouble(alloc: Global, text: &str) -> Result<Option<TextTrouble>, 
     ensures bad { IfOk result (λ found. IfSome found (λ trouble. (commands : List ScriptCommand) → ¬ SpellsScriptFile text.now commands)) }
 {
     match read_script(alloc, text) {
-        Ok(_) => Ok(None),
+        Ok(commands) => {
+            drop(commands);
+            Ok(None)
+        }
         Err(ScriptFault::Memory) => Err(AllocError),
         Err(ScriptFault::BadScript { command }) => Ok(Some(trouble_of(
             alloc,
