@@ -60,6 +60,43 @@ fn shown_and_ledger(alloc: Global, contents: Plant) -> Result<(Shown, Ledger), A
     Ok((shown, ledger))
 }
 
+/// What a book is opened with.
+#[derive(Drop)]
+struct Found {
+    /// The entries of the live batches.
+    entries: History<Entry>,
+    /// What remains to be written to each slave.
+    work: LineWork,
+    shown: Shown,
+    ledger: Ledger,
+}
+
+/// Redoes the live batches over the words as they were read, and starts with the contents after them.
+fn found_in(alloc: Global, words: Plant, batches: Vec<Batch>) -> Result<Found, AllocError>
+    requires within { AllByRecursion (IsWithin (sizes_of words)) batches.items }
+    requires halves { live (halves_in batches.items) ≡ batches.items }
+    ensures entries { IfOk result (λ found. found.entries ≡ entries_of batches.items) }
+    ensures work { IfOk result (λ found. IsTaken words batches.items found.work) }
+    ensures shown { IfOk result (λ found. found.shown ≡ record { contents = redone words (live_runs batches.items); count = 0 }) }
+    ensures ledger { IfOk result (λ found. found.ledger ≡ opened (redone words (live_runs batches.items))) }
+{
+    let Restored {
+        found,
+        contents,
+        work,
+    } = restore(alloc, words, batches)?;
+    let Ok((shown, ledger)) = shown_and_ledger(alloc, contents) else {
+        drop(work);
+        return Err(AllocError);
+    };
+    Ok(Found {
+        entries: found,
+        work,
+        shown,
+        ledger,
+    })
+}
+
 impl Core {
     ghost use Rattle.jrn_format.specs.Live.{CanBeLive};
     ghost use Rattle.book_model.specs.Open.{open_book};
@@ -87,16 +124,16 @@ impl Core {
         let area = Area::open(form, capacity, batches.as_slice());
         let plant = Plant::of(slaves);
         let words = Snapshot::of(&plant);
-        let Restored {
-            found,
-            contents,
+        let Found {
+            entries,
             work,
-        } = restore(alloc, plant, batches.into_vec())?;
-        let (shown, ledger) = shown_and_ledger(alloc, contents)?;
+            shown,
+            ledger,
+        } = found_in(alloc, plant, batches.into_vec())?;
         Ok(Core {
             alloc,
             words,
-            found,
+            found: entries,
             area,
             step: Step::Resting,
             is_handed_out: false,

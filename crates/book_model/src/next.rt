@@ -17,7 +17,7 @@ pub enum DiskNext {
 }
 
 /// The next action for a slave.
-#[derive(Clone, Copy, Debug, PartialEq, Eq)]
+#[derive(Clone, Copy, PartialEq, Eq)]
 pub enum RomNext {
     /// Send the command that writes `value` to the EEPROM word at address `word`.
     Issue { word: u16, value: u16 },
@@ -30,7 +30,7 @@ pub enum RomNext {
 }
 
 /// The outcome of an action for a slave.
-#[derive(Clone, Copy, Debug, PartialEq, Eq)]
+#[derive(Clone, Copy, PartialEq, Eq)]
 pub enum RomOutcome {
     /// The outcome of `RomNext::Issue`.
     Issued(Issued),

@@ -1,5 +1,5 @@
 /// The progress of a book since it was opened.
-#[derive(Clone, Copy, Debug, PartialEq, Eq)]
+#[derive(Clone, Copy, PartialEq, Eq)]
 pub struct Status {
     /// The number of accepted commands.
     pub accepted: u64,

@@ -15,7 +15,7 @@ pub enum Choice {
 }
 
 /// The outcome of a step.
-#[derive(Clone, Copy, Debug, PartialEq, Eq)]
+#[derive(Clone, Copy, PartialEq, Eq)]
 pub enum Answer {
     /// The command was accepted. Its number is counted from 0 at the open.
     Accepted(u64),

@@ -15,7 +15,7 @@ use site_journal::read_journal;
 use std::alloc::Global;
 
 /// What was live in the journal when a station was opened on it.
-#[derive(Clone, Copy, Debug, PartialEq, Eq)]
+#[derive(Clone, Copy)]
 pub struct Found {
     /// Number of live batches.
     pub batches: u64,

@@ -18,7 +18,7 @@ use site_core::Site;
 use std::alloc::Global;
 
 /// What a recovery found, and what it did.
-#[derive(Clone, Copy, Debug, PartialEq, Eq)]
+#[derive(Clone, Copy)]
 pub struct Recovered {
     /// Number of batches that were live in the journal.
     pub batches: u64,

@@ -29,7 +29,7 @@ pub struct CycleOutcome {
 }
 
 /// What a log keeps of a process data cycle.
-#[derive(Clone, Copy, Debug, PartialEq, Eq, Drop)]
+#[derive(Clone, Copy, PartialEq, Eq, Drop)]
 pub struct CycleNote {
     /// The prefix of the plan: its image is that of the contents after this many commands.
     pub prefix: u64,

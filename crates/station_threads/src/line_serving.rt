@@ -57,6 +57,7 @@ pub fn serve_line<
         return Err(sites);
     };
     let Ok(parts) = Vec::with_capacity(alloc, sites.slaves.len()) else {
+        drop(room);
         return Err(sites);
     };
     let line = parts_of(desk, sites, parts);

@@ -29,3 +29,6 @@ returns-clause-kept g c = rw (ap (λ book. book.calls) c.judge-judged.ensures.sa
 
 pub returns-clause-turns_kept : goal.returns-clause-turns_kept
 returns-clause-turns_kept g c = rw (ap (λ book. book.calls) c.judge-judged.ensures.same) c.in-Err.ensures.turns_kept
+
+pub returns-clause-all_shares : goal.returns-clause-all_shares
+returns-clause-all_shares g c = rw (c.judge-judged.ensures.same, sym c.as_mut_slice.ensures.value) c.judge-judged.ensures.all_shares
