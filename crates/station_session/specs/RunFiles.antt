@@ -1,6 +1,6 @@
 -- A run on the files of a line: what a power cut leaves in them as the station is opened, while its desk is at work, and as the line is recovered
 -- behind it.
-use Rattle.std.specs.Prelude.{◌≡◌, ℕ, Bool, true, List, ◌++◌, Result, Ok, Err, OnOk, Some, slice_get, IsTrue}
+use Rattle.std.specs.Prelude.{◌≡◌, ℕ, Bool, List, ◌++◌, Result, Ok, Err, OnOk, Some, slice_get, IsTrue}
 use Rattle.sii_edit.specs.declared.command.Command.{Command}
 use Rattle.site_core.specs.State.{Pair, Seen}
 use Rattle.site_core.specs.Times.{Follows}
