@@ -47,6 +47,12 @@ part_has_its_file F owned start end device new goes follows = record {
       (λ name is_owned. subst (λ (s : State). Holds s name (begun name)) (sym (first_stays start end new goes)) (holds name is_owned));
 }
 
+-- that is its device
+pub device_of_part : (F : Type 0) (owned : LineFile → Bool) (start end : Seen) (device : FileDevice F) (new : start.past ≡ []) (goes : Follows start end)
+    (follows : files.Follows device end) → (part_has_its_file F owned start end device new goes follows).device ≡ device
+unfolding part_has_its_file
+device_of_part F owned start end device new goes follows = refl
+
 -- jobs lead on by calls
 module _ {J O : Type 0} (Does : J → O → Seen → Seen → Type 0)
     (job_follows : (job : J) (outcome : O) (old new : Seen) → Does job outcome old new → Follows old new) where

@@ -33,8 +33,8 @@ use Rattle.script_session.specs.Asking.{no_counts, ComesTo, GivesUp, Receives, f
 use Rattle.script_session.specs.declared.closing.AtDesk.{AtDesk}
 use Rattle.script_session.specs.declared.closing.Ending.{Ending}
 use Rattle.script_session.specs.declared.threads.Left.{Left}
-use Rattle.script_session.specs.Parts.{Sites, BeginsWith, HasDiskOf, IsApart, IsServable, AreEndsOfParts, AreFollowed, IsTogether}
-use Rattle.script_session.specs.AtDesk.{seen_of, Closes, ClosesWith, EndsSo, IsServedAtDesk, IsStopped, IsStoppedAtDesk, LeavesSo, ServesFollowed, TellsWhy}
+use Rattle.script_session.specs.Parts.{Sites, BeginsWith, HasDiskOf, IsApart, IsServable, AreEndsOfParts, IsTogether}
+use Rattle.script_session.specs.AtDesk.{seen_of, Closes, ClosesWith, EndsFollowed, EndsSo, IsServedAtDesk, IsStopped, IsStoppedAtDesk, LeavesSo, ServesFollowed, TellsWhy}
 use Rattle.script_session.proofs.AskLaws.{all-received}
 use Rattle.script_session.proofs.SlaveLaws.{contents-together}
 use Rattle.script_session.proofs.LeftLaws.{kept-together, left-together}
@@ -235,21 +235,23 @@ served-at-desk opened commands book seen sites at (Ok left) of_book of_seen apar
     record { told = same.told; left = leaves-so opened commands sites at.ends left.site parts of_sites is.0 left.ending.is_driven left.ending.status left.ending.told left.ending.closed same.ended }
 served-at-desk opened commands book seen sites at (Err fault) of_book of_seen apart of_sites is ends = tt
 
-pub serves-parts : {D E : Type 0} (follows : D → Seen → Type 0) (opened : Station) (commands : List Command) (book : Book) (seen : Seen) (sites : Sites) (at : AtDesk SiteValue) (result : Result (Left SiteValue) E) → book ≡ opened.book → seen ≡ opened.seen → IsApart seen.state sites → AreEndsOfParts sites at.ends
-    → IfOk result (λ (left : Left SiteValue). IsTogether at.ends left.site × (left.ending ≡ at.ending)) → OnOk result (AreFollowed follows at.ends) → EndsSo book commands at.ends at.ending → IfOk result (λ (left : Left SiteValue). ServesFollowed follows opened commands left.ending left.site)
-serves-parts follows opened commands book seen sites at (Ok left) of_book of_seen apart of_sites is followed ends =
-    let here : EndsSo opened.book commands at.ends at.ending = subst (λ (b : Book). EndsSo b commands at.ends at.ending) of_book ends in (
-      record {
+pub serves-parts : {D E : Type 0} (follows : D → Seen → Type 0) (well : D → Type 0) (opened : Station) (commands : List Command) (book : Book) (seen : Seen) (sites : Sites) (at : AtDesk SiteValue) (sound : Result (Unit {0}) Fault) (result : Result (Left SiteValue) E) → book ≡ opened.book → seen ≡ opened.seen
+    → IsApart seen.state sites → AreEndsOfParts sites at.ends → IfOk result (λ (left : Left SiteValue). IsTogether at.ends left.site × (left.ending ≡ at.ending)) → IfOk result (λ (left : Left SiteValue). left.sound ≡ sound) → OnOk result (EndsFollowed follows well opened sound at.ends)
+    → EndsSo book commands at.ends at.ending → IfOk result (λ (left : Left SiteValue). ServesFollowed follows well opened commands left)
+serves-parts follows well opened commands book seen sites at sound (Ok left) of_book of_seen apart of_sites is same followed ends =
+    let here : EndsSo opened.book commands at.ends at.ending = subst (λ (b : Book). EndsSo b commands at.ends at.ending) of_book ends in
+    record {
+      parts = record {
         sites = sites;
         apart = subst (λ (s : Seen). IsApart s.state sites) of_seen apart;
         ends = at.ends;
         of_sites = of_sites;
         ended = subst (λ (e : Ending). EndsSo opened.book commands at.ends e) (sym is.1) here;
         together = is.0;
-      },
-      followed,
-    )
-serves-parts follows opened commands book seen sites at (Err fault) of_book of_seen apart of_sites is followed ends = tt
+      };
+      followed = subst (λ (r : Result (Unit {0}) Fault). EndsFollowed follows well opened r at.ends) (sym same) followed;
+    }
+serves-parts follows well opened commands book seen sites at sound (Err fault) of_book of_seen apart of_sites is same followed ends = tt
 
 -- where no fault is told, the desk was closed, and the line was served
 pub served-told : (opened : Station) (commands : List Command) (ending : Ending) (site : SiteValue) → ending.told ≡ Ok tt → LeavesSo opened commands ending site → IsServedAtDesk opened commands ending.is_driven ending.status (Ok tt) site

@@ -1,5 +1,5 @@
 -- What holds of a line once its desk was closed, or a fault ended the work there.
-use Rattle.std.specs.Prelude.{◌≡◌, ◌⊎◌, ℕ, Bool, true, false, List, [], ◌∷◌, Option, Some, None, Result, Ok, IfErr, MatchResult, OnOk}
+use Rattle.std.specs.Prelude.{◌≡◌, ◌⊎◌, ℕ, Bool, true, false, List, [], ◌∷◌, length, Option, Some, None, Result, Ok, Err, IfErr, MatchResult, OnOk}
 use Rattle.std.specs.List.{AllByRecursion}
 use Rattle.sii_edit.specs.declared.command.Command.{Command}
 use Rattle.jrn_format.specs.declared.journal.Journal.{Journal}
@@ -10,6 +10,7 @@ use Rattle.book_model.specs.Machine.{Machine}
 use Rattle.book_model.specs.declared.fault.Fault.{Fault as BookFault}
 use Rattle.book_model.specs.declared.fault.Fault.TheVariants as books
 use Rattle.site_shadow.specs.Site.{SiteValue}
+use Rattle.site_shadow.specs.Unsynced.{of_bytes}
 use Rattle.station_alone.specs.Station.{Station}
 use Rattle.station_alone.specs.Keeping.{KeptFor}
 use Rattle.desk_book.specs.declared.call.Call.{Call}
@@ -33,8 +34,9 @@ use Rattle.station_files.specs.declared.faults.ExitStatus.{ExitStatus}
 use Rattle.station_files.specs.declared.faults.ExitStatus.TheVariants.{Done}
 use Rattle.script_session.specs.Rounds.{AreAmong}
 use Rattle.script_session.specs.declared.closing.Ending.{Ending}
+use Rattle.script_session.specs.declared.threads.Left.{Left}
 use Rattle.script_session.specs.Asking.{commands_of, GivesUp}
-use Rattle.script_session.specs.Parts.{Sites, IsApart, AreEndsOfParts, AreFollowed, IsTogether}
+use Rattle.script_session.specs.Parts.{Sites, IsApart, AreEndsOfParts, AreFollowed, IsFollowed, IsTogether, Soundly}
 
 -- the state of a site and its past
 abbrev pub seen_of : SiteValue → Seen
@@ -154,6 +156,35 @@ pub record ServesParts (opened : Station) (commands : List Command) (ending : En
   pub ended : EndsSo opened.book commands ends ending
   pub together : IsTogether ends site
 
--- The parts were served so, and behind each of them a device keeps this of the part's site.
-abbrev pub ServesFollowed : {D : Type 0} → (D → Seen → Type 0) → Station → List Command → Ending → SiteValue → Type 0
-ServesFollowed follows opened commands ending site = (parts : ServesParts opened commands ending site) × AreFollowed follows parts.ends
+-- The line of this station was taken apart, a desk served the parts, and the line was put together again.
+pub record PartsAreServed (opened : Station) (site : SiteValue) : Type 0 where
+  pub sites : Sites
+  pub apart : IsApart opened.seen.state sites
+  pub ends : Ends SiteValue
+  pub of_sites : AreEndsOfParts sites ends
+  pub together : IsTogether ends site
+
+-- A device has kept this of the station's site before the line was taken apart, and of each part of disk and slaves since. The site has a half for
+-- each slave, and the disk's part ends with all bytes synced.
+pub record PartsFollowed {D : Type 0} (follows : D → Seen → Type 0) (opened : Station) (ends : Ends SiteValue) : Type 0 where
+  pub before : IsFollowed follows opened.seen
+  pub count : length opened.line.sizes ≡ length opened.seen.state.halves
+  pub parts : AreFollowed follows ends
+  pub synced : ends.flusher.site.seen.state.disk ≡ of_bytes ends.flusher.site.seen.state.disk.bytes
+
+-- The parts were served so, and devices have kept this of them.
+pub record IsServedFollowed {D : Type 0} (follows : D → Seen → Type 0) (opened : Station) (site : SiteValue) : Type 0 where
+  pub served : PartsAreServed opened site
+  pub followed : PartsFollowed follows opened served.ends
+
+-- Behind each part a device keeps this of the part's site. Where the parts ended soundly, nothing has failed that these devices were asked, and no
+-- site has stopped.
+abbrev pub EndsFollowed : {D : Type 0} → (D → Seen → Type 0) → (D → Type 0) → Station → Result (Unit {0}) Fault → Ends SiteValue → Type 0
+EndsFollowed follows well opened (Ok sound) ends = PartsFollowed (Soundly follows well) opened ends
+EndsFollowed follows well opened (Err fault) ends = AreFollowed follows ends
+
+-- The parts were served with this ending, and devices have followed them so.
+pub record ServesFollowed {D : Type 0} (follows : D → Seen → Type 0) (well : D → Type 0) (opened : Station) (commands : List Command)
+    (left : Left SiteValue) : Type 0 where
+  pub parts : ServesParts opened commands left.ending left.site
+  pub followed : EndsFollowed follows well opened left.sound parts.ends

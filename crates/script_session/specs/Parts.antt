@@ -1,5 +1,5 @@
 -- A line that is taken apart into sites, and put together again.
-use Rattle.std.specs.Prelude.{◌≡◌, ◌≤◌, ◌+◌, ℕ, List, [], true, length, Option, Some, is_some, slice_get, IsTrue, None, false}
+use Rattle.std.specs.Prelude.{◌≡◌, ◌⊎◌, ◌≤◌, ◌+◌, ℕ, List, [], true, length, Ok, Option, Some, is_some, slice_get, IsTrue, None, false}
 use Rattle.std.specs.List.{AllByRecursion}
 use Rattle.std.specs.Global.{Vec}
 use Rattle.esc_model.specs.SlaveHalf.{SlaveHalf}
@@ -8,6 +8,8 @@ use Rattle.site_core.specs.State.{State, Seen}
 use Rattle.site_shadow.specs.Unsynced.{of_bytes}
 use Rattle.esc_rom.specs.Owned.{OwnsAll}
 use Rattle.site_shadow.specs.Site.{SiteValue}
+use Rattle.book_model.specs.declared.next.DiskNext.TheVariants as disk
+use Rattle.desk_book.specs.Logs.{DiskEntry}
 use Rattle.station_jobs.specs.declared.log.SlaveLog.{SlaveLog}
 use Rattle.station_jobs.specs.Ends.{Stay}
 use Rattle.station_jobs.specs.Flushing.{IsFlushed}
@@ -67,6 +69,10 @@ IsFollowed {D} follows seen = (device : D) × follows device seen
 pub record IsWorkFollowed {D : Type 0} (follows : D → Seen → Type 0) (end : Stay SiteValue SlaveLog) : Type 0 where
   pub worked : IsWorked end.log.slave end.log.jobs end.start.seen end.site.seen
   pub followed : IsFollowed follows end.site.seen
+
+-- The log is empty, or its last action is a sync that succeeded.
+abbrev pub EndsSynced : List DiskEntry → Type 0
+EndsSynced log = (log ≡ []) ⊎ ((at : ℕ) × (at + 1 ≡ length log) × (slice_get log at ≡ Some (record { job = disk.Sync; outcome = Some (Ok tt) })))
 
 -- The same of the disk's end and of each slave's.
 pub record AreFollowed {D : Type 0} (follows : D → Seen → Type 0) (ends : Ends SiteValue) : Type 0 where

@@ -1,8 +1,7 @@
 -- What is live in a journal is redone at a desk to which no command is submitted.
-use Rattle.std.specs.Prelude.{◌≡◌, ◌<◌, ◌^◌, ℕ, Bool, true, false, List, [], length, count_by, sum_by, Ok}
+use Rattle.std.specs.Prelude.{◌≡◌, ◌<◌, ◌^◌, ℕ, Bool, true, false, List, [], count_by, sum_by, Ok}
 use Rattle.jrn_format.specs.declared.journal.Journal.{Journal}
-use Rattle.std.specs.List.{AllByRecursion}
-use Rattle.site_core.specs.State.{State, Seen}
+use Rattle.site_core.specs.State.{State}
 use Rattle.site_core.specs.Passes.{LeavesOnly}
 use Rattle.site_shadow.specs.Site.{SiteValue}
 use Rattle.book_model.specs.declared.next.RomNext.{RomNext}
@@ -21,8 +20,6 @@ use Rattle.desk_book.specs.Calls.{replayed, AreAnswered}
 use Rattle.desk_book.specs.Logs.{RomEntry}
 use Rattle.station_files.specs.declared.faults.Fault.{Fault}
 use Rattle.station_files.specs.declared.faults.ExitStatus.TheVariants.{Done}
-use Rattle.station_threads.specs.declared.closing.Ends.{Ends}
-use Rattle.script_session.specs.Parts.{Sites, IsApart, AreEndsOfParts, IsTogether, IsFollowed, IsWorkFollowed}
 use Rattle.script_session.specs.AtDesk.{IsServedAtDesk, TellsWhy}
 
 -- The station was just opened on what its site holds: the disk is synced and holds this journal, and no slave is busy.
@@ -63,21 +60,6 @@ pub record IsRedone (opened : Station) (words : ℕ) (site : SiteValue) : Type 0
   pub served : IsServedAtDesk opened [] true Done (Ok tt) site
   pub counts : IsCount (words_issued (replayed opened.book served.closes.calls).slaves) words
   pub keeps : KeepsLine opened site.seen.state
-
--- The line of this station was taken apart, a desk served the parts, and the line was put together again.
-pub record RedoesParts (opened : Station) (site : SiteValue) : Type 0 where
-  pub sites : Sites
-  pub apart : IsApart opened.seen.state sites
-  pub ends : Ends SiteValue
-  pub of_sites : AreEndsOfParts sites ends
-  pub together : IsTogether ends site
-
--- A device has followed the station's site before that, which has a half for each slave, and behind each slave's part one that part's site.
-pub record RedoesFollowed {D : Type 0} (follows : D → Seen → Type 0) (opened : Station) (site : SiteValue) : Type 0 where
-  pub before : IsFollowed follows opened.seen
-  pub count : length opened.line.sizes ≡ length opened.seen.state.halves
-  pub parts : RedoesParts opened site
-  pub workers : AllByRecursion (IsWorkFollowed follows) parts.ends.workers.items
 
 -- the fault for a desk that isn't closed: memory was refused, or these calls led its book to this fault
 abbrev pub StopsRedoing : (opened : Book) → Fault → Type 0

@@ -10,6 +10,7 @@ mod commands;
 mod events;
 mod redoing;
 mod rounds;
+mod soundness;
 mod submitter;
 mod submitting;
 mod threads;
@@ -18,7 +19,8 @@ mod work;
 
 pub use closing::Ending;
 pub use commands::serve_commands;
-pub use redoing::{Redone, is_sound, redo_by_threads};
+pub use redoing::{Redone, redo_by_threads};
+pub use soundness::is_sound;
 pub use station_threads::CloseFault;
 pub use threads::{Left, serve_by_threads};
 pub use work::Work;

@@ -1,18 +1,16 @@
 //! Redoes by threads what is live in a journal: has a desk serve the line, to which no command is submitted.
 
-ghost use Rattle.std.specs.Prelude.{◌≡◌, ◌≤◌, ◌<◌, ◌+◌, ◌∷◌, [], length, vec_capacity, IfErr, IfOk, IsTrue};
-ghost use Rattle.std.specs.List.{AllByRecursion};
+ghost use Rattle.std.specs.Prelude.{◌≡◌, ◌≤◌, ◌<◌, ◌+◌, ◌∷◌, [], length, vec_capacity, IfErr, IfOk};
 ghost use Rattle.site_shadow.specs.Site.{SiteValue};
 ghost use Rattle.station_threads.specs.Sites.{OwnParts};
 ghost use Rattle.desk_book.specs.Calls.{replayed, AreAnswered};
 ghost use Rattle.script_session.specs.Asking.{no_counts};
-ghost use Rattle.script_session.specs.AtDesk.{Closes, TellsWhy};
-ghost use Rattle.script_session.specs.Parts.{AreEndsOfParts, IsFollowed, IsLineOf, IsWorkFollowed, Soundly};
+ghost use Rattle.script_session.specs.AtDesk.{Closes, IsServedFollowed, TellsWhy};
+ghost use Rattle.script_session.specs.Parts.{AreEndsOfParts, IsLineOf, Soundly};
 ghost use Rattle.script_session.specs.Redoing.{
   IsCount,
   IsOpenedHere,
   IsRedone,
-  RedoesFollowed,
   StopsRedoing,
   is_issue,
   issues_in,
@@ -20,6 +18,7 @@ ghost use Rattle.script_session.specs.Redoing.{
 };
 
 use crate::closing::why_open;
+use crate::soundness::{is_sound, judge_ends};
 use crate::threads::{Opened, Opening, open_desk, prepare, serve_sites};
 use crate::together::put_together;
 use book_model::RomNext;
@@ -61,8 +60,7 @@ impl<T: Tickets, R: Refusals> Client<T, R> for NoCommand {
 /// # Errors
 ///
 /// `Unserved` where the station's site can't be taken apart, what is put together in the end isn't a line with its disk and `slaves`
-/// slaves, or something has failed that a device was asked, though the desk was told of nothing; `Memory`; or the fault that has closed the book.
-/// The site is dropped.
+/// slaves; `Memory`; the fault that has closed the book; or that of `judge_ends`. The site is dropped.
 pub fn redo_by_threads<D: Device + Copy + Send, W: Wait + Threads + Sync>(
     rt: &W,
     alloc: Global,
@@ -72,7 +70,7 @@ pub fn redo_by_threads<D: Device + Copy + Send, W: Wait + Threads + Sync>(
     requires { IsOpenedHere alone }
     ensures line { IfOk result (λ redone. IsLineOf slaves redone.site.line) }
     ensures redone { IfOk result (λ redone. IsRedone alone redone.words redone.site) }
-    ensures followed { IfOk result (λ redone. RedoesFollowed (Soundly D.follows D.well) alone redone.site) }
+    ensures followed { IfOk result (λ redone. IsServedFollowed (Soundly D.follows D.well) alone redone.site) }
 {
     let capacity = alone.core().capacity();
     let (core, site) = alone.into_parts();
@@ -86,46 +84,15 @@ pub fn redo_by_threads<D: Device + Copy + Send, W: Wait + Threads + Sync>(
     };
     let ends = redo_at_desk::<Brand, Brand, D, W>(rt, alloc, Opening::of(core), sites)?;
     let words = issues_of(ends.workers.as_slice());
-    let ended_soundly = are_sound(ends.workers.as_slice());
+    let sound = judge_ends(began_soundly, &ends);
     let site = put_together(alloc, room, slaves, ends)?;
-    if began_soundly && ended_soundly {
-        Ok(Redone { site, words })
-    } else {
-        drop(site);
-        Err(Fault::Unserved)
-    }
-}
-
-/// Whether the site goes on, and nothing has failed that its device was asked.
-pub fn is_sound<D: Device>(site: &ShadowSite<D>) -> bool
-    ensures followed { IsTrue result → IsFollowed (Soundly D.follows D.well) site.now.seen }
-    ensures count { length site.now.line.sizes ≡ length site.now.seen.state.halves }
-{
-    // Its contract says that there is a half for each slave.
-    let _slaves = site.slaves();
-    !site.has_stopped() && site.is_followed()
-}
-
-/// Whether this worker ended so.
-fn ended_soundly<D: Device + Copy>(end: &End<ShadowSite<D>, SlaveLog>) -> bool
-    ensures { IsTrue result → IsWorkFollowed (Soundly D.follows D.well) end.now }
-{
-    // Its contract says what led the site here.
-    let _log = end.log();
-    is_sound(end.site())
-}
-
-/// Whether all workers did.
-#[tactic(auto, using(crate::proofs::PartLaws::followed_next))]
-fn are_sound<D: Device + Copy>(workers: &[End<ShadowSite<D>, SlaveLog>]) -> bool
-    ensures { IsTrue result → AllByRecursion (IsWorkFollowed (Soundly D.follows D.well)) workers.now }
-{
-    for place in 0..workers.len() {
-        if !ended_soundly(&workers[place]) {
-            return false;
+    match sound {
+        Ok(()) => Ok(Redone { site, words }),
+        Err(fault) => {
+            drop(site);
+            Err(fault)
         }
     }
-    true
 }
 
 /// Makes a desk of the book, serves the sites there, and closes the desk.

@@ -10,6 +10,7 @@ ghost use Rattle.script_session.specs.Parts.{AreEndsOfParts, AreFollowed, IsFoll
 use crate::apart::take_apart;
 use crate::asked::Asked;
 use crate::closing::{AtDesk, Ending, hand_in};
+use crate::soundness::{is_sound, judge_ends};
 use crate::submitter::Submitter;
 use crate::together::put_together;
 use crate::work::Work;
@@ -38,6 +39,10 @@ pub struct Left<S> {
     pub unserved: Vec<Command>,
     /// How the work ended.
     pub ending: Ending,
+    /// The fault to be told where the ends of the parts don't show that all is in place: `Unserved` where a site has stopped, or something has
+    /// failed that a device was asked, though the desk may have been told of nothing; `Memory` where the disk isn't synced, since jobs
+    /// stopped for want of memory.
+    pub sound: Result<(), Fault>,
 }
 
 /// Serves the commands by threads on the line of this station, which has `slaves` slaves, and puts the line together again. Prints the
@@ -60,11 +65,12 @@ pub fn serve_by_threads<D: Device + Copy + Send, O: Write, W: Wait + Threads + S
     requires { alone.book.accepted ≡ [] }
     ensures line { IfOk result (λ left. IsLineOf slaves left.site.line) }
     ensures left { IfOk result (λ left. LeavesSo alone work.commands.items left.ending left.site) }
-    ensures parts { IfOk result (λ left. ServesFollowed D.follows alone work.commands.items left.ending left.site) }
+    ensures parts { IfOk result (λ left. ServesFollowed D.follows D.well alone work.commands.items left) }
     ensures before { IsFollowed D.follows alone.seen }
     ensures unserved { IfOk result (λ left. left.ending.is_driven ≡ false → left.unserved.items ≡ work.commands.items) }
 {
     let (core, site) = alone.into_parts();
+    let began_soundly = is_sound(&site);
     let (sites, room) = match prepare(alloc, site, core.capacity(), slaves) {
         Ok(prepared) => prepared,
         Err(fault) => {
@@ -77,7 +83,8 @@ pub fn serve_by_threads<D: Device + Copy + Send, O: Write, W: Wait + Threads + S
     let at = serve_at_desk::<Brand, Brand, Brand, D, O, W>(
         rt, alloc, opening, sites, work, output,
     )?;
-    put_back(alloc, room, slaves, at)
+    let sound = judge_ends(began_soundly, &at.ends);
+    put_back(alloc, room, slaves, at, sound)
 }
 
 /// The sites of a line, and an empty list with room for the halves of its slaves.
@@ -107,12 +114,14 @@ fn put_back<D: Device + Copy>(
     room: Vec<Option<RomHalf>>,
     slaves: usize,
     at: AtDesk<ShadowSite<D>>,
+    sound: Result<(), Fault>,
 ) -> Result<Left<ShadowSite<D>>, Fault>
     requires { room.items ≡ [] }
     ensures line { IfOk result (λ left. IsLineOf slaves left.site.line) }
     ensures left { IfOk result (λ left. IsTogether at.ends left.site × (left.ending ≡ at.ending)) }
     ensures followed { OnOk result (AreFollowed D.follows at.ends) }
     ensures unserved { IfOk result (λ left. left.unserved ≡ at.unserved) }
+    ensures sound { IfOk result (λ left. left.sound ≡ sound) }
 {
     let AtDesk {
         ends,
@@ -124,6 +133,7 @@ fn put_back<D: Device + Copy>(
             site,
             unserved,
             ending,
+            sound,
         }),
         Err(fault) => {
             drop(unserved);

@@ -1,6 +1,6 @@
 -- What was judged of a line's journal and of its files.
-use Rattle.std.proofs.Common.{◌≡◌, ℕ, Bool, List, ◌∷◌, ◌++◌, Option, Some, None, length, map, refl, sym, ap, ◌∙◌, subst, inl, inr}
-use Rattle.std.specs.Prelude.{◌⊎◌, MatchOption, is_some, option_map}
+use Rattle.std.proofs.Common.{◌≡◌, ℕ, Bool, List, ◌∷◌, ◌++◌, Option, Some, None, length, map, refl, sym, subst, inl, inr}
+use Rattle.std.specs.Prelude.{MatchOption, is_some, option_map}
 use Rattle.site_core.specs.State.{Seen}
 use Rattle.site_shadow.specs.Site.{SiteValue}
 use Rattle.jrn_format.specs.declared.fault.JournalFault.{JournalFault}
@@ -13,7 +13,7 @@ use Rattle.station_files.specs.ScriptFiles.{NamesImages}
 use Rattle.station_files.specs.declared.faults.Fault.{Fault}
 use Rattle.station_session.specs.Faults.{of_journal}
 use Rattle.station_session.specs.Judging.{AreRunApart, HasJournal, IsJudged, IsRunApart}
-use Rattle.station_session.specs.Refusals.{RefusesApart, RefusesCommandFiles, RefusesJournal, RefusesRun, RefusesScriptFiles}
+use Rattle.station_session.specs.Refusals.{RefusesApart, RefusesCommandFiles, RefusesJournal, RefusesRun}
 use Rattle.station_session.specs.Session.{Loads}
 use Rattle.station_session.specs.Site.{IsSiteOf}
 

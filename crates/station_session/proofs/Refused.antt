@@ -1,6 +1,6 @@
 -- Why a line isn't formatted, run or recovered.
 use Rattle.std.proofs.Common.{◌≡◌, ℕ, List, Option, Some, None, IfSome, IsSomeAnd, option_map, Vec, Global, subst, inl, inr, refl, sym}
-use Rattle.std.specs.Prelude.{⊤, ◌⊎◌, IfErr, IsErrAnd, Result, Ok, Err}
+use Rattle.std.specs.Prelude.{⊤, IfErr, IsErrAnd, Result, Ok, Err}
 use Rattle.station_files.specs.Files.{Known, Holds}
 use Rattle.station_files.specs.Faults.{IsOfLock, IsOfStream}
 use Rattle.station_files.specs.FileNames.{RefusesLineNames}

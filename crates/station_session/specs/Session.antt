@@ -1,5 +1,5 @@
 -- `run` and `recover`: what is read from the files of a line, how the station starts, and what the files hold in the end.
-use Rattle.std.specs.Prelude.{◌≡◌, ◌⊎◌, Ok, ◌==◌, ◌&&◌, Bool, true, false, not, nat_le, List, Option, None, Some, length, slice_index, string_bytes, ℕ, ⊤}
+use Rattle.std.specs.Prelude.{◌≡◌, Ok, ◌==◌, ◌&&◌, Bool, true, false, not, nat_le, List, Option, None, Some, length, slice_index, string_bytes, ℕ, ⊤}
 use Rattle.sii_edit.specs.declared.command.Command.{Command}
 use Rattle.site_core.specs.Line.{Line}
 use Rattle.site_core.specs.State.{Seen}

@@ -366,7 +366,7 @@ fn run_site<
     requires owned { OwnsAll ready.site.line }
     requires old { ready.is_old ≡ is_old ready.site.seen.state.disk.bytes }
     ensures ends { EndsRun false (S.files store.old) (S.files store.new) line.now ready.site ready.commands.items result }
-    ensures goes { RunsFollowed D.follows ready.site.seen ready.commands.items result }
+    ensures goes { RunsFollowed D.follows D.well ready.site.seen ready.commands.items result }
 {
     let Ready {
         site,

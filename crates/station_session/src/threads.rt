@@ -5,7 +5,7 @@ ghost use Rattle.station_files.specs.Faults.{IsFaultless};
 ghost use Rattle.station_files.specs.Files.{ChangesAmong};
 ghost use Rattle.station_session.specs.Site.{files_of};
 ghost use Rattle.script_session.specs.Parts.{IsFollowed, IsLineOf};
-ghost use Rattle.station_session.specs.RunFiles.{GoesFollowed, ServesFollowedBy};
+ghost use Rattle.station_session.specs.RunFiles.{GoesBehind, GoesFollowed, ServesFollowedBy};
 ghost use Rattle.station_session.specs.Session.{EndsStation, HoldsBehind, SavesBehind, SavesLeft};
 
 use crate::faults::of_open;
@@ -15,17 +15,19 @@ use script_session::{Ending, Left, Work, serve_by_threads, serve_commands};
 use sii_edit::Command;
 use site_shadow::{Device, ShadowSite};
 use station_alone::{Alone, recover};
-use station_files::{ExitStatus, Store, report_fault, status_of, worse};
+use station_files::{ExitStatus, Fault, Store, report_fault, status_of, worse};
 use station_text::LineFile;
 use std::alloc::Global;
 use std::io::Write;
 use std::sync::Wait;
 use std::thread::Threads;
 
-/// The commands of a run behind its desk.
+/// What a desk has left to be done.
 #[derive(Drop)]
 struct Unserved {
-    /// Whether they were submitted there.
+    /// The fault to be told where the parts didn't end soundly.
+    sound: Result<(), Fault>,
+    /// Whether the commands were submitted there.
     is_driven: bool,
     /// The commands, where they were not.
     commands: Vec<Command>,
@@ -50,7 +52,7 @@ pub(crate) fn run_threads<
     requires none { alone.book.accepted ≡ [] }
     ensures ends { EndsStation false (S.files store.old) (S.files store.new) line.now alone commands.items result }
     ensures followed { IsFollowed D.follows alone.seen }
-    ensures serves { ServesFollowedBy D.follows alone commands.items result }
+    ensures serves { ServesFollowedBy D.follows D.well alone commands.items result }
 {
     let work = Work {
         commands,
@@ -69,8 +71,8 @@ pub(crate) fn run_threads<
     }
 }
 
-/// Tells how the line was served. If the desk was closed, recovers the line and saves what it holds, also where an answer couldn't be
-/// printed. Otherwise nothing more is written.
+/// Tells how the line was served. If the desk was closed, and its parts ended soundly, recovers the line and saves what it holds, also where an
+/// answer couldn't be printed. Otherwise nothing more is written.
 fn end_threads<D: Device + Copy, S: Store, W: Write, E: Write>(
     alloc: Global,
     line: &LineFile,
@@ -83,12 +85,13 @@ fn end_threads<D: Device + Copy, S: Store, W: Write, E: Write>(
     ensures others { ChangesAmong (S.files store.old) (S.files store.new) (files_of line.now) }
     ensures saved { IsFaultless result → SavesLeft (S.files store.new) line.now left result }
     ensures goes { left.ending.closed ≡ Ok tt → IsTrue left.ending.is_driven
-        → (last : Seen) × GoesFollowed D.follows left.site.seen last }
+        → GoesBehind (GoesFollowed D.follows) left.sound left.site.seen result }
 {
     let Left {
         site,
         unserved: commands,
         ending,
+        sound,
     } = left;
     let Ending {
         is_driven,
@@ -100,6 +103,7 @@ fn end_threads<D: Device + Copy, S: Store, W: Write, E: Write>(
     match closed {
         Ok(()) => {
             let unserved = Unserved {
+                sound,
                 is_driven,
                 commands,
             };
@@ -114,8 +118,32 @@ fn end_threads<D: Device + Copy, S: Store, W: Write, E: Write>(
     }
 }
 
-/// Recovers the line, and saves what it holds. If the commands were not submitted yet, they are served between the two.
+/// Recovers the line whose parts ended soundly, and saves what it holds. Otherwise tells of the fault.
 fn save_behind<D: Device + Copy, S: Store, W: Write, E: Write>(
+    alloc: Global,
+    line: &LineFile,
+    site: ShadowSite<D>,
+    unserved: Unserved,
+    store: &mut S,
+    streams: Streams<'_, W, E>,
+) -> ExitStatus
+    requires line { IsLineOf (length line.now.images.items) site.line }
+    ensures others { ChangesAmong (S.files store.old) (S.files store.new) (files_of line.now) }
+    ensures saved { IsFaultless result → SavesBehind (S.files store.new) line.now site.seen unserved.is_driven unserved.commands.items result }
+    ensures goes { IsTrue unserved.is_driven → GoesBehind (GoesFollowed D.follows) unserved.sound site.seen result }
+{
+    match unserved.sound {
+        Ok(()) => recover_behind(alloc, line, site, unserved, store, streams),
+        Err(fault) => {
+            drop(site);
+            drop(unserved);
+            report_fault(fault, streams.faults)
+        }
+    }
+}
+
+/// Recovers the line, and saves what it holds. If the commands were not submitted yet, they are served between the two.
+fn recover_behind<D: Device + Copy, S: Store, W: Write, E: Write>(
     alloc: Global,
     line: &LineFile,
     site: ShadowSite<D>,
@@ -156,6 +184,7 @@ fn save_recovered<D: Device + Copy, S: Store, W: Write, E: Write>(
     ensures followed { IsTrue unserved.is_driven → IsFollowed D.follows alone.seen }
 {
     let Unserved {
+        sound: _,
         is_driven,
         commands,
     } = unserved;

@@ -12,9 +12,10 @@ use Rattle.station_alone.specs.Recovery.{BeginsRecovered}
 use Rattle.station_alone.specs.declared.opening.Found.{Found}
 use Rattle.station_alone.specs.declared.recovery.Recovered.{Recovered}
 use Rattle.script_session.specs.Parts.{IsLineOf}
-use Rattle.script_session.specs.Redoing.{IsRedone, KeepsLine, RedoesFollowed}
+use Rattle.script_session.specs.AtDesk.{IsServedFollowed}
+use Rattle.script_session.specs.Redoing.{IsRedone, KeepsLine}
 use Rattle.script_session.proofs.RedoLaws.{begins-still}
-use Rattle.wire_session.specs.Slaves.{RecoversBehindDesk, RecoversFollowed}
+use Rattle.wire_session.specs.Slaves.{LedBehindDesk, LedThroughout}
 use Rattle.wire_session.specs.Redoing.{BeginsAgain, RecoversBehind, RecoversByThreads, RedoesOpened}
 
 -- the recovery behind the desk begins the session of the station again
@@ -56,13 +57,13 @@ module _ {E : Type 0} where
   counts-opened (Ok r) site opened found opens redoes = record { opened = opened; found = found; opens = opens; redoes = redoes }
   counts-opened (Err fault) site opened found opens redoes = tt
 
-  pub followed-behind : {D : Type 0} (follows : D → Seen → Type 0) (result : Result Came E) (opened : Station) (left : SiteValue) → RedoesFollowed follows opened left
-      → IfOk result (λ r. Follows left.seen r.0.seen) → IfOk result (λ r. RecoversBehindDesk follows opened r.0)
-  followed-behind follows (Ok r) opened left redone behind = record { left = left; redone = redone; behind = behind }
+  pub followed-behind : {D : Type 0} (follows : D → Seen → Type 0) (result : Result Came E) (opened : Station) (left : SiteValue) → IsServedFollowed follows opened left
+      → IfOk result (λ r. Follows left.seen r.0.seen) → IfOk result (λ r. LedBehindDesk follows opened r.0.seen)
+  followed-behind follows (Ok r) opened left redone behind = record { left = left; served = redone; behind = behind }
   followed-behind follows (Err fault) opened left redone behind = tt
 
   pub followed-opened : {D : Type 0} (follows : D → Seen → Type 0) (result : Result Came E) (site : SiteValue) (opened : Station) (found : Found)
-      → OpensCounted site.line site.seen opened found → IfOk result (λ r. RecoversBehindDesk follows opened r.0) → IfOk result (λ r. RecoversFollowed follows site r.0)
+      → OpensCounted site.line site.seen opened found → IfOk result (λ r. LedBehindDesk follows opened r.0.seen) → IfOk result (λ r. LedThroughout follows site r.0.seen)
   followed-opened follows (Ok r) site opened found opens behind =
       record { opened = opened; line = opens.1.line; opens = opens.1.quiet.follows; behind = behind }
   followed-opened follows (Err fault) site opened found opens behind = tt

@@ -1,8 +1,9 @@
 -- What the files hold after a run on a wire.
 use Rattle.std.proofs.Common.{◌≡◌, ℕ, Bool, true, false, List, ◌∷◌, ◌++◌, length, None, Result, Ok, Err, inr, sym, subst}
-use Rattle.std.specs.Prelude.{IfErr, IfOk, OnOk, string_bytes}
+use Rattle.std.specs.Prelude.{IfOk, IsTrue, OnOk, string_bytes}
 use Rattle.sii_edit.specs.declared.command.Command.{Command}
 use Rattle.site_core.specs.State.{State, Seen}
+use Rattle.site_core.specs.Times.{Follows}
 use Rattle.site_shadow.specs.Site.{SiteValue}
 use Rattle.station_alone.specs.Station.{Station}
 use Rattle.station_alone.specs.Recovery.{HasRecovered, BeginsRecovered}
@@ -16,36 +17,37 @@ use Rattle.station_files.specs.declared.faults.ExitStatus.TheVariants.{Done}
 use Rattle.station_files.specs.declared.faults.Fault.{Fault}
 use Rattle.script_session.specs.Rounds.{ServesSo}
 use Rattle.script_session.specs.declared.threads.Left.{Left}
-use Rattle.script_session.specs.AtDesk.{LeavesSo}
+use Rattle.script_session.specs.Parts.{Soundly}
+use Rattle.script_session.specs.AtDesk.{LeavesSo, ServesFollowed}
 use Rattle.script_session.proofs.DeskLaws.{served-told}
+use Rattle.script_session.proofs.SoundLaws.{served_soundly}
 use Rattle.station_session.specs.Site.{IsSiteOf, files_of, HoldsSite}
 use Rattle.station_session.specs.Judging.{IsRunApart}
 use Rattle.station_session.specs.Session.{is_old, HoldsBehind, SavesBehind, SavesLeft, SavesRun, SavesServed, Serves, StartsFrom}
 use Rattle.station_session.proofs.ThreadsEnd.{behind-unserved}
 use Rattle.wire_faults.specs.declared.faults.WireFault.{WireFault}
-use Rattle.wire_faults.specs.Faults.{IsOfStream}
 use Rattle.wire_scan.specs.Opening.{IsFound}
-use Rattle.wire_session.specs.Ending.{Ends}
-use Rattle.wire_session.specs.Running.{EndsFound, EndsServing, EndsSite, RunsScript, SavesFound}
-use Rattle.wire_session.proofs.Endings.{ends_behind_open, ends_weaker, unsaved_by}
+use Rattle.wire_session.specs.Ending.{Ends, LeavesImages}
+use Rattle.wire_session.specs.Running.{EndsAlone, EndsFound, RunsScript, SavesDesk, SavesFound, SavesSite}
+use Rattle.wire_session.specs.Slaves.{EndsFollowed, IsFollowedLine, LedAtDesk, LedOn, SavesFollowed, SlavesHold}
+use Rattle.wire_session.proofs.Endings.{ends_behind_open, ends_weaker}
 
 -- the line was saved
 ends_saved : (saves : ExitStatus → Type 0) (result : Result ExitStatus WireFault) (old new : Known) (line : LineFile) (status : ExitStatus)
     (state : State) → (HoldsSite new line state → saves status) → OnOk result (HoldsSite new line state)
-    → IfOk result (λ given. given ≡ status) → ChangesAmong old new (files_of line) → IfErr result IsOfStream → Ends saves result old new line
+    → IfOk result (λ given. given ≡ status) → ChangesAmong old new (files_of line) → LeavesImages result old new line → Ends saves result old new line
 ends_saved saves (Ok given) old new line status state holds held same others failed =
     record { others = others; unsaved = tt; saved = subst saves (sym same) (holds held) }
 ends_saved saves (Err fault) old new line status state holds held same others failed =
-    let result : Result ExitStatus WireFault = Err fault in
-    record { others = others; unsaved = unsaved_by result old new line failed; saved = tt }
+    record { others = others; unsaved = failed; saved = tt }
 
 -- ---- the commands are served on one thread
 
 pub ends_served : (result : Result ExitStatus WireFault) (old new : Known) (line : LineFile) (commands : List Command)
     (opened left : Station) (served : Result (Unit {0}) Fault) (state : State) (status : ExitStatus) → served ≡ Ok tt
     → ServesSo commands served Done status opened left → state ≡ left.seen.state → OnOk result (HoldsSite new line state)
-    → IfOk result (λ given. given ≡ status) → ChangesAmong old new (files_of line) → IfErr result IsOfStream
-    → EndsServing true result old new line opened commands
+    → IfOk result (λ given. given ≡ status) → ChangesAmong old new (files_of line) → LeavesImages result old new line
+    → EndsAlone result old new line opened commands
 ends_served result old new line commands opened left served state status told serves is held same others failed =
     let so : ServesSo commands (Ok tt) Done status opened left
     = subst (λ (r : Result (Unit {0}) Fault). ServesSo commands r Done status opened left) told serves in
@@ -69,7 +71,7 @@ Behind is_driven new line r commands status ended = HoldsBehind is_driven new li
 -- it is saved
 pub ends_driven : (is_driven : Bool) (result : Result ExitStatus WireFault) (old new : Known) (line : LineFile) (commands : List Command)
     (r : Station) (state : State) (status : ExitStatus) → is_driven ≡ true → state ≡ r.seen.state → OnOk result (HoldsSite new line state)
-    → IfOk result (λ given. given ≡ status) → ChangesAmong old new (files_of line) → IfErr result IsOfStream
+    → IfOk result (λ given. given ≡ status) → ChangesAmong old new (files_of line) → LeavesImages result old new line
     → Ends (λ ended. Behind is_driven new line r commands status ended) result old new line
 ends_driven is_driven result old new line commands r state status driven is held same others failed =
     let saves : HoldsSite new line state → Behind is_driven new line r commands status status = λ holds. (
@@ -81,10 +83,10 @@ ends_driven is_driven result old new line commands r state status driven is held
 -- no command was submitted, and the commands were served on it
 pub ends_undriven : (is_driven : Bool) (served : Result ExitStatus WireFault) (old new : Known) (line : LineFile) (commands : List Command)
     (r : Station) (status ended final : ExitStatus) → is_driven ≡ false → served ≡ Ok ended → (final ≡ Done → (status ≡ Done) × (ended ≡ Done))
-    → EndsServing true served old new line r commands → Ends (λ given. Behind is_driven new line r commands status given) (Ok final) old new line
+    → EndsAlone served old new line r commands → Ends (λ given. Behind is_driven new line r commands status given) (Ok final) old new line
 ends_undriven is_driven served old new line commands r status ended final undriven is both ends =
-    let so : EndsServing true (Ok ended) old new line r commands
-    = subst (λ (x : Result ExitStatus WireFault). EndsServing true x old new line r commands) is ends in
+    let so : EndsAlone (Ok ended) old new line r commands
+    = subst (λ (x : Result ExitStatus WireFault). EndsAlone x old new line r commands) is ends in
     let saves : SavesServed new line r commands ended = so.saved in
     let holds : HoldsBehind false new line r commands final = record {
       s = saves.s;
@@ -128,40 +130,94 @@ ends_left result old new line left told ends =
     (λ status. SavesLeft new line left status) result old new line
     (λ ended saves. record { worst = saves.1; told = told; behind = saves.0 }) ends
 
+-- the files hold the recovered line, and a device has followed it to there
+pub saves_led : {D : Type 0} (follows : D → Seen → Type 0) (result : Result ExitStatus WireFault) (new : Known) (line : LineFile) (slaves : ℕ) (before : Seen)
+    (r : Station) (is_driven : Bool) → HasRecovered r → Follows before r.seen → OnOk result (IsTrue is_driven → HoldsSite new line r.seen.state)
+    → OnOk result (IsTrue is_driven → IsFollowedLine follows slaves r.seen)
+    → OnOk result (IsTrue is_driven → SavesFollowed (LedOn follows slaves before) new line)
+saves_led follows (Ok status) new line slaves before r is_driven recovered leads held ends =
+    λ driven. record { s = r; recovered = recovered; held = held driven; way = record { leads = leads; ends = ends driven } }
+saves_led follows (Err fault) new line slaves before r is_driven recovered leads held ends = tt
+
 -- ---- the line is served by threads
 
-pub ends_at_desk : (result : Result ExitStatus WireFault) (old new : Known) (line : LineFile) (opened : Station) (commands : List Command)
-    (left : Left SiteValue) → LeavesSo opened commands left.ending left.site → (left.ending.is_driven ≡ false → left.unserved.items ≡ commands)
-    → Ends (λ status. SavesLeft new line left status) result old new line → EndsServing false result old new line opened commands
-ends_at_desk result old new line opened commands left leaves same ends =
-    ends_weaker (λ status. SavesLeft new line left status) (λ status. Serves false new line opened commands status) result old new line
-    (λ status saves. record {
-      is_driven = left.ending.is_driven;
-      answers = left.ending.status;
-      worst = saves.worst;
-      site = left.site;
-      served = served-told opened commands left.ending left.site saves.told leaves;
-      behind = behind-unserved left.ending.is_driven new line left.site.seen left.unserved.items commands status same saves.behind;
-    }) ends
+at_desk : (new : Known) (line : LineFile) (opened : Station) (commands : List Command) (left : Left SiteValue) (status : ExitStatus)
+    → LeavesSo opened commands left.ending left.site → (left.ending.is_driven ≡ false → left.unserved.items ≡ commands)
+    → SavesLeft new line left status → Serves false new line opened commands status
+at_desk new line opened commands left status leaves same saves = record {
+  is_driven = left.ending.is_driven;
+  answers = left.ending.status;
+  worst = saves.worst;
+  site = left.site;
+  served = served-told opened commands left.ending left.site saves.told leaves;
+  behind = behind-unserved left.ending.is_driven new line left.site.seen left.unserved.items commands status same saves.behind;
+}
+
+pub ends_at_desk : {D : Type 0} (follows : D → Seen → Type 0) (well : D → Type 0) (result : Result ExitStatus WireFault) (old new : Known) (line : LineFile)
+    (slaves : ℕ) (opened : Station) (commands : List Command) (left : Left SiteValue) → LeavesSo opened commands left.ending left.site
+    → (left.ending.is_driven ≡ false → left.unserved.items ≡ commands) → ServesFollowed follows well opened commands left
+    → OnOk result (left.sound ≡ Ok tt)
+    → OnOk result (IsTrue left.ending.is_driven → SavesFollowed (LedOn (Soundly follows well) slaves left.site.seen) new line)
+    → Ends (λ status. SavesLeft new line left status) result old new line
+    → Ends (SavesDesk (LedAtDesk (Soundly follows well) slaves opened) new line opened commands) result old new line
+ends_at_desk follows well (Ok status) old new line slaves opened commands left leaves same serves sound followed ends = record {
+  others = ends.others;
+  unsaved = tt;
+  saved = record {
+    serves = at_desk new line opened commands left status leaves same ends.saved;
+    followed = λ driven.
+        let led = followed driven in
+        record {
+          s = led.s;
+          recovered = led.recovered;
+          held = led.held;
+          way = record {
+            leads = record { left = left.site; served = served_soundly follows well opened commands left serves sound; behind = led.way.leads };
+            ends = led.way.ends;
+          };
+        };
+  };
+}
+ends_at_desk follows well (Err fault) old new line slaves opened commands left leaves same serves sound followed ends =
+    record { others = ends.others; unsaved = ends.unsaved; saved = tt }
 
 -- ---- the station is opened
 
-pub ends_opened : (result : Result ExitStatus WireFault) (old new : Known) (line : LineFile) (site : SiteValue) (was_old : Bool)
-    (opened : Station) (commands : List Command) → was_old ≡ is_old site.seen.state.disk.bytes → StartsFrom was_old site opened
-    → EndsServing false result old new line opened commands → EndsSite result old new line site commands
-ends_opened result old new line site was_old opened commands by_version starts ends =
-    ends_weaker (λ status. Serves false new line opened commands status) (λ status. SavesRun false new line site commands status)
+pub ends_opened : {D : Type 0} (follows : D → Seen → Type 0) (result : Result ExitStatus WireFault) (old new : Known) (line : LineFile) (slaves : ℕ)
+    (site : SiteValue) (was_old : Bool) (opened : Station) (commands : List Command) → was_old ≡ is_old site.seen.state.disk.bytes
+    → StartsFrom was_old site opened → opened.line ≡ site.line → Follows site.seen opened.seen
+    → Ends (SavesDesk (LedAtDesk follows slaves opened) new line opened commands) result old new line
+    → Ends (SavesSite (EndsFollowed follows site slaves) new line site commands) result old new line
+ends_opened follows result old new line slaves site was_old opened commands by_version starts same opens ends =
+    ends_weaker (SavesDesk (LedAtDesk follows slaves opened) new line opened commands) (SavesSite (EndsFollowed follows site slaves) new line site commands)
     result old new line
-    (λ status saves. record { opened = opened; starts = subst (λ (b : Bool). StartsFrom b site opened) by_version starts; serves = saves }) ends
+    (λ status saves. record {
+      saves = record { opened = opened; starts = subst (λ (b : Bool). StartsFrom b site opened) by_version starts; serves = saves.serves };
+      followed = λ driven.
+          let led = saves.followed driven in
+          record {
+            s = led.s;
+            recovered = led.recovered;
+            held = led.held;
+            way = record { leads = record { opened = opened; line = same; opens = opens; behind = led.way.leads }; ends = led.way.ends };
+          };
+    }) ends
 
 -- ---- the journal is opened
 
-pub ends_found : (result : Result ExitStatus WireFault) (old mid new : Known) (line : LineFile) (plant : List (List ℕ)) (bytes : List ℕ)
-    (site : SiteValue) (commands : List Command) → ChangesOnly old mid (string_bytes line.journal) → IsSiteOf plant bytes site
-    → EndsSite result mid new line site commands → EndsFound result old new line plant bytes commands
-ends_found result old mid new line plant bytes site commands only made ends =
-    ends_behind_open (λ status. SavesRun false new line site commands status) (λ status. SavesFound new line plant bytes commands status)
-    result old mid new line only (λ status saves. record { site = site; made = made; saves = saves }) ends
+pub ends_found : (Way : Seen → Type 0) (result : Result ExitStatus WireFault) (old mid new : Known) (line : LineFile) (plant : List (List ℕ))
+    (bytes : List ℕ) (site : SiteValue) (commands : List Command) → ChangesOnly old mid (string_bytes line.journal) → IsSiteOf plant bytes site
+    → ((s : Station) → HasRecovered s → Way s.seen → SlavesHold plant s)
+    → Ends (SavesSite Way new line site commands) result mid new line → EndsFound result old new line plant bytes commands
+ends_found Way result old mid new line plant bytes site commands only made hold ends =
+    ends_behind_open (SavesSite Way new line site commands) (λ status. SavesFound new line plant bytes commands status)
+    result old mid new line only
+    (λ status saves. record {
+      site = site;
+      made = made;
+      saves = saves.saves;
+      slaves = λ driven. let led = saves.followed driven in (led.s, led.recovered, led.held, hold led.s led.recovered led.way);
+    }) ends
 
 -- ---- the whole
 

@@ -26,7 +26,7 @@ use Rattle.station_jobs.specs.declared.log.SlaveLog.{SlaveLog}
 use Rattle.station_jobs.specs.Ends.{Stay}
 use Rattle.station_threads.specs.Parts.{IsEndOfSlave}
 use Rattle.script_session.specs.Parts.{BeginsWith, EndsWith, IsFollowed, IsWorkFollowed, Soundly}
-use Rattle.script_session.specs.Redoing.{RedoesFollowed}
+use Rattle.script_session.specs.AtDesk.{IsServedFollowed}
 use Rattle.script_session.proofs.SlaveLaws.{placed-at}
 use Rattle.station_session.specs.Site.{powered_up_from, switched_on}
 use Rattle.wire_session.specs.Slaves.{EndsFollowed, WasSent, SlavesHold}
@@ -153,28 +153,28 @@ module _ {L F C : Type 0} where
             (ap (λ state. slice_get state.halves slave) (first_stays before now new goes) ∙ at_first) at_now station_is behind lives;
       }
 
-  module _ (site : SiteValue) (slaves : ℕ) (s : Station) (new : site.seen.past ≡ []) (followed : EndsFollowed sound site slaves s) where
+  module _ (site : SiteValue) (slaves : ℕ) (s : Station) (new : site.seen.past ≡ []) (followed : EndsFollowed sound site slaves s.seen) where
     abbrev opened : Station
-    opened = followed.recovers.opened
+    opened = followed.leads.opened
 
     abbrev left : SiteValue
-    left = followed.recovers.behind.left
+    left = followed.leads.behind.left
 
-    abbrev redone : RedoesFollowed sound opened left
-    redone = followed.recovers.behind.redone
+    abbrev served : IsServedFollowed sound opened left
+    served = followed.leads.behind.served
 
     three_logs : (slave : ℕ) (first half : SlaveHalf) → slice_get site.seen.state.halves slave ≡ Some first → slice_get s.seen.state.halves slave ≡ Some half
         → slave < length opened.seen.state.halves → ThreeLogs slave first half
     three_logs slave first half at_first at_last inside =
-        let parts = redone.parts in
+        let parts = served.served in
         let at_opened = slice_get-get_or opened.seen.state.halves slave (powered_up [] 0) inside in
         let mid = get_or opened.seen.state.halves slave (powered_up [] 0) in
         let begun = placed-at BeginsWith 0 opened.seen.state.halves parts.sites.slaves.items slave mid parts.apart.slaves at_opened in
         let end = placed-at (λ place (x : SiteValue) (e : Stay SiteValue SlaveLog). IsEndOfSlave place x e) 0 parts.sites.slaves.items parts.ends.workers.items slave begun.0
         parts.of_sites.workers begun.1 in
         let back = placed-at EndsWith 0 parts.ends.workers.items left.seen.state.halves slave end.0 parts.together.halves end.1 in
-        let work = worker_at sound parts.ends.workers.items slave end.0 redone.workers end.1 in
-        let one = one_device slave site.seen opened.seen first mid new followed.recovers.opens redone.before at_first at_opened in
+        let work = worker_at sound parts.ends.workers.items slave end.0 served.followed.parts.workers end.1 in
+        let one = one_device slave site.seen opened.seen first mid new followed.leads.opens served.followed.before at_first at_opened in
         let from_first : 0 + slave ≡ slave = omega arith in
         let start_is : end.0.start ≡ begun.0 = end.2.start in
         let two = one_device slave end.0.start.seen end.0.site.seen mid back.0
@@ -182,7 +182,7 @@ module _ {L F C : Type 0} where
         work.followed (ap (λ (x : SiteValue). slice_get x.seen.state.halves slave) start_is
         ∙ subst (λ (n : ℕ). slice_get begun.0.seen.state.halves n ≡ Some mid) from_first begun.2.has)
         (subst (λ (n : ℕ). slice_get end.0.site.seen.state.halves n ≡ Some back.0) from_first back.2) in
-        let three = one_device slave left.seen s.seen back.0 half parts.together.new followed.recovers.behind.behind followed.ends back.1 at_last in
+        let three = one_device slave left.seen s.seen back.0 half parts.together.new followed.leads.behind.behind followed.ends.ends back.1 at_last in
         joined slave first mid back.0 half one two three
 
     -- each slave that was found with these words holds the contents
@@ -192,8 +192,8 @@ module _ {L F C : Type 0} where
         let within : slave < length plant = slice_get_within plant slave words here in
         let inside : slave < length opened.seen.state.halves =
         (let many : length plant ≡ length opened.seen.state.halves =
-        sym (length-map plant length) ∙ ap length (sym sizes) ∙ ap (λ (l : Line). length l.sizes) (sym followed.recovers.line) ∙ redone.count in omega (arith, within, many)) in
-        let last : slave < length s.seen.state.halves = (let many = followed.count in omega (arith, within, many, count)) in
+        sym (length-map plant length) ∙ ap length (sym sizes) ∙ ap (λ (l : Line). length l.sizes) (sym followed.leads.line) ∙ served.followed.count in omega (arith, within, many)) in
+        let last : slave < length s.seen.state.halves = (let many = followed.ends.count in omega (arith, within, many, count)) in
         let half = get_or s.seen.state.halves slave (powered_up [] 0) in
         let at_last = slice_get-get_or s.seen.state.halves slave (powered_up [] 0) last in
         let at_first : slice_get site.seen.state.halves slave ≡ Some (powered_up words (station slave)) =

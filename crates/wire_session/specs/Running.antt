@@ -1,6 +1,7 @@
 -- `run` on a wire: how the line that was found is served by threads, and what the files hold in the end.
-use Rattle.std.specs.Prelude.{◌≡◌, ◌⊎◌, ℕ, Bool, false, List, Result, None, IsErr}
+use Rattle.std.specs.Prelude.{◌≡◌, ◌⊎◌, ℕ, Bool, false, List, Result, None, IsErr, IsTrue}
 use Rattle.sii_edit.specs.declared.command.Command.{Command}
+use Rattle.site_core.specs.State.{Seen}
 use Rattle.site_shadow.specs.Site.{SiteValue}
 use Rattle.station_text.specs.declared.line_file.LineFile.{LineFile}
 use Rattle.station_files.specs.Files.{Known}
@@ -10,27 +11,35 @@ use Rattle.station_alone.specs.Station.{Station}
 use Rattle.station_files.specs.Locations.{Leads}
 use Rattle.station_session.specs.Judging.{IsRunApart}
 use Rattle.station_session.specs.Site.{IsSiteOf}
-use Rattle.station_session.specs.Session.{SavesRun, Serves}
+use Rattle.station_session.specs.Session.{SavesRun, SavesServed, Serves}
 use Rattle.wire_faults.specs.declared.faults.WireFault.{WireFault}
 use Rattle.wire_scan.specs.Opening.{IsFound}
 use Rattle.wire_session.specs.Ending.{Ends}
+use Rattle.wire_session.specs.Slaves.{SavesFollowed, SlavesAreSaved}
 
--- If the result is `Ok`, the commands were served on this station, by threads or on one, and the files hold its state.
-abbrev pub EndsServing : (is_alone : Bool) → Result ExitStatus WireFault → Known → Known → LineFile → Station → List Command → Type 0
-EndsServing is_alone result old new line opened commands =
-    Ends (λ status. Serves is_alone new line opened commands status) result old new line
+-- If the result is `Ok`, the commands were served on this station by one thread, and the files hold its state.
+abbrev pub EndsAlone : Result ExitStatus WireFault → Known → Known → LineFile → Station → List Command → Type 0
+EndsAlone result old new line opened commands = Ends (λ status. SavesServed new line opened commands status) result old new line
 
--- The same of a station that was opened on this site, after a recovery if the journal wasn't of version 2. It is served by threads, as
--- in a run on files.
-abbrev pub EndsSite : Result ExitStatus WireFault → Known → Known → LineFile → SiteValue → List Command → Type 0
-EndsSite result old new line site commands = Ends (λ status. SavesRun false new line site commands status) result old new line
+-- The commands were served by threads, and the files hold the result. Where the commands were submitted at the desk, the line was recovered behind
+-- it, with `Way` said of what led there.
+pub record SavesDesk (Way : Seen → Type 0) (files : Known) (line : LineFile) (opened : Station) (commands : List Command) (status : ExitStatus) : Type 0 where
+  pub serves : Serves false files line opened commands status
+  pub followed : IsTrue serves.is_driven → SavesFollowed Way files line
 
--- The files hold the state of a station that was served on a site of slaves with these words and a journal with these bytes.
+-- The same of a station that was opened on this site, after a recovery if the journal wasn't of version 2, as in a run on files.
+pub record SavesSite (Way : Seen → Type 0) (files : Known) (line : LineFile) (site : SiteValue) (commands : List Command) (status : ExitStatus) : Type 0 where
+  pub saves : SavesRun false files line site commands status
+  pub followed : IsTrue saves.serves.is_driven → SavesFollowed Way files line
+
+-- The files hold the state of a station that was served on a site of slaves with these words and a journal with these bytes. Where threads could be
+-- made, so that the commands were submitted at a desk, so do the slaves.
 pub record SavesFound (files : Known) (line : LineFile) (plant : List (List ℕ)) (bytes : List ℕ) (commands : List Command)
     (status : ExitStatus) : Type 0 where
   pub site : SiteValue
   pub made : IsSiteOf plant bytes site
   pub saves : SavesRun false files line site commands status
+  pub slaves : IsTrue saves.serves.is_driven → SlavesAreSaved plant files line
 
 -- The same of the words that were found on the wire and the bytes of the journal.
 abbrev pub EndsFound : Result ExitStatus WireFault → Known → Known → LineFile → List (List ℕ) → List ℕ → List Command → Type 0

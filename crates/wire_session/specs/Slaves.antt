@@ -1,4 +1,4 @@
--- What real slaves hold behind a recovery on a wire (ETG.1000.4, slave information interface).
+-- What real slaves hold behind a run or a recovery on a wire (ETG.1000.4, slave information interface).
 use Rattle.std.specs.Prelude.{◌≡◌, ℕ, List, ◌++◌, length, Some, slice_get}
 use Rattle.esc_model.specs.SlaveHalf.{SlaveHalf, powered_up}
 use Rattle.esc_model.specs.Orders.{station}
@@ -10,29 +10,55 @@ use Rattle.site_wire.specs.Sent.{Exchanged, HasSent}
 use Rattle.site_wire.specs.RealSlaves.{Lives}
 use Rattle.book_model.specs.Book.{base_of}
 use Rattle.station_alone.specs.Station.{Station}
+use Rattle.station_alone.specs.Recovery.{HasRecovered}
+use Rattle.station_text.specs.declared.line_file.LineFile.{LineFile}
+use Rattle.station_files.specs.Files.{Known}
 use Rattle.script_session.specs.Parts.{IsFollowed}
-use Rattle.script_session.specs.Redoing.{RedoesFollowed}
+use Rattle.script_session.specs.AtDesk.{IsServedFollowed}
+use Rattle.station_session.specs.Site.{HoldsSite}
 
 -- THE DEVICES
 
--- The line of this station was redone at a desk, and recovered behind it; before that, at each slave's part, and in the end a device has followed.
-pub record RecoversBehindDesk {D : Type 0} (follows : D → Seen → Type 0) (opened s : Station) : Type 0 where
+-- The line of this station was served at a desk, and calls alone led on behind it; devices have followed the station's site before the desk and each
+-- part there.
+pub record LedBehindDesk {D : Type 0} (follows : D → Seen → Type 0) (opened : Station) (last : Seen) : Type 0 where
   pub left : SiteValue
-  pub redone : RedoesFollowed follows opened left
-  pub behind : Follows left.seen s.seen
+  pub served : IsServedFollowed follows opened left
+  pub behind : Follows left.seen last
 
--- A station was opened on this site before that.
-pub record RecoversFollowed {D : Type 0} (follows : D → Seen → Type 0) (site : SiteValue) (s : Station) : Type 0 where
+-- A station was opened on this site before that, by calls alone.
+pub record LedThroughout {D : Type 0} (follows : D → Seen → Type 0) (site : SiteValue) (last : Seen) : Type 0 where
   pub opened : Station
   pub line : opened.line ≡ site.line
   pub opens : Follows site.seen opened.seen
-  pub behind : RecoversBehindDesk follows opened s
+  pub behind : LedBehindDesk follows opened last
 
--- Behind all of it a device has followed too, and there is a half for each of so many slaves.
-pub record EndsFollowed {D : Type 0} (follows : D → Seen → Type 0) (site : SiteValue) (slaves : ℕ) (s : Station) : Type 0 where
-  pub recovers : RecoversFollowed follows site s
-  pub ends : IsFollowed follows s.seen
-  pub count : slaves ≡ length s.seen.state.halves
+-- A device has followed this site at its end, and it has a half for each of so many slaves.
+pub record IsFollowedLine {D : Type 0} (follows : D → Seen → Type 0) (slaves : ℕ) (last : Seen) : Type 0 where
+  pub ends : IsFollowed follows last
+  pub count : slaves ≡ length last.state.halves
+
+-- Devices have followed this site, its parts at a desk, and the site behind it.
+pub record EndsFollowed {D : Type 0} (follows : D → Seen → Type 0) (site : SiteValue) (slaves : ℕ) (last : Seen) : Type 0 where
+  pub leads : LedThroughout follows site last
+  pub ends : IsFollowedLine follows slaves last
+
+-- A site was recovered, the files hold its state then, and `Way` is said of what led there.
+pub record SavesFollowed (Way : Seen → Type 0) (files : Known) (line : LineFile) : Type 0 where
+  pub s : Station
+  pub recovered : HasRecovered s
+  pub held : HoldsSite files line s.seen.state
+  pub way : Way s.seen
+
+-- from this site on calls alone led there, and a device has followed it
+pub record LedOn {D : Type 0} (follows : D → Seen → Type 0) (slaves : ℕ) (before last : Seen) : Type 0 where
+  pub leads : Follows before last
+  pub ends : IsFollowedLine follows slaves last
+
+-- the line of this station was served at a desk on the way
+pub record LedAtDesk {D : Type 0} (follows : D → Seen → Type 0) (slaves : ℕ) (opened : Station) (last : Seen) : Type 0 where
+  pub leads : LedBehindDesk follows opened last
+  pub ends : IsFollowedLine follows slaves last
 
 -- THE SLAVES
 
@@ -56,3 +82,7 @@ pub record SlaveHolds (slave : ℕ) (words : List ℕ) (contents : List (List �
 -- Each slave that was found with these words holds the contents of this station.
 abbrev pub SlavesHold : List (List ℕ) → Station → Type 0
 SlavesHold plant s = (slave : ℕ) (words : List ℕ) → slice_get plant slave ≡ Some words → SlaveHolds slave words (base_of s.book)
+
+-- The files hold the state of a line that was recovered, and each slave that was found with these words holds its contents.
+abbrev pub SlavesAreSaved : List (List ℕ) → Known → LineFile → Type 0
+SlavesAreSaved plant files line = (s : Station) × HasRecovered s × HoldsSite files line s.seen.state × SlavesHold plant s

@@ -160,7 +160,7 @@ fn recover_site<
 ) -> Result<(), WireFault>
     requires disk { IsTrue site.line.has_disk }
     requires owned { OwnsAll site.line }
-    ensures { EndsRecovery (EndsFollowed (Soundly D.follows D.well) site (length line.now.images.items))
+    ensures { EndsRecovery (λ s. EndsFollowed (Soundly D.follows D.well) site (length line.now.images.items) s.seen)
         result (S.files store.old) (S.files store.new) line.now site.seen }
 {
     match recover_by_threads(rt, site, line.images.len()) {

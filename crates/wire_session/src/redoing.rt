@@ -6,7 +6,7 @@ ghost use Rattle.script_session.specs.Parts.{IsLineOf};
 ghost use Rattle.script_session.specs.Redoing.{IsOpenedHere};
 ghost use Rattle.site_core.specs.Times.{Follows};
 ghost use Rattle.script_session.specs.Parts.{Soundly};
-ghost use Rattle.wire_session.specs.Slaves.{RecoversBehindDesk, RecoversFollowed};
+ghost use Rattle.wire_session.specs.Slaves.{LedBehindDesk, LedThroughout};
 ghost use Rattle.wire_session.specs.Redoing.{BeginsAgain, CountsAll, RecoversBehind, RecoversByThreads, RedoesOpened};
 
 use script_session::{Redone, redo_by_threads};
@@ -37,7 +37,7 @@ pub(crate) fn recover_by_threads<R: Wait + Threads + AllocGlobal + Sync, D: Devi
     ensures recovered { IfOk result (λ r. HasRecovered r.0) }
     ensures begins { IfOk result (λ r. BeginsRecovered site.seen r.0) }
     ensures counts { IfOk result (λ r. RecoversByThreads site r.1 r.0) }
-    ensures followed { IfOk result (λ r. RecoversFollowed (Soundly D.follows D.well) site r.0) }
+    ensures followed { IfOk result (λ r. LedThroughout (Soundly D.follows D.well) site r.0.seen) }
 {
     match Alone::open_counted(rt.alloc(), site) {
         Ok((alone, found)) => redo_opened(rt, alone, found, slaves),
@@ -60,7 +60,7 @@ fn redo_opened<R: Wait + Threads + AllocGlobal + Sync, D: Device + Copy + Send>(
     ensures recovered { IfOk result (λ r. HasRecovered r.0) }
     ensures begins { IfOk result (λ r. BeginsAgain alone r.0) }
     ensures counts { IfOk result (λ r. RedoesOpened alone found r.1 r.0) }
-    ensures followed { IfOk result (λ r. RecoversBehindDesk (Soundly D.follows D.well) alone r.0) }
+    ensures followed { IfOk result (λ r. LedBehindDesk (Soundly D.follows D.well) alone r.0.seen) }
 {
     let redone = redo_by_threads(rt, rt.alloc(), alone, slaves)?;
     let Redone { site, words } = redone;

@@ -1,13 +1,16 @@
 //! The subcommand `run`.
 ghost use Rattle.std.specs.Prelude.{◌≡◌, ◌≤◌, ◌∷◌, ◌++◌, length, None, IfOk, IsTrue, OnOk};
 ghost use Rattle.esc_rom.specs.Owned.{OwnsAll};
+ghost use Rattle.script_session.specs.Parts.{Soundly};
 ghost use Rattle.station_files.specs.FileNames.{files_with, spelt, written_of};
 ghost use Rattle.station_files.specs.Locations.{AreApart};
 ghost use Rattle.station_files.specs.ScriptFiles.{SpellsCommands};
 ghost use Rattle.station_session.specs.Judging.{IsRunApart};
 ghost use Rattle.station_session.specs.Session.{is_old};
 ghost use Rattle.wire_scan.specs.Opening.{IsFound};
-ghost use Rattle.wire_session.specs.Running.{EndsFound, EndsSite, RunsScript};
+ghost use Rattle.wire_session.specs.Ending.{Ends};
+ghost use Rattle.wire_session.specs.Running.{EndsFound, RunsScript, SavesSite};
+ghost use Rattle.wire_session.specs.Slaves.{EndsFollowed};
 
 use crate::as_found::AsFound;
 use crate::reporting::{report_end, tell_handed, tell_why};
@@ -245,7 +248,8 @@ fn run_site<R: Wait + Threads + AllocGlobal + Sync, D: Device + Copy + Send, S: 
     requires disk { IsTrue start.site.line.has_disk }
     requires owned { OwnsAll start.site.line }
     requires old { start.was_old ≡ is_old start.site.seen.state.disk.bytes }
-    ensures { EndsSite result (S.files store.old) (S.files store.new) line.now start.site work.commands.items }
+    ensures { Ends (SavesSite (EndsFollowed (Soundly D.follows D.well) start.site (length line.now.images.items)) (S.files store.new) line.now start.site
+        work.commands.items) result (S.files store.old) (S.files store.new) line.now }
 {
     let Start { site, was_old } = start;
     match open_station(rt.alloc(), site, was_old, None) {

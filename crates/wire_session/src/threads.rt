@@ -1,19 +1,19 @@
 //! Serves the commands of a run by threads, and saves what the slaves hold.
-ghost use Rattle.std.specs.Prelude.{◌≡◌, [], false, true, length, IfErr, IfOk, IsTrue, Ok, OnOk};
+ghost use Rattle.std.specs.Prelude.{◌≡◌, [], length, IfOk, IsTrue, Ok, OnOk};
 ghost use Rattle.station_files.specs.Files.{ChangesAmong};
 ghost use Rattle.station_files.specs.declared.faults.ExitStatus.TheVariants.{Done};
-ghost use Rattle.script_session.specs.Parts.{IsLineOf};
+ghost use Rattle.script_session.specs.Parts.{IsFollowed, IsLineOf, Soundly};
 ghost use Rattle.station_session.specs.Session.{HoldsBehind, SavesBehind, SavesLeft};
 ghost use Rattle.station_session.specs.Site.{files_of, HoldsSite};
-ghost use Rattle.wire_faults.specs.Faults.{IsOfStream};
-ghost use Rattle.wire_session.specs.Ending.{Ends};
-ghost use Rattle.wire_session.specs.Running.{EndsServing};
+ghost use Rattle.wire_session.specs.Ending.{Ends, LeavesImages};
+ghost use Rattle.wire_session.specs.Running.{EndsAlone, SavesDesk};
+ghost use Rattle.wire_session.specs.Slaves.{IsFollowedLine, LedAtDesk, LedOn, SavesFollowed};
 
-use script_session::{Ending, Left, Work, serve_by_threads, serve_commands};
+use script_session::{Ending, Left, Work, is_sound, serve_by_threads, serve_commands};
 use sii_edit::Command;
 use site_shadow::{Device, ShadowSite};
 use station_alone::{Alone, recover};
-use station_files::{ExitStatus, Store, worse};
+use station_files::{ExitStatus, Fault, Store, worse};
 use station_session::{of_open, save_site};
 use station_text::LineFile;
 use std::alloc::Global;
@@ -49,7 +49,8 @@ pub(crate) fn run_threads<
     output: &mut O,
 ) -> Result<ExitStatus, WireFault>
     requires none { alone.book.accepted ≡ [] }
-    ensures { EndsServing false result (S.files store.old) (S.files store.new) line.now alone work.commands.items }
+    ensures { Ends (SavesDesk (LedAtDesk (Soundly D.follows D.well) (length line.now.images.items) alone) (S.files store.new) line.now alone work.commands.items)
+        result (S.files store.old) (S.files store.new) line.now }
 {
     match serve_by_threads(rt, rt.alloc(), alone, line.images.len(), work, output) {
         Ok(left) => end_threads(rt.alloc(), line, left, store, output),
@@ -67,13 +68,17 @@ fn end_threads<D: Device + Copy, S: Store, O: Write>(
 ) -> Result<ExitStatus, WireFault>
     requires line { IsLineOf (length line.now.images.items) left.site.line }
     requires told { OnOk left.ending.told (left.ending.closed ≡ Ok tt) }
-    ensures { Ends (λ status. SavesLeft (S.files store.new) line.now left status)
+    ensures ends { Ends (λ status. SavesLeft (S.files store.new) line.now left status)
         result (S.files store.old) (S.files store.new) line.now }
+    ensures sound { OnOk result (left.sound ≡ Ok tt) }
+    ensures followed { OnOk result (IsTrue left.ending.is_driven
+        → SavesFollowed (LedOn (Soundly D.follows D.well) (length line.now.images.items) left.site.seen) (S.files store.new) line.now) }
 {
     let Left {
         site,
         unserved,
         ending,
+        sound,
     } = left;
     let Ending {
         is_driven,
@@ -81,7 +86,7 @@ fn end_threads<D: Device + Copy, S: Store, O: Write>(
         closed: _,
         told,
     } = ending;
-    match told {
+    match both_of(told, sound) {
         Ok(()) => {
             let behind = DeskLeft {
                 is_driven,
@@ -98,6 +103,16 @@ fn end_threads<D: Device + Copy, S: Store, O: Write>(
     }
 }
 
+/// The fault that is told of the desk, or else that of the ends of its parts.
+fn both_of(told: Result<(), Fault>, sound: Result<(), Fault>) -> Result<(), Fault>
+    ensures { OnOk result ((told ≡ Ok tt) × (sound ≡ Ok tt)) }
+{
+    match told {
+        Ok(()) => sound,
+        Err(fault) => Err(fault),
+    }
+}
+
 /// Recovers the line, and saves what its slaves hold. If the commands were not submitted yet, they are served between the two. Gives the
 /// status of all answers.
 fn save_behind<D: Device + Copy, S: Store, O: Write>(
@@ -109,9 +124,11 @@ fn save_behind<D: Device + Copy, S: Store, O: Write>(
     output: &mut O,
 ) -> Result<ExitStatus, WireFault>
     requires line { IsLineOf (length line.now.images.items) site.line }
-    ensures { Ends (λ ended. SavesBehind (S.files store.new) line.now site.seen behind.is_driven behind.commands.items ended
+    ensures ends { Ends (λ ended. SavesBehind (S.files store.new) line.now site.seen behind.is_driven behind.commands.items ended
         × (ended ≡ Done → behind.status ≡ Done))
         result (S.files store.old) (S.files store.new) line.now }
+    ensures followed { OnOk result (IsTrue behind.is_driven
+        → SavesFollowed (LedOn (Soundly D.follows D.well) (length line.now.images.items) site.seen) (S.files store.new) line.now) }
 {
     match recover(alloc, site) {
         Ok((alone, _recovered)) => save_recovered(alloc, line, alone, behind, store, output),
@@ -134,9 +151,12 @@ fn save_recovered<D: Device + Copy, S: Store, O: Write>(
 ) -> Result<ExitStatus, WireFault>
     requires disk { IsTrue alone.line.has_disk }
     requires slaves { length alone.line.sizes ≡ length line.now.images.items }
-    ensures { Ends (λ ended. HoldsBehind behind.is_driven (S.files store.new) line.now alone behind.commands.items ended
+    ensures ends { Ends (λ ended. HoldsBehind behind.is_driven (S.files store.new) line.now alone behind.commands.items ended
         × (ended ≡ Done → behind.status ≡ Done))
         result (S.files store.old) (S.files store.new) line.now }
+    ensures held { OnOk result (IsTrue behind.is_driven → HoldsSite (S.files store.new) line.now alone.seen.state) }
+    ensures followed { OnOk result (IsTrue behind.is_driven
+        → IsFollowedLine (Soundly D.follows D.well) (length line.now.images.items) alone.seen) }
 {
     let DeskLeft {
         is_driven,
@@ -166,7 +186,7 @@ fn run_alone<D: Device + Copy, S: Store, O: Write>(
 ) -> Result<ExitStatus, WireFault>
     requires disk { IsTrue alone.line.has_disk }
     requires slaves { length alone.line.sizes ≡ length line.now.images.items }
-    ensures { EndsServing true result (S.files store.old) (S.files store.new) line.now alone commands.items }
+    ensures { EndsAlone result (S.files store.old) (S.files store.new) line.now alone commands.items }
 {
     let mut status = ExitStatus::Done;
     let slaves = line.images.len() as u16;
@@ -182,7 +202,8 @@ fn run_alone<D: Device + Copy, S: Store, O: Write>(
     }
 }
 
-/// Saves what the slaves hold, and gives the status of the answers.
+/// Saves what the slaves hold, and gives the status of the answers. `Unserved` where the site has stopped, or something has failed that its device was
+/// asked, though the station was told of nothing; then nothing is written.
 fn save_served<D: Device + Copy, S: Store>(
     alloc: Global,
     line: &LineFile,
@@ -195,8 +216,14 @@ fn save_served<D: Device + Copy, S: Store>(
     ensures saved { OnOk result (HoldsSite (S.files store.new) line.now site.seen.state) }
     ensures status { IfOk result (λ given. given ≡ status) }
     ensures others { ChangesAmong (S.files store.old) (S.files store.new) (files_of line.now) }
-    ensures failed { IfErr result IsOfStream }
+    ensures failed { LeavesImages result (S.files store.old) (S.files store.new) line.now }
+    ensures followed { OnOk result (IsFollowedLine (Soundly D.follows D.well) (length line.now.images.items) site.seen) }
 {
-    save_site(alloc, line, site, store)?;
-    Ok(status)
+    if is_sound(&site) {
+        save_site(alloc, line, site, store)?;
+        Ok(status)
+    } else {
+        drop(site);
+        Err(WireFault::Station(Fault::Unserved))
+    }
 }

@@ -1,5 +1,5 @@
 use Rattle.std.proofs.Common.{Bor, List, ℕ, ◌∙◌, inl, inr, subst, sym}
-use Rattle.std.specs.Prelude.{is_some, option_map}
+use Rattle.std.specs.Prelude.{option_map}
 use Rattle.station_files.specs.Files.{Known}
 use Rattle.station_files.specs.FileNames.{spelt}
 use Rattle.station_files.specs.ScriptFiles.{SpellsCommands}

@@ -24,4 +24,4 @@ returns-in-Ok-clause-kept g c begun =
     let given = c.args.given in
     let site = c.with_device-site in
     kept_as _ given.session.site site.result given.commands.items c.run_site-status.result site.ensures
-    (run_on_files _ _ (λ device seen follows. (device.device.device, follows)) site.result.seen given.commands.items c.run_site-status.result (ap (λ (s : SiteValue). s.seen.past) site.ensures ∙ c.requires.new) c.run_site-status.ensures.goes)
+    (run_on_files _ _ _ (λ device seen follows. (device.device.device, follows)) (λ device seen follows well. well) site.result.seen given.commands.items c.run_site-status.result (ap (λ (s : SiteValue). s.seen.past) site.ensures ∙ c.requires.new) c.run_site-status.ensures.goes)

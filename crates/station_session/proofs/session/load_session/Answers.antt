@@ -2,7 +2,6 @@ use Rattle.std.proofs.Common.{◌∙◌, arith, inl, inr, subst}
 use Rattle.station_files.specs.Faults.{IsOfLock}
 use Rattle.station_files.specs.Files.{Known}
 use Rattle.station_files.specs.LineFiles.{names_of, RefusesSlaves}
-use Rattle.station_files.specs.declared.faults.Fault.{Fault}
 use Rattle.station_files.proofs.Loaded.{handed_on}
 use Rattle.station_session.specs.Refusals.{RefusesSession}
 use Rattle.station_session.proofs.Ending.{loads, old-by}

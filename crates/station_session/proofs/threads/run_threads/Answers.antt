@@ -21,7 +21,7 @@ pub returns-in-Ok-clause-serves : goal.returns-in-Ok-clause-serves
 returns-in-Ok-clause-serves g c =
     let left = c.in-Ok.left in
     let parts = c.in-Ok.ensures.parts in
-    served left.ending left.site parts.0 parts.1 c.end_threads.ensures.goes
+    served left.ending left.site left.sound parts.parts parts.followed c.end_threads.ensures.goes
 
 pub returns-in-Err-clause-serves : goal.returns-in-Err-clause-serves
 returns-in-Err-clause-serves g c = unserved c.report_fault.ensures.fault

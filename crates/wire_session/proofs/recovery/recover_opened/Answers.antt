@@ -19,7 +19,7 @@ returns-in_err-site g c =
 
 pub returns : goal.returns
 returns g c =
-    recovers_opened (EndsFollowed (Soundly WireFollows (λ device. device.is_over ≡ false)) c.in_ok-site.site (length c.args.found.line.now.images.items))
+    recovers_opened (λ s. EndsFollowed (Soundly WireFollows (λ device. device.is_over ≡ false)) c.in_ok-site.site (length c.args.found.line.now.images.items) s.seen)
     (SlavesHold c.args.found.slaves.now) c.recover_site.result (g.S.Store.files c.args.store.now) (g.S.Store.files c.open_journal.new.store)
     (g.S.Store.files c.recover_site.new.store) c.args.found.line.now c.args.found.slaves.now c.args.found.journal.items c.in_ok-site.site
     c.open_journal.ensures.others c.in_ok-site.ensures

@@ -21,14 +21,16 @@ pub returns-then-is_sound : goal.returns-then-is_sound
 returns-then-is_sound g c =
     let left = c.into_parts-core.result.1 in
     let count : c.len.result ≡ length c.args.line.now.images.items = omega (arith, c.len.ensures, c.args.line.now.images.ok.0) in
-    ends_recovered (EndsFollowed (Soundly g.D.Device.follows g.D.Device.well) c.args.site (length c.args.line.now.images.items))
+    ends_recovered (λ s. EndsFollowed (Soundly g.D.Device.follows g.D.Device.well) c.args.site (length c.args.line.now.images.items) s.seen)
     c.save_recovered.result (g.S.Store.files c.args.store.now) (g.S.Store.files c.save_recovered.new.store) c.args.line.now c.args.site.seen
     c.in-Ok.alone left.seen.state c.in-Ok.ensures.recovered c.in-Ok.ensures.begins
     (record {
-      recovers = c.in-Ok.ensures.followed;
-      ends = subst (IsFollowed (Soundly g.D.Device.follows g.D.Device.well)) c.into_parts-core.ensures.seen (c.is_sound.ensures.followed c.if-is_sound.true);
-      count = sym (c.in-Ok.ensures.line.count ∙ count) ∙ ap (λ (l : Line). length l.sizes) (sym c.into_parts-core.ensures.line)
-          ∙ c.is_sound.ensures.count ∙ ap (λ (s : Seen). length s.state.halves) c.into_parts-core.ensures.seen;
+      leads = c.in-Ok.ensures.followed;
+      ends = record {
+        ends = subst (IsFollowed (Soundly g.D.Device.follows g.D.Device.well)) c.into_parts-core.ensures.seen (c.is_sound.ensures.followed c.if-is_sound.true);
+        count = sym (c.in-Ok.ensures.line.count ∙ count) ∙ ap (λ (l : Line). length l.sizes) (sym c.into_parts-core.ensures.line)
+            ∙ c.is_sound.ensures.count ∙ ap (λ (s : Seen). length s.state.halves) c.into_parts-core.ensures.seen;
+      };
     })
     (ap (λ (seen : Seen). seen.state) c.into_parts-core.ensures.seen)
     c.save_recovered.ensures.saved c.save_recovered.ensures.others c.save_recovered.ensures.failed

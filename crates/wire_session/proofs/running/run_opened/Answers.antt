@@ -1,6 +1,12 @@
+use Rattle.std.proofs.Common.{◌≡◌, false, length, ap, sym}
+use Rattle.site_core.specs.State.{Seen}
+use Rattle.script_session.specs.Parts.{Soundly}
+use Rattle.site_wire.specs.Following.{WireFollows}
 use Rattle.station_files.specs.declared.faults.ExitStatus.{ExitStatus}
 use Rattle.station_session.proofs.Ending.{old-by}
 use Rattle.wire_session.specs.Running.{SavesFound}
+use Rattle.wire_session.specs.Slaves.{EndsFollowed}
+use Rattle.wire_session.proofs.SlavesHeld.{slaves_hold}
 use Rattle.wire_session.proofs.Endings.{ends_unmade}
 use Rattle.wire_session.proofs.RunEnds.{ends_found}
 use Rattle.wire_session.proofs.running.run_opened.Goals as goal
@@ -20,6 +26,11 @@ returns-in_err-site g c =
 
 pub returns : goal.returns
 returns g c =
-    ends_found c.run_site.result (g.S.Store.files c.args.store.now) (g.S.Store.files c.open_journal.new.store)
-    (g.S.Store.files c.run_site.new.store) c.args.found.line.now c.args.found.slaves.now c.args.found.journal.items c.in_ok-site.site
-    c.args.work.commands.items c.open_journal.ensures.others c.in_ok-site.ensures c.run_site.ensures
+    ends_found (EndsFollowed (Soundly WireFollows (λ device. device.is_over ≡ false)) c.in_ok-site.site (length c.args.found.line.now.images.items))
+    c.run_site.result (g.S.Store.files c.args.store.now) (g.S.Store.files c.open_journal.new.store) (g.S.Store.files c.run_site.new.store)
+    c.args.found.line.now c.args.found.slaves.now c.args.found.journal.items c.in_ok-site.site c.args.work.commands.items c.open_journal.ensures.others
+    c.in_ok-site.ensures
+    (λ s recovered followed. slaves_hold c.in_ok-site.site (length c.args.found.line.now.images.items) s
+    (ap (λ (seen : Seen). seen.past) c.in_ok-site.ensures.seen) followed c.args.found.slaves.now c.args.found.journal.items
+    c.in_ok-site.ensures.seen c.in_ok-site.ensures.sizes (sym c.requires.count) recovered)
+    c.run_site.ensures

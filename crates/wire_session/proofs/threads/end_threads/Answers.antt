@@ -1,7 +1,12 @@
+use Rattle.std.proofs.Common.{◌≡◌, Ok, Result, subst}
+use Rattle.std.specs.Prelude.{OnOk}
+use Rattle.station_files.specs.declared.faults.Fault.{Fault}
 use Rattle.wire_session.proofs.RunEnds.{ends_left}
 use Rattle.wire_session.proofs.threads.end_threads.Goals as goal
 
-pub returns-in-Ok : goal.returns-in-Ok
-returns-in-Ok g c =
+pub returns-in-Ok-clause-ends : goal.returns-in-Ok-clause-ends
+returns-in-Ok-clause-ends g c =
     ends_left c.save_behind.result (g.S.Store.files c.args.store.now) (g.S.Store.files c.save_behind.new.store) c.args.line.now
-    c.args.left c.in-Ok.is c.save_behind.ensures
+    c.args.left
+    (subst (λ (r : Result (Unit {0}) Fault). OnOk r ((c.args.left.ending.told ≡ Ok tt) × (c.args.left.sound ≡ Ok tt))) c.in-Ok.is c.both_of.ensures).0
+    c.save_behind.ensures.ends

@@ -13,5 +13,6 @@ end_threads-requires-clause-told g c κs lives = c.in-Ok.ensures.left.told
 
 pub returns-in-Ok : goal.returns-in-Ok
 returns-in-Ok g c =
-    ends_at_desk c.end_threads.result (g.S.Store.files c.args.store.now) (g.S.Store.files c.end_threads.new.store) c.args.line.now
-    c.args.alone c.args.work.commands.items c.in-Ok.left c.in-Ok.ensures.left c.in-Ok.ensures.unserved c.end_threads.ensures
+    ends_at_desk g.D.Device.follows g.D.Device.well c.end_threads.result (g.S.Store.files c.args.store.now) (g.S.Store.files c.end_threads.new.store)
+    c.args.line.now (length c.args.line.now.images.items) c.args.alone c.args.work.commands.items c.in-Ok.left c.in-Ok.ensures.left
+    c.in-Ok.ensures.unserved c.in-Ok.ensures.parts c.end_threads.ensures.sound c.end_threads.ensures.followed c.end_threads.ensures.ends

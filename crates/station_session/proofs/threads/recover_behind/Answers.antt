@@ -1,6 +1,6 @@
 use Rattle.station_session.proofs.ThreadsEnd.{saves_behind}
 use Rattle.station_session.proofs.RunFiles.{recovery_goes, failure_goes}
-use Rattle.station_session.proofs.threads.save_behind.Goals as goal
+use Rattle.station_session.proofs.threads.recover_behind.Goals as goal
 
 pub returns-in-Ok-clause-saved : goal.returns-in-Ok-clause-saved
 returns-in-Ok-clause-saved g c =

@@ -1,0 +1,129 @@
+-- The parts of a line that ended soundly at a desk: what their devices have followed, and that the disk is synced.
+use Rattle.std.proofs.Common.{◌≡◌, ℕ, zero, suc, ◌+◌, List, [], ◌∷◌, ◌++◌, length, take, slice_get, refl, sym, ◌∙◌, ap, subst, arith, inl, inr, Some, None, Result, Ok, Err}
+use Rattle.std.specs.Prelude.{OnOk}
+use Rattle.std.proofs.lemmas.List.{append-nil}
+use Rattle.site_core.specs.declared.fault.DeviceFault.{DeviceFault}
+use Rattle.site_core.specs.Disk.{Disk}
+use Rattle.site_core.specs.State.{State, Seen}
+use Rattle.site_shadow.specs.Unsynced.{of_bytes}
+use Rattle.site_shadow.specs.Site.{SiteValue}
+use Rattle.book_model.specs.declared.next.DiskNext.{DiskNext}
+use Rattle.book_model.specs.declared.next.DiskNext.TheVariants as next
+use Rattle.desk_book.specs.Logs.{DiskEntry}
+use Rattle.station_jobs.specs.Flushing.{DoesAction, IsFlushed}
+use Rattle.station_jobs.specs.Jobs.{DoneInTurn, IsDone, IsLast, MayEnd}
+use Rattle.station_threads.specs.declared.closing.Ends.{Ends}
+use Rattle.station_alone.specs.Station.{Station}
+use Rattle.station_files.specs.declared.faults.Fault.{Fault}
+use Rattle.script_session.specs.Parts.{Sites, IsApart, AreEndsOfParts, AreFollowed, EndsSynced, IsFollowed, Soundly}
+use Rattle.sii_edit.specs.declared.command.Command.{Command}
+use Rattle.script_session.specs.declared.threads.Left.{Left}
+use Rattle.script_session.specs.AtDesk.{EndsFollowed, IsServedFollowed, PartsFollowed, ServesFollowed}
+
+-- ---- the disk
+
+-- all bytes of the disk are synced
+abbrev pub IsSyncedNow : Seen → Type 0
+IsSyncedNow seen = seen.state.disk ≡ of_bytes seen.state.disk.bytes
+
+abbrev synced_entry : DiskEntry
+synced_entry = record { job = next.Sync; outcome = Some (Ok tt) }
+
+-- a sync that succeeded leaves all bytes synced
+by_sync : (entry : DiskEntry) (outcome : Result (Unit {0}) DeviceFault) (old new : Seen) → entry ≡ synced_entry → entry.outcome ≡ Some outcome → DoesAction entry.job outcome old new
+    → IsSyncedNow new
+by_sync entry outcome old new is told does =
+    let same : outcome ≡ Ok tt = (let there = ap (λ (e : DiskEntry). e.outcome) is in cc) in
+    let sync : DoesAction next.Sync outcome old new = subst (λ (job : DiskNext). DoesAction job outcome old new) (ap (λ (e : DiskEntry). e.job) is) does in
+    let ended = subst (λ (r : Result (Unit {0}) DeviceFault). OnOk r (new.state ≡ record old.state { disk = of_bytes old.state.disk.bytes })) same sync.ok in
+    ap (λ (s : State). s.disk) ended ∙ ap of_bytes (sym (ap (λ (s : State). s.disk.bytes) ended))
+
+done_synced : (done : List DiskEntry) (old new : Seen) (at : ℕ) → DoneInTurn DoesAction done old new → at + 1 ≡ length done → slice_get done at ≡ Some synced_entry → IsSyncedNow new
+done_synced [] old new at in_turn last here = absurd (omega (arith, last))
+done_synced (entry ∷ []) old new zero in_turn last here =
+    let is : entry ≡ synced_entry = cc in
+    let one : IsDone DoesAction entry old in_turn.0 = in_turn.1 in
+    subst IsSyncedNow (sym in_turn.2) (by_sync entry one.outcome old in_turn.0 is one.told one.does)
+done_synced (entry ∷ []) old new (suc at) in_turn last here = absurd (omega (arith, last))
+done_synced (entry ∷ second ∷ rest) old new zero in_turn last here = absurd (omega (arith, last))
+done_synced (entry ∷ second ∷ rest) old new (suc at) in_turn last here =
+    done_synced (second ∷ rest) in_turn.0 new at in_turn.2 (omega (arith, last)) here
+
+-- the last entry of a list that goes on
+last_of : (done : List DiskEntry) (entry : DiskEntry) (at : ℕ) → at + 1 ≡ length (done ++ entry ∷ []) → slice_get (done ++ entry ∷ []) at ≡ Some synced_entry → entry ≡ synced_entry
+last_of [] entry zero last here = cc
+last_of [] entry (suc at) last here = absurd (omega (arith, last))
+last_of (first ∷ []) entry zero last here = absurd (omega (arith, last))
+last_of (first ∷ second ∷ done) entry zero last here = absurd (omega (arith, last))
+last_of (first ∷ done) entry (suc at) last here = last_of done entry at (omega (arith, last)) here
+
+-- by a log that ends with a sync, all bytes are synced in the end
+led_synced : (log done last : List DiskEntry) (old mid new : Seen) (at : ℕ) → log ≡ done ++ last → DoneInTurn DoesAction done old mid → MayEnd DoesAction last mid new → at + 1 ≡ length log
+    → slice_get log at ≡ Some synced_entry → IsSyncedNow new
+led_synced log done [] old mid new at is in_turn ends last here =
+    let all : log ≡ done = is ∙ append-nil done in
+    subst IsSyncedNow (sym ends)
+    (done_synced done old mid at in_turn (last ∙ ap length all) (subst (λ (l : List DiskEntry). slice_get l at ≡ Some synced_entry) all here))
+led_synced log done (entry ∷ []) old mid new at is in_turn ends last here =
+    let one : IsLast DoesAction entry mid new = ends in
+    let same : entry ≡ synced_entry =
+    last_of done entry at (last ∙ ap length is) (subst (λ (l : List DiskEntry). slice_get l at ≡ Some synced_entry) is here) in
+    elim one.told [
+      | inl told ↦ by_sync entry one.outcome mid new same told one.does
+      | inr none ↦ (let there = ap (λ (e : DiskEntry). e.outcome) same in absurd cc)
+    ]
+led_synced log done (entry ∷ second ∷ rest) old mid new at is in_turn ends last here = absurd ends
+
+none_led : (done last : List DiskEntry) (old mid new : Seen) → [] ≡ done ++ last → DoneInTurn DoesAction done old mid → MayEnd DoesAction last mid new → new ≡ old
+none_led [] [] old mid new is in_turn ends = ends ∙ in_turn
+none_led [] (entry ∷ last) old mid new is in_turn ends = absurd cc
+none_led (entry ∷ done) last old mid new is in_turn ends = absurd cc
+
+-- a disk's part that began with all bytes synced, and whose log ends so
+pub synced_behind : (log : List DiskEntry) (old new : Seen) → IsFlushed log old new → IsSyncedNow old → EndsSynced log → IsSyncedNow new
+synced_behind log old new flushed began ends = elim ends [
+  | inl empty ↦ subst IsSyncedNow (sym (none_led flushed.led.done flushed.led.last old flushed.led.mid new (sym empty ∙ flushed.led.log_is) flushed.led.in_turn flushed.led.ends)) began
+  | inr there ↦ led_synced log flushed.led.done flushed.led.last old flushed.led.mid new there.0 flushed.led.log_is flushed.led.in_turn flushed.led.ends there.1 there.2
+]
+
+-- ---- the devices
+
+-- what devices have followed of parts that ended soundly
+pub parts_followed : {D : Type 0} (follows : D → Seen → Type 0) (well : D → Type 0) (opened : Station) (seen : Seen) (sites : Sites) (ends : Ends SiteValue) → seen ≡ opened.seen → IsApart seen.state sites → AreEndsOfParts sites ends
+    → IsFollowed (Soundly follows well) seen → length opened.line.sizes ≡ length seen.state.halves → AreFollowed (Soundly follows well) ends → EndsSynced ends.flusher.log → PartsFollowed (Soundly follows well) opened ends
+parts_followed follows well opened seen sites ends of_seen apart of_sites before count parts synced =
+    let start : ends.flusher.start.seen.state.disk ≡ of_bytes seen.state.disk.bytes = ap (λ (s : SiteValue). s.seen.state.disk) of_sites.flusher ∙ apart.disk in
+    record {
+      before = subst (λ (s : Seen). IsFollowed (Soundly follows well) s) of_seen before;
+      count = count ∙ ap (λ (s : Seen). length s.state.halves) of_seen;
+      parts = parts;
+      synced = synced_behind ends.flusher.log ends.flusher.start.seen ends.flusher.site.seen parts.flushed
+          (start ∙ ap of_bytes (sym (ap (λ (d : Disk). d.bytes) start))) synced;
+    }
+
+-- what devices have followed, by how the ends were judged
+pub followed_ends : {D : Type 0} (follows : D → Seen → Type 0) (well : D → Type 0) (opened : Station) (seen : Seen) (sites : Sites) (ends : Ends SiteValue) (sound : Result (Unit {0}) Fault) → seen ≡ opened.seen → IsApart seen.state sites
+    → AreEndsOfParts sites ends → OnOk sound (IsFollowed (Soundly follows well) seen) → length opened.line.sizes ≡ length seen.state.halves → OnOk sound (AreFollowed (Soundly follows well) ends) → OnOk sound (EndsSynced ends.flusher.log) → AreFollowed follows ends
+    → EndsFollowed follows well opened sound ends
+followed_ends follows well opened seen sites ends (Ok done) of_seen apart of_sites before count parts synced all =
+    parts_followed follows well opened seen sites ends of_seen apart of_sites before count parts synced
+followed_ends follows well opened seen sites ends (Err fault) of_seen apart of_sites before count parts synced all = all
+
+-- what holds where a result is `Ok`
+pub on_ok : {A E : Type 0} {P Q : Type 0} (result : Result A E) → (P → Q) → OnOk result P → OnOk result Q
+on_ok (Ok value) step holds = step holds
+on_ok (Err fault) step holds = tt
+
+-- the parts that were served and ended soundly
+pub served_soundly : {D : Type 0} (follows : D → Seen → Type 0) (well : D → Type 0) (opened : Station) (commands : List Command) (left : Left SiteValue) → ServesFollowed follows well opened commands left → left.sound ≡ Ok tt
+    → IsServedFollowed (Soundly follows well) opened left.site
+served_soundly follows well opened commands left serves sound = record {
+  served = record {
+    sites = serves.parts.sites;
+    apart = serves.parts.apart;
+    ends = serves.parts.ends;
+    of_sites = serves.parts.of_sites;
+    together = serves.parts.together;
+  };
+  followed = subst (λ (r : Result (Unit {0}) Fault). EndsFollowed follows well opened r serves.parts.ends) sound serves.followed;
+}
