@@ -165,17 +165,16 @@ impl fmt::Display for WireFault {
         if let Some(fault) = self.of_station() {
             return write!(f, "{fault}");
         }
-        let (code, number) = self.of_wire();
-        write!(f, "fault {code}")?;
-        if let Some(number) = number {
-            write!(f, " {number}")?;
-        }
-        match self {
-            WireFault::Stopped {
-                reason: StopReason::Differs { what, .. },
-                ..
-            } => write!(f, " ({what})"),
-            _ => Ok(()),
+        match (self.of_wire(), self) {
+            (
+                (code, Some(slave)),
+                WireFault::Stopped {
+                    reason: StopReason::Differs { what, .. },
+                    ..
+                },
+            ) => write!(f, "fault {code} {slave} ({what})"),
+            ((code, Some(number)), _) => write!(f, "fault {code} {number}"),
+            ((code, None), _) => write!(f, "fault {code}"),
         }
     }
 }

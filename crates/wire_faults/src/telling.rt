@@ -61,211 +61,101 @@ impl WireFault {
     }
 }
 
-/// A part of what is told.
-#[derive(Clone, Copy)]
-enum Part {
-    Text(&'static str),
-    Number(usize),
-    /// Four hexadecimal digits.
-    Word(u16),
-    /// Two hexadecimal digits.
-    Byte(u8),
-}
-
-impl From<u16> for Part {
-    fn from(number: u16) -> Self {
-        Part::Number(usize::from(number))
-    }
-}
-
-/// Writes a part.
-fn write_part<W: fmt::Write>(f: &mut fmt::Formatter<W>, part: Part) -> fmt::Result {
-    match part {
-        Part::Text(text) => f.write_str(text),
-        Part::Number(number) => write!(f, "{number}"),
-        Part::Word(word) => write!(f, "{word:04x}"),
-        Part::Byte(byte) => write!(f, "{byte:02x}"),
-    }
-}
-
-/// Writes parts one behind the other.
-fn write_parts<W: fmt::Write>(f: &mut fmt::Formatter<W>, parts: &[Part]) -> fmt::Result {
-    for part in parts {
-        write_part(f, *part)?;
-    }
-    Ok(())
-}
-
-/// Writes a number between two texts.
-fn write_number<W: fmt::Write>(
-    f: &mut fmt::Formatter<W>,
-    before: &'static str,
-    number: usize,
-    behind: &'static str,
-) -> fmt::Result {
-    write_parts(
-        f,
-        &[Part::Text(before), Part::Number(number), Part::Text(behind)],
-    )
-}
-
 /// Tells which slaves of a line still answer, of which so many take a broadcast, up to the place of a slave.
 fn write_answering<W: fmt::Write>(
     f: &mut fmt::Formatter<W>,
     answering: Option<u16>,
 ) -> fmt::Result {
     match answering {
-        None => f.write_str("; no broadcast comes back"),
-        Some(0) => f.write_str("; no slave answers a broadcast"),
-        Some(1) => f.write_str("; slave 0 alone answers a broadcast"),
-        Some(count) => write_parts(
-            f,
-            &[
-                Part::Text("; "),
-                Part::from(count),
-                Part::Text(" slaves answer a broadcast, 0 to "),
-                Part::from(count.saturating_sub(1)),
-                Part::Text(" if they are the first ones"),
-            ],
-        ),
-    }
-}
-
-/// Tells what came back of the last datagram to a slave.
-fn write_counter<W: fmt::Write>(f: &mut fmt::Formatter<W>, counter: Option<u16>) -> fmt::Result {
-    match counter {
-        Some(counter) => { write_number(f, "and counter ", usize::from(counter), " came back") }
-        None => f.write_str("and nothing came back"),
-    }
-}
-
-/// Tells the last status of a slave and the station address at its place, as far as they are known.
-fn write_known<W: fmt::Write>(f: &mut fmt::Formatter<W>, seen: Sighting) -> fmt::Result {
-    if let Some(status) = seen.status {
-        write_parts(
-            f,
-            &[
-                Part::Text("; control and status was last 0x"),
-                Part::Byte(status),
-                Part::Text(" in 0x0503"),
-            ],
-        )?;
-    }
-    match seen.station {
-        Some(station) => write_parts(
-            f,
-            &[
-                Part::Text("; station address 0x"),
-                Part::Word(station),
-                Part::Text(" at its place"),
-            ],
-        ),
-        None => Ok(()),
+        None => write!(f, "; no broadcast comes back"),
+        Some(0) => write!(f, "; no slave answers a broadcast"),
+        Some(1) => write!(f, "; slave 0 alone answers a broadcast"),
+        Some(count) => {
+            let last = count.saturating_sub(1);
+            write!(
+                f,
+                "; {count} slaves answer a broadcast, 0 to {last} if they are the first ones"
+            )
+        }
     }
 }
 
 /// Tells what was seen of a slave.
-fn write_seen<W: fmt::Write>(
-    f: &mut fmt::Formatter<W>,
-    slave: usize,
-    seen: Sighting,
-) -> fmt::Result {
+fn write_seen<W: fmt::Write>(f: &mut fmt::Formatter<W>, slave: u16, seen: Sighting) -> fmt::Result {
+    let way = way_of(seen.command);
+    let register = seen.register;
     let cause = seen.cause();
-    let asked = [
-        Part::Text("slave "),
-        Part::Number(slave),
-        Part::Text(": "),
-        Part::Text(cause.text()),
-        Part::Text("; register 0x"),
-        Part::Word(seen.register),
-        Part::Text(" was "),
-        Part::Text(way_of(seen.command)),
-        Part::Text(", "),
-    ];
-    write_parts(f, &asked)?;
-    write_counter(f, seen.counter)?;
-    write_known(f, seen)?;
+    let what = cause.text();
+    write!(
+        f,
+        "slave {slave}: {what}; register 0x{register:04x} was {way}, "
+    )?;
+    match seen.counter {
+        Some(counter) => write!(f, "and counter {counter} came back")?,
+        None => write!(f, "and nothing came back")?,
+    }
+    if let Some(status) = seen.status {
+        write!(f, "; control and status was last 0x{status:02x} in 0x0503")?;
+    }
+    if let Some(station) = seen.station {
+        write!(f, "; station address 0x{station:04x} at its place")?;
+    }
     write_answering(f, seen.answering)?;
-    write_parts(f, &[Part::Text("; "), Part::Text(remedy_of(cause))])
+    let remedy = remedy_of(cause);
+    write!(f, "; {remedy}")
 }
 
-/// What is told of a slave whose EEPROM its PDI has.
-const HELD: &str = ": its PDI has the EEPROM (0x0500, 0x0501): bring it to Init, or say --force";
-
-/// Tells why a slave can't be worked on.
-fn write_unfit<W: fmt::Write>(
-    f: &mut fmt::Formatter<W>,
-    slave: usize,
-    why: SlaveFault,
-) -> fmt::Result {
-    match why {
-        SlaveFault::Dead(seen) => write_seen(f, slave, seen),
-        SlaveFault::Held => write_number(f, "slave ", slave, HELD),
-        SlaveFault::Smaller { given, found } => write_parts(
-            f,
-            &[
-                Part::Text("slave "),
-                Part::Number(slave),
-                Part::Text(": its image file has "),
-                Part::from(given),
-                Part::Text(" words, and its EEPROM "),
-                Part::from(found),
-                Part::Text(": make the backup anew, or say --trust-images"),
-            ],
-        ),
-    }
+/// Tells that the PDI of a slave has the EEPROM.
+fn write_held<W: fmt::Write>(f: &mut fmt::Formatter<W>, slave: usize) -> fmt::Result {
+    write!(
+        f,
+        "slave {slave}: its PDI has the EEPROM (0x0500, 0x0501): bring it to Init, or say --force"
+    )
 }
 
 /// Tells why a line can't be brought up.
 fn write_line<W: fmt::Write>(f: &mut fmt::Formatter<W>, fault: LineFault) -> fmt::Result {
     match fault {
-        LineFault::Slave { slave, why } => write_unfit(f, usize::from(slave), why),
-        LineFault::Unaddressed { slave } => write_number(
+        LineFault::Slave {
+            slave,
+            why: SlaveFault::Dead(seen),
+        } => write_seen(f, slave, seen),
+        LineFault::Slave {
+            slave,
+            why: SlaveFault::Smaller { given, found },
+        } => write!(
             f,
-            "slave ",
-            usize::from(slave),
-            " has the station address 0: the master gives it one before it starts the station",
+            "slave {slave}: its image file has {given} words, and its EEPROM {found}: make the backup anew, or say --trust-images"
+        ),
+        LineFault::Slave {
+            slave,
+            why: SlaveFault::Held,
+        } => write_held(f, usize::from(slave)),
+        LineFault::Unaddressed { slave } => write!(
+            f,
+            "slave {slave} has the station address 0: the master gives it one before it starts the station"
         ),
         LineFault::SharedAddress {
             slave,
             other,
             station,
-        } => write_parts(
+        } => write!(
             f,
-            &[
-                Part::Text("slaves "),
-                Part::from(other),
-                Part::Text(" and "),
-                Part::from(slave),
-                Part::Text(" have the station address 0x"),
-                Part::Word(station),
-                Part::Text(": the master gives each one of its own before it starts the station"),
-            ],
+            "slaves {other} and {slave} have the station address 0x{station:04x}: the master gives each one of its own before it starts the station"
         ),
-        LineFault::Silent => write_number(
+        LineFault::Silent => write!(
             f,
-            "a frame was sent ",
-            TRIES as usize,
-            " times, and none came back: look at the interface, the cable and the slaves' power",
+            "a frame was sent {TRIES} times, and none came back: look at the interface, the cable and the slaves' power"
         ),
-        LineFault::NoSlaves => f.write_str(
-            "a broadcast came back with counter 0: what the interface is connected to is no EtherCAT slave",
-        ),
-        LineFault::TooManySlaves { slaves } => write_number(
+        LineFault::NoSlaves => write!(
             f,
-            "a broadcast came back with counter ",
-            usize::from(slaves),
-            ": work on 64 slaves at a time",
+            "a broadcast came back with counter 0: what the interface is connected to is no EtherCAT slave"
+        ),
+        LineFault::TooManySlaves { slaves } => write!(
+            f,
+            "a broadcast came back with counter {slaves}: work on 64 slaves at a time"
         ),
         LineFault::Memory => Ok(()),
-    }
-}
-
-/// The slave that a site has stopped for, if what was seen of it is told.
-fn stopped_for(reason: StopReason) -> Option<usize> {
-    match reason {
-        StopReason::Differs { slave, .. } | StopReason::WordFailed { slave } => Some(slave),
-        _ => None,
     }
 }
 
@@ -275,43 +165,13 @@ fn write_stop<W: fmt::Write>(
     reason: StopReason,
     seen: Option<Sighting>,
 ) -> fmt::Result {
-    match (stopped_for(reason), seen) {
-        (Some(slave), Some(seen)) => write_seen(f, slave, seen),
+    match (reason, seen) {
+        (StopReason::Differs { slave, .. }, Some(seen))
+        | (StopReason::WordFailed { slave }, Some(seen)) => {
+            write_seen(f, u16::try_from(slave).unwrap_or(u16::MAX), seen)
+        }
         _ => write!(f, "{reason}: recover the line; see sii_wire explain"),
     }
-}
-
-/// Tells that the words of an EEPROM were compared, and all are alike.
-fn write_unknown<W: fmt::Write>(f: &mut fmt::Formatter<W>, slave: usize, says: u32) -> fmt::Result {
-    let parts = [
-        Part::Text("slave "),
-        Part::Number(slave),
-        Part::Text(": word 0x3e says "),
-        Part::Number(says as usize),
-        Part::Text(" words, and all words that were compared are alike: say its size by --words "),
-        Part::Number(slave),
-        Part::Text("=N"),
-    ];
-    write_parts(f, &parts)
-}
-
-/// Tells of a command that makes word 0x3E of this slave say so many words.
-fn write_resizing<W: fmt::Write>(
-    f: &mut fmt::Formatter<W>,
-    command: usize,
-    slave: usize,
-    words: u32,
-) -> fmt::Result {
-    let parts = [
-        Part::Text("command "),
-        Part::Number(command),
-        Part::Text(" makes word 0x3e of slave "),
-        Part::Number(slave),
-        Part::Text(" say "),
-        Part::Number(words as usize),
-        Part::Text(" words, and its EEPROM has others: correct it, or say --resize"),
-    ];
-    write_parts(f, &parts)
 }
 
 impl fmt::Display for Told {
@@ -319,30 +179,30 @@ impl fmt::Display for Told {
         match self.fault {
             WireFault::Line(fault) => write_line(f, fault),
             WireFault::Stopped { reason, seen } => write_stop(f, reason, seen),
-            WireFault::OtherCount { slaves } => write_number(
+            WireFault::OtherCount { slaves } => write!(
                 f,
-                "the line has ",
-                slaves,
-                " slaves, and the line file names another number of them",
+                "the line has {slaves} slaves, and the line file names another number of them"
             ),
-            WireFault::UnknownSize { slave, says } => write_unknown(f, slave, says),
-            WireFault::Running { slave } => write_number(
+            WireFault::UnknownSize { slave, says } => write!(
                 f,
-                "slave ",
-                slave,
-                " is in Safe-Operational or Operational (0x0130): bring it to Init, or say --force",
+                "slave {slave}: word 0x3e says {says} words, and all words that were compared are alike: say its size by --words {slave}=N"
             ),
-            WireFault::Held { slave } => write_number(f, "slave ", slave, HELD),
+            WireFault::Running { slave } => write!(
+                f,
+                "slave {slave} is in Safe-Operational or Operational (0x0130): bring it to Init, or say --force"
+            ),
+            WireFault::Held { slave } => write_held(f, slave),
             WireFault::OtherSize {
                 command,
                 slave,
                 words,
-            } => write_resizing(f, command, slave, words),
-            WireFault::Station(Fault::SlaveDead { slave }) => write_number(
+            } => write!(
                 f,
-                "slave ",
-                usize::from(slave),
-                ": it stays busy, or its EEPROM doesn't acknowledge: switch it off and on, and recover the line",
+                "command {command} makes word 0x3e of slave {slave} say {words} words, and its EEPROM has others: correct it, or say --resize"
+            ),
+            WireFault::Station(Fault::SlaveDead { slave }) => write!(
+                f,
+                "slave {slave}: it stays busy, or its EEPROM doesn't acknowledge: switch it off and on, and recover the line"
             ),
             WireFault::Station(_) => Ok(()),
         }
