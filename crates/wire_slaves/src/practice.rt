@@ -100,21 +100,11 @@ fn power_up<S: Store>(
 ) -> Result<Vec<PracticeSlave>, Fault> {
     let mut slaves = Vec::new(alloc);
     for slave in 0..names.len() {
+        let words = load_image(alloc, names[slave].as_str(), store)?;
         let quirks = quirks.of_slave(PLAIN, slave).unwrap_or(PLAIN);
-        slaves.push(power_up_one(alloc, names[slave].as_str(), quirks, store)?)?;
+        slaves.push(PracticeSlave::switched_on(alloc, &words, quirks)?)?;
     }
     Ok(slaves)
-}
-
-/// A slave, just switched on, with the words of this file.
-fn power_up_one<S: Store>(
-    alloc: Global,
-    name: &str,
-    quirks: Quirks,
-    store: &mut S,
-) -> Result<PracticeSlave, Fault> {
-    let words = load_image(alloc, name, store)?;
-    Ok(PracticeSlave::switched_on(alloc, &words, quirks)?)
 }
 
 /// The words of an image file, of which there may be more or fewer than the station works on.
@@ -129,15 +119,11 @@ fn load_image<S: Store>(alloc: Global, name: &str, store: &mut S) -> Result<Vec<
     Ok(words_of_bytes(alloc, &bytes)?)
 }
 
-/// The slaves' time goes on to this moment.
-fn pass_time<C: Clock, F: RandomAccessFile>(
-    clock: &C,
-    slaves: &mut PracticeFiles<F>,
-) -> Result<(), Fault> {
+/// The moment, in microseconds.
+fn moment<C: Clock>(clock: &C) -> Result<u64, Fault> {
     let now = clock.monotonic()?;
     let whole = now.as_secs().saturating_mul(1_000_000);
-    slaves.pass_time(whole.saturating_add(u64::from(now.subsec_micros())))?;
-    Ok(())
+    Ok(whole.saturating_add(u64::from(now.subsec_micros())))
 }
 
 /// Opens the files `names`, in order.
@@ -204,7 +190,7 @@ fn serve_frames<C: Clock, W: Wire, F: RandomAccessFile, O: Write>(
     let mut empty = 0u32;
     for _turn in 0..u64::MAX {
         let heard = hear(wire)?;
-        pass_time(clock, slaves)?;
+        slaves.pass_time(moment(clock)?)?;
         match heard {
             Heard::Frame(frame) => {
                 empty = 0;

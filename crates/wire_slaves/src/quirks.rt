@@ -175,9 +175,8 @@ impl<'a> QuirkList<'a> {
             }
             let item = item_of(text)?;
             let with = with_item(found, item)?;
-            match item.slave {
-                Some(number) if number as usize != slave => {}
-                _ => found = with,
+            if item.slave.is_none_or(|number| number as usize == slave) {
+                found = with;
             }
         }
         Some(found)
