@@ -160,6 +160,7 @@ pub ends_at_desk : {D : Type 0} (follows : D → Seen → Type 0) (well : D → 
     → OnOk result (IsTrue left.ending.is_driven → SavesFollowed (LedOn (Soundly follows well) slaves left.site.seen) new line)
     → Ends (λ status. SavesLeft new line left status) result old new line
     → Ends (SavesDesk (LedAtDesk (Soundly follows well) slaves opened) new line opened commands) result old new line
+unfolding at_desk
 ends_at_desk follows well (Ok status) old new line slaves opened commands left leaves same serves sound followed ends = record {
   others = ends.others;
   unsaved = tt;

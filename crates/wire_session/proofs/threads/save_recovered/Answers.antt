@@ -1,7 +1,9 @@
-use Rattle.std.proofs.Common.{ap, true}
+use Rattle.std.proofs.Common.{ap, subst, true}
 use Rattle.site_core.specs.State.{Seen}
 use Rattle.station_files.specs.declared.faults.ExitStatus.{ExitStatus}
 use Rattle.station_session.specs.Session.{SavesServed}
+use Rattle.script_session.proofs.SoundLaws.{on_ok}
+use Rattle.station_session.specs.Site.{HoldsSite}
 use Rattle.wire_session.proofs.RunEnds.{Behind, ends_driven, ends_failed, ends_undriven}
 use Rattle.wire_session.proofs.threads.save_recovered.Goals as goal
 
@@ -24,3 +26,9 @@ returns-clause-ends g c =
     c.args.line.now c.args.behind.commands.items c.args.alone c.into_parts-core.result.1.seen.state c.args.behind.status c.if-not-is_driven.false
     (ap (λ (seen : Seen). seen.state) c.into_parts-core.ensures.seen) c.save_served.ensures.saved c.save_served.ensures.status
     c.save_served.ensures.others c.save_served.ensures.failed
+
+pub returns-clause-held : goal.returns-clause-held
+returns-clause-held g c =
+    on_ok c.save_served.result
+    (λ held driven. subst (λ (seen : Seen). HoldsSite (g.S.Store.files c.save_served.new.store) c.args.line.now seen.state) c.into_parts-core.ensures.seen held)
+    c.save_served.ensures.saved
