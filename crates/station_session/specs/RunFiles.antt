@@ -45,8 +45,8 @@ abbrev pub GoesBehind : (Stage : Seen → Seen → Type 0) → (sound : Result (
 GoesBehind Stage (Ok done) left status = (last : Seen) × Stage left last
 GoesBehind Stage (Err fault) left status = ¬ IsFaultless status
 
--- The line of an open station was served so. `Stage` relates a site before work on one thread to the site behind it, `Desk` is said of the station, of
--- whether the parts ended soundly, of the ends of a desk's threads, and of the site that was put together.
+-- The line of an open station was served so. `Stage` relates a site before work on one thread to the site behind it, `Desk` is said of the station,
+-- of whether the parts ended soundly, of the ends of a desk's threads, and of the site that was put together.
 pub data DeskGoes (Stage : Seen → Seen → Type 0) (Desk : Station → Result (Unit {0}) Fault → Ends SiteValue → SiteValue → Type 0) (station : Station)
     (commands : List Command) (status : ExitStatus) : Type 0 where
   -- the line couldn't be taken apart or put together, or memory was refused

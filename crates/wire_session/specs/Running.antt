@@ -23,12 +23,14 @@ EndsAlone result old new line opened commands = Ends (λ status. SavesServed new
 
 -- The commands were served by threads, and the files hold the result. Where the commands were submitted at the desk, the line was recovered behind
 -- it, with `Way` said of what led there.
-pub record SavesDesk (Way : Seen → Type 0) (files : Known) (line : LineFile) (opened : Station) (commands : List Command) (status : ExitStatus) : Type 0 where
+pub record SavesDesk (Way : Seen → Type 0) (files : Known) (line : LineFile) (opened : Station) (commands : List Command)
+    (status : ExitStatus) : Type 0 where
   pub serves : Serves false files line opened commands status
   pub followed : IsTrue serves.is_driven → SavesFollowed Way files line
 
 -- The same of a station that was opened on this site, after a recovery if the journal wasn't of version 2, as in a run on files.
-pub record SavesSite (Way : Seen → Type 0) (files : Known) (line : LineFile) (site : SiteValue) (commands : List Command) (status : ExitStatus) : Type 0 where
+pub record SavesSite (Way : Seen → Type 0) (files : Known) (line : LineFile) (site : SiteValue) (commands : List Command)
+    (status : ExitStatus) : Type 0 where
   pub saves : SavesRun false files line site commands status
   pub followed : IsTrue saves.serves.is_driven → SavesFollowed Way files line
 

@@ -248,8 +248,8 @@ fn run_site<R: Wait + Threads + AllocGlobal + Sync, D: Device + Copy + Send, S: 
     requires disk { IsTrue start.site.line.has_disk }
     requires owned { OwnsAll start.site.line }
     requires old { start.was_old ≡ is_old start.site.seen.state.disk.bytes }
-    ensures { Ends (SavesSite (EndsFollowed (Soundly D.follows D.well) start.site (length line.now.images.items)) (S.files store.new) line.now start.site
-        work.commands.items) result (S.files store.old) (S.files store.new) line.now }
+    ensures { Ends (SavesSite (EndsFollowed (Soundly D.follows D.well) start.site (length line.now.images.items)) (S.files store.new) line.now
+        start.site work.commands.items) result (S.files store.old) (S.files store.new) line.now }
 {
     let Start { site, was_old } = start;
     match open_station(rt.alloc(), site, was_old, None) {

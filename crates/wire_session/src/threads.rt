@@ -49,8 +49,8 @@ pub(crate) fn run_threads<
     output: &mut O,
 ) -> Result<ExitStatus, WireFault>
     requires none { alone.book.accepted ≡ [] }
-    ensures { Ends (SavesDesk (LedAtDesk (Soundly D.follows D.well) (length line.now.images.items) alone) (S.files store.new) line.now alone work.commands.items)
-        result (S.files store.old) (S.files store.new) line.now }
+    ensures { Ends (SavesDesk (LedAtDesk (Soundly D.follows D.well) (length line.now.images.items) alone) (S.files store.new) line.now alone
+        work.commands.items) result (S.files store.old) (S.files store.new) line.now }
 {
     match serve_by_threads(rt, rt.alloc(), alone, line.images.len(), work, output) {
         Ok(left) => end_threads(rt.alloc(), line, left, store, output),
@@ -202,8 +202,8 @@ fn run_alone<D: Device + Copy, S: Store, O: Write>(
     }
 }
 
-/// Saves what the slaves hold, and gives the status of the answers. `Unserved` where the site has stopped, or something has failed that its device was
-/// asked, though the station was told of nothing; then nothing is written.
+/// Saves what the slaves hold, and gives the status of the answers. `Unserved` where the site has stopped, or something has failed that its device
+/// was asked, though the station was told of nothing; then nothing is written.
 fn save_served<D: Device + Copy, S: Store>(
     alloc: Global,
     line: &LineFile,
