@@ -13,8 +13,8 @@ use Rattle.book_model.specs.Entries.{runs_of}
 use Rattle.book_model.specs.Book.{all_cells, is_version_2}
 use Rattle.book_model.specs.Reading.{settled_prefix}
 use Rattle.book_model.specs.Submit as submit
-use Rattle.book_laws.proofs.CommandLaws.{entries-push, entry_after, length-entries}
-use Rattle.book_laws.specs.Worn.{named_for}
+use Rattle.book_model.proofs.CommandLaws.{entries-push, entry_after, length-entries}
+use Rattle.book_model.specs.Worn.{named_for}
 use Rattle.book_parts.specs.Line.{LineState, HasRoom, slave_at}
 use Rattle.book_parts.specs.Room.{Room, half_room}
 use Rattle.book_parts.specs.Spot.{as_place}

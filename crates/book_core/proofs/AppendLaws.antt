@@ -7,7 +7,7 @@ use Rattle.jrn_format.specs.declared.journal.Form.TheVariants.{Two}
 use Rattle.jrn_format.specs.Batch.{PayloadFits}
 use Rattle.jrn_format.specs.Halves.{Halves, Place, InOlder, InNewer, batches_in, fits, place_in, place_of}
 use Rattle.book_model.specs.Entries.{runs_of}
-use Rattle.book_laws.proofs.CommandLaws.{length-entries}
+use Rattle.book_model.proofs.CommandLaws.{length-entries}
 use Rattle.book_parts.specs.Line.{LineState, HasRoom, SameButRooms}
 use Rattle.book_parts.specs.declared.spot.Spot.{Spot}
 use Rattle.book_parts.specs.Room.{half_room}
@@ -16,7 +16,7 @@ use Rattle.book_parts.specs.Ledger.{Ledger, own, appended, queued, all_begun}
 use Rattle.book_core.specs.declared.step.Step.TheVariants.{Resting, Payload}
 use Rattle.book_core.specs.declared.book.Core.TheInside.{Inside}
 use Rattle.book_core.specs.Stands.{StepStands, PartsStand, Stands, IsAppending}
-use Rattle.book_laws.proofs.BeginLaws.{first_or, only}
+use Rattle.book_model.proofs.BeginLaws.{first_or, only}
 
 -- ---- a batch has its place
 

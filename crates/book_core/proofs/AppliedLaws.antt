@@ -12,8 +12,8 @@ use Rattle.book_model.proofs.SettledLaws.{settled-all}
 use Rattle.book_model.specs.Entries.{runs_of, namings, values, entries_from}
 use Rattle.book_model.specs.Book.{all_cells, cell_at}
 use Rattle.book_model.specs.Reading.{settled_from, runs_settled, settled_prefix}
-use Rattle.book_laws.proofs.CellLaws.{values-append}
-use Rattle.book_laws.proofs.FitLaws.{runs_of-append}
+use Rattle.book_model.proofs.CellLaws.{values-append}
+use Rattle.book_model.proofs.FitLaws.{runs_of-append}
 use Rattle.book_parts.specs.Line.{LineState, first_unsettled, OweNoMore}
 use Rattle.book_parts.specs.Ledger.{Ledger, own}
 use Rattle.book_core.specs.Stands.{as_found, AreLatest, applied_of}

@@ -24,7 +24,7 @@ use Rattle.book_core.specs.Handing.{IsOther}
 use Rattle.book_core.specs.Stands.{StepStands, PartsStand, Stands}
 use Rattle.book_core.proofs.RunLaws.{same-runs}
 use Rattle.book_model.proofs.SettledLaws.{and-right}
-use Rattle.book_laws.proofs.OldBeginLaws.{none-any}
+use Rattle.book_model.proofs.OldBeginLaws.{none-any}
 
 -- ---- a retire
 

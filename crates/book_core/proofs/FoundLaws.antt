@@ -17,7 +17,7 @@ use Rattle.jrn_format.specs.Live.{halves_in}
 use Rattle.book_model.specs.Entries.{runs_of, entries_of, live_runs, sizes_of}
 use Rattle.book_model.specs.Book.{Slave}
 use Rattle.book_model.specs.Open.{owing_words, owing_slaves}
-use Rattle.book_laws.proofs.FitLaws.{runs_of-append, live_runs-append}
+use Rattle.book_model.proofs.FitLaws.{runs_of-append, live_runs-append}
 use Rattle.book_model.specs.Cells.{Cell}
 use Rattle.book_parts.specs.Line.{LineState, AreOfLine, NeverFall, SameButRooms}
 use Rattle.book_parts.proofs.OwingLaws.{owing_slaves-append, sizes-owing}

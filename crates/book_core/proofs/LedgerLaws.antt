@@ -4,7 +4,7 @@ use Rattle.jrn_format.specs.declared.journal.Entry.{Entry}
 use Rattle.jrn_format.specs.Halves.{Place}
 use Rattle.book_model.specs.Book.{Book, being_appended}
 use Rattle.book_model.specs.Book as book
-use Rattle.book_laws.proofs.CommandLaws.{length-entries}
+use Rattle.book_model.proofs.CommandLaws.{length-entries}
 use Rattle.book_parts.specs.Line.{LineState}
 use Rattle.book_parts.specs.Room.{Room}
 use Rattle.book_parts.specs.Ledger.{Ledger, contents_of, own, appended, queued}

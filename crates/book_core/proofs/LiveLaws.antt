@@ -17,13 +17,13 @@ use Rattle.book_model.specs.Entries.{namings, runs_of, entries_of, values}
 use Rattle.book_model.specs.Book.{Slave, Errand, nobody, all_cells, cell_at, IsAbout}
 use Rattle.book_model.specs.Open.{owing_words, owing_slaves}
 use Rattle.book_model.specs.Reading.{settled_prefix}
-use Rattle.book_laws.specs.Fits.{OwesNoMore}
-use Rattle.book_laws.specs.Worn.{named_for}
-use Rattle.book_laws.proofs.BookLaws.{cells_of, length-all_cells}
-use Rattle.book_laws.proofs.CellLaws.{length-all_named, namings-append}
-use Rattle.book_laws.proofs.FitLaws.{runs_of-append}
-use Rattle.book_laws.proofs.SettledLaws.{prefix-stays, slave-settled}
-use Rattle.book_laws.proofs.WornSlaves.{worn-failed, worn-owing}
+use Rattle.book_model.specs.Fits.{OwesNoMore}
+use Rattle.book_model.specs.Worn.{named_for}
+use Rattle.book_model.proofs.BookLaws.{cells_of, length-all_cells}
+use Rattle.book_model.proofs.CellLaws.{length-all_named, namings-append}
+use Rattle.book_model.proofs.FitLaws.{runs_of-append}
+use Rattle.book_model.proofs.SettlingLaws.{prefix-stays, slave-settled}
+use Rattle.book_model.proofs.WornSlaves.{worn-failed, worn-owing}
 use Rattle.book_parts.specs.Line.{LineState, is_settled, slave_at, retired}
 use Rattle.book_parts.proofs.OwingLaws.{SameButOwed, owed-slave, owing-keeps, slave-owing, sizes-owing, length-owing_slaves}
 use Rattle.book_parts.specs.Room.{Room}

@@ -19,7 +19,7 @@ use Rattle.book_model.specs.Cells.{since, cell_of, opened}
 use Rattle.book_model.specs.Entries.{namings, runs_of, entries_of, live_runs, sizes_of}
 use Rattle.book_model.specs.Book.{Slave, Free, nobody}
 use Rattle.book_model.specs.Open.{opened_slave, owing_slaves}
-use Rattle.book_laws.specs.Worn.{named_for, owed_in}
+use Rattle.book_model.specs.Worn.{named_for, owed_in}
 use Rattle.book_parts.specs.Line.{LineState}
 use Rattle.book_parts.proofs.OwingLaws.{sizes-owing}
 use Rattle.book_parts.specs.Room.{Room}

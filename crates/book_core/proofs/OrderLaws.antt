@@ -9,7 +9,7 @@ use Rattle.sii_edit.specs.Fold.{after}
 use Rattle.sii_words.specs.Run.{runs_between}
 use Rattle.jrn_format.specs.declared.journal.Entry.{Entry}
 use Rattle.book_model.specs.Entries.{entries_from}
-use Rattle.book_laws.proofs.CommandLaws.{length-entries}
+use Rattle.book_model.proofs.CommandLaws.{length-entries}
 use Rattle.book_parts.specs.Line.{LineState, NeverFall}
 use Rattle.book_parts.specs.Ledger.{Ledger, own, appended}
 use Rattle.book_core.specs.Stands.{as_found, AreLatest}

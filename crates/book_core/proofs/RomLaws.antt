@@ -14,7 +14,7 @@ use Rattle.book_parts.specs.Line.{LineState}
 use Rattle.book_parts.specs.Line as line
 use Rattle.book_core.specs.Stands.{HasLive}
 use Rattle.book_core.proofs.RunLaws.{live-runs}
-use Rattle.book_laws.proofs.WorkLaws.{owed-inside}
+use Rattle.book_model.proofs.WorkLaws.{owed-inside}
 
 -- ---- the same words are to be written
 

@@ -5,7 +5,7 @@ use Rattle.sii_words.specs.declared.run.Run.{Run}
 use Rattle.jrn_format.specs.declared.journal.Entry.{Entry}
 use Rattle.jrn_format.specs.Halves.{Halves, live}
 use Rattle.book_model.specs.Entries.{runs_of, entries_of, live_runs}
-use Rattle.book_laws.proofs.FitLaws.{runs_of-append, live_runs-append}
+use Rattle.book_model.proofs.FitLaws.{runs_of-append, live_runs-append}
 use Rattle.book_parts.specs.Line.{LineState}
 use Rattle.book_core.specs.Stands.{runs_each, HasLive}
 

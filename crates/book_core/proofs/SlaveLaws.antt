@@ -7,12 +7,12 @@ use Rattle.book_model.specs.Cells.{Cell, Known, Holds, Unsure, nothing, cell_of,
 use Rattle.book_model.specs.declared.fault.Fault.{Fault}
 use Rattle.book_model.specs.Book.{Slave, Errand, Free, Issuing, Unsettled, Settling, nobody, all_cells, cell_at, IsAbout}
 use Rattle.jrn_format.specs.declared.journal.Entry.{Entry}
-use Rattle.book_laws.specs.Fits.{OwesNoMore}
-use Rattle.book_laws.specs.Owed.{IsAmong}
-use Rattle.book_laws.specs.Worn.{SlaveWorn}
-use Rattle.book_laws.proofs.WornSlaves.{worn-asked, worn-errand, worn-failed, worn-written}
-use Rattle.book_laws.proofs.BookLaws.{cells_of}
-use Rattle.book_laws.proofs.CellLaws.{length-all_named}
+use Rattle.book_model.specs.Fits.{OwesNoMore}
+use Rattle.book_model.specs.Owed.{IsAmong}
+use Rattle.book_model.specs.Worn.{SlaveWorn}
+use Rattle.book_model.proofs.WornSlaves.{worn-asked, worn-errand, worn-failed, worn-written}
+use Rattle.book_model.proofs.BookLaws.{cells_of}
+use Rattle.book_model.proofs.CellLaws.{length-all_named}
 use Rattle.book_parts.specs.Line.{LineState, slave_at, with_slave}
 use Rattle.book_parts.specs.Ledger.{Ledger}
 use Rattle.book_core.specs.Stands.{cell_counts, ErrandStands, ErrandsStand, IsOwed, live_for, named_since}

@@ -13,10 +13,10 @@ use Rattle.book_model.specs.Book.{Errand, Free, Issuing, Unsettled, Settling}
 use Rattle.book_model.specs.Open.{owing_words}
 use Rattle.book_model.proofs.EndLaws.{values-append}
 use Rattle.book_model.proofs.SettledLaws.{word-settled}
-use Rattle.book_laws.specs.Owed.{IsAmong, IsUnsure, due}
-use Rattle.book_laws.proofs.CellLaws.{due-append, due-all_named, held, length-all_named}
-use Rattle.book_laws.specs.Worn.{named_for, SlaveWorn}
-use Rattle.book_laws.proofs.WornBooks.{worn-few}
+use Rattle.book_model.specs.Owed.{IsAmong, IsUnsure, due}
+use Rattle.book_model.proofs.CellLaws.{due-append, due-all_named, held, length-all_named}
+use Rattle.book_model.specs.Worn.{named_for, SlaveWorn}
+use Rattle.book_model.proofs.WornBooks.{worn-few}
 use Rattle.book_parts.specs.Line.{slave_at}
 use Rattle.book_parts.proofs.OwingLaws.{cell-owing, length-owing_words}
 use Rattle.book_core.specs.declared.book.Core.TheInside.{Inside}
@@ -24,8 +24,8 @@ use Rattle.book_core.specs.Parts.{book_of}
 use Rattle.book_core.specs.Stands.{IsOwed, OwesLast, Stands}
 use Rattle.book_core.specs.Wear.{IssuesFew}
 use Rattle.book_core.proofs.RomLaws.{kept-by}
-use Rattle.book_laws.proofs.WorkLaws.{IsLast, last-all, some-of}
-use Rattle.book_laws.proofs.IssueLaws.{among, due-last}
+use Rattle.book_model.proofs.WorkLaws.{IsLast, last-all, some-of}
+use Rattle.book_model.proofs.IssueLaws.{among, due-last}
 
 -- ---- the last naming of a word
 

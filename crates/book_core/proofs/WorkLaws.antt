@@ -11,9 +11,9 @@ use Rattle.book_model.specs.Entries.{runs_of, namings}
 use Rattle.book_model.specs.Pending.{first}
 use Rattle.book_model.specs.Book.{Slave, Errand, Free, all_cells, IsAbout, Settling}
 use Rattle.book_model.specs.Reading.{runs_settled, settled_prefix}
-use Rattle.book_laws.specs.Fits.{OwesNoMore}
-use Rattle.book_laws.proofs.BookLaws.{length-all_cells}
-use Rattle.book_laws.proofs.SettledLaws.{prefix-stays}
+use Rattle.book_model.specs.Fits.{OwesNoMore}
+use Rattle.book_model.proofs.BookLaws.{length-all_cells}
+use Rattle.book_model.proofs.SettlingLaws.{prefix-stays}
 use Rattle.book_parts.specs.Line.{LineState, slave_at, with_slave, to_do, with_issue, with_written}
 use Rattle.book_parts.specs.Room.{Room}
 use Rattle.book_parts.specs.Ledger.{Ledger, own}

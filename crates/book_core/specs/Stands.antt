@@ -12,8 +12,8 @@ use Rattle.book_model.specs.Pending.{values_of}
 use Rattle.book_model.specs.Entries.{namings, runs_of, entries_of, sizes_of}
 use Rattle.book_model.specs.Book.{Slave, Errand, Free, Issuing, Unsettled, Settling, IsAbout, all_cells, is_version_2}
 use Rattle.book_model.specs.Reading.{settled_prefix}
-use Rattle.book_laws.specs.Owed.{IsAmong, IsUnsure, due}
-use Rattle.book_laws.specs.Worn.{named_for, SlaveWorn}
+use Rattle.book_model.specs.Owed.{IsAmong, IsUnsure, due}
+use Rattle.book_model.specs.Worn.{named_for, SlaveWorn}
 use Rattle.book_parts.specs.Line.{LineState, HasRoom, is_settled, slave_at}
 use Rattle.book_parts.specs.Room.{Room, half_room}
 use Rattle.book_parts.specs.Spot.{as_place}

@@ -1,7 +1,7 @@
 -- How often words are issued to the slaves.
 use Rattle.std.specs.Prelude.{ℕ, ◌*◌, ◌<◌, ◌≤◌, ◌++◌, length}
 use Rattle.book_model.specs.Book.{Book, own, slave_at}
-use Rattle.book_laws.specs.Worn.{named_for}
+use Rattle.book_model.specs.Worn.{named_for}
 
 -- Since the open each slave was issued at most three words for each word that the entries found then and the accepted commands name
 -- for it.

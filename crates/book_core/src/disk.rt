@@ -6,7 +6,7 @@ use crate::step::Step;
 use book_model::{CoreFault, DiskNext};
 use book_parts::Spot;
 use jrn_format::encode_batch;
-use lists::ItemList;
+use sii_words::ItemList;
 use std::alloc::{AllocError, Global};
 
 /// The byte of the journal's file that holds its version.

@@ -12,7 +12,7 @@ use crate::step::Step;
 use book_model::Fault;
 use book_parts::{Area, Ledger, LineWork, Spot};
 use jrn_format::Batch;
-use lists::ItemList;
+use sii_words::ItemList;
 use site_core::DeviceFault;
 
 /// The appended batch goes live: its commands are durable, and its words are to be written to the slaves.

@@ -14,8 +14,7 @@ use crate::taking::{note_batches, take_up};
 use book_model::CoreFault;
 use book_parts::{Area, Ledger, LineWork, Shown};
 use jrn_format::{Batch, Entry, Journal};
-use lists::History;
-use sii_words::{Plant, Words};
+use sii_words::{History, Plant, Words};
 use std::alloc::{AllocError, Global};
 use std::snapshot::Snapshot;
 

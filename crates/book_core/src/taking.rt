@@ -14,8 +14,7 @@ ghost use Rattle.book_core.specs.Found.{AreFound, Joined, TakenUp};
 
 use book_parts::{LineWork, Spot};
 use jrn_format::{Batch, Entry};
-use lists::{History, ItemList};
-use sii_words::{Plant, redo};
+use sii_words::{History, ItemList, Plant, redo};
 use std::alloc::{AllocError, Global};
 use std::mem::replace;
 

@@ -1,4 +1,4 @@
-use lists::ItemList;
+use sii_words::ItemList;
 use site_core::{Issued, Settled};
 
 /// The next action for the disk. Offsets are in bytes from the start of the journal file.

@@ -13,7 +13,7 @@ use Rattle.book_parts.proofs.NamedLaws.{length-named_from, named-cells, named-ro
 use Rattle.book_model.proofs.EndLaws.{same_test}
 use Rattle.book_model.proofs.EndLaws.{other_test}
 use Rattle.book_model.proofs.WrittenLaws.{all_named-append}
-use Rattle.book_laws.proofs.FitLaws.{runs_of-append}
+use Rattle.book_model.proofs.FitLaws.{runs_of-append}
 
 pub namings-append : (xs ys : List Run) (i : ℕ) → namings (xs ++ ys) i ≡ namings xs i ++ namings ys i
 namings-append xs ys i = flat_map-append (named_by i) xs ys

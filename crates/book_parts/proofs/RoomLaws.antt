@@ -13,7 +13,7 @@ use Rattle.book_parts.specs.Line.{AreOfLine, HasRoom}
 use Rattle.book_parts.specs.Works.{work_at, no_work, no_run, with_queue, with_room, slave_of, room_of, line_of, AreOfSlaves, Counted, OnlyRooms, HasCounted, WorkStands, WorksStand}
 use Rattle.book_parts.proofs.MapLaws.{get-any}
 use Rattle.book_parts.proofs.EntryLaws.{namings-append, named-none, namings-more, words-more}
-use Rattle.book_laws.proofs.FitLaws.{runs_of-append}
+use Rattle.book_model.proofs.FitLaws.{runs_of-append}
 use Rattle.book_parts.proofs.StepLaws.{split-at}
 use Rattle.book_parts.proofs.LineLaws.{slave-at, room-at}
 

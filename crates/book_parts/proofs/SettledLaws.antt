@@ -12,7 +12,7 @@ use Rattle.book_model.specs.Reading.{settled_from}
 use Rattle.book_parts.specs.declared.work.SlaveWork.{SlaveWork}
 use Rattle.book_parts.specs.Works.{work_at, slave_of, older_settled, all_older_settled, WorkStands}
 use Rattle.book_parts.proofs.EntryLaws.{namings-append}
-use Rattle.book_laws.proofs.FitLaws.{runs_of-append}
+use Rattle.book_model.proofs.FitLaws.{runs_of-append}
 use Rattle.book_model.proofs.SettledLaws.{and-left, and-right}
 
 pub settled-append : (xs ys : List SlaveWork) → all_older_settled xs ≡ true → all_older_settled ys ≡ true → all_older_settled (xs ++ ys) ≡ true

@@ -19,7 +19,7 @@ use Rattle.jrn_format.specs.Batch.{AreCountedRuns, IsCountedRun, entry_size}
 use Rattle.jrn_format.specs.Halves.{entries_size}
 use Rattle.jrn_format.proofs.SizeLaws.{payload_size, payload_one_more}
 use Rattle.book_model.specs.declared.refusal.TheConstants.{QUEUE}
-use Rattle.book_laws.proofs.CommandLaws.{entries-push, length-entries}
+use Rattle.book_model.proofs.CommandLaws.{entries-push, length-entries}
 use Rattle.book_parts.specs.Change.{IsChangeOf}
 use Rattle.book_parts.specs.Ledger.{Ledger, contents_of, own, queued, opened, with_command, gone_durable}
 use Rattle.book_parts.specs.Stands.{ContentsStand, EntriesStand, IsSized, Stands}

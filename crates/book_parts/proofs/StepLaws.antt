@@ -11,7 +11,7 @@ use Rattle.book_parts.specs.Works.{words_named, entries_named, work_at, no_work,
 use Rattle.book_parts.proofs.MapLaws.{get-any}
 use Rattle.book_parts.proofs.NamedLaws.{named-append, named-cells, named-room}
 use Rattle.book_parts.proofs.EntryLaws.{namings-append, named-mine, named-none, namings-more, words-more, namings-few, entries-append, entries-cells, entries-room}
-use Rattle.book_laws.proofs.FitLaws.{runs_of-append}
+use Rattle.book_model.proofs.FitLaws.{runs_of-append}
 
 -- the works once these runs of an entry are live
 pub record RunsLive (old now : List SlaveWork) (runs : List Run) (number : ℕ) : Type 0 where

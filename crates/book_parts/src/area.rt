@@ -6,7 +6,7 @@ ghost use Rattle.jrn_format.specs.Live.{halves_in};
 use crate::sizes::batch_size;
 use crate::spot::{Spot, next_spot};
 use jrn_format::{AREA_START, Batch, Form};
-use lists::History;
+use sii_words::History;
 use std::marker::Model;
 use std::mem::replace;
 

@@ -4,8 +4,7 @@ ghost use Rattle.book_parts.specs.Works.{slave_of, WorkStands, WorksStand};
 
 use crate::work::{Errand, SlaveWork};
 use book_model::SlaveQueue;
-use lists::History;
-use sii_words::Plant;
+use sii_words::{History, Plant};
 use std::alloc::{AllocError, Global};
 
 /// A slave with these words, and nothing live.

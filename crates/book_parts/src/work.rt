@@ -3,7 +3,7 @@ ghost use Rattle.book_model.specs.Cells.{since, cell_of};
 ghost use Rattle.book_parts.specs.Works.{work_to_do, work_issued, work_written};
 
 use book_model::SlaveQueue;
-use lists::History;
+use sii_words::History;
 
 /// What is being done with a word of a slave.
 #[derive(Clone, Copy, Drop)]

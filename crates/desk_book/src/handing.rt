@@ -9,7 +9,7 @@ use crate::heard::Heard;
 use crate::naming::{Refusals, Tickets};
 use crate::served::Served;
 use book_model::DiskNext;
-use lists::{History, ItemList};
+use sii_words::{History, ItemList};
 use site_core::DeviceFault;
 use std::alloc::{AllocError, Global};
 

@@ -10,7 +10,7 @@ use crate::pool::Pool;
 use crate::share::Share;
 use book_core::Core;
 use book_model::{DiskNext, RomNext, RomOutcome, Status};
-use lists::History;
+use sii_words::History;
 use site_core::DeviceFault;
 use station_jobs::{CycleNote, Notes};
 use std::alloc::{AllocError, Global};

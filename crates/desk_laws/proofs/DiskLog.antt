@@ -8,7 +8,7 @@ use Rattle.book_model.specs.declared.next.RomOutcome.{RomOutcome}
 use Rattle.book_model.specs.Book.{Book, Doing, Resting, Payload, PayloadSync, OpenGate, OpenSync, CloseGate, CloseSync, FarGate, Mark, MarkSync, Version, VersionSync}
 use Rattle.book_model.specs.DiskSteps.{action_of, doing_next, disk_next, went_on, disk_done}
 use Rattle.book_model.specs.RomSteps.{rom_next, rom_done}
-use Rattle.book_laws.specs.Events.{in_progress, rested}
+use Rattle.book_model.specs.Events.{in_progress, rested}
 use Rattle.desk_book.specs.declared.call.Call.{Call}
 use Rattle.desk_book.specs.declared.call.Call.TheVariants.{Submitted, DiskAsked, DiskTold, SlaveAsked, SlaveTold, PlanAsked, Finished}
 use Rattle.desk_book.specs.Asking.{is_disk_job}

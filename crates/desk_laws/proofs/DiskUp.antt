@@ -11,7 +11,7 @@ use Rattle.book_model.specs.declared.next.DiskNext.{DiskNext}
 use Rattle.book_model.specs.declared.next.DiskNext.TheVariants as disk
 use Rattle.book_model.specs.Book.{Book, with_fault}
 use Rattle.book_model.specs.DiskSteps.{disk_next, disk_done}
-use Rattle.book_laws.specs.Events.{begun_on, ended_on, FailsOn, in_progress, rested}
+use Rattle.book_model.specs.Events.{begun_on, ended_on, FailsOn, in_progress, rested}
 use Rattle.world_law.specs.World.{Nothing, Closed, DiskBegin, DiskDone}
 use Rattle.world_law.specs.Happenings.{told_of}
 use Rattle.station_jobs.specs.Dispatch.{with_outcome}

@@ -8,8 +8,8 @@ use Rattle.site_core.specs.Passes.{LeavesOnly}
 use Rattle.site_core.proofs.DeviceCalls.{WritesDisk-left, SyncsDisk-adds_nothing}
 use Rattle.book_model.specs.declared.next.DiskNext.{DiskNext}
 use Rattle.book_model.specs.declared.next.DiskNext.TheVariants as next
-use Rattle.book_laws.specs.Events.{begun_on, ended_on, FailsOn}
-use Rattle.book_laws.specs.Opening.{words_in}
+use Rattle.book_model.specs.Events.{begun_on, ended_on, FailsOn}
+use Rattle.book_model.specs.Opening.{words_in}
 use Rattle.world_law.proofs.StandsLaws.{as-read}
 use Rattle.station_jobs.specs.Jobs.{DoneInTurn, MayEnd}
 use Rattle.station_jobs.specs.Left.{CameBackInTurn, LeftInProgress}

@@ -12,10 +12,10 @@ use Rattle.site_core.specs.Passes.{LeavesOnly}
 use Rattle.book_model.specs.Book.{Book, base_of, contents_of, is_version_2}
 use Rattle.book_model.specs.Machine.{Machine, reopened}
 use Rattle.book_model.specs.Machine as machines
-use Rattle.book_laws.specs.Keeping.{IsOfBook}
-use Rattle.book_laws.specs.Opening.{capacity_in, words_in, book_on}
-use Rattle.book_laws.proofs.OpeningLaws.{up-opens}
-use Rattle.book_laws.proofs.WornBooks.{worn-opened}
+use Rattle.book_model.specs.Keeping.{IsOfBook}
+use Rattle.book_model.specs.Opening.{capacity_in, words_in, book_on}
+use Rattle.book_model.proofs.OpeningLaws.{up-opens}
+use Rattle.book_model.proofs.WornBooks.{worn-opened}
 use Rattle.world_law.specs.Law.{KeptFor, IsKept}
 use Rattle.world_law.proofs.FitLaws.{fits-reopened}
 use Rattle.world_law.proofs.StandsLaws.{stands-up, stands-is_kept}

@@ -23,14 +23,14 @@ use Rattle.book_model.specs.Submit.{with_command}
 use Rattle.book_model.specs.DiskSteps.{can_retire, can_migrate, begun, action_of, doing_next, disk_next, behind_far_gate, went_on, disk_done}
 use Rattle.book_model.specs.RomSteps.{to_do, is_last, was_taken, with_errand, with_again, rom_next, rom_done}
 use Rattle.book_model.specs.Reading.{all_entries, applied, settled_prefix}
-use Rattle.book_laws.specs.Fits.{OwesNoMore}
-use Rattle.book_laws.proofs.SettledLaws.{prefix-stays}
-use Rattle.book_laws.proofs.CommandLaws.{entry_after, entries-push}
-use Rattle.book_laws.specs.Events.{rested}
+use Rattle.book_model.specs.Fits.{OwesNoMore}
+use Rattle.book_model.proofs.SettlingLaws.{prefix-stays}
+use Rattle.book_model.proofs.CommandLaws.{entry_after, entries-push}
+use Rattle.book_model.specs.Events.{rested}
 use Rattle.desk_laws.specs.Turns.{AppendsNext}
 use Rattle.desk_laws.proofs.OwedLaws.{OweLess, owe-same, owe-asked, owe-written, count-set, owes-set, count-live}
 use Rattle.book_core.proofs.LiveLaws.{owes-joined}
-use Rattle.book_laws.proofs.DiskEndLaws.{none-appended}
+use Rattle.book_model.proofs.DiskEndLaws.{none-appended}
 
 -- The later book has more entries that were live, and owes no more than these name.
 pub record Goes (book later : Book) : Type 0 where

@@ -9,10 +9,10 @@ use Rattle.esc_model.proofs.OnlyResting.{MayRest-only, OnlyRests-leaves, OnlyRes
 use Rattle.esc_model.proofs.WordWriting.{taken_then_well}
 use Rattle.book_model.specs.Cells.{Known, Cell, asked, written, opened, nothing, cell_of, next_issue}
 use Rattle.book_model.specs.Book.{Errand, Free, Issuing, Unsettled, Settling}
-use Rattle.book_laws.specs.Owed.{MayBe, IsUnsure}
-use Rattle.book_laws.specs.Slaves.{HasTaken}
-use Rattle.book_laws.specs.Steps.{TakesOrNot}
-use Rattle.book_laws.proofs.SlaveLaws.{words-but, taken-left}
+use Rattle.book_model.specs.Owed.{MayBe, IsUnsure}
+use Rattle.book_model.specs.Slaves.{HasTaken}
+use Rattle.book_model.specs.Steps.{TakesOrNot}
+use Rattle.book_model.proofs.SlaveLaws.{words-but, taken-left}
 
 -- the word is one of the slave's, and it is unknown
 pub record IsAsked (word : ℕ) (cells : List Cell) : Type 0 where

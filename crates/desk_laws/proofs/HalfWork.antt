@@ -13,9 +13,9 @@ use Rattle.book_model.specs.declared.next.RomNext.TheVariants as next
 use Rattle.book_model.specs.declared.next.RomOutcome.{RomOutcome}
 use Rattle.book_model.specs.declared.next.RomOutcome.TheVariants as outcomes
 use Rattle.esc_rom.specs.Access.{DiffersAtWord}
-use Rattle.book_laws.specs.Opening.{words_in}
-use Rattle.book_laws.proofs.OutcomeLaws.{set-same}
-use Rattle.book_laws.proofs.LineLaws.{half-there}
+use Rattle.book_model.specs.Opening.{words_in}
+use Rattle.book_model.proofs.OutcomeLaws.{set-same}
+use Rattle.book_model.proofs.LineLaws.{half-there}
 use Rattle.world_law.proofs.StandsLaws.{as-read, pair_read, leaves-read}
 use Rattle.station_jobs.specs.Jobs.{DoneInTurn, MayEnd}
 use Rattle.station_jobs.specs.Left.{CameBackInTurn, LeftInProgress}

@@ -5,8 +5,8 @@ use Rattle.book_model.specs.Cells.{Cell, Holds, all_named, cell_of, asked, writt
 use Rattle.book_model.specs.Entries.{values}
 use Rattle.book_model.specs.Book.{Slave, nobody, all_cells, cell_at}
 use Rattle.book_model.specs.Open.{owing_slaves}
-use Rattle.book_laws.specs.Fits.{OwesNoMore}
-use Rattle.book_laws.proofs.CellLaws.{length-all_named}
+use Rattle.book_model.specs.Fits.{OwesNoMore}
+use Rattle.book_model.proofs.CellLaws.{length-all_named}
 use Rattle.book_core.proofs.LiveLaws.{owes-slave}
 
 -- ---- one slave

@@ -17,8 +17,8 @@ use Rattle.book_model.specs.declared.next.RomOutcome.TheVariants as outcomes
 use Rattle.book_model.specs.Book.{Book, Errand, Free, Issuing, Unsettled, Settling, slave_at}
 use Rattle.book_model.specs.DiskSteps.{disk_next}
 use Rattle.book_model.specs.RomSteps.{was_taken, is_last, rom_next, rom_done}
-use Rattle.book_laws.proofs.CellLaws.{asked-fits, written-fits}
-use Rattle.book_laws.specs.Steps.{MayComeBack}
+use Rattle.book_model.proofs.CellLaws.{asked-fits, written-fits}
+use Rattle.book_model.specs.Steps.{MayComeBack}
 use Rattle.station_jobs.specs.Working.{HalfReturns}
 use Rattle.desk_book.specs.declared.call.Call.{Call}
 use Rattle.desk_book.specs.declared.call.Call.TheVariants.{Submitted, DiskAsked, DiskTold, SlaveAsked, SlaveTold, PlanAsked, Finished}

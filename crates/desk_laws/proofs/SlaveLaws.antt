@@ -19,9 +19,9 @@ use Rattle.book_model.proofs.SettledLaws.{and-left, and-right}
 use Rattle.book_model.specs.Entries.{runs_of}
 use Rattle.book_model.specs.Book.{Book, Errand, Free, Issuing, Unsettled, Settling, base_of, contents_of, own, all_cells, slave_at}
 use Rattle.book_model.specs.Reading.{all_entries, settled_prefix}
-use Rattle.book_laws.proofs.BookLaws.{cells_of, length-all_cells}
-use Rattle.book_laws.proofs.CommandLaws.{entries-contents}
-use Rattle.book_laws.proofs.FitLaws.{runs_of-append}
+use Rattle.book_model.proofs.BookLaws.{cells_of, length-all_cells}
+use Rattle.book_model.proofs.CommandLaws.{entries-contents}
+use Rattle.book_model.proofs.FitLaws.{runs_of-append}
 use Rattle.book_core.specs.Settled.{is_settled}
 use Rattle.station_jobs.specs.declared.log.SlaveLog.{SlaveLog}
 use Rattle.station_jobs.specs.Ends.{Stay}

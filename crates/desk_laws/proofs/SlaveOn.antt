@@ -15,9 +15,9 @@ use Rattle.book_model.specs.declared.next.RomOutcome.TheVariants as outcomes
 use Rattle.book_model.specs.Book.{Book, Slave, Errand, Free, Issuing, Unsettled, Settling, nobody, slave_at, with_fault}
 use Rattle.book_model.specs.declared.fault.Fault.TheVariants as faults
 use Rattle.book_model.specs.RomSteps.{with_errand, rom_next, rom_done}
-use Rattle.book_laws.specs.Steps.{MayBegin, took_after, MayComeBack}
-use Rattle.book_laws.proofs.LineLaws.{half-there}
-use Rattle.book_laws.proofs.OutcomeLaws.{set-same}
+use Rattle.book_model.specs.Steps.{MayBegin, took_after, MayComeBack}
+use Rattle.book_model.proofs.LineLaws.{half-there}
+use Rattle.book_model.proofs.OutcomeLaws.{set-same}
 use Rattle.world_law.specs.World.{Nothing, RomIssue, RomDone, RomResolve}
 use Rattle.world_law.specs.Happenings.{fault_told}
 use Rattle.station_jobs.specs.Working.{HalfReturns}

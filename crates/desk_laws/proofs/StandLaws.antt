@@ -26,18 +26,18 @@ use Rattle.book_model.specs.Entries.{runs_of, namings, live_runs}
 use Rattle.book_model.specs.Pending.{last_of}
 use Rattle.jrn_format.specs.Halves.{Place, live}
 use Rattle.book_model.specs.Reading.{all_entries}
-use Rattle.book_laws.proofs.CommandLaws.{entry_after, entries-push}
-use Rattle.book_laws.proofs.FitLaws.{runs_of-append}
-use Rattle.book_laws.proofs.OwingLaws.{length-owing_slaves}
-use Rattle.book_laws.proofs.WorkLaws.{owed-inside, some-of}
-use Rattle.book_laws.specs.Events.{rested}
+use Rattle.book_model.proofs.CommandLaws.{entry_after, entries-push}
+use Rattle.book_model.proofs.FitLaws.{runs_of-append}
+use Rattle.book_model.proofs.OwingLaws.{length-owing_slaves}
+use Rattle.book_model.proofs.WorkLaws.{owed-inside, some-of}
+use Rattle.book_model.specs.Events.{rested}
 use Rattle.desk_book.proofs.OutLaws.{DiskNexts, disk_rests, disk_goes, nexts-of}
 use Rattle.desk_laws.specs.Turns.{AppendsNext}
 use Rattle.desk_laws.proofs.GoesLaws.{command-on, disk-asked-on, disk-told-on}
 use Rattle.desk_laws.proofs.FallLaws.{resting-next}
 use Rattle.desk_laws.proofs.HalfLaws.{HalfFits, half-opened, half-same}
 use Rattle.desk_laws.proofs.WordLaws.{WordsFit, words-opened, words-live, same-owing}
-use Rattle.book_laws.proofs.WornBooks.{owing-slave}
+use Rattle.book_model.proofs.WornBooks.{owing-slave}
 
 -- the runs of all entries that have been live since the open
 abbrev pub all_runs : Book → List Run

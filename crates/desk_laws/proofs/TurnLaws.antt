@@ -17,7 +17,7 @@ use Rattle.desk_book.specs.Logs.{turn_noted}
 use Rattle.desk_book.proofs.KeptLaws.{keeps-disk_next, keeps-disk_done, keeps-rom_next, keeps-rom_done}
 use Rattle.desk_book.proofs.BaseLaws.{base-replayed}
 use Rattle.desk_laws.specs.Turns.{IsTurnOf}
-use Rattle.lists.proofs.Quantifiers.{all_snoc}
+use Rattle.sii_words.proofs.Quantifiers.{all_snoc}
 
 -- ---- commands are only ever added
 

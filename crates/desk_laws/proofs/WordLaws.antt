@@ -15,9 +15,9 @@ use Rattle.book_model.proofs.SettledLaws.{word-settled}
 use Rattle.book_model.specs.Entries.{runs_of, namings, values}
 use Rattle.book_model.specs.Open.{owing_words}
 use Rattle.book_model.specs.Reading.{runs_settled, settled_prefix}
-use Rattle.book_laws.specs.Owed.{MayBe, IsUnsure, CellFits, due, redone_word}
-use Rattle.book_laws.proofs.CellLaws.{values-append, opened-fits, owing-fits}
-use Rattle.book_laws.proofs.SettledLaws.{slave-settled}
+use Rattle.book_model.specs.Owed.{MayBe, IsUnsure, CellFits, due, redone_word}
+use Rattle.book_model.proofs.CellLaws.{values-append, opened-fits, owing-fits}
+use Rattle.book_model.proofs.SettlingLaws.{slave-settled}
 use Rattle.desk_laws.proofs.HalfLaws.{SameKnown}
 
 -- a cell for each word, and each leads there

@@ -12,12 +12,12 @@ use Rattle.book_model.specs.Cells.{Cell, cell_of}
 use Rattle.book_model.specs.declared.next.RomNext.TheVariants as next
 use Rattle.book_model.specs.Book.{Book, Slave, Errand, Free, Issuing, nobody, slave_at}
 use Rattle.book_model.specs.RomSteps.{with_errand}
-use Rattle.book_laws.specs.Owed.{MayBe}
-use Rattle.book_laws.specs.Frame.{JournalFrame}
-use Rattle.book_laws.specs.Slaves.{SlaveFits, Asks}
-use Rattle.book_laws.specs.Steps.{TakesOrNot}
-use Rattle.book_laws.specs.Up.{Up}
-use Rattle.book_laws.proofs.RomLaws.{up-errand}
+use Rattle.book_model.specs.Owed.{MayBe}
+use Rattle.book_model.specs.Frame.{JournalFrame}
+use Rattle.book_model.specs.Slaves.{SlaveFits, Asks}
+use Rattle.book_model.specs.Steps.{TakesOrNot}
+use Rattle.book_model.specs.Up.{Up}
+use Rattle.book_model.proofs.RomLaws.{up-errand}
 use Rattle.world_law.specs.World.{World, Event, Told}
 use Rattle.world_law.specs.Happenings.{Happens}
 use Rattle.world_law.specs.Law.{Session, EventFits, MachineFits}

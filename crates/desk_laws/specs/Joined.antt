@@ -13,7 +13,7 @@ use Rattle.book_model.specs.Entries.{sizes_of, live_runs}
 use Rattle.book_model.specs.Machine.{Machine, reopened, MayKeep}
 use Rattle.book_model.specs.Machine as machines
 use Rattle.book_model.specs.Kept.{Kept}
-use Rattle.book_laws.specs.Opening.{IsFound, words_in}
+use Rattle.book_model.specs.Opening.{IsFound, words_in}
 use Rattle.world_law.specs.Law.{EventFits, KeptFor, MachineFits}
 use Rattle.station_jobs.specs.declared.log.Assignment.{Assignment}
 use Rattle.station_jobs.specs.Left.{LeftInProgress}

@@ -5,7 +5,7 @@ use Rattle.site_core.specs.State.{State, Seen}
 use Rattle.site_core.specs.Passes.{LeavesOnly}
 use Rattle.book_model.specs.Book.{Book, contents_of}
 use Rattle.book_model.specs.Machine.{Machine}
-use Rattle.book_laws.specs.Opening.{book_on}
+use Rattle.book_model.specs.Opening.{book_on}
 use Rattle.station_jobs.specs.declared.log.SlaveLog.{SlaveLog}
 use Rattle.station_jobs.specs.Ends.{Stay}
 use Rattle.desk_book.specs.declared.call.Call.{Call}

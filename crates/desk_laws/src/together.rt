@@ -4,7 +4,7 @@ ghost use Rattle.site_core.specs.Passes.{LeavesOnly};
 ghost use Rattle.jrn_format.specs.declared.journal.Journal.{Journal};
 ghost use Rattle.book_model.specs.Book.{contents_of};
 ghost use Rattle.book_model.specs.Machine.{Machine};
-ghost use Rattle.book_laws.specs.Opening.{book_on};
+ghost use Rattle.book_model.specs.Opening.{book_on};
 ghost use Rattle.desk_book.specs.declared.call.Call.{Call};
 ghost use Rattle.desk_book.specs.Calls.{AreAnswered, replayed};
 ghost use Rattle.desk_book.specs.Closing.{is_served};

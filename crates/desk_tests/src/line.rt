@@ -5,9 +5,8 @@ ghost use Rattle.std.specs.Prelude.{◌≡◌, ◌≤◌, [], IfSome};
 use crate::memory::{put, zeros};
 use book_core::Core;
 use jrn_format::{Form, Journal};
-use lists::ItemList;
 use runner_cases::bytes::patch;
-use sii_words::Words;
+use sii_words::{ItemList, Words};
 use std::alloc::Global;
 use std::process::Abort;
 

@@ -18,7 +18,7 @@ use Rattle.esc_rom.specs.Runs.{Quiet}
 use Rattle.esc_rom.proofs.Runs.{Quiet-none, Quiet-then}
 use Rattle.esc_rom.specs.Reading.{most_calls, ReadsSlave, WasRead, WereRead, ReadsLine, Dies, EndsLine}
 use Rattle.esc_rom.proofs.Counting.{calls_more, calls_within}
-use Rattle.lists.proofs.Quantifiers.{all_append}
+use Rattle.sii_words.proofs.Quantifiers.{all_append}
 
 -- the first `count` slaves were read, and these are their words
 pub record FirstRead (count : ℕ) (plant : List (List ℕ)) (sizes : List ℕ) (old now : Seen) : Type 0 where

@@ -2,9 +2,9 @@
 
 use crate::devices::{BOTH, Device, INPUTS, NOTHING, bytes_of, line_of};
 use esc_model::{ProcessHalf, RomHalf};
-use lists::ItemList;
 use sii_words::{
-    ImageFile, Words, WordsFault, bytes_of_words, is_device_size, is_image_size, words_of_bytes,
+    ImageFile, ItemList, Words, WordsFault, bytes_of_words, is_device_size, is_image_size,
+    words_of_bytes,
 };
 use std::alloc::Global;
 

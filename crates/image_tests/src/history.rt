@@ -1,6 +1,6 @@
 //! A list that exists for contracts alone.
 
-use lists::History;
+use sii_words::History;
 use std::mem::size_of;
 
 #[test]

@@ -1,7 +1,6 @@
 //! The content of a journal: batches of entries with their runs.
 
-use lists::ItemList;
-use sii_words::Run;
+use sii_words::{ItemList, Run};
 
 /// A list of runs.
 pub type RunList = ItemList<Run>;

@@ -15,10 +15,10 @@ use Rattle.site_file.specs.declared.asking.LineFile.{LineFile}
 use Rattle.site_file.specs.declared.asking.LineFile.TheVariants.{Journal, Image}
 use Rattle.site_file.specs.declared.files.FileDevice.{FileDevice}
 use Rattle.site_file.specs.Calls.{Asked}
-use Rattle.file_laws.specs.Files.{File, IsBytes, BecomesBy}
-use Rattle.file_laws.specs.Held.{is_same, of_file}
-use Rattle.file_laws.specs.Following.{AreLeftBehind, LeadTo, FilesFollow, Holds, ShowOne, calls_of}
-use Rattle.file_laws.proofs.Following.{left_at_first, calls_of-snoc, early_or_at}
+use Rattle.site_file.specs.Files.{File, IsBytes, BecomesBy}
+use Rattle.site_file.specs.Held.{is_same, of_file}
+use Rattle.site_file.specs.AllFiles.{AreLeftBehind, LeadTo, FilesFollow, Holds, ShowOne, calls_of}
+use Rattle.site_file.proofs.FilesFollow.{left_at_first, calls_of-snoc, early_or_at}
 use Rattle.book_model.specs.declared.next.DiskNext.{DiskNext}
 use Rattle.book_model.specs.declared.next.DiskNext.TheVariants as disk
 use Rattle.book_model.specs.declared.next.RomNext.{RomNext}

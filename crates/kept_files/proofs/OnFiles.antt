@@ -8,12 +8,12 @@ use Rattle.site_shadow.specs.Following.{first_of}
 use Rattle.site_file.specs.declared.asking.LineFile.{LineFile}
 use Rattle.site_file.specs.declared.asking.LineFile.TheVariants.{Journal, Image}
 use Rattle.site_file.specs.Asking.{nothing_asked}
-use Rattle.file_laws.specs.Files.{File, image_of}
-use Rattle.file_laws.specs.Following.{AreLeft, FilesFollow, Holds, HoldsWords, calls_of}
-use Rattle.file_laws.proofs.Following.{left_at_first}
-use Rattle.file_laws.proofs.FollowingWords.{left_since, site_is_followed}
+use Rattle.site_file.specs.Files.{File, image_of}
+use Rattle.site_file.specs.AllFiles.{AreLeft, FilesFollow, Holds, HoldsWords, calls_of}
+use Rattle.site_file.proofs.FilesFollow.{left_at_first}
+use Rattle.site_file.proofs.FollowingWords.{left_since, site_is_followed}
 use Rattle.book_model.specs.Book.{Book, base_of}
-use Rattle.book_laws.specs.Opening.{words_in}
+use Rattle.book_model.specs.Opening.{words_in}
 use Rattle.kept_files.specs.KeptFiles.{has_file, holding, words_or_none, KeepsFiles, SiteHasFiles, SiteKeepsOn, CutLeavesKept, RecoveryLeavesContents, HasContents}
 
 -- WHAT THE FILES HOLD AT FIRST

@@ -10,13 +10,13 @@ use Rattle.site_file.specs.declared.asking.LineFile.{LineFile}
 use Rattle.site_file.specs.declared.asking.LineFile.TheVariants.{Journal as JournalFile, Image}
 use Rattle.site_file.specs.declared.files.FileDevice.{FileDevice}
 use Rattle.site_file.specs.Calls.{Asked}
-use Rattle.file_laws.specs.Files.{File, IsBytes}
-use Rattle.file_laws.specs.Held.{is_same}
-use Rattle.file_laws.specs.Following.{AreLeftBehind, FilesFollow, calls_of}
+use Rattle.site_file.specs.Files.{File, IsBytes}
+use Rattle.site_file.specs.Held.{is_same}
+use Rattle.site_file.specs.AllFiles.{AreLeftBehind, FilesFollow, calls_of}
 use Rattle.book_model.specs.Book.{Book, base_of}
 use Rattle.book_model.specs.Machine.{Machine, reopened, MayKeep}
 use Rattle.book_model.specs.Machine as machines
-use Rattle.book_laws.specs.Opening.{book_on}
+use Rattle.book_model.specs.Opening.{book_on}
 use Rattle.world_law.specs.Law.{KeptFor}
 use Rattle.station_jobs.specs.declared.log.Assignment.{Assignment}
 use Rattle.station_jobs.specs.Jobs.{DoneInTurn, MayEnd}

@@ -7,11 +7,11 @@ use Rattle.site_file.specs.declared.asking.LineFile.{LineFile}
 use Rattle.site_file.specs.declared.asking.LineFile.TheVariants.{Journal as JournalFile, Image}
 use Rattle.site_file.specs.declared.files.FileDevice.{FileDevice}
 use Rattle.site_file.specs.Following as files
-use Rattle.file_laws.specs.Files.{File, IsBytes}
-use Rattle.file_laws.specs.Held.{is_same}
-use Rattle.file_laws.specs.Following.{FilesFollow, Holds, Shows}
+use Rattle.site_file.specs.Files.{File, IsBytes}
+use Rattle.site_file.specs.Held.{is_same}
+use Rattle.site_file.specs.AllFiles.{FilesFollow, Holds, Shows}
 use Rattle.book_model.specs.Machine.{Machine}
-use Rattle.book_laws.specs.Opening.{book_on}
+use Rattle.book_model.specs.Opening.{book_on}
 use Rattle.station_jobs.specs.declared.log.Assignment.{Assignment}
 use Rattle.station_jobs.specs.declared.log.SlaveLog.{SlaveLog}
 use Rattle.station_jobs.specs.Ends.{Stay}

@@ -10,9 +10,9 @@ use Rattle.site_file.specs.declared.files.FileDevice.{FileDevice}
 use Rattle.site_file.specs.Calls.{Asked}
 use Rattle.site_file.specs.Asking.{HasLog}
 use Rattle.site_file.specs.Following.{Follows}
-use Rattle.file_laws.specs.Files.{File, IsBytes, sound, image_of, BecomesBy}
-use Rattle.file_laws.specs.Held.{of_file}
-use Rattle.file_laws.specs.Following.{AreLeft, Holds, Shows}
+use Rattle.site_file.specs.Files.{File, IsBytes, sound, image_of, BecomesBy}
+use Rattle.site_file.specs.Held.{of_file}
+use Rattle.site_file.specs.AllFiles.{AreLeft, Holds, Shows}
 use Rattle.book_model.specs.Book.{Book, base_of}
 use Rattle.book_model.specs.Machine.{Machine}
 use Rattle.world_law.specs.Law.{KeptFor}

@@ -22,7 +22,7 @@ use Rattle.book_model.specs.Book.{Book, Slave, Doing, Resting, Payload, PayloadS
 use Rattle.book_model.specs.DiskSteps.{disk_next, went_on, disk_done}
 use Rattle.book_model.specs.RomSteps.{is_last, with_again, rom_next, rom_done}
 use Rattle.book_model.specs.Open.{open_book, opened_slave, owing_slaves}
-use Rattle.book_laws.proofs.SlaveEventLaws.{IsNothing}
+use Rattle.book_model.proofs.SlaveEventLaws.{IsNothing}
 use Rattle.site_journal.specs.Left.{words_issued}
 use Rattle.station_alone.proofs.HandedLaws.{Hands, nothing, action, hands, HandsRom, nothing_asked, issue, settle, hands-rom}
 use Rattle.station_jobs.specs.Dispatch.{with_outcome}

@@ -18,7 +18,7 @@ use Rattle.desk_laws.specs.Together.{AllEndSo, AreTogether, IsLeft, starts}
 use Rattle.desk_book.specs.declared.call.Call.{Call}
 use Rattle.desk_laws.specs.Joined.{IsKeptAs, IsOpenedOn}
 use Rattle.desk_book.specs.Calls.{replayed}
-use Rattle.book_laws.specs.Opening.{words_in}
+use Rattle.book_model.specs.Opening.{words_in}
 use Rattle.desk_laws.specs.Together as at_desk
 use Rattle.station_threads.specs.declared.closing.Ends.{Ends}
 use Rattle.world_law.proofs.StandsLaws.{as-read}

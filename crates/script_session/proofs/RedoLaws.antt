@@ -18,8 +18,8 @@ use Rattle.book_model.specs.Submit.{with_command}
 use Rattle.book_model.specs.Machine.{Machine, MayKeep, reopened}
 use Rattle.book_model.specs.Machine as machines
 use Rattle.book_model.specs.Kept.{Kept}
-use Rattle.book_laws.specs.Keeping.{IsOfBook}
-use Rattle.book_laws.specs.Opening.{capacity_in, words_in}
+use Rattle.book_model.specs.Keeping.{IsOfBook}
+use Rattle.book_model.specs.Opening.{capacity_in, words_in}
 use Rattle.site_journal.specs.Left.{words_issued}
 use Rattle.site_journal.proofs.OpenLaws.{none-issued}
 use Rattle.world_law.specs.Law.{blank}

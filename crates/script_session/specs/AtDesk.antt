@@ -19,7 +19,7 @@ use Rattle.desk_book.specs.Closing.{is_served}
 use Rattle.desk_book.specs.Numbered.{Numbered}
 use Rattle.desk_book.specs.Serving.{ShareCounts}
 use Rattle.desk_laws.specs.Slaves.{IsJustOpened, IsAsOpened, ReadsAsContents, AllReadAsContents}
-use Rattle.book_laws.specs.Opening.{IsFound, book_on}
+use Rattle.book_model.specs.Opening.{IsFound, book_on}
 use Rattle.world_law.specs.Law.{MachineFits}
 use Rattle.desk_laws.specs.Joined.{CallFits, IsKeptAs}
 use Rattle.desk_laws.specs.Together.{AllEndSo, IsLeft}

@@ -1,7 +1,7 @@
 ghost use Rattle.std.specs.Prelude.{◌≡◌, ◌++◌, ◌∷◌, [], IfOk, OnOk};
 
 use crate::command::{Edit, GuardedEdit};
-use lists::ItemList;
+use sii_words::ItemList;
 use std::alloc::{AllocError, Global};
 
 /// A list of edits. Contracts compare its edits alone.

@@ -8,3 +8,5 @@ mod GivenLaws
 pub mod StretchLaws
 pub mod RunLaws
 pub mod Copying
+pub mod ListedMembers
+pub mod Quantifiers

@@ -5,3 +5,4 @@ pub mod Plant
 pub mod steps
 pub mod Run
 pub mod Redo
+pub mod Histories

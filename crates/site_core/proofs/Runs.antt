@@ -7,7 +7,7 @@ use Rattle.site_core.specs.State.{State, Pair, Leaves, Moment, Seen, last_of, Le
 use Rattle.site_core.specs.Calls.{Calls}
 use Rattle.site_core.specs.Passes.{Passes, LeavesOnly, LeftOnly, StaysWithin}
 use Rattle.site_core.proofs.Moments.{Any-nil, Any-split, LeftSince-added}
-use Rattle.lists.proofs.Quantifiers.{all_append}
+use Rattle.sii_words.proofs.Quantifiers.{all_append}
 
 pub all_weaker : {A : Type 0} (P Q : A → Type 0) (xs : List A) → ((x : A) → P x → Q x) → AllByRecursion P xs → AllByRecursion Q xs
 all_weaker P Q [] weaker all = tt

@@ -2,3 +2,8 @@ pub mod Calls
 pub mod Asking
 pub mod Device
 pub mod Following
+pub mod Files
+pub mod Held
+pub mod Laws
+pub mod DeviceLaws
+pub mod AllFiles

@@ -4,7 +4,7 @@ use Rattle.std.proofs.lemmas.List.Sums.{sum_by-set}
 use Rattle.jrn_format.specs.declared.journal.Entry.{Entry}
 use Rattle.book_model.specs.Book.{Book, Slave, nobody, slave_at, with_slave}
 use Rattle.book_model.specs.Reading.{all_entries}
-use Rattle.book_laws.specs.Worn.{named_for}
+use Rattle.book_model.specs.Worn.{named_for}
 use Rattle.site_journal.specs.Left.{slave_calls, slaves_calls, calls_left, words_issued}
 
 calls-set : (entries : List Entry) (first : ℕ) (slaves : List Slave) (i k : ℕ) (slave : Slave) → i < length slaves → k ≡ first + i

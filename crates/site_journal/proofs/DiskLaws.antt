@@ -21,9 +21,9 @@ use Rattle.book_model.specs.Open.{migrate}
 use Rattle.book_model.specs.DiskSteps.{action_of, begun, behind_far_gate, can_migrate, can_retire, doing_next, disk_next, disk_done, went_on}
 use Rattle.book_model.specs.Reading.{runs_settled}
 use Rattle.book_model.specs.Machine.{Machine}
-use Rattle.book_laws.specs.Frame.{JournalFrame}
-use Rattle.book_laws.proofs.BeginLaws.{BegunAs, appends, retires, migrates, rests, begun-as}
-use Rattle.book_laws.specs.Up.{Up}
+use Rattle.book_model.specs.Frame.{JournalFrame}
+use Rattle.book_model.proofs.BeginLaws.{BegunAs, appends, retires, migrates, rests, begun-as}
+use Rattle.book_model.specs.Up.{Up}
 use Rattle.site_journal.specs.Left.{half_calls, halves_calls, disk_calls}
 use Rattle.site_journal.specs.Recovering.{IsStep, IsRecovering, GetsNearer, HasAction, fault_after}
 use Rattle.book_model.proofs.SettledLaws.{and-right, and-left}

@@ -15,13 +15,13 @@ use Rattle.book_model.specs.declared.fault.Fault.TheVariants as faults
 use Rattle.book_model.specs.Book.{Book, Doing, Resting, Payload, PayloadSync, OpenGate, OpenSync, CloseGate, CloseSync, FarGate, Mark, MarkSync, Version, VersionSync, with_fault}
 use Rattle.book_model.specs.DiskSteps.{action_of, doing_next, disk_next, disk_done}
 use Rattle.book_model.specs.Machine.{Machine}
-use Rattle.book_laws.specs.Frame.{JournalFrame}
-use Rattle.book_laws.specs.Events.{gate_byte, begun_on, ended_on, FailsOn, in_progress, rested}
-use Rattle.book_laws.specs.Steps.{acknowledged_by}
-use Rattle.book_laws.specs.Up.{Up}
-use Rattle.book_laws.proofs.LineLaws.{up-kept}
-use Rattle.book_laws.proofs.DiskEventLaws.{up-begins, up-fails}
-use Rattle.book_laws.proofs.DiskEndLaws.{up-ends}
+use Rattle.book_model.specs.Frame.{JournalFrame}
+use Rattle.book_model.specs.Events.{gate_byte, begun_on, ended_on, FailsOn, in_progress, rested}
+use Rattle.book_model.specs.Steps.{acknowledged_by}
+use Rattle.book_model.specs.Up.{Up}
+use Rattle.book_model.proofs.LineLaws.{up-kept}
+use Rattle.book_model.proofs.DiskEventLaws.{up-begins, up-fails}
+use Rattle.book_model.proofs.DiskEndLaws.{up-ends}
 use Rattle.world_law.specs.Law.{KeptFor}
 use Rattle.site_journal.specs.Running.{KeepsAll, CallsDisk, UpAfterDisk}
 use Rattle.site_journal.proofs.GoLaws.{stays-weaker}

@@ -22,12 +22,12 @@ use Rattle.book_model.specs.Book.{Book, Slave, Errand, Free, Issuing, Unsettled,
 use Rattle.book_model.specs.RomSteps.{rom_next, to_do}
 use Rattle.book_model.specs.Reading.{applied, live_bytes, planned, runs_settled, settled_from, spelling_of}
 use Rattle.book_model.specs.Machine.{Machine}
-use Rattle.book_laws.proofs.CellLaws.{namings-append}
-use Rattle.book_laws.proofs.CommandLaws.{entries-contents}
-use Rattle.book_laws.proofs.FitLaws.{kept-live, live_runs-append}
-use Rattle.book_laws.specs.Frame.{JournalFrame}
-use Rattle.book_laws.specs.Up.{Up}
-use Rattle.book_laws.proofs.LineLaws.{holds-all}
+use Rattle.book_model.proofs.CellLaws.{namings-append}
+use Rattle.book_model.proofs.CommandLaws.{entries-contents}
+use Rattle.book_model.proofs.FitLaws.{kept-live, live_runs-append}
+use Rattle.book_model.specs.Frame.{JournalFrame}
+use Rattle.book_model.specs.Up.{Up}
+use Rattle.book_model.proofs.LineLaws.{holds-all}
 use Rattle.site_journal.specs.Recovering.{HasNothingToDo, IsBetween, IsRecovering}
 use Rattle.site_journal.proofs.DiskLaws.{idle-tests, none-live}
 

@@ -7,8 +7,8 @@ use Rattle.std.proofs.lemmas.Option.{slice_get_within, get_or_from_slice_get}
 use Rattle.sii_words.specs.Plant.{words_of}
 use Rattle.book_model.specs.Cells.{Known, Cell}
 use Rattle.book_model.specs.Book.{cell_at}
-use Rattle.book_laws.specs.Owed.{MayBe, IsUnsure}
-use Rattle.book_laws.specs.Plants.{word_at, MayHoldAll}
+use Rattle.book_model.specs.Owed.{MayBe, IsUnsure}
+use Rattle.book_model.specs.Plants.{word_at, MayHoldAll}
 
 module _ (plant : List (List ℕ)) (cells : List (List Cell)) (left : List (List ℕ)) (may : MayHoldAll plant cells left) (i word held : ℕ) (words : List ℕ) (here : slice_get left i ≡ Some words) (unsure : IsUnsure (cell_at cells i word).known) where
   -- the words with this one exchanged

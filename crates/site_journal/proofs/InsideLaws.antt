@@ -16,16 +16,16 @@ use Rattle.book_model.specs.declared.next.DiskNext.TheVariants as next
 use Rattle.book_model.specs.Book.{Book, Doing, Resting, Payload, PayloadSync, OpenGate, OpenSync, CloseGate, CloseSync, FarGate, Mark, MarkSync, Version, VersionSync, half_at}
 use Rattle.book_model.specs.DiskSteps.{place_at, action_of, disk_next}
 use Rattle.book_model.specs.Machine.{Machine}
-use Rattle.book_laws.specs.Frame.{JournalFrame, room, IsFramed}
-use Rattle.book_laws.specs.Events.{begun_on, in_progress}
-use Rattle.book_laws.specs.Doing.{OpensGate, DoingFits}
-use Rattle.book_laws.specs.OldFile.{IsVersioned, BeforeVersion}
-use Rattle.book_laws.specs.OldDoing.{OldDoingFits, FormFits, JournalFits}
-use Rattle.book_laws.proofs.AppendLaws.{half_small}
-use Rattle.book_laws.proofs.DoneLaws.{place-at, half-at}
-use Rattle.book_laws.specs.Up.{Up}
+use Rattle.book_model.specs.Frame.{JournalFrame, room, IsFramed}
+use Rattle.book_model.specs.Events.{begun_on, in_progress}
+use Rattle.book_model.specs.Doing.{OpensGate, DoingFits}
+use Rattle.book_model.specs.OldFile.{IsVersioned, BeforeVersion}
+use Rattle.book_model.specs.OldDoing.{OldDoingFits, FormFits, JournalFits}
+use Rattle.book_model.proofs.AppendLaws.{half_small}
+use Rattle.book_model.proofs.DoneLaws.{place-at, half-at}
+use Rattle.book_model.specs.Up.{Up}
 use Rattle.site_journal.proofs.DiskRuns.{IsAction, begun-up, out-of}
-use Rattle.book_laws.proofs.StopLaws.{header_long}
+use Rattle.book_model.proofs.StopLaws.{header_long}
 
 -- ---- how long the file is
 

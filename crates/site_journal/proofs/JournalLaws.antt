@@ -10,7 +10,7 @@ use Rattle.site_core.specs.State.{Seen}
 use Rattle.site_journal.specs.declared.fault.ReadFault.{ReadFault}
 use Rattle.site_journal.specs.declared.fault.ReadFault.TheVariants as read
 use Rattle.site_journal.specs.Reading.{ReadsAll, ReadsJournal}
-use Rattle.book_laws.proofs.StopLaws.{header_long}
+use Rattle.book_model.proofs.StopLaws.{header_long}
 
 -- a journal has a header
 pub has_header : (file sizes : List ℕ) (found : Journal) → IsJournal file sizes found → 8 ≤ length file

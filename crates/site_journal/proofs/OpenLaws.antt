@@ -20,7 +20,7 @@ use Rattle.jrn_format.proofs.SizeLaws.{payload_size, batch_size, plain_size}
 use Rattle.book_model.specs.Entries.{entries_of, runs_of, live_runs}
 use Rattle.book_model.specs.Book.{Slave, nobody}
 use Rattle.book_model.specs.Open.{opened_slave, owing_slaves, open_book}
-use Rattle.book_laws.proofs.WornBooks.{worn-opened}
+use Rattle.book_model.proofs.WornBooks.{worn-opened}
 use Rattle.site_journal.specs.Left.{half_calls, migration_calls, slaves_calls, calls_left, words_named, words_issued}
 use Rattle.site_journal.specs.Recovering.{IsBetween, IsRecovering}
 use Rattle.site_journal.proofs.NamedLaws.{words_of_runs, named_among, named-few}

@@ -8,7 +8,7 @@ use Rattle.site_core.specs.State.{State, Moment, Seen}
 use Rattle.site_core.specs.Calls.{WritesDisk, SyncsDisk}
 use Rattle.site_core.proofs.DeviceCalls.{is_true_or}
 use Rattle.site_journal.specs.Formatting.{BeginsPiece, IsPiece, WritesPieces}
-use Rattle.lists.proofs.Quantifiers.{all_append}
+use Rattle.sii_words.proofs.Quantifiers.{all_append}
 
 pub pieces-none : (seen : Seen) → WritesPieces seen seen
 pieces-none seen = record { calls = []; past = sym (append-nil seen.past); pieces = tt }

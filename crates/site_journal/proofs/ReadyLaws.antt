@@ -24,10 +24,10 @@ use Rattle.book_model.specs.DiskSteps.{went_on, disk_next, disk_done}
 use Rattle.book_model.specs.RomSteps.{is_last, with_again, rom_next, rom_done}
 use Rattle.book_model.specs.Machine.{Machine}
 use Rattle.book_model.specs.Kept.{Kept}
-use Rattle.book_laws.specs.Events.{rested}
-use Rattle.book_laws.specs.Opening.{words_in, IsFound, book_on}
-use Rattle.book_laws.proofs.OpeningLaws.{up-opens}
-use Rattle.book_laws.proofs.SlaveEventLaws as events
+use Rattle.book_model.specs.Events.{rested}
+use Rattle.book_model.specs.Opening.{words_in, IsFound, book_on}
+use Rattle.book_model.proofs.OpeningLaws.{up-opens}
+use Rattle.book_model.proofs.SlaveEventLaws as events
 use Rattle.site_journal.specs.Running.{CallsDisk, UpAfterDisk}
 use Rattle.site_journal.specs.Ready.{IsReady, issue_outcome, settle_outcome}
 use Rattle.site_journal.proofs.DiskRuns.{IsAction, disk-runs, out-of}

@@ -24,15 +24,15 @@ use Rattle.book_model.specs.Book.{Book, Free, Issuing, Unsettled, Settling, Slav
 use Rattle.book_model.specs.RomSteps.{is_last, rom_done, rom_next, was_taken, with_again, with_issue}
 use Rattle.book_model.specs.Reading.{all_entries}
 use Rattle.book_model.specs.Machine.{Machine}
-use Rattle.book_laws.specs.Frame.{JournalFrame}
-use Rattle.book_laws.specs.Steps.{MayBegin, took_after}
-use Rattle.book_laws.specs.Up.{Up}
-use Rattle.book_laws.proofs.LineLaws.{half-there}
-use Rattle.book_laws.proofs.SlaveEventLaws as events
-use Rattle.book_laws.proofs.SlaveEventLaws.{IsNothing, asks, up-asks}
-use Rattle.book_laws.specs.Worn.{named_for, Worn}
-use Rattle.book_laws.proofs.WornBooks.{worn-rom_next, worn-rom_done}
-use Rattle.book_laws.proofs.WornSlaves.{few-issues}
+use Rattle.book_model.specs.Frame.{JournalFrame}
+use Rattle.book_model.specs.Steps.{MayBegin, took_after}
+use Rattle.book_model.specs.Up.{Up}
+use Rattle.book_model.proofs.LineLaws.{half-there}
+use Rattle.book_model.proofs.SlaveEventLaws as events
+use Rattle.book_model.proofs.SlaveEventLaws.{IsNothing, asks, up-asks}
+use Rattle.book_model.specs.Worn.{named_for, Worn}
+use Rattle.book_model.proofs.WornBooks.{worn-rom_next, worn-rom_done}
+use Rattle.book_model.proofs.WornSlaves.{few-issues}
 use Rattle.site_journal.specs.Left.{errand_calls, slave_calls, words_issued}
 use Rattle.site_journal.specs.Recovering.{IsBetween, IsRecovering, GetsNearer, IsOfIssue, IsOfSettle, MayFail}
 use Rattle.site_journal.proofs.CallLaws.{calls-with, issued-with}

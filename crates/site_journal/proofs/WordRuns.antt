@@ -23,19 +23,19 @@ use Rattle.book_model.specs.RomSteps.{was_taken, rom_next, rom_done}
 use Rattle.book_model.specs.Machine.{Machine}
 use Rattle.book_model.specs.Kept.{Kept}
 use Rattle.world_law.specs.Law.{KeptFor}
-use Rattle.book_laws.specs.Owed.{IsUnsure}
-use Rattle.book_laws.specs.Plants.{MayHoldAll}
-use Rattle.book_laws.specs.Frame.{JournalFrame}
-use Rattle.book_laws.proofs.BookLaws.{cells_of}
-use Rattle.book_laws.proofs.FormLaws.{journal-kept}
-use Rattle.book_laws.specs.Slaves.{Asks, ErrandFits}
-use Rattle.book_laws.specs.Steps.{TakesOrNot, MayBegin, took_after}
-use Rattle.book_laws.specs.Up.{Up}
-use Rattle.book_laws.proofs.LineLaws.{half-there, holds-all}
-use Rattle.book_laws.proofs.GoesLaws.{up-rests}
-use Rattle.book_laws.proofs.OutcomeLaws.{up-issued, up-settled, up-dead, up-again}
-use Rattle.book_laws.proofs.SlaveEventLaws as events
-use Rattle.book_laws.proofs.SlaveEventLaws.{IsNothing, asks, same-state, up-asks}
+use Rattle.book_model.specs.Owed.{IsUnsure}
+use Rattle.book_model.specs.Plants.{MayHoldAll}
+use Rattle.book_model.specs.Frame.{JournalFrame}
+use Rattle.book_model.proofs.BookLaws.{cells_of}
+use Rattle.book_model.proofs.FormLaws.{journal-kept}
+use Rattle.book_model.specs.Slaves.{Asks, ErrandFits}
+use Rattle.book_model.specs.Steps.{TakesOrNot, MayBegin, took_after}
+use Rattle.book_model.specs.Up.{Up}
+use Rattle.book_model.proofs.LineLaws.{half-there, holds-all}
+use Rattle.book_model.proofs.GoesLaws.{up-rests}
+use Rattle.book_model.proofs.OutcomeLaws.{up-issued, up-settled, up-dead, up-again}
+use Rattle.book_model.proofs.SlaveEventLaws as events
+use Rattle.book_model.proofs.SlaveEventLaws.{IsNothing, asks, same-state, up-asks}
 use Rattle.site_journal.specs.Running.{KeepsAll, UpAfterIssue, UpAfterSettle}
 use Rattle.site_journal.proofs.GoLaws.{stays-weaker}
 use Rattle.site_journal.proofs.DiskRuns.{keeps-all}

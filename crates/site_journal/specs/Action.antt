@@ -5,7 +5,7 @@ use Rattle.site_core.specs.State.{Seen}
 use Rattle.site_core.specs.Calls.{WritesDisk, SyncsDisk}
 use Rattle.book_model.specs.declared.next.DiskNext.{DiskNext}
 use Rattle.book_model.specs.declared.next.DiskNext.TheVariants as next
-use Rattle.book_laws.specs.Events.{gate_byte}
+use Rattle.book_model.specs.Events.{gate_byte}
 
 -- What is written begins inside the disk, or right behind its last byte.
 abbrev pub BeginsInside : DiskNext → Seen → Type 0

@@ -10,7 +10,7 @@ use Rattle.jrn_format.specs.Halves.{Halves}
 use Rattle.book_model.specs.Entries.{live_runs}
 use Rattle.book_model.specs.Book.{Book, Doing, CloseSync, Mark, MarkSync, Version, VersionSync, Slave, Errand, Free, Issuing, Unsettled, Settling}
 use Rattle.book_model.specs.Reading.{all_entries}
-use Rattle.book_laws.specs.Worn.{named_for}
+use Rattle.book_model.specs.Worn.{named_for}
 
 -- ---- the slaves
 

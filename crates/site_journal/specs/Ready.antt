@@ -8,8 +8,8 @@ use Rattle.book_model.specs.declared.next.RomOutcome.{RomOutcome}
 use Rattle.book_model.specs.declared.next.RomOutcome.TheVariants as outcomes
 use Rattle.book_model.specs.Book.{Book}
 use Rattle.book_model.specs.Machine.{Machine}
-use Rattle.book_laws.specs.Frame.{JournalFrame}
-use Rattle.book_laws.specs.Up.{Up}
+use Rattle.book_model.specs.Frame.{JournalFrame}
+use Rattle.book_model.specs.Up.{Up}
 
 -- The station's invariant holds for some machine.
 abbrev pub IsUp : Book → Seen → Type 0

@@ -13,7 +13,7 @@ use Rattle.book_model.specs.declared.next.RomOutcome.TheVariants.{Issued, Settle
 use Rattle.book_model.specs.Book.{Book, Doing, Resting, CloseGate, CloseSync, FarGate, Mark, MarkSync, Version, VersionSync, Errand, Free, Issuing, Unsettled, Settling, first_fault, is_version_2, slave_at}
 use Rattle.book_model.specs.DiskSteps.{disk_next}
 use Rattle.book_model.specs.RomSteps.{rom_next}
-use Rattle.book_laws.specs.Worn.{Worn}
+use Rattle.book_model.specs.Worn.{Worn}
 use Rattle.site_journal.specs.Left.{calls_left, words_issued}
 
 -- The book rests, or retires the older half, which has batches, or migrates an old journal, in which nothing is live.

@@ -16,10 +16,10 @@ use Rattle.book_model.specs.Book.{Book}
 use Rattle.book_model.specs.DiskSteps.{disk_done}
 use Rattle.book_model.specs.RomSteps.{rom_done}
 use Rattle.book_model.specs.Machine.{Machine}
-use Rattle.book_laws.specs.Frame.{JournalFrame}
-use Rattle.book_laws.specs.Events.{gate_byte}
-use Rattle.book_laws.specs.Steps.{acknowledged_by}
-use Rattle.book_laws.specs.Up.{Up}
+use Rattle.book_model.specs.Frame.{JournalFrame}
+use Rattle.book_model.specs.Events.{gate_byte}
+use Rattle.book_model.specs.Steps.{acknowledged_by}
+use Rattle.book_model.specs.Up.{Up}
 use Rattle.world_law.specs.Law.{KeptFor}
 
 -- At each moment between the two times a stop could have left only pairs that are kept for this machine.

@@ -1,7 +1,7 @@
 //! The actions that a book hands out for the disk.
 
 ghost use Rattle.std.specs.Prelude.{◌≡◌, IsTrue};
-ghost use Rattle.book_laws.specs.Events.{gate_byte};
+ghost use Rattle.book_model.specs.Events.{gate_byte};
 ghost use Rattle.site_journal.specs.Action.{BeginsInside, DoesAction};
 
 use book_model::DiskNext;

@@ -10,8 +10,8 @@ ghost use Rattle.book_model.specs.DiskSteps.{disk_next};
 ghost use Rattle.book_model.specs.RomSteps.{rom_next};
 ghost use Rattle.book_model.specs.Reading.{live_bytes, planned};
 ghost use Rattle.book_model.specs.Machine.{Machine};
-ghost use Rattle.book_laws.specs.Frame.{JournalFrame};
-ghost use Rattle.book_laws.specs.Up.{Up};
+ghost use Rattle.book_model.specs.Frame.{JournalFrame};
+ghost use Rattle.book_model.specs.Up.{Up};
 ghost use Rattle.site_journal.specs.Recovering.{HasNothingToDo, IsRecovering};
 
 /// Without a fault, a recovering book never answers `Stop`, for the disk or for a slave.

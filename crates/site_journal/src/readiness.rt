@@ -11,7 +11,7 @@ ghost use Rattle.book_model.specs.declared.next.RomNext.TheVariants as next;
 ghost use Rattle.book_model.specs.Book.{Book};
 ghost use Rattle.book_model.specs.DiskSteps.{disk_done, disk_next};
 ghost use Rattle.book_model.specs.RomSteps.{rom_done, rom_next};
-ghost use Rattle.book_laws.specs.Opening.{IsFound, book_on};
+ghost use Rattle.book_model.specs.Opening.{IsFound, book_on};
 ghost use Rattle.site_journal.specs.Ready.{IsReady, issue_outcome, settle_outcome};
 ghost use Rattle.site_journal.specs.Running.{CallsDisk};
 

@@ -13,8 +13,8 @@ ghost use Rattle.book_model.specs.Open.{migrate};
 ghost use Rattle.book_model.specs.DiskSteps.{disk_next, disk_done};
 ghost use Rattle.book_model.specs.RomSteps.{rom_next, rom_done};
 ghost use Rattle.book_model.specs.Machine.{Machine};
-ghost use Rattle.book_laws.specs.Frame.{JournalFrame};
-ghost use Rattle.book_laws.specs.Up.{Up};
+ghost use Rattle.book_model.specs.Frame.{JournalFrame};
+ghost use Rattle.book_model.specs.Up.{Up};
 ghost use Rattle.site_journal.specs.Left.{words_issued};
 ghost use Rattle.site_journal.specs.Recovering.{GetsNearer, HasAction, IsOfIssue, IsOfSettle, IsRecovering, MayFail, fault_after};
 

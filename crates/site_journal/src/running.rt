@@ -12,8 +12,8 @@ ghost use Rattle.book_model.specs.Book.{Book};
 ghost use Rattle.book_model.specs.DiskSteps.{disk_next};
 ghost use Rattle.book_model.specs.RomSteps.{rom_next};
 ghost use Rattle.book_model.specs.Machine.{Machine};
-ghost use Rattle.book_laws.specs.Frame.{JournalFrame};
-ghost use Rattle.book_laws.specs.Up.{Up};
+ghost use Rattle.book_model.specs.Frame.{JournalFrame};
+ghost use Rattle.book_model.specs.Up.{Up};
 ghost use Rattle.site_journal.specs.Running.{CallsDisk, KeepsAll, UpAfterDisk, UpAfterIssue, UpAfterSettle};
 
 /// During a write or sync that the book has handed out, a power cut leaves only what is kept. Afterwards the station's invariant holds, unless

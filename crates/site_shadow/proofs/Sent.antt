@@ -4,7 +4,7 @@ use denote.Struct.Struct.{Struct}
 use denote.Struct.Declared.{shape}
 use denote.Param.Send.{IsSend, struct_send, sendable}
 use Rattle.std.proofs.Crossing.{crosses}
-use Rattle.lists.proofs.history.History.TheLaws.TheKnot.{send-History}
+use Rattle.sii_words.proofs.history.History.TheLaws.TheKnot.{send-History}
 use Rattle.esc_model.specs.contracts.process_half.ProcessHalf as ProcessHalf
 use Rattle.esc_model.specs.contracts.rom_half.RomHalf as RomHalf
 use Rattle.site_shadow.specs.contracts.disk.MemDisk as MemDisk

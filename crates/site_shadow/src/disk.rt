@@ -4,7 +4,7 @@ ghost use Rattle.site_shadow.specs.Unsynced.{Covers, Remembers, of_bytes};
 
 use crate::marks::{Replaced, hold, lay_over, leave};
 use crate::pattern::Pattern;
-use lists::History;
+use sii_words::History;
 use std::alloc::{AllocError, Global};
 use std::marker::Model;
 

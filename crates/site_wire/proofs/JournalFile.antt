@@ -13,11 +13,11 @@ use Rattle.site_file.specs.Calls.{Asked}
 use Rattle.site_file.specs.Asking.{HasLog}
 use Rattle.site_file.specs.Following as files
 use Rattle.site_file.specs.Following.{Step}
-use Rattle.file_laws.specs.Files.{File}
-use Rattle.file_laws.specs.Held.{is_same}
-use Rattle.file_laws.specs.Following.{Holds, HoldsDisk, FilesFollow}
-use Rattle.file_laws.proofs.Following.{stays, asks_more, left_at_first}
-use Rattle.file_laws.proofs.FollowingWords.{begins_to_follow, follows_on, site_is_followed}
+use Rattle.site_file.specs.Files.{File}
+use Rattle.site_file.specs.Held.{is_same}
+use Rattle.site_file.specs.AllFiles.{Holds, HoldsDisk, FilesFollow}
+use Rattle.site_file.proofs.FilesFollow.{stays, asks_more, left_at_first}
+use Rattle.site_file.proofs.FollowingWords.{begins_to_follow, follows_on, site_is_followed}
 use Rattle.site_wire.specs.Journal as journal
 use Rattle.site_wire.specs.Journal.{JournalStep, JournalRun, HasKeptPace, JournalFollows}
 use Rattle.site_wire.specs.JournalLaws.{JournalIsFollowed}

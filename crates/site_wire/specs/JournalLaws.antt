@@ -3,9 +3,9 @@ use Rattle.site_core.specs.State.{Seen}
 use Rattle.site_shadow.specs.Following.{first_of}
 use Rattle.site_file.specs.declared.asking.LineFile.{LineFile}
 use Rattle.site_file.specs.declared.asking.LineFile.TheVariants.{Journal}
-use Rattle.file_laws.specs.Files.{File}
-use Rattle.file_laws.specs.Held.{is_same}
-use Rattle.file_laws.specs.Following.{Holds, FilesFollow}
+use Rattle.site_file.specs.Files.{File}
+use Rattle.site_file.specs.Held.{is_same}
+use Rattle.site_file.specs.AllFiles.{Holds, FilesFollow}
 use Rattle.site_wire.specs.Following.{WireFollows}
 use Rattle.site_wire.specs.declared.device.WireDevice.{WireDevice}
 

@@ -50,7 +50,7 @@ pub fn defined_slave_serves()
 {}
 
 /// A file that holds the disk of a site, as the device is put behind it before its first call, follows the disk from then on, as `files_follow` of
-/// `file_laws` says: at any moment a power cut leaves in it what it may leave of the disk, and as long as no call on it fails and the site goes
+/// `site_file` says: at any moment a power cut leaves in it what it may leave of the disk, and as long as no call on it fails and the site goes
 /// on, it holds the disk's bytes, and what is synced of the disk is synced in it.
 #[tactic(auto, using(crate::proofs::JournalFile::journal_is_followed))]
 pub fn journal_follows<L, F, C>()

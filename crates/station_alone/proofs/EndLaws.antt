@@ -20,8 +20,8 @@ use Rattle.book_model.specs.Book.{Book, base_of}
 use Rattle.book_model.specs.Open.{open_book}
 use Rattle.book_model.specs.Machine as machines
 use Rattle.book_model.specs.Machine.{Machine, MayKeep, reopened}
-use Rattle.book_laws.proofs.CommandLaws.{length-entries}
-use Rattle.book_laws.specs.Opening.{capacity_in, words_in}
+use Rattle.book_model.proofs.CommandLaws.{length-entries}
+use Rattle.book_model.specs.Opening.{capacity_in, words_in}
 use Rattle.site_journal.specs.Running.{KeepsAll, KeepsWith, KeptWith}
 use Rattle.world_law.proofs.StandsLaws.{pair_read, leaves-read}
 use Rattle.site_journal.proofs.GoLaws.{stays-weaker, stays-then}

@@ -19,7 +19,7 @@ use Rattle.site_journal.specs.Formatting.{Formats, formatted}
 use Rattle.site_journal.proofs.EmptyLaws.{formatted_is_empty}
 use Rattle.book_model.specs.Entries.{sizes_of}
 use Rattle.book_model.specs.Machine.{Machine, base_of}
-use Rattle.book_laws.specs.Opening.{words_in}
+use Rattle.book_model.specs.Opening.{words_in}
 use Rattle.station_alone.specs.Keeping.{KeptFor}
 use Rattle.station_alone.specs.Formatted.{IsBlank}
 

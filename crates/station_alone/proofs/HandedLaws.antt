@@ -9,8 +9,8 @@ use Rattle.book_model.specs.declared.next.RomNext.TheVariants as rom
 use Rattle.book_model.specs.Book.{Book, Doing, Resting, Payload, PayloadSync, OpenGate, OpenSync, CloseGate, CloseSync, FarGate, Mark, MarkSync, Version, VersionSync, Settling}
 use Rattle.book_model.specs.DiskSteps.{action_of, doing_next, disk_next}
 use Rattle.book_model.specs.RomSteps.{with_errand, with_issue, rom_next}
-use Rattle.book_laws.proofs.SlaveEventLaws as asks
-use Rattle.book_laws.proofs.SlaveEventLaws.{IsNothing, Asks}
+use Rattle.book_model.proofs.SlaveEventLaws as asks
+use Rattle.book_model.proofs.SlaveEventLaws.{IsNothing, Asks}
 use Rattle.site_journal.proofs.DiskRuns.{IsAction, idle-or-stop}
 use Rattle.site_journal.proofs.ReadyLaws.{asked-sound}
 use Rattle.site_journal.proofs.WordRuns.{handed}

@@ -8,7 +8,7 @@ use Rattle.site_core.specs.Passes.{LeavesOnly}
 use Rattle.site_core.proofs.Runs.{Passes-none, Passes-stays}
 use Rattle.book_model.specs.Book.{base_of}
 use Rattle.book_model.specs.Machine.{Machine}
-use Rattle.book_laws.specs.Keeping.{IsOfBook}
+use Rattle.book_model.specs.Keeping.{IsOfBook}
 use Rattle.site_journal.specs.Running.{KeepsAll, KeepsWith, KeptWith, with_commands}
 use Rattle.site_journal.proofs.GoLaws.{stays-weaker, stays-then, kept-less, keeps-all_with, keeps-more}
 use Rattle.station_alone.specs.Station.{Station}

@@ -30,10 +30,10 @@ use Rattle.book_model.specs.Book.{Book, contents_of}
 use Rattle.book_model.specs.Open.{open_book}
 use Rattle.book_model.specs.Machine.{reopened}
 use Rattle.book_core.proofs.FoundLaws.{entries-more}
-use Rattle.book_laws.specs.Keeping.{IsOfBook}
-use Rattle.book_laws.specs.Opening.{words_in, capacity_in, IsAllSynced, IsFound, book_on}
-use Rattle.book_laws.proofs.LineLaws.{up-kept}
-use Rattle.book_laws.proofs.OpeningLaws.{up-opens}
+use Rattle.book_model.specs.Keeping.{IsOfBook}
+use Rattle.book_model.specs.Opening.{words_in, capacity_in, IsAllSynced, IsFound, book_on}
+use Rattle.book_model.proofs.LineLaws.{up-kept}
+use Rattle.book_model.proofs.OpeningLaws.{up-opens}
 use Rattle.world_law.specs.Happenings.{with_synced}
 use Rattle.world_law.proofs.StandsLaws.{pair_read, leaves-read}
 use Rattle.site_journal.specs.Ready.{IsReady}

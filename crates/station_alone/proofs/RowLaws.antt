@@ -8,7 +8,7 @@ use Rattle.sii_words.proofs.RedoLaws.{SameShape-redone}
 use Rattle.sii_edit.proofs.FoldLaws.{SameShape-contents}
 use Rattle.book_model.specs.Entries.{runs_of}
 use Rattle.book_model.specs.Book.{base_of, contents_of}
-use Rattle.book_laws.proofs.BookLaws.{length-all_cells}
+use Rattle.book_model.proofs.BookLaws.{length-all_cells}
 use Rattle.site_journal.specs.Left.{calls_left}
 use Rattle.site_journal.specs.Ready.{IsUp}
 use Rattle.station_alone.specs.declared.fault.OpenFault.{OpenFault}
@@ -21,7 +21,7 @@ use Rattle.station_alone.proofs.KeepLaws.{goes-none, goes-within, goes-then, kee
 use Rattle.station_alone.proofs.RunLaws.{steps-then}
 use Rattle.station_alone.specs.Recovery.{Breaks, IsOfRecovery, LeadsTo}
 use Rattle.station_alone.specs.Rounds.{IsWorking, StaysKept, Works, EndsEarly}
-use Rattle.lists.proofs.Quantifiers.{all_append}
+use Rattle.sii_words.proofs.Quantifiers.{all_append}
 
 -- the fault that is handed on
 pub handed_on : {T : Type 0} (result : Result T OpenFault) (fault : OpenFault) → IsErrAnd result (λ other. other ≡ fault) → result ≡ Err fault

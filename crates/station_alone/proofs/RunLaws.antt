@@ -9,7 +9,7 @@ use Rattle.station_alone.specs.Steps.{Steps, StepsInOrder, most_calls, most_call
 use Rattle.site_core.specs.Passes.{LeavesOnly}
 use Rattle.site_journal.specs.Running.{with_commands}
 use Rattle.book_model.specs.Machine.{Machine}
-use Rattle.book_laws.specs.Keeping.{IsOfBook}
+use Rattle.book_model.specs.Keeping.{IsOfBook}
 use Rattle.station_alone.specs.Keeping.{GoesOn, Keeps, KeepsInOrder, KeptFor, KeptInOrder, accepted_by, accepted_in}
 use Rattle.station_alone.proofs.KeepLaws.{goes-none, goes-then, keeps-then, keeps-while-still, of-later}
 

@@ -9,11 +9,11 @@ use Rattle.sii_words.proofs.RedoLaws.{redone-nil}
 use Rattle.jrn_format.specs.Halves.{live}
 use Rattle.book_model.specs.Entries.{live_runs}
 use Rattle.book_model.specs.Book.{all_cells, base_of}
-use Rattle.book_laws.specs.Plants.{AllFit}
-use Rattle.book_laws.proofs.CommandLaws.{entries-contents}
-use Rattle.book_laws.proofs.PlantLaws.{plant-leads-retired}
-use Rattle.book_laws.proofs.SettledLaws.{retire-settled}
-use Rattle.book_laws.proofs.LineLaws.{holds-all}
+use Rattle.book_model.specs.Plants.{AllFit}
+use Rattle.book_model.proofs.CommandLaws.{entries-contents}
+use Rattle.book_model.proofs.PlantLaws.{plant-leads-retired}
+use Rattle.book_model.proofs.SettlingLaws.{retire-settled}
+use Rattle.book_model.proofs.LineLaws.{holds-all}
 use Rattle.world_law.proofs.StandsLaws.{pair_read, leaves-read}
 use Rattle.site_journal.specs.Ready.{IsUp}
 use Rattle.station_alone.specs.Station.{Station}

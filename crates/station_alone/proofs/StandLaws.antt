@@ -12,10 +12,10 @@ use Rattle.book_model.specs.declared.next.DiskNext.TheVariants as disk
 use Rattle.book_model.specs.Book.{Book, contents_of}
 use Rattle.book_model.specs.DiskSteps.{disk_next}
 use Rattle.book_model.specs.Machine.{Machine}
-use Rattle.book_laws.proofs.BookLaws.{length-all_cells}
-use Rattle.book_laws.specs.Frame.{JournalFrame}
-use Rattle.book_laws.specs.Keeping.{IsOfBook}
-use Rattle.book_laws.specs.Up.{Up}
+use Rattle.book_model.proofs.BookLaws.{length-all_cells}
+use Rattle.book_model.specs.Frame.{JournalFrame}
+use Rattle.book_model.specs.Keeping.{IsOfBook}
+use Rattle.book_model.specs.Up.{Up}
 use Rattle.site_journal.specs.Running.{CallsDisk}
 use Rattle.site_journal.specs.Ready.{IsReady}
 use Rattle.site_journal.proofs.DiskRuns.{IsAction}

@@ -27,13 +27,13 @@ use Rattle.book_model.specs.DiskSteps.{disk_next, disk_done}
 use Rattle.book_model.specs.RomSteps.{rom_next, rom_done}
 use Rattle.book_model.specs.Open.{migrate}
 use Rattle.book_model.specs.Machine.{Machine, accepts}
-use Rattle.book_laws.specs.Frame.{JournalFrame}
-use Rattle.book_laws.specs.Keeping.{IsOfBook}
-use Rattle.book_laws.specs.Steps.{acknowledged_by}
-use Rattle.book_laws.proofs.LineLaws.{up-kept}
-use Rattle.book_laws.proofs.CallLaws.{up-migrates, or-second}
-use Rattle.book_laws.proofs.SubmitLaws.{up-submits}
-use Rattle.book_laws.proofs.SlaveEventLaws.{IsNothing}
+use Rattle.book_model.specs.Frame.{JournalFrame}
+use Rattle.book_model.specs.Keeping.{IsOfBook}
+use Rattle.book_model.specs.Steps.{acknowledged_by}
+use Rattle.book_model.proofs.LineLaws.{up-kept}
+use Rattle.book_model.proofs.CallLaws.{up-migrates, or-second}
+use Rattle.book_model.proofs.SubmitLaws.{up-submits}
+use Rattle.book_model.proofs.SlaveEventLaws.{IsNothing}
 use Rattle.site_journal.specs.Running.{CallsDisk, KeepsAll, UpAfterDisk}
 use Rattle.site_journal.specs.Ready.{IsReady, IsUp, issue_outcome, settle_outcome}
 use Rattle.site_journal.proofs.DiskRuns.{IsAction, disk-runs}

@@ -4,7 +4,7 @@ use Rattle.sii_edit.specs.declared.command.Command.{Command}
 use Rattle.site_core.specs.State.{Seen, clock}
 use Rattle.site_core.specs.Passes.{LeavesOnly}
 use Rattle.book_model.specs.Machine.{Machine}
-use Rattle.book_laws.specs.Keeping.{IsOfBook}
+use Rattle.book_model.specs.Keeping.{IsOfBook}
 pub use Rattle.world_law.specs.Law.{KeptFor}
 use Rattle.site_journal.specs.Running.{KeepsAll, KeepsWith, with_commands}
 use Rattle.station_alone.specs.declared.choice.Choice.{Choice}

@@ -13,8 +13,8 @@ use Rattle.site_journal.specs.Reading.{ReadsJournal}
 use Rattle.esc_rom.specs.Reading.{EndsLine, WereRead, most_calls}
 use Rattle.book_model.specs.Entries.{entries_of}
 use Rattle.book_model.specs.Machine.{Machine, reopened, MayKeep}
-use Rattle.book_laws.specs.Keeping.{IsOfBook}
-use Rattle.book_laws.specs.Opening.{IsFound, book_on, capacity_in, words_in}
+use Rattle.book_model.specs.Keeping.{IsOfBook}
+use Rattle.book_model.specs.Opening.{IsFound, book_on, capacity_in, words_in}
 use Rattle.station_alone.specs.declared.fault.OpenFault.{OpenFault}
 use Rattle.station_alone.specs.declared.fault.OpenFault.TheVariants as faults
 use Rattle.station_alone.specs.declared.opening.Found.{Found}

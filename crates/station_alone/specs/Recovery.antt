@@ -18,7 +18,7 @@ use Rattle.book_model.specs.DiskSteps.{disk_next}
 use Rattle.book_model.specs.RomSteps.{rom_next}
 use Rattle.book_core.specs.Handing.{TakesMemory}
 use Rattle.book_model.specs.Reading.{planned}
-use Rattle.book_laws.specs.Opening.{words_in}
+use Rattle.book_model.specs.Opening.{words_in}
 use Rattle.site_journal.specs.Running.{CallsDisk}
 use Rattle.site_journal.specs.Left.{migration_calls, words_named, words_issued}
 use Rattle.station_alone.specs.declared.fault.OpenFault.{OpenFault}

@@ -6,7 +6,7 @@ use Rattle.jrn_format.specs.Halves.{live}
 use Rattle.book_model.specs.Entries.{live_runs}
 use Rattle.book_model.specs.Reading.{runs_settled}
 use Rattle.book_model.specs.Book.{Book, all_cells, contents_of}
-use Rattle.book_laws.specs.Opening.{words_in}
+use Rattle.book_model.specs.Opening.{words_in}
 use Rattle.station_alone.specs.Station.{Station}
 
 -- All accepted commands are durable, and every word that a live batch names is in place. What is retired was settled before.

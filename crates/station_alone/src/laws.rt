@@ -8,7 +8,7 @@ ghost use Rattle.site_core.specs.State.{Seen};
 ghost use Rattle.site_core.specs.Passes.{LeavesOnly};
 ghost use Rattle.site_journal.specs.Formatting.{Formats};
 ghost use Rattle.book_model.specs.Machine.{Machine};
-ghost use Rattle.book_laws.specs.Opening.{words_in};
+ghost use Rattle.book_model.specs.Opening.{words_in};
 ghost use Rattle.station_alone.specs.Station.{Station, Stands};
 ghost use Rattle.station_alone.specs.Keeping.{KeptFor};
 ghost use Rattle.station_alone.specs.Formatted.{IsBlank};

@@ -6,7 +6,7 @@ use Rattle.std.specs.Prelude.{MatchOption}
 use Rattle.station_files.specs.declared.location.Location.{Location}
 use Rattle.station_files.specs.declared.same_files.Clash.{Clash}
 use Rattle.station_files.specs.Locations.{AreApart, IsClash, Leads, LeadsTo, MeetAt, Meets, NoneMeet, Place, StandApart, place_of}
-use Rattle.lists.proofs.Quantifiers.{all_snoc, zip_snoc}
+use Rattle.sii_words.proofs.Quantifiers.{all_snoc, zip_snoc}
 
 -- ---- lists of pairs
 

@@ -8,7 +8,7 @@ use Rattle.station_files.specs.Files.{Known, Holds, HasBytes}
 use Rattle.station_files.specs.LineFiles.{IsNoLine, RefusesLine, RefusesLineText, SpellsWords, RefusesWords, RefusesFirst, RefusesSlaves, RefusesPlant, RefusesLayout}
 use Rattle.station_files.specs.declared.faults.Fault.{Fault}
 use Rattle.station_files.specs.declared.faults.Fault.TheVariants.{OddLength, BadSize, ImageOverLimit, Memory, Disk, Lost, Stopped, SlaveDead, NotAJournal, BadVersion, BadJournal, WrongLine, Unserved, File, BadHex, BadLine, BadScript, Exists, Busy, SameFile}
-use Rattle.lists.proofs.Quantifiers.{zip_snoc}
+use Rattle.sii_words.proofs.Quantifiers.{zip_snoc}
 
 -- one more item is loaded, from unchanged files
 pub loads_one_more : {A B : Type 0} (R : Known → A → B → Type 0) (old new : Known) (xs : List A) (i : ℕ) (item : A) (ys : List B) (y : B) → i < length xs → item ≡ get_or xs i item → new ≡ old → AllZip (R old) (take i xs) ys → R new item y → AllZip (R old) (take (i + 1) xs) (ys ++ y ∷ [])

@@ -12,7 +12,7 @@ use Rattle.site_core.proofs.Overlays.{length-overlaid}
 use Rattle.site_core.proofs.DeviceCalls.{WritesDisk-left, SyncsDisk-adds_nothing}
 use Rattle.book_model.specs.declared.next.DiskNext.{DiskNext}
 use Rattle.book_model.specs.declared.next.DiskNext.TheVariants as next
-use Rattle.book_laws.specs.Events.{gate_byte, begun_on, ended_on, FailsOn}
+use Rattle.book_model.specs.Events.{gate_byte, begun_on, ended_on, FailsOn}
 use Rattle.site_journal.specs.Action.{BeginsInside, DoesAction as DoesJournal}
 use Rattle.station_jobs.specs.declared.log.Assignment.{Assignment}
 use Rattle.station_jobs.specs.Jobs.{DoneInTurn, Led}

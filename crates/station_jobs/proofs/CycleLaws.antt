@@ -20,7 +20,7 @@ use Rattle.station_jobs.specs.declared.cycle.CycleOutcome.{CycleOutcome}
 use Rattle.station_jobs.specs.Setting.{Exchanges, GoesOn, TakesJob}
 use Rattle.sii_image.specs.declared.plan.Plan.{Plan}
 use Rattle.station_jobs.specs.Cycling.{IsWrite, IsSetting, SendsTurn, SendsTurns, IsCycled}
-use Rattle.lists.proofs.Quantifiers.{all_append}
+use Rattle.sii_words.proofs.Quantifiers.{all_append}
 
 -- ---- one after another
 

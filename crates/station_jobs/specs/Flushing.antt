@@ -6,7 +6,7 @@ use Rattle.site_core.specs.Disk.{Disk}
 use Rattle.site_core.specs.State.{State, Pair, Seen, Leaves}
 use Rattle.book_model.specs.declared.next.DiskNext.{DiskNext}
 use Rattle.book_model.specs.declared.next.DiskNext.TheVariants as next
-use Rattle.book_laws.specs.Events.{begun_on, ended_on, FailsOn}
+use Rattle.book_model.specs.Events.{begun_on, ended_on, FailsOn}
 use Rattle.site_journal.specs.Running.{CallsDisk}
 use Rattle.station_jobs.specs.declared.log.Assignment.{Assignment}
 use Rattle.station_jobs.specs.Jobs.{RunsToEnd}

@@ -11,7 +11,7 @@ use Rattle.book_model.specs.declared.next.RomNext.TheVariants as next
 use Rattle.book_model.specs.declared.next.RomOutcome.{RomOutcome}
 use Rattle.book_model.specs.declared.next.RomOutcome.TheVariants as outcomes
 use Rattle.book_model.specs.Book.{Errand, Issuing, Settling}
-use Rattle.book_laws.specs.Steps.{MayBegin, MayComeBack}
+use Rattle.book_model.specs.Steps.{MayBegin, MayComeBack}
 use Rattle.site_journal.specs.Ready.{issue_outcome, settle_outcome}
 use Rattle.station_jobs.specs.declared.log.Assignment.{Assignment}
 use Rattle.station_jobs.specs.Jobs.{RunsToEnd}

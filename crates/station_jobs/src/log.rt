@@ -5,7 +5,7 @@ ghost use Rattle.station_jobs.specs.Dispatch.{with_outcome};
 
 use crate::cycle::{CycleJob, CycleNote, CycleOutcome};
 use book_model::{DiskNext, RomNext, RomOutcome};
-use lists::ItemList;
+use sii_words::ItemList;
 use site_core::DeviceFault;
 
 /// A job that was handed out, with its outcome once it is reported.

@@ -5,7 +5,7 @@ ghost use Rattle.station_jobs.specs.Dispatch.{with_outcome};
 ghost use Rattle.station_jobs.specs.Noted.{is_waiting};
 
 use crate::Assignment;
-use lists::ItemList;
+use sii_words::ItemList;
 use std::alloc::{AllocError, Global};
 use std::marker::Model;
 

@@ -1,6 +1,6 @@
 -- What `journal` tells: what a journal holds, and what a recovery would write.
 use Rattle.std.specs.Prelude.{◌≡◌, ℕ, List}
-use Rattle.book_laws.specs.Opening.{words_in}
+use Rattle.book_model.specs.Opening.{words_in}
 use Rattle.site_shadow.specs.Site.{SiteValue}
 use Rattle.station_alone.specs.Station.{Station}
 use Rattle.station_alone.specs.Recovery.{BeginsRecovered, CountsRecovered, HasRecovered}

@@ -15,7 +15,7 @@ use Rattle.station_files.specs.declared.faults.Fault.{Fault}
 use Rattle.script_session.specs.Rounds.{ServesSo}
 use Rattle.station_session.specs.Session.{is_old, Loads, StartsFrom}
 use Rattle.line_changes.specs.Changes.{changes_between}
-use Rattle.book_laws.specs.Opening.{words_in}
+use Rattle.book_model.specs.Opening.{words_in}
 use Rattle.station_plan.specs.declared.plan.Planned.{Planned}
 
 -- The commands were submitted to this station in order and served, without a fault. Its site then had this line, state and past.

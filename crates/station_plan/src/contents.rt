@@ -2,7 +2,7 @@
 ghost use Rattle.std.specs.Prelude.{◌≡◌, ◌≤◌, length, IfOk};
 ghost use Rattle.esc_rom.specs.Owned.{OwnsAll};
 ghost use Rattle.site_shadow.specs.Line.{half_of};
-ghost use Rattle.book_laws.specs.Opening.{words_in};
+ghost use Rattle.book_model.specs.Opening.{words_in};
 
 use esc_model::RomHalf;
 use sii_words::{Plant, Words};

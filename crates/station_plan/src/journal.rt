@@ -1,6 +1,6 @@
 //! The subcommand `journal`.
 ghost use Rattle.std.specs.Prelude.{◌≡◌, IfOk, IsTrue, OnOk};
-ghost use Rattle.book_laws.specs.Opening.{words_in};
+ghost use Rattle.book_model.specs.Opening.{words_in};
 ghost use Rattle.esc_rom.specs.Owned.{OwnsAll};
 ghost use Rattle.line_changes.specs.Changes.{changes_between};
 ghost use Rattle.station_plan.specs.Journal.{ListsJournal, ListsSite, Restores};

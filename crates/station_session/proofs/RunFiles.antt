@@ -16,9 +16,9 @@ use Rattle.site_file.specs.declared.asking.LineFile.{LineFile as FileName}
 use Rattle.site_file.specs.declared.asking.LineFile.TheVariants.{Journal as JournalFile, Image}
 use Rattle.site_file.specs.declared.files.FileDevice.{FileDevice}
 use Rattle.site_file.specs.Following as files
-use Rattle.file_laws.specs.Held.{is_same}
-use Rattle.file_laws.specs.Files.{File, image_of}
-use Rattle.file_laws.specs.Following.{Holds, HoldsDisk, HoldsWords, Shows}
+use Rattle.site_file.specs.Held.{is_same}
+use Rattle.site_file.specs.Files.{File, image_of}
+use Rattle.site_file.specs.AllFiles.{Holds, HoldsDisk, HoldsWords, Shows}
 use Rattle.book_model.specs.Book.{Book}
 use Rattle.book_model.specs.Machine.{Machine}
 use Rattle.desk_book.specs.declared.call.Call.{Call}

@@ -8,9 +8,9 @@ use Rattle.site_shadow.specs.Site.{SiteValue}
 use Rattle.site_shadow.specs.Unsynced.{of_bytes}
 use Rattle.site_file.specs.declared.asking.LineFile.{LineFile as FileName}
 use Rattle.site_file.specs.declared.asking.LineFile.TheVariants.{Journal, Image}
-use Rattle.file_laws.specs.Files.{BecomesBy, File, IsBytes}
-use Rattle.file_laws.specs.Held.{of_file}
-use Rattle.file_laws.specs.Following.{calls_of, Holds, Shows}
+use Rattle.site_file.specs.Files.{BecomesBy, File, IsBytes}
+use Rattle.site_file.specs.Held.{of_file}
+use Rattle.site_file.specs.AllFiles.{calls_of, Holds, Shows}
 use Rattle.book_model.specs.Machine.{Machine}
 use Rattle.station_jobs.specs.declared.log.SlaveLog.{SlaveLog}
 use Rattle.station_jobs.specs.Ends.{Stay}

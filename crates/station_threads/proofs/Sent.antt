@@ -5,7 +5,7 @@ use denote.Param.Send.{IsSend, IsSync, sendable}
 use Rattle.std.proofs.Crossing.{crosses}
 use Rattle.std.specs.declared.sync.ledger.Ledger as ledger
 use Rattle.desk_book.specs.declared.naming.Tickets as tickets
-use Rattle.lists.proofs.history.History.TheLaws.TheKnot.{send-History}
+use Rattle.sii_words.proofs.history.History.TheLaws.TheKnot.{send-History}
 use Rattle.sii_image.specs.contracts.layout.Layout as Layout
 use Rattle.book_parts.specs.contracts.area.Area as Area
 use Rattle.book_parts.specs.contracts.ledger.Ledger as Ledger

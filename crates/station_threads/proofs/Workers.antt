@@ -5,7 +5,7 @@ use Rattle.station_jobs.specs.Ends.{Stay}
 use Rattle.station_threads.specs.Parts.{Part, PartOf, IsEndOfCycle, IsEndOfSlave, AreSlaveEndsOf}
 use Rattle.station_threads.specs.Starting.{Started, IsStarted, ComesTo, IsTurning, TurnsInto, Worker, IsWorkerOf, AreWorkersOfParts, EndsAs, EndAs}
 use Rattle.station_threads.proofs.Zips.{zip-through}
-use Rattle.lists.proofs.Quantifiers.{zip_snoc}
+use Rattle.sii_words.proofs.Quantifiers.{zip_snoc}
 
 -- the work began with the part's site
 pub began : {S L : Type 0} (site : S) (started : Started S L) (end : Stay S L) → IsStarted site started → ComesTo started end → end.start ≡ site

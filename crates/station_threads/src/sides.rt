@@ -7,8 +7,8 @@ use crate::desk::Desk;
 use crate::patience::Patience;
 use book_model::{DiskNext, RomNext, RomOutcome};
 use desk_book::{Heard, Refusals, Tickets, note_of};
-use lists::ItemList;
 use sii_image::Plan;
+use sii_words::ItemList;
 use site_core::DeviceFault;
 use station_jobs::{
     CycleJob, CycleLog, CycleNote, CycleOutcome, DiskLog, Dispatch, Notes, RomLog, Turn, zero_bytes,

@@ -3,7 +3,7 @@ use Rattle.std.specs.Prelude.{◌≡◌, ◌+◌, ℕ}
 use Rattle.site_core.specs.Passes.{LeavesOnly}
 use Rattle.site_shadow.specs.Site.{SiteValue}
 use Rattle.book_model.specs.Machine.{Machine}
-use Rattle.book_laws.specs.Keeping.{IsOfBook}
+use Rattle.book_model.specs.Keeping.{IsOfBook}
 use Rattle.station_alone.specs.Station.{Station}
 use Rattle.station_alone.specs.Keeping.{KeptFor}
 use Rattle.station_alone.specs.Opening.{Begins, OpensCounted}

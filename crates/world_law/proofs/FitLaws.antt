@@ -7,7 +7,7 @@ use Rattle.sii_edit.proofs.PlantLaws.{fit-contents}
 use Rattle.book_model.specs.Book.{Book, base_of, contents_of}
 use Rattle.book_model.specs.Submit.{with_command}
 use Rattle.book_model.specs.Machine.{Machine, accepts, reopened}
-use Rattle.book_laws.specs.Keeping.{IsOfBook}
+use Rattle.book_model.specs.Keeping.{IsOfBook}
 use Rattle.world_law.specs.Law.{MachineFits}
 
 pub fits-accepts : (m : Machine) (command : Command) → MachineFits m → CommandFits command → MachineFits (accepts m command)

@@ -12,9 +12,9 @@ use Rattle.book_model.specs.Book.{Book, Doing, Resting, Payload, PayloadSync, Op
 use Rattle.book_model.specs.Open.{migrate}
 use Rattle.book_model.specs.DiskSteps.{went_on, disk_next, disk_done}
 use Rattle.book_model.specs.RomSteps.{is_last, with_again, rom_next, rom_done}
-use Rattle.book_laws.specs.Events.{rested}
-use Rattle.book_laws.proofs.DiskEventLaws.{Answers, same, goes, by-out}
-use Rattle.book_laws.proofs.SlaveEventLaws.{Asks, nothing, issue, settle, asks}
+use Rattle.book_model.specs.Events.{rested}
+use Rattle.book_model.proofs.DiskEventLaws.{Answers, same, goes, by-out}
+use Rattle.book_model.proofs.SlaveEventLaws.{Asks, nothing, issue, settle, asks}
 
 -- the later book is closed where this one is, and its journal has the same form
 pub record SameFlags (book later : Book) : Type 0 where

@@ -14,7 +14,7 @@ use Rattle.esc_model.specs.WordAccess.{IsIdle}
 use Rattle.site_core.specs.State.{State}
 use Rattle.book_model.specs.Entries.{sizes_of}
 use Rattle.book_model.specs.Kept.{Kept}
-use Rattle.book_laws.specs.Opening.{words_in, IsAllSynced}
+use Rattle.book_model.specs.Opening.{words_in, IsAllSynced}
 use Rattle.world_law.specs.Law.{IsFormatted, blank, Starts}
 
 nothing-live : (half : ℕ) (area : List ℕ) → IsClosed area → IsLive WithGeneration half area []

@@ -6,8 +6,8 @@ use Rattle.site_core.specs.Passes.{LeavesOnly}
 use Rattle.site_core.proofs.StopImages.{StopImage-synced}
 use Rattle.site_core.proofs.Counts.{words-idle}
 use Rattle.book_model.specs.Kept.{Kept}
-use Rattle.book_laws.specs.Opening as opening
-use Rattle.book_laws.specs.Opening.{words_in}
+use Rattle.book_model.specs.Opening as opening
+use Rattle.book_model.specs.Opening.{words_in}
 use Rattle.world_law.specs.World.{World, Step}
 use Rattle.world_law.specs.Law.{Session, EventFits, MachineFits, Starts, KeptFor, Runs, StaysKept}
 use Rattle.world_law.proofs.StandsLaws.{Stands, stands-down, stands-is_kept}

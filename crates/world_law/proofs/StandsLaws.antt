@@ -18,15 +18,15 @@ use Rattle.book_model.specs.Book.{Book, base_of, own, slave_at, all_cells, is_cl
 use Rattle.book_model.specs.Reading.{runs_settled, settled_prefix, all_entries, applied}
 use Rattle.book_model.specs.Machine.{Machine}
 use Rattle.book_model.specs.Kept.{Kept}
-use Rattle.book_laws.proofs.FitLaws.{kept-live}
-use Rattle.book_laws.proofs.CommandLaws.{entries-contents, length-entries}
-use Rattle.book_laws.specs.Frame.{JournalFrame}
-use Rattle.book_laws.specs.Keeping.{IsOfBook}
-use Rattle.book_laws.specs.Up.{Up}
-use Rattle.book_laws.specs.Opening.{words_in}
-use Rattle.book_laws.proofs.LineLaws.{holds-all, up-kept}
-use Rattle.book_laws.specs.Worn.{named_for, Worn}
-use Rattle.book_laws.proofs.WornBooks.{worn-few}
+use Rattle.book_model.proofs.FitLaws.{kept-live}
+use Rattle.book_model.proofs.CommandLaws.{entries-contents, length-entries}
+use Rattle.book_model.specs.Frame.{JournalFrame}
+use Rattle.book_model.specs.Keeping.{IsOfBook}
+use Rattle.book_model.specs.Up.{Up}
+use Rattle.book_model.specs.Opening.{words_in}
+use Rattle.book_model.proofs.LineLaws.{holds-all, up-kept}
+use Rattle.book_model.specs.Worn.{named_for, Worn}
+use Rattle.book_model.proofs.WornBooks.{worn-few}
 use Rattle.world_law.specs.World.{World, Told}
 use Rattle.world_law.specs.Happenings.{CanOpen, Opens}
 use Rattle.world_law.specs.Law.{Session, IsRecovered, HoldsBase, KeptFor, IsKept}

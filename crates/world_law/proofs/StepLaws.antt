@@ -30,24 +30,24 @@ use Rattle.book_model.specs.RomSteps.{rom_done}
 use Rattle.book_model.specs.Reading.{applied, planned}
 use Rattle.book_model.specs.Machine.{Machine, accepts, reopened}
 use Rattle.book_model.specs.Machine as machines
-use Rattle.book_laws.proofs.CommandLaws.{length-entries}
-use Rattle.book_laws.specs.Frame.{JournalFrame}
-use Rattle.book_laws.specs.Events.{ended_on, FailsOn, in_progress, rested}
-use Rattle.book_laws.specs.Steps.{acknowledged_by}
-use Rattle.book_laws.specs.Up.{Up}
-use Rattle.book_laws.specs.Opening.{capacity_in, words_in, book_on}
-use Rattle.book_laws.proofs.CallLaws.{or-second, up-finished, up-migrates}
-use Rattle.book_laws.proofs.SubmitLaws.{up-submits}
-use Rattle.book_laws.proofs.DiskEventLaws.{up-begins, up-fails}
-use Rattle.book_laws.proofs.DiskEndLaws.{up-ends}
-use Rattle.book_laws.proofs.GoesLaws.{up-rests}
-use Rattle.book_laws.proofs.SlaveEventLaws.{up-asks, up-back}
-use Rattle.book_laws.proofs.OpeningLaws.{up-opens}
+use Rattle.book_model.proofs.CommandLaws.{length-entries}
+use Rattle.book_model.specs.Frame.{JournalFrame}
+use Rattle.book_model.specs.Events.{ended_on, FailsOn, in_progress, rested}
+use Rattle.book_model.specs.Steps.{acknowledged_by}
+use Rattle.book_model.specs.Up.{Up}
+use Rattle.book_model.specs.Opening.{capacity_in, words_in, book_on}
+use Rattle.book_model.proofs.CallLaws.{or-second, up-finished, up-migrates}
+use Rattle.book_model.proofs.SubmitLaws.{up-submits}
+use Rattle.book_model.proofs.DiskEventLaws.{up-begins, up-fails}
+use Rattle.book_model.proofs.DiskEndLaws.{up-ends}
+use Rattle.book_model.proofs.GoesLaws.{up-rests}
+use Rattle.book_model.proofs.SlaveEventLaws.{up-asks, up-back}
+use Rattle.book_model.proofs.OpeningLaws.{up-opens}
 use Rattle.world_law.specs.World.{World, Event, Submit, Plan, Migrate, Finish, DiskBegin, DiskDone, RomIssue, RomDone, RomResolve, Stop, Open, Told, Nothing, Acknowledged, Planned, Closed, Migrated, Opened}
 use Rattle.world_law.specs.Happenings.{submitted, told_of, fault_told, DiskReturns, SlaveBegins, SlaveReturns, HappensUp, with_synced, Opens, Happens, Steps}
 use Rattle.world_law.specs.Law.{Session, contents_now, Judges, IsRefused, with_machine, Follows, KeptFor, EventFits, MachineFits}
-use Rattle.book_laws.specs.Worn.{Worn}
-use Rattle.book_laws.proofs.WornBooks.{worn-fault, worn-opened, worn-command, worn-migrate, worn-disk_next, worn-disk_done, worn-rom_next, worn-rom_done}
+use Rattle.book_model.specs.Worn.{Worn}
+use Rattle.book_model.proofs.WornBooks.{worn-fault, worn-opened, worn-command, worn-migrate, worn-disk_next, worn-disk_done, worn-rom_next, worn-rom_done}
 use Rattle.world_law.proofs.FlagLaws.{SameFlags, BackFlags, DoneFlags, flags-disk_next, flags-disk_done, flags-migrate, flags-rom_next, flags-rom_done}
 use Rattle.world_law.proofs.AnswerLaws.{Takes, AnswersAs, submit-answers}
 use Rattle.world_law.proofs.FitLaws.{fits-accepts, fits-reopened, contents-fit}

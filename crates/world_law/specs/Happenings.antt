@@ -17,9 +17,9 @@ use Rattle.book_model.specs.Open.{finish, migrate}
 use Rattle.book_model.specs.DiskSteps.{disk_next, disk_done}
 use Rattle.book_model.specs.RomSteps.{rom_next, rom_done}
 use Rattle.book_model.specs.Reading.{applied, planned}
-use Rattle.book_laws.specs.Events.{begun_on, ended_on, FailsOn, in_progress}
-use Rattle.book_laws.specs.Steps.{MayBegin, took_after, MayComeBack}
-use Rattle.book_laws.specs.Opening.{IsFound, book_on}
+use Rattle.book_model.specs.Events.{begun_on, ended_on, FailsOn, in_progress}
+use Rattle.book_model.specs.Steps.{MayBegin, took_after, MayComeBack}
+use Rattle.book_model.specs.Opening.{IsFound, book_on}
 use Rattle.world_law.specs.World.{World, Event, Submit, Plan, Migrate, Finish, DiskBegin, DiskDone, RomIssue, RomDone, RomResolve, Stop, Open, Told, Nothing, Accepted, Refused, Acknowledged, Planned, Closed, Migrated, Opened}
 
 -- ---- while the station is up

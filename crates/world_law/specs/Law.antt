@@ -19,9 +19,9 @@ use Rattle.book_model.specs.Book.{Book, own, slave_at}
 use Rattle.book_model.specs.Reading.{planned}
 use Rattle.book_model.specs.Machine.{Machine, base_of, accepts, reopened, MayKeep}
 use Rattle.book_model.specs.Kept.{Kept}
-use Rattle.book_laws.specs.Keeping.{IsOfBook}
-use Rattle.book_laws.specs.Opening.{words_in, IsAllSynced}
-use Rattle.book_laws.specs.Worn.{named_for}
+use Rattle.book_model.specs.Keeping.{IsOfBook}
+use Rattle.book_model.specs.Opening.{words_in, IsAllSynced}
+use Rattle.book_model.specs.Worn.{named_for}
 use Rattle.world_law.specs.World.{World, Event, Submit, Told, Nothing, Accepted, Refused, Acknowledged, Planned, Closed, Migrated, Opened, Step}
 use Rattle.world_law.specs.Happenings.{Steps, CanOpen, Opens}
 

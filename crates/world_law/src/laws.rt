@@ -3,7 +3,7 @@ ghost use Rattle.std.specs.List.{AllByRecursion};
 ghost use Rattle.sii_edit.specs.Fitting.{PlantFits};
 ghost use Rattle.esc_model.specs.WordAccess.{IsIdle};
 ghost use Rattle.site_core.specs.State.{State};
-ghost use Rattle.book_laws.specs.Opening.{IsAllSynced, words_in};
+ghost use Rattle.book_model.specs.Opening.{IsAllSynced, words_in};
 ghost use Rattle.world_law.specs.World.{Step, World};
 ghost use Rattle.world_law.specs.Law.{EventFits, IsFormatted, Runs, Session, Starts, StaysKept, blank};
 

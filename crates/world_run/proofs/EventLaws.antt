@@ -7,7 +7,7 @@ use Rattle.site_core.specs.declared.fault.DeviceFault.{DeviceFault}
 use Rattle.site_core.specs.declared.fault.DeviceFault.TheVariants as device
 use Rattle.site_core.specs.Disk.{Disk, DiskStopped}
 use Rattle.site_core.proofs.StopImages.{equal_by_elements}
-use Rattle.book_laws.specs.Events.{begun_on, ended_on, FailsOn, in_progress}
+use Rattle.book_model.specs.Events.{begun_on, ended_on, FailsOn, in_progress}
 use Rattle.book_model.specs.declared.next.DiskNext.{DiskNext}
 use Rattle.book_model.specs.declared.next.DiskNext.TheVariants as next
 use Rattle.book_model.specs.declared.refusal.SubmitRefusal.{SubmitRefusal}

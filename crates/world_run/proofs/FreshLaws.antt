@@ -11,7 +11,7 @@ use Rattle.site_core.specs.State.{State}
 use Rattle.site_journal.proofs.EmptyLaws.{zeros_halved}
 use Rattle.book_model.specs.Kept.{Kept}
 use Rattle.book_model.specs.Machine.{Machine}
-use Rattle.book_laws.specs.Opening.{words_in, IsAllSynced}
+use Rattle.book_model.specs.Opening.{words_in, IsAllSynced}
 use Rattle.world_law.specs.World.{World}
 use Rattle.world_law.specs.Law.{IsFormatted, MachineFits, Starts, blank}
 use Rattle.world_law.proofs.FormatLaws.{formatted-starts}

@@ -7,7 +7,7 @@ use Rattle.esc_model.specs.WordAccess.{IsIdle}
 use Rattle.site_core.specs.Disk.{Disk, synced}
 use Rattle.book_model.specs.Entries.{sizes_of}
 use Rattle.book_model.specs.Book.{Book, is_version_2}
-use Rattle.book_laws.specs.Opening.{words_in, book_on}
+use Rattle.book_model.specs.Opening.{words_in, book_on}
 use Rattle.world_law.specs.World as law
 use Rattle.world_law.specs.World.{World}
 use Rattle.world_law.specs.Happenings.{CanOpen, Steps}

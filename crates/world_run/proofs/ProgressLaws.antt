@@ -24,7 +24,7 @@ use Rattle.book_model.specs.Entries.{runs_of, live_runs}
 use Rattle.book_model.specs.Open.{owing_slaves, opened_slave, open_book}
 use Rattle.book_model.specs.DiskSteps.{action_of, doing_next, disk_next, disk_done, went_on}
 use Rattle.book_model.specs.RomSteps.{is_last, was_taken, with_errand, with_issue, with_written, with_again, rom_next, rom_done}
-use Rattle.book_laws.proofs.SlaveEventLaws.{Asks, nothing, issue, settle, asks}
+use Rattle.book_model.proofs.SlaveEventLaws.{Asks, nothing, issue, settle, asks}
 use Rattle.world_run.specs.declared.station.Asked.{Asked}
 use Rattle.world_run.specs.declared.station.Asked.TheVariants.{Nothing, Issue, Settle}
 use Rattle.world_run.specs.Progress.{handed_out, as_action, asked_of, asked_next, asked_then, all_asked, KnowsProgress, IsClosedAndIdle}

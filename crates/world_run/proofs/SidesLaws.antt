@@ -13,7 +13,7 @@ use Rattle.world_run.specs.declared.leaving.LeftWord.{LeftWord}
 use Rattle.world_run.specs.Left.{torn_half, word_left, TornBy}
 use Rattle.world_run.specs.Sides.{StandsAt, SidesStand, HandsTo, IsPoweredUp, IsIdleAt, IsWellAt}
 use Rattle.world_run.proofs.LeftLaws.{get-set_same, get-set_other}
-use Rattle.lists.proofs.Quantifiers.{all_append}
+use Rattle.sii_words.proofs.Quantifiers.{all_append}
 
 -- ---- a half stands whatever happens to it
 

@@ -13,9 +13,9 @@ use Rattle.book_model.specs.declared.next.RomOutcome.{RomOutcome}
 use Rattle.book_model.specs.declared.next.RomOutcome.TheVariants as outcomes
 use Rattle.book_model.specs.Book.{Book, Errand, Free, Issuing, Unsettled, Settling, slave_at}
 use Rattle.book_model.specs.RomSteps.{rom_next, rom_done}
-use Rattle.book_laws.specs.Steps.{TakesOrNot, MayBegin, took_after, MayComeBack}
-use Rattle.book_laws.proofs.LineLaws.{half-there}
-use Rattle.book_laws.proofs.OutcomeLaws.{set-same}
+use Rattle.book_model.specs.Steps.{TakesOrNot, MayBegin, took_after, MayComeBack}
+use Rattle.book_model.proofs.LineLaws.{half-there}
+use Rattle.book_model.proofs.OutcomeLaws.{set-same}
 use Rattle.world_law.specs.World as law
 use Rattle.world_law.specs.World.{World, Told}
 use Rattle.world_law.specs.Happenings.{fault_told, with_book}

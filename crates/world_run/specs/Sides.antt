@@ -3,7 +3,7 @@ use Rattle.std.specs.Prelude.{◌≡◌, ℕ, ◌≤◌, Bool, true, false, List
 use Rattle.std.specs.List.{AllByRecursion}
 use Rattle.esc_model.specs.SlaveHalf.{SlaveHalf, in_flight}
 use Rattle.esc_model.specs.WordAccess.{IsAt, IsIdle, IsWell, TakesWord}
-use Rattle.book_laws.specs.Opening.{words_in}
+use Rattle.book_model.specs.Opening.{words_in}
 use Rattle.world_run.specs.declared.half.WordEnd.{WordEnd}
 use Rattle.world_run.specs.Left.{ended_half}
 

@@ -1,7 +1,7 @@
 ghost use Rattle.std.specs.Prelude.{◌≡◌, ◌<◌, ◌++◌, replicate, vec_len, vec_capacity, Some, OnOk, OnErr, IfOk};
 ghost use Rattle.jrn_format.specs.Header.{header_bytes};
 ghost use Rattle.site_core.specs.Disk.{synced, overlaid};
-ghost use Rattle.book_laws.specs.Events.{begun_on, ended_on};
+ghost use Rattle.book_model.specs.Events.{begun_on, ended_on};
 ghost use Rattle.world_run.specs.Torn.{disk_of, synced_of, range_of, FailsAs, StopsAs};
 
 use crate::leaving::{LeftByte, Stretch, leave};

@@ -4,7 +4,7 @@ ghost use Rattle.esc_model.specs.WordAccess.{IsIdle};
 ghost use Rattle.book_model.specs.Kept.{Kept};
 ghost use Rattle.book_model.specs.Machine.{Machine};
 ghost use Rattle.book_model.specs.declared.fault.CoreFault.{CoreFault};
-ghost use Rattle.book_laws.specs.Opening.{words_in};
+ghost use Rattle.book_model.specs.Opening.{words_in};
 ghost use Rattle.world_law.specs.World.{Told, World};
 ghost use Rattle.world_law.specs.Happenings.{Steps};
 ghost use Rattle.world_law.specs.Law.{MachineFits, Starts};

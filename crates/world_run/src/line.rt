@@ -2,7 +2,7 @@ ghost use Rattle.std.specs.Prelude.{◌≡◌, ◌<◌, ◌≤◌, ◌↔◌, fa
 ghost use Rattle.std.specs.List.{AllByRecursion};
 ghost use Rattle.esc_model.specs.WordAccess.{IsIdle};
 ghost use Rattle.book_model.specs.Entries.{sizes_of};
-ghost use Rattle.book_laws.specs.Opening.{words_in};
+ghost use Rattle.book_model.specs.Opening.{words_in};
 ghost use Rattle.world_run.specs.Left.{TornBy, word_left};
 ghost use Rattle.world_run.specs.Sides.{HandsWord, ComesToRest, IsIdleAt, IsWellAt, IsPoweredUp};
 

@@ -4,7 +4,7 @@ ghost use Rattle.std.specs.Option.{option_copied};
 ghost use Rattle.esc_model.specs.WordAccess.{IsIdle};
 ghost use Rattle.jrn_format.specs.Header.{IsCapacity, header_bytes};
 ghost use Rattle.sii_edit.specs.Fitting.{IsWord, PlantFits, WordsFit};
-ghost use Rattle.book_laws.specs.Opening.{words_in};
+ghost use Rattle.book_model.specs.Opening.{words_in};
 ghost use Rattle.world_law.specs.Law.{Starts, blank};
 ghost use Rattle.world_run.specs.Torn.{synced_of};
 

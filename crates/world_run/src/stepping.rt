@@ -4,7 +4,7 @@ ghost use Rattle.esc_model.specs.WordAccess.{IsIdle};
 ghost use Rattle.jrn_format.specs.Journal.{IsJournal};
 ghost use Rattle.book_model.specs.Memory.{OutOfMemory};
 ghost use Rattle.book_model.specs.Entries.{sizes_of};
-ghost use Rattle.book_laws.specs.Opening.{words_in, book_on};
+ghost use Rattle.book_model.specs.Opening.{words_in, book_on};
 ghost use Rattle.world_law.specs.Happenings.{CanOpen};
 ghost use Rattle.world_run.specs.Step.{Happened, Went};
 ghost use Rattle.world_run.specs.Returns.{MayReturn, ScansTo};

@@ -1,5 +1,5 @@
 use Rattle.std.proofs.Common.{sym, subst}
-use Rattle.book_laws.proofs.SlaveEventLaws.{IsNothing}
+use Rattle.book_model.proofs.SlaveEventLaws.{IsNothing}
 use Rattle.station_alone.specs.Station.{station}
 use Rattle.station_alone.proofs.HandedLaws.{rom-open}
 use Rattle.station_alone.proofs.StandLaws.{slave-owned}

@@ -2,7 +2,7 @@ use Rattle.std.proofs.Common.{◌≡◌, ℕ, ◌+◌, ◌<◌, List, [], ◌∷
 use Rattle.std.specs.List.{AllZip}
 use Rattle.station_files.specs.Files.{Known}
 use Rattle.station_files.specs.LineFiles.{SpellsWords}
-use Rattle.lists.proofs.ListedMembers.{AllZip-take-step}
+use Rattle.sii_words.proofs.ListedMembers.{AllZip-take-step}
 use Rattle.station_files.proofs.Loaded.{first_refused}
 use Rattle.station_files.proofs.line.load_slaves.Goals as goal
 

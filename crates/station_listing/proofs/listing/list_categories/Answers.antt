@@ -1,6 +1,6 @@
 use Rattle.sii_cats.specs.Chain.{member_of}
 use Rattle.station_listing.specs.ImageListing.{SaysMember}
-use Rattle.lists.proofs.ListedMembers.{AllZip-take-step}
+use Rattle.sii_words.proofs.ListedMembers.{AllZip-take-step}
 use Rattle.station_listing.proofs.listing.list_categories.Goals as goal
 
 pub loop-category-preserved : goal.loop-category-preserved

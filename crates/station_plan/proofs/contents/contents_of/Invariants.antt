@@ -1,5 +1,5 @@
 use Rattle.std.proofs.Common.{◌≡◌, length, take}
-use Rattle.book_laws.specs.Opening.{words_in}
+use Rattle.book_model.specs.Opening.{words_in}
 use Rattle.station_plan.proofs.contents.contents_of.Given as goal
 
 abbrev pub invariant-loop-slave : goal.invariant-loop-slave

@@ -2,7 +2,7 @@ use Rattle.std.proofs.Common.{◌≤◌, List, length, map, String, Global, inr,
 use Rattle.toml.specs.View.{view}
 use Rattle.toml.specs.declared.value.Value.{Value}
 use Rattle.station_text.specs.LineText.{AreImages, NamesImage}
-use Rattle.lists.proofs.ListedMembers.{AllZip-take-item}
+use Rattle.sii_words.proofs.ListedMembers.{AllZip-take-item}
 use Rattle.station_text.proofs.Readings.{none_for_item, passed_on, same_count}
 use Rattle.station_text.proofs.line_file.read_image_names.Goals as goal
 use Rattle.station_text.proofs.line_file.read_image_names.Goals.{then-is_empty-via-then-is_empty, then-is_empty-via-else-is_empty+then-slaves-gt64}

@@ -2,7 +2,7 @@ use Rattle.std.specs.List.{AllZip}
 use Rattle.std.proofs.Common.{map}
 use Rattle.toml.specs.View.{view}
 use Rattle.station_text.specs.ScriptText.{SpellsGroupEdit}
-use Rattle.lists.proofs.ListedMembers.{AllZip-take-item}
+use Rattle.sii_words.proofs.ListedMembers.{AllZip-take-item}
 use Rattle.station_text.proofs.Readings.{none_for_item, passed_on}
 use Rattle.station_text.proofs.script_command.read_group_edits.Goals as goal
 

@@ -1,5 +1,5 @@
 use Rattle.std.proofs.Common.{◌≡◌, take}
-use Rattle.book_laws.specs.Opening.{words_in}
+use Rattle.book_model.specs.Opening.{words_in}
 use Rattle.world_run.proofs.line.WorldLine.words.Given as goal
 
 abbrev pub invariant-loop-half : goal.invariant-loop-half

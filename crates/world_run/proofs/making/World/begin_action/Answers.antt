@@ -3,7 +3,7 @@ use Rattle.book_model.specs.Book.{Book}
 use Rattle.world_law.specs.World.{World}
 use Rattle.world_run.specs.Torn.{disk_of}
 use Rattle.site_core.specs.Disk.{Disk}
-use Rattle.book_laws.specs.Events.{begun_on}
+use Rattle.book_model.specs.Events.{begun_on}
 use Rattle.book_model.specs.declared.next.DiskNext.{DiskNext}
 use Rattle.std.specs.Option.{option_copied}
 use Rattle.world_run.specs.Progress.{handed_out}

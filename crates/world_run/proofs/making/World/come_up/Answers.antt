@@ -3,7 +3,7 @@ use Rattle.std.specs.List.{AllByRecursion}
 use Rattle.jrn_format.specs.Journal.{IsJournal}
 use Rattle.esc_model.specs.WordAccess.{IsIdle}
 use Rattle.book_model.specs.Entries.{sizes_of}
-use Rattle.book_laws.specs.Opening.{words_in, book_on}
+use Rattle.book_model.specs.Opening.{words_in, book_on}
 use Rattle.world_law.specs.World.{World}
 use Rattle.world_law.specs.Happenings.{CanOpen}
 use Rattle.world_run.specs.Torn.{disk_of}

@@ -1,7 +1,7 @@
 use Rattle.std.proofs.Common.{◌∙◌, ℕ, List, Option, IfOk, subst}
 use Rattle.jrn_format.specs.declared.journal.Journal.{Journal}
 use Rattle.book_model.specs.Entries.{sizes_of}
-use Rattle.book_laws.specs.Opening.{words_in}
+use Rattle.book_model.specs.Opening.{words_in}
 use Rattle.world_law.specs.World.{World}
 use Rattle.world_run.specs.Returns.{ScansTo}
 use Rattle.world_run.proofs.making.World.scan.Goals as goal

@@ -7,7 +7,7 @@ use Rattle.jrn_format.specs.Live.{CanBeLive}
 use Rattle.jrn_format.proofs.OpenLaws.{journal-can-be-live}
 use Rattle.esc_model.specs.SlaveHalf.{SlaveHalf}
 use Rattle.book_model.specs.Entries.{sizes_of}
-use Rattle.book_laws.specs.Opening.{words_in}
+use Rattle.book_model.specs.Opening.{words_in}
 use Rattle.world_law.specs.World.{World}
 use Rattle.world_run.proofs.making.World.start.Goals as goal
 

@@ -1,5 +1,0 @@
-use Rattle.book_laws.proofs.CallLaws.{up-migrates, migration-refused}
-use Rattle.book_laws.proofs.calls.up_as_a_migration_is_asked_for.Goals as goal
-
-pub returns : goal.returns
-returns c = record { kept = up-migrates; refused = migration-refused }

@@ -1,5 +1,0 @@
-use Rattle.book_laws.proofs.CallLaws.{up-finished}
-use Rattle.book_laws.proofs.calls.up_once_finished.Goals as goal
-
-pub returns : goal.returns
-returns c = up-finished

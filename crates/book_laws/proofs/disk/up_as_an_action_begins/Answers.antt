@@ -1,5 +1,0 @@
-use Rattle.book_laws.proofs.DiskEventLaws.{up-begins}
-use Rattle.book_laws.proofs.disk.up_as_an_action_begins.Goals as goal
-
-pub returns : goal.returns
-returns c = up-begins

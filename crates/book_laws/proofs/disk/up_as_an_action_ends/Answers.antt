@@ -1,5 +1,0 @@
-use Rattle.book_laws.proofs.DiskEndLaws.{up-ends}
-use Rattle.book_laws.proofs.disk.up_as_an_action_ends.Goals as goal
-
-pub returns : goal.returns
-returns c = up-ends

@@ -1,5 +1,0 @@
-use Rattle.book_laws.proofs.DoneLaws.{disk-fails}
-use Rattle.book_laws.proofs.disk_actions.an_action_fails.Goals as goal
-
-pub returns : goal.returns
-returns c = disk-fails

@@ -1,5 +1,0 @@
-use Rattle.book_laws.proofs.FormLaws.{journal-begins}
-use Rattle.book_laws.proofs.old_actions.an_action_begins.Goals as goal
-
-pub returns : goal.returns
-returns c = journal-begins

@@ -1,5 +1,0 @@
-use Rattle.book_laws.proofs.FormLaws.{journal-ends}
-use Rattle.book_laws.proofs.old_actions.an_action_ends.Goals as goal
-
-pub returns : goal.returns
-returns c = journal-ends

@@ -1,5 +1,0 @@
-use Rattle.book_laws.proofs.FormLaws.{journal-kept}
-use Rattle.book_laws.proofs.old_keeping.each_stop_is_kept.Goals as goal
-
-pub returns : goal.returns
-returns c = journal-kept

@@ -1,5 +1,0 @@
-use Rattle.book_laws.proofs.FoundLaws.{book-found}
-use Rattle.book_laws.proofs.old_opening.a_book_is_opened.Goals as goal
-
-pub returns : goal.returns
-returns c = λ words journal disk is synced whole. let f = book-found words journal disk is synced whole in (f.frame, f.line, f.fits)

@@ -1,5 +1,0 @@
-use Rattle.book_laws.proofs.OutcomeLaws.{up-freed}
-use Rattle.book_laws.proofs.rom.up_as_a_slave_is_freed.Goals as goal
-
-pub returns : goal.returns
-returns c = up-freed

@@ -1,5 +1,0 @@
-use Rattle.book_laws.proofs.OutcomeLaws.{up-again, up-dead, up-stopped}
-use Rattle.book_laws.proofs.rom.up_as_a_word_is_not_written.Goals as goal
-
-pub returns : goal.returns
-returns c = record { again = up-again; dead = up-dead; stopped = up-stopped }

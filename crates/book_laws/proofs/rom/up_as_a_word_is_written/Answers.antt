@@ -1,5 +1,0 @@
-use Rattle.book_laws.proofs.OutcomeLaws.{up-settled}
-use Rattle.book_laws.proofs.rom.up_as_a_word_is_written.Goals as goal
-
-pub returns : goal.returns
-returns c = up-settled

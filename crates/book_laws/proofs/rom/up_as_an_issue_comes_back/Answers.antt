@@ -1,5 +1,0 @@
-use Rattle.book_laws.proofs.OutcomeLaws.{up-issued}
-use Rattle.book_laws.proofs.rom.up_as_an_issue_comes_back.Goals as goal
-
-pub returns : goal.returns
-returns c = up-issued

@@ -1,5 +1,0 @@
-use Rattle.book_laws.proofs.WorkLaws.{up-works}
-use Rattle.book_laws.proofs.rom.up_as_the_next_word_is_issued.Goals as goal
-
-pub returns : goal.returns
-returns c = up-works

@@ -1,5 +1,0 @@
-use Rattle.book_laws.proofs.SlaveLaws.{slave-takes, slave-passes}
-use Rattle.book_laws.proofs.slaves.a_word_is_issued.Goals as goal
-
-pub returns : goal.returns
-returns c = record { taken = slave-takes; not_taken = slave-passes }

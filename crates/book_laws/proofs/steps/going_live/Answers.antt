@@ -1,5 +1,0 @@
-use Rattle.book_laws.proofs.BookLaws.{open-sync-fits}
-use Rattle.book_laws.proofs.steps.going_live.Goals as goal
-
-pub returns : goal.returns
-returns c = open-sync-fits

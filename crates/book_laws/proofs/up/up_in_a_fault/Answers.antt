@@ -1,5 +1,0 @@
-use Rattle.book_laws.proofs.GoesLaws.{up-faulted}
-use Rattle.book_laws.proofs.up.up_in_a_fault.Goals as goal
-
-pub returns : goal.returns
-returns c = up-faulted

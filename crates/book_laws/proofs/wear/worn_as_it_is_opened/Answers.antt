@@ -1,5 +1,0 @@
-use Rattle.book_laws.proofs.WornBooks.{worn-opened}
-use Rattle.book_laws.proofs.wear.worn_as_it_is_opened.Goals as goal
-
-pub returns : goal.returns
-returns c = worn-opened

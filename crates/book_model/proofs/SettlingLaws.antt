@@ -1,0 +1,94 @@
+-- The test before a retire, and that the settled prefix never gets shorter.
+use Rattle.std.proofs.Common.{◌≡◌, ◌⊎◌, inl, inr, ℕ, zero, suc, ◌+◌, ◌<◌, ◌≤◌, Bool, true, false, List, [], ◌∷◌, ◌++◌, length, get_or, refl, ◌∙◌, ap, subst, arith, length-append, add-zero, add-suc, suc-add}
+use Rattle.std.specs.Prelude.{nat_le, ◌&&◌, ◌==◌, if◌then◌else◌}
+use Rattle.std.proofs.lemmas.Bool.{cases_eq}
+use Rattle.std.proofs.lemmas.Bool.Decides.{nat_tests}
+use Rattle.sii_words.specs.declared.run.Run.{Run}
+use Rattle.jrn_format.specs.declared.journal.Entry.{Entry}
+use Rattle.book_model.specs.Cells.{Cell, cell_of}
+use Rattle.book_model.specs.Pending.{values_of, namings_settled}
+use Rattle.book_model.proofs.SettledLaws.{word-settled, and-right, and-left}
+use Rattle.book_model.proofs.EndLaws as queue
+use Rattle.book_model.specs.Entries.{runs_of, namings, values}
+use Rattle.book_model.specs.Book.{cell_at}
+use Rattle.book_model.specs.Reading.{settled_from, runs_settled, settled_prefix}
+use Rattle.book_model.specs.Plants.{AllFit, AllSettled}
+use Rattle.book_model.specs.Fits.{SameCells, OwesNoMore}
+use Rattle.book_model.proofs.CellLaws.{namings-append, values-append}
+use Rattle.book_model.proofs.FitLaws.{runs_of-append}
+use Rattle.book_model.proofs.BeginLaws.{le-of}
+
+-- ---- what the test says
+
+pub slave-settled : (first : ℕ) (cells : List (List Cell)) (behind runs : List Run) (k : ℕ) → settled_from first cells behind runs ≡ true → k < length cells
+    → namings_settled (get_or cells k []) (namings behind (first + k)) (namings runs (first + k)) ≡ true
+slave-settled first [] behind runs k is within = absurd (omega arith)
+slave-settled first (c ∷ cells) behind runs zero is within =
+    rw add-zero (and-left (namings_settled c (namings behind first) (namings runs first)) (settled_from (suc first) cells behind runs) is)
+slave-settled first (c ∷ cells) behind runs (suc k) is within =
+    rw (add-suc first k, ← suc-add first k)
+    (slave-settled (suc first) cells behind runs k (and-right (namings_settled c (namings behind first) (namings runs first)) (settled_from (suc first) cells behind runs) is) (omega arith))
+
+settled-at : (cells : List (List Cell)) (behind runs : List Run) (slave at : ℕ) → runs_settled cells behind runs ≡ true → slave < length cells
+    → (values runs slave at ≡ []) ⊎ (length (cell_at cells slave at).owed ≤ length (values behind slave at))
+settled-at cells behind runs slave at is within =
+    let here : namings_settled (get_or cells slave []) (namings behind slave) (namings runs slave) ≡ true = subst (λ (s : ℕ). namings_settled (get_or cells slave []) (namings behind s) (namings runs s) ≡ true) (omega arith) (slave-settled 0 cells behind runs slave is within) in
+    word-settled (get_or cells slave []) (namings behind slave) (namings runs slave) at here
+
+-- where the runs of the older half are settled, nothing unsettled is lost with them
+pub retire-settled : (plant : List (List ℕ)) (gone older newer : List Run) (cells : List (List Cell)) → SameCells plant cells → AllFit plant gone (older ++ newer) cells → runs_settled cells newer older ≡ true → AllSettled plant newer cells
+retire-settled plant gone older newer cells same fit is = λ slave at within inside.
+    let owed : length (cell_at cells slave at).owed ≤ length (values (older ++ newer) slave at) = (fit slave at within inside).owed in
+    let long = ap length (values-append older newer slave at) ∙ length-append (values older slave at) (values newer slave at) in
+    elim (settled-at cells newer older slave at is (omega (arith, same.slaves))) [
+      | inl none ↦ omega (arith, owed, long, ap length none)
+      | inr le ↦ le
+    ]
+
+-- ---- the settled prefix never falls
+
+both : (a b c d : Bool) → (a ≡ true → c ≡ true) → (b ≡ true → d ≡ true) → (a && b) ≡ true → (c && d) ≡ true
+both true b c d f g is = rw (f refl) (g is)
+both false b c d f g is = absurd cc
+
+few : (n m k j : ℕ) → k ≤ n + j → nat_le n m ≡ true → nat_le k (m + j) ≡ true
+few n m k j le is = let t : n ≤ m = grind (arith, nat_tests) in grind (arith, nat_tests)
+
+namings-stay : (cells later : List Cell) (behind more ns : List (ℕ × ℕ)) → ((at : ℕ) → length (cell_of later at).owed ≤ length (cell_of cells at).owed + length (values_of at more))
+    → namings_settled cells behind ns ≡ true → namings_settled later (behind ++ more) ns ≡ true
+namings-stay cells later behind more [] owes is = refl
+namings-stay cells later behind more (n ∷ ns) owes is =
+    both (nat_le (length (cell_of cells n.0).owed) (length (values_of n.0 behind))) (namings_settled cells behind ns)
+    (nat_le (length (cell_of later n.0).owed) (length (values_of n.0 (behind ++ more)))) (namings_settled later (behind ++ more) ns)
+    (λ yes_it_is. ap (nat_le (length (cell_of later n.0).owed)) (ap length (queue.values-append n.0 behind more) ∙ length-append (values_of n.0 behind) (values_of n.0 more))
+    ∙ few (length (cell_of cells n.0).owed) (length (values_of n.0 behind)) (length (cell_of later n.0).owed) (length (values_of n.0 more)) (owes n.0) yes_it_is)
+    (namings-stay cells later behind more ns owes) is
+
+from-stays : (first : ℕ) (cells later : List (List Cell)) (behind runs named : List Run) → length later ≡ length cells
+    → ((k at : ℕ) → length (cell_at later k at).owed ≤ length (cell_at cells k at).owed + length (values runs (first + k) at))
+    → settled_from first cells behind named ≡ true → settled_from first later (behind ++ runs) named ≡ true
+from-stays first [] [] behind runs named same more is = refl
+from-stays first [] (l ∷ later) behind runs named same more is = absurd (omega arith)
+from-stays first (c ∷ cells) [] behind runs named same more is = absurd (omega arith)
+from-stays first (c ∷ cells) (l ∷ later) behind runs named same more is =
+    both (namings_settled c (namings behind first) (namings named first)) (settled_from (suc first) cells behind named)
+    (namings_settled l (namings (behind ++ runs) first) (namings named first)) (settled_from (suc first) later (behind ++ runs) named)
+    (λ yes_it_is. ap (λ (b : List (ℕ × ℕ)). namings_settled l b (namings named first)) (namings-append behind runs first)
+    ∙ namings-stay c l (namings behind first) (namings runs first) (namings named first) (λ at. subst (λ (n : ℕ). length (cell_of l at).owed ≤ length (cell_of c at).owed + length (values runs n at)) (omega arith) (more 0 at)) yes_it_is)
+    (from-stays (suc first) cells later behind runs named (omega arith)
+    (λ k at. subst (λ (n : ℕ). length (cell_at later k at).owed ≤ length (cell_at cells k at).owed + length (values runs n at)) (omega arith) (more (suc k) at))) is
+
+runs-stay : (cells later : List (List Cell)) (behind runs named : List Run) → length later ≡ length cells → OwesNoMore cells later runs → runs_settled cells behind named ≡ true → runs_settled later (behind ++ runs) named ≡ true
+runs-stay cells later behind runs named same more is =
+    from-stays 0 cells later behind runs named same (λ k at. subst (λ (n : ℕ). length (cell_at later k at).owed ≤ length (cell_at cells k at).owed + length (values runs n at)) (omega arith) (more k at)) is
+
+counted : (c d : Bool) (n m : ℕ) → (c ≡ true → d ≡ true) → n ≤ m → (if c then suc n else 0) ≤ (if d then suc m else 0)
+counted true d n m f le = rw (f refl) (omega arith)
+counted false d n m f le = omega arith
+
+pub prefix-stays : (cells later : List (List Cell)) (entries next : List Entry) → length later ≡ length cells → OwesNoMore cells later (runs_of next) → settled_prefix cells entries ≤ settled_prefix later (entries ++ next)
+prefix-stays cells later [] next same more = omega arith
+prefix-stays cells later (e ∷ es) next same more =
+    counted (runs_settled cells (runs_of es) e.runs) (runs_settled later (runs_of (es ++ next)) e.runs) (settled_prefix cells es) (settled_prefix later (es ++ next))
+    (λ is. ap (λ (l : List Run). runs_settled later l e.runs) (runs_of-append es next) ∙ runs-stay cells later (runs_of es) (runs_of next) e.runs same more is)
+    (prefix-stays cells later es next same more)

@@ -1,0 +1,33 @@
+//! Laws of the book's actions on the disk, for every form of the journal: `JournalFits` stays true.
+
+ghost use Rattle.std.specs.Prelude.{◌≡◌, true, Ok, Some};
+ghost use Rattle.site_core.specs.Disk.{Disk};
+ghost use Rattle.book_model.specs.declared.fault.Fault.{Fault};
+ghost use Rattle.book_model.specs.Book.{Book, with_fault};
+ghost use Rattle.book_model.specs.DiskSteps.{disk_next, disk_done};
+ghost use Rattle.book_model.specs.Frame.{JournalFrame, IsJournalFrame};
+ghost use Rattle.book_model.specs.Events.{begun_on, ended_on, FailsOn, in_progress, rested};
+ghost use Rattle.book_model.specs.OldDoing.{JournalFits};
+ghost use Rattle.book_model.specs.OldQueue.{JournalCanBegin};
+
+/// `JournalFits` stays true when the book hands out its next action on the disk, or none, and the disk begins it.
+pub fn an_action_begins()
+    ensures { (frame : JournalFrame) (book : Book) (disk : Disk) → JournalCanBegin frame book → JournalFits frame book disk
+        → JournalFits frame (disk_next book).1 (begun_on (Some (disk_next book).0) disk) }
+{}
+
+/// `JournalFits` stays true when the action that is handed out succeeds. The last action of a migration leaves a journal of version 2.
+pub fn an_action_ends()
+    ensures { (frame : JournalFrame) (book : Book) (disk : Disk) → IsJournalFrame frame → book.capacity ≡ frame.capacity
+        → book.is_handed_out ≡ true
+        → JournalFits frame book disk
+        → JournalFits frame (disk_done book (Ok tt)) (ended_on (in_progress book) disk) }
+{}
+
+/// `JournalFits` stays true when the action that is handed out fails, or the site stops.
+pub fn an_action_fails()
+    ensures { (frame : JournalFrame) (book : Book) (disk new : Disk) (fault : Fault) → book.capacity ≡ frame.capacity
+        → book.is_handed_out ≡ true
+        → JournalFits frame book disk
+        → FailsOn (in_progress book) disk new → JournalFits frame (with_fault (rested book) fault) new }
+{}

@@ -1,2 +1,0 @@
-pub mod ListedMembers
-pub mod Quantifiers
