@@ -1,5 +1,5 @@
 -- What a command gives, case by case.
-use Rattle.std.proofs.Common.{◌≡◌, ◌≢◌, ◌⊎◌, ℕ, suc, ◌<◌, ◌≤◌, List, [], ◌∷◌, length, map, slice_set, refl, sym, ap, ◌∙◌, inl, inr, arith, true, false, ◌%◌, Option, None, Result, Ok, Err, All, length-set, get_or-set_same, get_or-set_other}
+use Rattle.std.proofs.Common.{◌≡◌, ◌≢◌, ◌⊎◌, ℕ, suc, ◌<◌, ◌≤◌, List, [], ◌∷◌, length, map, slice_set, refl, sym, ap, ◌∙◌, inl, inr, true, false, ◌%◌, Option, None, Result, Ok, Err, All, length-set, get_or-set_same, get_or-set_other}
 use Rattle.std.specs.Prelude.{slice_index, not, ◌||◌}
 use Rattle.std.proofs.lemmas.Bool.{cases_eq, cases_lt, le-leb, lt-leb, or_left, or_right, or_from, eq-eqb, ne_eqb}
 use Rattle.std.proofs.lemmas.List.{set_past}

@@ -4,9 +4,9 @@ use Rattle.std.proofs.lemmas.Bool.{eq-eqb, eqb-true, eqb-false}
 use Rattle.std.specs.Prelude.{slice_get, position}
 use Rattle.std.proofs.lemmas.List.{length-append, length-drop, drop_at, take_at, drop-drop, length-take-le}
 use Rattle.std.proofs.lemmas.List.Quantifiers.{position-Some}
-use Rattle.std.proofs.lemmas.List.Elements.{All-nil, All-cons, All-head, All-tail, All-append, All-take, All-drop, All-set, All-push}
+use Rattle.std.proofs.lemmas.List.Elements.{All-nil, All-cons, All-append, All-take, All-drop, All-set, All-push}
 use Rattle.sii_cats.specs.Items.{AreItems}
-use Rattle.sii_cats.specs.Chain.{Member, member_words, chain_words, Begins, IsEnd, IsChain}
+use Rattle.sii_cats.specs.Chain.{Member, chain_words, Begins, IsEnd, IsChain}
 use Rattle.sii_cats.specs.steps.Chain.{members_of}
 use Rattle.sii_cats.specs.Splice.{chain_end, closing, spliced, with_chain, IsEdit}
 use Rattle.sii_cats.specs.Laws.{ReadingsAgree}

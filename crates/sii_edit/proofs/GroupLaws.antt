@@ -1,5 +1,5 @@
 -- The edits of a group, one by one.
-use Rattle.std.proofs.Common.{◌≡◌, ℕ, suc, ◌+◌, ◌<◌, ◌≤◌, Bool, true, false, List, [], ◌∷◌, length, map, drop, get_or, sym, ap, ◌∙◌, inl, inr, arith, add-one, drop-cons, Result, Ok, Err}
+use Rattle.std.proofs.Common.{◌≡◌, ℕ, suc, ◌+◌, ◌<◌, ◌≤◌, Bool, true, false, List, [], ◌∷◌, length, map, drop, get_or, sym, ap, ◌∙◌, arith, add-one, drop-cons, Result, Ok, Err}
 use Rattle.std.proofs.lemmas.List.{get_or-map, length-map}
 use Rattle.std.proofs.Math.ListN.{drop_of_length-le}
 use Rattle.std.specs.Result.{IsErrAnd}
@@ -9,9 +9,9 @@ use Rattle.sii_edit.specs.Draft.{IsCarriedOut}
 use Rattle.sii_edit.specs.declared.command.GuardedEdit.{GuardedEdit}
 use Rattle.sii_edit.specs.declared.refusal.Cause.{Cause}
 use Rattle.sii_edit.specs.declared.refusal.Refusal.{Refusal}
-use Rattle.sii_edit.specs.Refusal.{unless, whole, of_whole, of_place, then_judged, IsRefusalOf}
+use Rattle.sii_edit.specs.Refusal.{unless, of_whole, of_place, then_judged, IsRefusalOf}
 use Rattle.sii_edit.specs.Command.{edited, edits_from, group_causes, grouped, unguarded}
-use Rattle.sii_edit.proofs.UnlessLaws.{unless-change, unless-err, whole_ok, refused_then}
+use Rattle.sii_edit.proofs.UnlessLaws.{unless-change, whole_ok, refused_then}
 
 -- what is judged of these causes alone
 abbrev judge : List (Bool × Cause) → Result (Unit {0}) Refusal

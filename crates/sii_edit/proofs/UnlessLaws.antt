@@ -1,5 +1,5 @@
 -- The first cause that applies: what an answer means for the tests.
-use Rattle.std.proofs.Common.{◌≡◌, ◌≢◌, ◌⊎◌, ℕ, Bool, true, false, List, [], ◌∷◌, refl, sym, ap, ◌∙◌, inl, inr, Option, Some, Result, Ok, Err}
+use Rattle.std.proofs.Common.{◌≡◌, ◌≢◌, ◌⊎◌, ℕ, Bool, true, false, List, [], ◌∷◌, refl, sym, ap, ◌∙◌, inl, inr, Some, Result, Ok, Err}
 use Rattle.sii_edit.specs.declared.refusal.Cause.{Cause}
 use Rattle.sii_edit.specs.declared.refusal.Cause.TheVariants.{Memory}
 use Rattle.sii_edit.specs.declared.refusal.Refusal.{Refusal}

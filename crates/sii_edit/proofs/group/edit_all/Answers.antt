@@ -1,8 +1,7 @@
 use Rattle.std.proofs.Common.{sym, ap, ◌∙◌, inl, arith, map}
 use Rattle.std.proofs.lemmas.List.{length-map}
 use Rattle.sii_edit.specs.Draft.{drafted}
-use Rattle.sii_edit.specs.Refusal.{IsRefusalOf}
-use Rattle.sii_edit.specs.Command.{grouped, edits_from, unguarded}
+use Rattle.sii_edit.specs.Command.{grouped, unguarded}
 use Rattle.sii_edit.proofs.GroupLaws.{grouped-start, grouped-refused, unguarded-at, edits-step, edits-refused, edits-end, handed_on, judged_by}
 use Rattle.sii_edit.proofs.group.edit_all.Goals as goal
 
@@ -27,10 +26,11 @@ loop-place-preserved c =
 pub returns : goal.returns
 returns c =
     let plant = c.args.plant.now in
-    let edits = map unguarded c.args.edits.now in
-    (c.loop-place.invariant.fits,
-    grouped-start (drafted plant c.args.draft.now) edits (ap judged_by (length-map c.args.edits.now unguarded) ∙ sym c.in_ok-judge_count.ensures) ∙ sym c.loop-place.invariant.left
-    ∙ edits-end c.loop-place.place (drafted plant c.loop-place.draft) edits (omega (arith, length-map c.args.edits.now unguarded, c.loop-place-test.false)))
+    let edits = map unguarded c.args.edits.now in (
+      c.loop-place.invariant.fits,
+      grouped-start (drafted plant c.args.draft.now) edits (ap judged_by (length-map c.args.edits.now unguarded) ∙ sym c.in_ok-judge_count.ensures) ∙ sym c.loop-place.invariant.left
+          ∙ edits-end c.loop-place.place (drafted plant c.loop-place.draft) edits (omega (arith, length-map c.args.edits.now unguarded, c.loop-place-test.false)),
+    )
 
 pub returns-in_err-edit_at : goal.returns-in_err-edit_at
 returns-in_err-edit_at c =

@@ -1,7 +1,6 @@
-use Rattle.std.proofs.Common.{sym, ap, ◌∙◌, inl}
+use Rattle.std.proofs.Common.{sym, ◌∙◌, inl}
 use Rattle.sii_edit.specs.Draft.{drafted}
-use Rattle.sii_edit.specs.Refusal.{IsRefusalOf}
-use Rattle.sii_edit.specs.Command.{grouped, edits_from}
+use Rattle.sii_edit.specs.Command.{grouped}
 use Rattle.sii_edit.proofs.GroupLaws.{grouped-start, grouped-refused, edits-at, edits-step, edits-refused, edits-end, handed_on}
 use Rattle.sii_edit.proofs.group.edit_guarded.Goals as goal
 
@@ -26,10 +25,11 @@ loop-place-preserved c =
 pub returns : goal.returns
 returns c =
     let plant = c.args.plant.now in
-    let edits = c.args.edits.now in
-    (c.loop-place.invariant.fits,
-    grouped-start (drafted plant c.args.draft.now) edits (sym c.in_ok-judge_count.ensures) ∙ sym c.loop-place.invariant.left
-    ∙ edits-end c.loop-place.place (drafted plant c.loop-place.draft) edits c.loop-place-test.false)
+    let edits = c.args.edits.now in (
+      c.loop-place.invariant.fits,
+      grouped-start (drafted plant c.args.draft.now) edits (sym c.in_ok-judge_count.ensures) ∙ sym c.loop-place.invariant.left
+          ∙ edits-end c.loop-place.place (drafted plant c.loop-place.draft) edits c.loop-place-test.false,
+    )
 
 pub returns-in_err-edit_at : goal.returns-in_err-edit_at
 returns-in_err-edit_at c =
