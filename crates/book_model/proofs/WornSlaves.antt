@@ -93,7 +93,7 @@ worn-again named failed slave word value taken is last worn = record {
 shorter : (value : ℕ) (owed vs : List ℕ) → IsAmong value vs → length (all_named (Holds value) owed vs) + 1 ≤ length vs
 shorter value owed [] has = absurd has
 shorter value owed (v ∷ vs) (inl same) =
-    let t : (value == v) ≡ true = eq-eqb value v same in
+    let t : (value == v) ≡ true = eq-eqb value v (sym same) in
     rw t (omega (arith, length-all_named (Holds value) [] vs))
 shorter value owed (v ∷ vs) (inr has) = omega (arith, shorter value (named (Holds value) owed v) vs has)
 
