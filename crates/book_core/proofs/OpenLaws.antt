@@ -1,10 +1,10 @@
 -- The invariant of a book that was just opened.
 use Rattle.std.proofs.Common.{◌≡◌, inl, ℕ, zero, suc, ◌+◌, ◌<◌, List, [], ◌∷◌, ◌++◌, length, get_or, map, None, refl, sym, ◌∙◌, ap, subst, arith}
+use Rattle.std.proofs.lemmas.Bool.{eq-eqb}
 use Rattle.std.specs.List.{AllByRecursion, filter}
 use Rattle.std.specs.Prelude.{◌==◌, not, true}
 use Rattle.std.proofs.lemmas.List.{append-nil, get_or-map, length-map, map-append}
 use Rattle.std.proofs.lemmas.Grind.{flat_map-append}
-use Rattle.std.proofs.lemmas.Bool.Decides.{nat_tests}
 use Rattle.sii_words.specs.declared.run.Run.{Run}
 use Rattle.sii_words.specs.Redo.{redone}
 use Rattle.jrn_format.specs.declared.journal.Entry.{Entry}
@@ -35,7 +35,7 @@ use Rattle.book_core.proofs.RunLaws.{same-runs}
 -- ---- the batches stand in their halves
 
 same-test : (n m : ℕ) → n ≡ m → (n == m) ≡ true
-same-test n m is = grind (arith, nat_tests)
+same-test n m is = eq-eqb n m is
 
 all-here : (half : ℕ) (batches : List Batch) → half ≡ 0 → AllByRecursion (CanStand Plain 0) batches → filter (λ (b : Batch). b.half == half) batches ≡ batches
 all-here half [] first can = refl

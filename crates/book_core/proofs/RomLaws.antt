@@ -1,7 +1,7 @@
 -- What is handed out for a slave is what `rom_next` says.
 use Rattle.std.proofs.Common.{◌≡◌, ℕ, ◌<◌, Bool, true, false, List, [], ◌∷◌, ◌++◌, length, Some, None, refl, sym, ◌∙◌, ap, subst, arith}
+use Rattle.std.proofs.lemmas.Bool.{lt-ltb}
 use Rattle.std.specs.Prelude.{is_some, nat_lt, filter, if◌then◌else◌}
-use Rattle.std.proofs.lemmas.Bool.Decides.{nat_tests}
 use Rattle.sii_words.specs.declared.run.Run.{Run}
 use Rattle.book_model.specs.Cells.{Cell, cell_of, is_any}
 use Rattle.book_model.specs.Pending.{first, last_of}
@@ -50,12 +50,12 @@ has-none (n ∷ ns) is = absurd (cc is)
 pub next-issue : (book : Book) (i : ℕ) (w : ℕ × ℕ) → i < length book.slaves → (slave_at book i).errand ≡ Free → is_some book.fault ≡ false → first (to_do book i) ≡ Some w
     → rom_next book i ≡ (next.Issue w.0 w.1, with_issue book i w)
 next-issue book i w within free none is =
-    let t : nat_lt i (length book.slaves) ≡ true = grind (arith, nat_tests) in
+    let t : nat_lt i (length book.slaves) ≡ true = lt-ltb i (length book.slaves) (omega arith) in
     let some = has-first (to_do book i) w is in
     rw (t, free, none, some.1) refl
 
 pub next-none : (book : Book) (i : ℕ) → i < length book.slaves → (slave_at book i).errand ≡ Free → is_some book.fault ≡ false → first (to_do book i) ≡ None
     → rom_next book i ≡ (without_work book, book)
 next-none book i within free none is =
-    let t : nat_lt i (length book.slaves) ≡ true = grind (arith, nat_tests) in
+    let t : nat_lt i (length book.slaves) ≡ true = lt-ltb i (length book.slaves) (omega arith) in
     rw (t, free, none, has-none (to_do book i) is) refl

@@ -1,8 +1,8 @@
 -- If no live entry is unsettled, everything is settled.
 use Rattle.std.proofs.Common.{◌≡◌, ℕ, suc, ◌+◌, ◌<◌, Bool, true, false, List, [], ◌∷◌, ◌++◌, length, take, map, refl, sym, ◌∙◌, ap, arith, Option, Some, None}
+use Rattle.std.proofs.lemmas.Bool.{eq-eqb, ne_eqb}
 use Rattle.std.specs.Prelude.{◌==◌, is_none, is_some, not, if◌then◌else◌}
 use Rattle.std.proofs.lemmas.List.{length-append, length-map}
-use Rattle.std.proofs.lemmas.Bool.Decides.{nat_tests}
 use Rattle.sii_words.specs.Redo.{redone}
 use Rattle.jrn_format.specs.declared.journal.Entry.{Entry}
 use Rattle.book_model.specs.Cells.{Cell}
@@ -34,8 +34,8 @@ whole-more None before prefix all same = ap (λ (n : ℕ). before + n) same
 whole-more (Some number) before prefix all less = omega arith
 
 tells : (o : Option ℕ) (prefix all : ℕ) → Whole o prefix all → is_none o ≡ (prefix == all)
-tells None prefix all same = grind (arith, nat_tests)
-tells (Some number) prefix all less = grind (arith, nat_tests)
+tells None prefix all same = sym (eq-eqb prefix all same)
+tells (Some number) prefix all less = sym (ne_eqb prefix all (λ same. absurd (omega (arith, same, less))))
 
 pub settled-book : (words : List (List ℕ)) (found : List Entry) (ledger : Ledger) (work : LineState) → ledger.base ≡ redone words (runs_of found) → AreLatest found ledger work → OweNoMore work.slaves (work.older ++ work.newer)
     → (unsettled : Option ℕ) → unsettled ≡ first_unsettled (all_cells work.slaves) (work.older ++ work.newer)

@@ -1,8 +1,7 @@
 -- Whether there is room for a command, and what accepting one leaves.
 use Rattle.std.proofs.Common.{◌≡◌, ◌∙◌, ◌+◌, ◌<◌, ◌≤◌, ◌/◌, ◌^◌, Bool, true, false, List, [], ◌∷◌, ◌++◌, length, Option, Some, None, Result, Ok, Err, ◌-◌, refl, sym, ap, subst, arith}
 use Rattle.std.specs.Prelude.{nat_le, nat_lt, not, is_none, is_some, ◌||◌, if◌then◌else◌}
-use Rattle.std.proofs.lemmas.Bool.{or_parts, ltb-false, leb-false}
-use Rattle.std.proofs.lemmas.Bool.Decides.{nat_tests}
+use Rattle.std.proofs.lemmas.Bool.{or_parts, ltb-false, leb-false, lt-leb, lt-ltb, le-ltb}
 use Rattle.std.specs.Option.{option_map}
 use Rattle.sii_words.specs.declared.run.Run.{Run}
 use Rattle.jrn_format.specs.declared.journal.Entry.{Entry}
@@ -94,8 +93,8 @@ full-is : (core : Inside) (runs : List Run) (given : Option Spot) → Stands cor
 full-is core runs given stands few more place =
     let b = book_of core in
     let same = queued-is core stands in
-    let short : nat_le QUEUE (length (queued core.ledger)) ≡ false = grind (arith, nat_tests) in
-    let left : nat_le (2 ^ 64 - 1) (length core.ledger.accepted) ≡ false = grind (arith, nat_tests) in
+    let short : nat_le QUEUE (length (queued core.ledger)) ≡ false = lt-leb QUEUE (length (queued core.ledger)) few in
+    let left : nat_le (2 ^ 64 - 1) (length core.ledger.accepted) ≡ false = lt-leb (2 ^ 64 - 1) (length core.ledger.accepted) more in
     same-none given (place_of (half_room core.area) (with_appended core.area.halves (book.appended b.doing)) (book.queued b ++ entry_for b runs ∷ []))
     (place ∙ ap (λ (l : List Entry). place_of (half_room core.area) (with_appended core.area.halves (book.appended b.doing)) (l ++ entry_for b runs ∷ [])) same)
     ∙ no-others (nat_le QUEUE (length (book.queued b))) (nat_le (2 ^ 64 - 1) (length b.accepted))
@@ -135,14 +134,14 @@ or-true false = refl
 pub too-large : (book : Book) (runs : List Run) → book.capacity / 2 < 9 + entry_size runs → Err TooLarge ≡ room_for book runs
 too-large book runs large =
     let size = size-alone (entry_for book runs) in
-    let test : nat_lt (book.capacity / 2) (entries_size (entry_for book runs ∷ []) + 1) ≡ true = grind (arith, nat_tests, size) in
+    let test : nat_lt (book.capacity / 2) (entries_size (entry_for book runs ∷ []) + 1) ≡ true = lt-ltb (book.capacity / 2) (entries_size (entry_for book runs ∷ []) + 1) (omega (arith, size, large)) in
     rw (test, or-true (nat_lt 65535 (length runs))) refl
 
 pub is-small : (book : Book) (runs : List Run) → length runs ≤ 65535 → 9 + entry_size runs ≤ book.capacity / 2 → is_too_large book runs ≡ false
 is-small book runs few small =
     let size = size-alone (entry_for book runs) in
-    let count : nat_lt 65535 (length runs) ≡ false = grind (arith, nat_tests) in
-    let test : nat_lt (book.capacity / 2) (entries_size (entry_for book runs ∷ []) + 1) ≡ false = grind (arith, nat_tests, size) in
+    let count : nat_lt 65535 (length runs) ≡ false = le-ltb 65535 (length runs) few in
+    let test : nat_lt (book.capacity / 2) (entries_size (entry_for book runs ∷ []) + 1) ≡ false = le-ltb (book.capacity / 2) (entries_size (entry_for book runs ∷ []) + 1) (omega (arith, size, small)) in
     rw (count, test) refl
 
 pub room-full : (book : Book) (runs : List Run) → is_too_large book runs ≡ false → is_full book runs ≡ true → Err Full ≡ room_for book runs

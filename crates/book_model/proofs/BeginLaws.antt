@@ -1,8 +1,8 @@
 -- DiskFits stays true when an action begins.
 use Rattle.std.proofs.Common.{◌≡◌, ◌≢◌, ◌⊎◌, inl, inr, ℕ, ◌+◌, ◌<◌, ◌≤◌, Bool, true, false, List, [], ◌∷◌, ◌++◌, length, take, drop, refl, sym, ◌∙◌, ap, subst, arith, length-append, length-drop, Option, Some, None}
+use Rattle.std.proofs.lemmas.Bool.{leb-true}
 use Rattle.std.specs.Prelude.{nat_le, ◌&&◌, if◌then◌else◌}
 use Rattle.std.specs.Int.{w32, to_le_bytes}
-use Rattle.std.proofs.lemmas.Bool.Decides.{nat_tests}
 use Rattle.jrn_format.specs.declared.journal.Entry.{Entry}
 use Rattle.jrn_format.specs.declared.journal.Batch.{Batch}
 use Rattle.jrn_format.specs.declared.journal.Spelling.TheVariants.{WithGeneration}
@@ -33,7 +33,7 @@ pub record HasRoom (room : ℕ) (halves : Halves) (place : Place) (entries : Lis
   pub fits : size (batches_in halves place) + entries_size entries + 1 ≤ room
 
 pub le-of : (n m : ℕ) → nat_le n m ≡ true → n ≤ m
-le-of n m is = grind (arith, nat_tests)
+le-of n m is = leb-true n m is
 
 pub only : (c : Bool) (p q : Place) → (if c then Some p else None) ≡ Some q → (c ≡ true) × (p ≡ q)
 only true p q is = (refl, cc)

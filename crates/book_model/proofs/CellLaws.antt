@@ -3,8 +3,7 @@ use Rattle.std.proofs.Common.{◌≡◌, ◌⊎◌, inl, inr, ℕ, suc, ◌+◌,
 use Rattle.std.specs.Prelude.{if◌then◌else◌, ◌==◌, ◌-◌, nat_le, slice_get}
 use Rattle.std.proofs.lemmas.List.Concat.{flat_map-append}
 use Rattle.std.specs.Option.{option_or}
-use Rattle.std.proofs.lemmas.Bool.Decides.{nat_tests}
-use Rattle.std.proofs.lemmas.Bool.{cases_eq, cases_lt}
+use Rattle.std.proofs.lemmas.Bool.{cases_eq, cases_lt, eq-eqb, le-leb, lt-leb, ne_eqb}
 use Rattle.sii_words.specs.declared.run.Run.{Run}
 use Rattle.sii_words.specs.Redo.{given_by, last_given}
 use Rattle.book_model.specs.Cells.{Known, Holds, Unsure, Cell, named, all_named, owing, asked, written, opened}
@@ -21,8 +20,8 @@ due-append word (x ∷ xs) ys = due-append x xs ys
 due-named : (known : Known) (word : ℕ) (owed : List ℕ) (value : ℕ) → MayBe known word → due word (named known owed value) ≡ value
 due-named (Unsure issues) word owed value may = due-append word owed (value ∷ [])
 due-named (Holds held) word owed value may = elim (cases_eq held value) [
-  | inl same ↦ let t : (held == value) ≡ true = grind (arith, nat_tests) in rw t (may ∙ same)
-  | inr other ↦ let t : (held == value) ≡ false = grind (arith, nat_tests) in rw t (due-append word owed (value ∷ []))
+  | inl same ↦ let t : (held == value) ≡ true = eq-eqb held value same in rw t (may ∙ same)
+  | inr other ↦ let t : (held == value) ≡ false = ne_eqb held value other in rw t (due-append word owed (value ∷ []))
 ]
 
 pub due-all_named : (known : Known) (word : ℕ) (owed vs : List ℕ) (target : ℕ) → MayBe known word → due word owed ≡ target → due word (all_named known owed vs) ≡ due target vs
@@ -32,8 +31,8 @@ due-all_named known word owed (v ∷ vs) target may is = due-all_named known wor
 length-named : (known : Known) (owed : List ℕ) (value : ℕ) → length (named known owed value) ≤ length owed + 1
 length-named (Unsure issues) owed value = omega (arith, length-append owed (value ∷ []))
 length-named (Holds held) owed value = elim (cases_eq held value) [
-  | inl same ↦ let t : (held == value) ≡ true = grind (arith, nat_tests) in rw t (omega arith)
-  | inr other ↦ let t : (held == value) ≡ false = grind (arith, nat_tests) in rw t (omega (arith, length-append owed (value ∷ [])))
+  | inl same ↦ let t : (held == value) ≡ true = eq-eqb held value same in rw t (omega arith)
+  | inr other ↦ let t : (held == value) ≡ false = ne_eqb held value other in rw t (omega (arith, length-append owed (value ∷ [])))
 ]
 
 pub length-all_named : (known : Known) (owed vs : List ℕ) → length (all_named known owed vs) ≤ length owed + length vs
@@ -56,26 +55,26 @@ some_value (Some v) = v ∷ []
 -- neighbouring words from a place on
 named-from : (first : ℕ) (words : List ℕ) (at : ℕ) → values_of at (named_from first words) ≡ some_value (if nat_le first at then slice_get words (at - first) else None)
 named-from first [] at = elim (cases_lt at first) [
-  | inl below ↦ let t : nat_le first at ≡ false = grind (arith, nat_tests) in rw t refl
-  | inr above ↦ let t : nat_le first at ≡ true = grind (arith, nat_tests) in rw t refl
+  | inl below ↦ let t : nat_le first at ≡ false = lt-leb first at (omega arith) in rw t refl
+  | inr above ↦ let t : nat_le first at ≡ true = le-leb first at (omega arith) in rw t refl
 ]
 named-from first (w ∷ words) at = elim (cases_eq first at) [
   | inl same ↦
-      let t : (first == at) ≡ true = grind (arith, nat_tests) in
-      let le : nat_le first at ≡ true = grind (arith, nat_tests) in
-      let past : nat_le (suc first) at ≡ false = grind (arith, nat_tests) in
+      let t : (first == at) ≡ true = eq-eqb first at same in
+      let le : nat_le first at ≡ true = le-leb first at (omega arith) in
+      let past : nat_le (suc first) at ≡ false = lt-leb (suc first) at (omega arith) in
       let none : at - first ≡ 0 = omega arith in
       rw (t, le, none) (ap (λ (l : List ℕ). w ∷ l) (named-from (suc first) words at ∙ rw past refl))
   | inr other ↦ elim (cases_lt at first) [
     | inl below ↦
-        let t : (first == at) ≡ false = grind (arith, nat_tests) in
-        let le : nat_le first at ≡ false = grind (arith, nat_tests) in
-        let past : nat_le (suc first) at ≡ false = grind (arith, nat_tests) in
+        let t : (first == at) ≡ false = ne_eqb first at other in
+        let le : nat_le first at ≡ false = lt-leb first at (omega arith) in
+        let past : nat_le (suc first) at ≡ false = lt-leb (suc first) at (omega arith) in
         rw (t, le) (named-from (suc first) words at ∙ rw past refl)
     | inr above ↦
-        let t : (first == at) ≡ false = grind (arith, nat_tests) in
-        let le : nat_le first at ≡ true = grind (arith, nat_tests) in
-        let past : nat_le (suc first) at ≡ true = grind (arith, nat_tests) in
+        let t : (first == at) ≡ false = ne_eqb first at other in
+        let le : nat_le first at ≡ true = le-leb first at (omega arith) in
+        let past : nat_le (suc first) at ≡ true = le-leb (suc first) at (omega arith) in
         let one : at - first ≡ suc (at - suc first) = omega arith in
         rw (t, le, one) (named-from (suc first) words at ∙ rw past refl)
   ]
@@ -83,8 +82,8 @@ named-from first (w ∷ words) at = elim (cases_eq first at) [
 
 named-given : (run : Run) (slave at : ℕ) → values_of at (named_by slave run) ≡ some_value (given_by run slave at)
 named-given run slave at = elim (cases_eq run.slave slave) [
-  | inl mine ↦ let t : (run.slave == slave) ≡ true = grind (arith, nat_tests) in rw t (named-from run.first run.words at)
-  | inr other ↦ let t : (run.slave == slave) ≡ false = grind (arith, nat_tests) in rw t refl
+  | inl mine ↦ let t : (run.slave == slave) ≡ true = eq-eqb run.slave slave mine in rw t (named-from run.first run.words at)
+  | inr other ↦ let t : (run.slave == slave) ≡ false = ne_eqb run.slave slave other in rw t refl
 ]
 
 -- a word is due what the last naming gives it

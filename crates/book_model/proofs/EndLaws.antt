@@ -1,23 +1,22 @@
 -- The place behind a word's last naming.
 use Rattle.std.proofs.Common.{◌≡◌, ◌≢◌, inl, inr, ℕ, zero, suc, ◌-◌, ◌<◌, ◌≤◌, true, false, List, [], ◌∷◌, ◌++◌, length, drop, get_or, refl, ◌∙◌, ap, arith}
 use Rattle.std.specs.Prelude.{◌==◌, nat_le}
-use Rattle.std.proofs.lemmas.Bool.Decides.{nat_tests}
-use Rattle.std.proofs.lemmas.Bool.{cases_eq}
+use Rattle.std.proofs.lemmas.Bool.{cases_eq, eq-eqb, ne_eqb, le-leb, lt-leb}
 use Rattle.book_model.specs.Cells.{is_any}
 use Rattle.book_model.specs.Pending.{values_of}
 use Rattle.book_model.specs.Queue.{end_of, shifted}
 
 pub same_test : (a b : ℕ) → a ≡ b → (a == b) ≡ true
-same_test a b is = grind (arith, nat_tests)
+same_test a b is = eq-eqb a b is
 
 pub other_test : (a b : ℕ) → a ≢ b → (a == b) ≡ false
-other_test a b is = grind (arith, nat_tests)
+other_test a b is = ne_eqb a b is
 
 pub le-true : (a b : ℕ) → a ≤ b → nat_le a b ≡ true
-le-true a b le = grind (arith, nat_tests)
+le-true a b le = le-leb a b le
 
 pub le-false : (a b : ℕ) → b < a → nat_le a b ≡ false
-le-false a b lt = grind (arith, nat_tests)
+le-false a b lt = lt-leb a b lt
 
 pub values-append : (at : ℕ) (xs ys : List (ℕ × ℕ)) → values_of at (xs ++ ys) ≡ values_of at xs ++ values_of at ys
 values-append at [] ys = refl

@@ -1,8 +1,8 @@
 -- Up stays true when an action on a slave ends, and when a settle is handed out.
 use Rattle.std.proofs.Common.{◌≡◌, ◌⊎◌, inl, inr, ℕ, zero, suc, ◌<◌, Bool, true, false, List, [], ◌∷◌, length, get_or, set, refl, sym, ap, subst, arith, Some}
+use Rattle.std.proofs.lemmas.Bool.{lt-ltb}
 use Rattle.std.specs.Prelude.{slice_get, is_some, nat_lt}
 use Rattle.std.proofs.lemmas.List.{set-get_or}
-use Rattle.std.proofs.lemmas.Bool.Decides.{nat_tests}
 use Rattle.esc_model.specs.SlaveHalf.{SlaveHalf}
 use Rattle.esc_model.specs.WordAccess.{IsWell, OnlyRests}
 use Rattle.site_core.specs.declared.answers.Issued.{Issued}
@@ -78,7 +78,7 @@ next-settle frame book state took m i word value taken false up within there is 
 pub up-settles : (frame : JournalFrame) (book : Book) (state : State) (took : List Bool) (m : Machine) (i word value : ℕ) (taken : Bool) → Up frame book state took m → i < length book.slaves
     → (slave_at book i).errand ≡ Unsettled word value taken → Up frame (rom_next book i).1 state took m
 up-settles frame book state took m i word value taken up within is =
-    let there : nat_lt i (length book.slaves) ≡ true = grind (arith, nat_tests) in
+    let there : nat_lt i (length book.slaves) ≡ true = lt-ltb i (length book.slaves) (omega arith) in
     next-settle frame book state took m i word value taken (is_some book.fault) up within there is refl
 
 -- ---- the word is written

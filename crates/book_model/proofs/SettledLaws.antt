@@ -1,7 +1,6 @@
 -- What is settled.
 use Rattle.std.proofs.Common.{false, Bool, ◌≡◌, ◌≢◌, ◌⊎◌, inl, inr, ℕ, zero, suc, ◌+◌, ◌-◌, ◌<◌, ◌≤◌, true, List, [], ◌∷◌, ◌++◌, length, take, drop, set, get_or, map, refl, sym, ◌∙◌, ap, subst, arith, add-zero}
 use Rattle.std.specs.Prelude.{nat_le, ◌&&◌, Some, None, slice_get}
-use Rattle.std.proofs.lemmas.Bool.Decides.{nat_tests}
 use Rattle.std.proofs.lemmas.List.{length-map, length-drop, length_push, get_or_append_left, get_or-drop, get_or-map, drop-drop, drop_more, get_or_past, take-append-drop}
 use Rattle.book_model.specs.Cells.{Cell}
 use Rattle.book_model.specs.Cells.{nothing}
@@ -12,7 +11,7 @@ use Rattle.book_model.specs.Pending.{values_of, settled_count, unsettled, naming
 use Rattle.book_model.specs.Queue.{CanRetire}
 use Rattle.book_model.specs.Queue.{no_naming, no_word, pair_of, live_of, cells_from, pending_of, word_at, naming_at, Stands, IsSettled, SettledTo, numbers_of, naming_down, word_down}
 use Rattle.book_model.proofs.EndLaws.{same_test, other_test, le-true, le-false, values-append}
-use Rattle.std.proofs.lemmas.Bool.{cases_eq}
+use Rattle.std.proofs.lemmas.Bool.{cases_eq, leb-true}
 use Rattle.book_model.proofs.QueueLaws.{cell-at, live-at, word-set, length-cells}
 use Rattle.book_model.proofs.DownLaws.{values-fewer}
 
@@ -160,7 +159,7 @@ cannot-retire namings words settled count room stands first few lt can =
     omega arith
 
 pub le-of : (a b : ℕ) → nat_le a b ≡ true → a ≤ b
-le-of a b is = grind (arith, nat_tests)
+le-of a b is = leb-true a b is
 
 pub retire-test : (count settled : ℕ) → (settled < count → ⊥) → nat_le count settled ≡ true
 retire-test count settled not = one (sides count settled)

@@ -1,8 +1,7 @@
 -- The test before a retire, and that the settled prefix never gets shorter.
 use Rattle.std.proofs.Common.{◌≡◌, ◌⊎◌, inl, inr, ℕ, zero, suc, ◌+◌, ◌<◌, ◌≤◌, Bool, true, false, List, [], ◌∷◌, ◌++◌, length, get_or, refl, ◌∙◌, ap, subst, arith, length-append, add-zero, add-suc, suc-add}
 use Rattle.std.specs.Prelude.{nat_le, ◌&&◌, ◌==◌, if◌then◌else◌}
-use Rattle.std.proofs.lemmas.Bool.{cases_eq}
-use Rattle.std.proofs.lemmas.Bool.Decides.{nat_tests}
+use Rattle.std.proofs.lemmas.Bool.{cases_eq, le-leb, leb-true}
 use Rattle.sii_words.specs.declared.run.Run.{Run}
 use Rattle.jrn_format.specs.declared.journal.Entry.{Entry}
 use Rattle.book_model.specs.Cells.{Cell, cell_of}
@@ -52,7 +51,7 @@ both true b c d f g is = rw (f refl) (g is)
 both false b c d f g is = absurd cc
 
 few : (n m k j : ℕ) → k ≤ n + j → nat_le n m ≡ true → nat_le k (m + j) ≡ true
-few n m k j le is = let t : n ≤ m = grind (arith, nat_tests) in grind (arith, nat_tests)
+few n m k j le is = le-leb k (m + j) (omega (arith, le, leb-true n m is))
 
 namings-stay : (cells later : List Cell) (behind more ns : List (ℕ × ℕ)) → ((at : ℕ) → length (cell_of later at).owed ≤ length (cell_of cells at).owed + length (values_of at more))
     → namings_settled cells behind ns ≡ true → namings_settled later (behind ++ more) ns ≡ true

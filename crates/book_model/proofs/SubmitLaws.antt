@@ -2,8 +2,7 @@
 use Rattle.std.proofs.Common.{◌≡◌, ℕ, ◌+◌, ◌^◌, ◌<◌, ◌≤◌, Bool, true, false, List, [], ◌∷◌, ◌++◌, length, take, drop, refl, sym, ◌∙◌, ap, subst, arith, length-append, length-drop, Result, Ok, Err}
 use Rattle.std.specs.Prelude.{◌||◌, nat_lt, nat_le, ◌-◌, if◌then◌else◌}
 use Rattle.std.specs.List.{AllByRecursion}
-use Rattle.std.proofs.lemmas.Bool.{or_parts}
-use Rattle.std.proofs.lemmas.Bool.Decides.{nat_tests}
+use Rattle.std.proofs.lemmas.Bool.{or_parts, ltb-false, leb-false}
 use Rattle.std.proofs.lemmas.List.{take-append-le, drop-append-le}
 use Rattle.sii_words.specs.declared.run.Run.{Run}
 use Rattle.sii_words.specs.Redo.{SameShape, redone}
@@ -59,7 +58,7 @@ pub record IsAccepted (book : Book) (command : Command) (number : ℕ) : Type 0 
   pub answer : number ≡ length book.accepted
 
 not-large : (book : Book) (runs : List Run) → is_too_large book runs ≡ false → length runs < 2 ^ 16
-not-large book runs is = let parts = or_parts (nat_lt 65535 (length runs)) (nat_lt (room book) (entries_size (entry_for book runs ∷ []) + 1)) is in grind (arith, nat_tests, parts.0)
+not-large book runs is = let parts = or_parts (nat_lt 65535 (length runs)) (nat_lt (room book) (entries_size (entry_for book runs ∷ []) + 1)) is in omega (arith, ltb-false 65535 (length runs) parts.0)
 
 -- neither the queue nor the numbers are used up
 not-full : (full many none : Bool) (queue count : ℕ) → full ≡ nat_le QUEUE queue → many ≡ nat_le (2 ^ 64 - 1) count → (full || many || none) ≡ false → (queue < QUEUE) × (count < 2 ^ 64)
@@ -67,7 +66,7 @@ not-full full many none queue count full_is many_is is =
     let first = or_parts full many (or_parts (full || many) none is).0 in
     let room : nat_le QUEUE queue ≡ false = sym full_is ∙ first.0 in
     let numbers : nat_le (2 ^ 64 - 1) count ≡ false = sym many_is ∙ first.1 in
-    (grind (arith, nat_tests, room), grind (arith, nat_tests, numbers))
+    (omega (arith, leb-false QUEUE queue room), omega (arith, leb-false (2 ^ 64 - 1) count numbers))
 
 passes : (book : Book) (new : List (List ℕ)) → is_too_large book (runs_between (contents_of book) new) ≡ false → is_full book (runs_between (contents_of book) new) ≡ false → Passes book new
 passes book new large full =

@@ -2,8 +2,7 @@
 use Rattle.std.proofs.Common.{◌≡◌, inl, inr, ℕ, ◌<◌, Bool, true, false, List, [], ◌∷◌, ◌++◌, length, get_or, set, refl, sym, ◌∙◌, ap, subst, arith, Some}
 use Rattle.std.specs.Prelude.{◌==◌, slice_get, filter}
 use Rattle.std.specs.List.{AllByRecursion}
-use Rattle.std.proofs.lemmas.Bool.{cases_lt}
-use Rattle.std.proofs.lemmas.Bool.Decides.{nat_tests}
+use Rattle.std.proofs.lemmas.Bool.{cases_lt, eq-eqb}
 use Rattle.std.proofs.lemmas.List.{get_or_past}
 use Rattle.esc_model.specs.SlaveHalf.{SlaveHalf}
 use Rattle.site_core.specs.State.{State, with_half}
@@ -49,7 +48,7 @@ none-of (v ∷ vs) is = absurd cc
 last-first : (n : ℕ × ℕ) (ns : List (ℕ × ℕ)) → AllByRecursion (IsLast ns) (last_of ns) → (c : Bool) → is_any (values_of n.0 ns) ≡ c → AllByRecursion (IsLast (n ∷ ns)) (last_of (n ∷ ns))
 last-first n ns all true is = rw is (all-behind n ns (last_of ns) all)
 last-first n ns all false is =
-    let here : (n.0 == n.0) ≡ true = grind (arith, nat_tests) in
+    let here : (n.0 == n.0) ≡ true = eq-eqb n.0 n.0 refl in
     rw is (λ word. rw (here, none-of (values_of n.0 ns) is) refl, all-behind n ns (last_of ns) all)
 
 pub last-all : (ns : List (ℕ × ℕ)) → AllByRecursion (IsLast ns) (last_of ns)

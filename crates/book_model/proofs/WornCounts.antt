@@ -1,7 +1,7 @@
 -- How many of a slave's namings fall on its words.
 use Rattle.std.proofs.Common.{◌≡◌, ℕ, zero, suc, ◌+◌, ◌<◌, ◌≤◌, Bool, true, false, List, [], ◌∷◌, length, refl, sym, ◌∙◌, ap, arith}
+use Rattle.std.proofs.lemmas.Bool.{ne_eqb, eqb-true}
 use Rattle.std.specs.Prelude.{◌==◌, if◌then◌else◌}
-use Rattle.std.proofs.lemmas.Bool.Decides.{nat_tests}
 use Rattle.std.proofs.lemmas.List.Sums.{sum_by-cons}
 use Rattle.sii_words.specs.declared.run.Run.{Run}
 use Rattle.book_model.specs.Cells.{Cell, since, owing, cell_of}
@@ -19,7 +19,7 @@ hits word at (cell ∷ cells) = (if word == at then 1 else 0) + hits word (suc a
 hits-past : (word at : ℕ) (cells : List Cell) → word < at → hits word at cells ≡ 0
 hits-past word at [] past = refl
 hits-past word at (cell ∷ cells) past =
-    let no : (word == at) ≡ false = grind (arith, nat_tests) in
+    let no : (word == at) ≡ false = ne_eqb word at (omega arith) in
     rw no (omega (arith, hits-past word (suc at) cells (omega arith)))
 
 hits-few : (word at : ℕ) (cells : List Cell) → hits word at cells ≤ 1
@@ -27,7 +27,7 @@ hits-few word at [] = omega arith
 hits-few word at (cell ∷ cells) = one (word == at) refl (hits-few word (suc at) cells)
   where
     one : (c : Bool) → (word == at) ≡ c → hits word (suc at) cells ≤ 1 → (if c then 1 else 0) + hits word (suc at) cells ≤ 1
-    one true is few = let same : word ≡ at = grind (arith, nat_tests) in omega (arith, hits-past word (suc at) cells (omega arith))
+    one true is few = let same : word ≡ at = eqb-true word at is in omega (arith, hits-past word (suc at) cells (omega arith))
     one false is few = omega arith
 
 -- how many values the namings give to the words from a place on

@@ -1,7 +1,7 @@
 -- What each step of a slave keeps of its wear.
 use Rattle.std.proofs.Common.{◌≡◌, ◌≢◌, ◌⊎◌, inl, inr, ℕ, suc, ◌+◌, ◌*◌, ◌<◌, ◌≤◌, Bool, true, false, List, [], ◌∷◌, ◌++◌, length, set, refl, sym, subst, arith, length-append}
 use Rattle.std.specs.Prelude.{◌==◌}
-use Rattle.std.proofs.lemmas.Bool.{cases_eq}
+use Rattle.std.proofs.lemmas.Bool.{cases_eq, eq-eqb}
 use Rattle.std.proofs.lemmas.Bool.Decides.{nat_tests}
 use Rattle.std.proofs.lemmas.List.{get_or-set_same, get_or-set_other}
 use Rattle.std.proofs.lemmas.List.Sums.{sum_by-set}
@@ -93,7 +93,7 @@ worn-again named failed slave word value taken is last worn = record {
 shorter : (value : ℕ) (owed vs : List ℕ) → IsAmong value vs → length (all_named (Holds value) owed vs) + 1 ≤ length vs
 shorter value owed [] has = absurd has
 shorter value owed (v ∷ vs) (inl same) =
-    let t : (value == v) ≡ true = grind (arith, nat_tests) in
+    let t : (value == v) ≡ true = eq-eqb value v (sym same) in
     rw t (omega (arith, length-all_named (Holds value) [] vs))
 shorter value owed (v ∷ vs) (inr has) = omega (arith, shorter value (named (Holds value) owed v) vs has)
 

@@ -1,10 +1,10 @@
 -- Category edits of words whose chain can be read.
 use Rattle.std.proofs.Common.{◌≡◌, ◌≢◌, ◌⊎◌, ◌+◌, ◌<◌, ◌≤◌, ℕ, suc, ◌==◌, Bool, true, false, cond, not, nat_lt, List, [], ◌∷◌, ◌++◌, length, map, IsErrAnd, Option, Some, None, Result, Ok, Err, is_err, refl, sym, ap, ◌∙◌, inl, inr, arith, append-nil}
+use Rattle.std.proofs.lemmas.Bool.{ne_eqb, le-ltb, lt-ltb}
 use Rattle.std.specs.Prelude.{count_by, position}
 use Rattle.std.specs.List.{position_or_len}
 use Rattle.std.proofs.lemmas.List.{drop_all}
 use Rattle.std.proofs.lemmas.List.Sums.{sum_by-cons}
-use Rattle.std.proofs.lemmas.Bool.Decides.{nat_tests}
 use Rattle.sii_cats.specs.declared.categories.Category.{Category}
 use Rattle.sii_cats.specs.declared.fault.CatFault.{CatFault}
 use Rattle.sii_cats.specs.declared.fault.CatFault.TheVariants as fault
@@ -69,7 +69,7 @@ count-None p xs is = count_none p xs (within (length xs) (position_or_len p xs) 
 pub not_absent : (content : List ℕ) (kind count : ℕ) (ms : List Member) (empty : Bool) → empty ≡ (length content == 0) → ((empty ≡ true) × (count ≢ 0)) ⊎ (empty ≡ false)
     → count ≡ count_of kind ms → is_absent kind content ms ≡ false
 not_absent content kind count ms empty is (inl there) same =
-    let some : count_of kind ms ≢ 0 = λ none. there.1 (same ∙ none) in grind (arith, nat_tests)
+    let some : count_of kind ms ≢ 0 = λ none. there.1 (same ∙ none) in rw (sym is ∙ there.0, ne_eqb (count_of kind ms) 0 some) refl
 not_absent content kind count ms empty is (inr words) same = rw (sym is ∙ words) refl
 
 -- an empty content, with no category of its type
@@ -78,7 +78,7 @@ none_left content count empty is (inl there) nothing none = there.1 none
 none_left content count empty is (inr words) nothing none = let test : empty ≡ true = is ∙ ap (λ (ws : List ℕ). length ws == 0) nothing in cc
 
 pub not_repeated : (kind count : ℕ) (ms : List Member) → count ≤ 1 → count ≡ count_of kind ms → is_repeated kind ms ≡ false
-not_repeated kind count ms few same = let most : count_of kind ms ≤ 1 = omega arith in grind (arith, nat_tests)
+not_repeated kind count ms few same = le-ltb 1 (count_of kind ms) (omega arith)
 
 -- the causes that are left then
 abbrev pub left_causes : List ℕ → ℕ → List ℕ → List Member → List (Bool × Cause)
@@ -129,7 +129,7 @@ splice_refused judged words kind content ms new place fault.NoRoom left fit read
     let same : fails.0 ≡ ms = let other = fails.1 in cc in
     let long : length words < chain_end (exchanged kind content ms) = rw (same, here) at fails.2 in
     inl (left ∙ unless-pass (is_unfit kind content) (BadCategory kind) ((is_too_long words kind content ms, NoRoom) ∷ []) new fit
-    ∙ unless-stop (is_too_long words kind content ms) NoRoom [] new (grind (arith, nat_tests)))
+    ∙ unless-stop (is_too_long words kind content ms) NoRoom [] new (lt-ltb (length words) (chain_end (exchanged kind content ms)) long))
 
 -- the words with the new chain
 pub splice_accepted : (judged : Result (List ℕ) Cause) (words : List ℕ) (kind : ℕ) (content : List ℕ) (ms others : List Member) (place : Option ℕ) (new copy : List ℕ)
@@ -143,7 +143,7 @@ splice_accepted judged words kind content ms others place new copy left fit read
     let size : length new ≡ length words = ap length made' ∙ length-with_chain words (exchanged kind content ms) room' in
     let whole : copy ≡ new = copied ∙ ap (λ (rest : List ℕ). new ++ rest) (drop_all (length new) words (omega arith)) ∙ append-nil new in
     left ∙ unless-pass (is_unfit kind content) (BadCategory kind) ((is_too_long words kind content ms, NoRoom) ∷ []) (with_chain words (exchanged kind content ms)) fit
-    ∙ unless-pass (is_too_long words kind content ms) NoRoom [] (with_chain words (exchanged kind content ms)) (grind (arith, nat_tests))
+    ∙ unless-pass (is_too_long words kind content ms) NoRoom [] (with_chain words (exchanged kind content ms)) (le-ltb (length words) (chain_end (exchanged kind content ms)) room')
     ∙ ap (λ (w : List ℕ). Ok w) (sym (whole ∙ made'))
 
 -- what is left of the causes where the chain can't be read

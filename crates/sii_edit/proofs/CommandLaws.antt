@@ -1,10 +1,10 @@
 -- What a command gives, case by case.
-use Rattle.std.proofs.Common.{◌≡◌, ◌≢◌, ◌⊎◌, ℕ, suc, ◌<◌, ◌≤◌, List, [], ◌∷◌, length, map, slice_set, refl, sym, ap, ◌∙◌, inl, inr, arith, true, Option, None, Result, Ok, Err, All, length-set, get_or-set_same, get_or-set_other}
-use Rattle.std.proofs.lemmas.Bool.{cases_eq, cases_lt}
-use Rattle.std.proofs.lemmas.Bool.Decides.{nat_tests}
+use Rattle.std.proofs.Common.{◌≡◌, ◌≢◌, ◌⊎◌, ℕ, suc, ◌<◌, ◌≤◌, List, [], ◌∷◌, length, map, slice_set, refl, sym, ap, ◌∙◌, inl, inr, true, false, ◌%◌, Option, None, Result, Ok, Err, All, length-set, get_or-set_same, get_or-set_other}
+use Rattle.std.specs.Prelude.{slice_index, not, ◌||◌}
+use Rattle.std.proofs.lemmas.Bool.{cases_eq, cases_lt, le-leb, lt-leb, or_left, or_right, or_from, eq-eqb, ne_eqb}
 use Rattle.std.proofs.lemmas.List.{set_past}
 use Rattle.sii_words.specs.Words.{alias_of}
-use Rattle.sii_words.specs.CheckByte.{IsChecked}
+use Rattle.sii_words.specs.CheckByte.{check_byte_of, IsChecked}
 use Rattle.sii_words.specs.Plant.{words_of}
 use Rattle.sii_edit.specs.declared.command.Expect.{Expect}
 use Rattle.sii_edit.specs.declared.command.Edit.{Edit}
@@ -15,7 +15,7 @@ use Rattle.sii_edit.specs.declared.command.Command.TheVariants.{One, Swap, Group
 use Rattle.sii_edit.specs.declared.refusal.Cause.{Cause}
 use Rattle.sii_edit.specs.declared.refusal.Cause.TheVariants.{NoSlave, SameSlave, BadCheck, ImageOverLimit, Memory}
 use Rattle.sii_edit.specs.declared.refusal.Refusal.{Refusal}
-use Rattle.sii_edit.specs.Alias.{with_alias}
+use Rattle.sii_edit.specs.Alias.{with_alias, is_unchecked}
 use Rattle.sii_words.specs.Redo.{SameShape, LiesInside, redone}
 use Rattle.sii_words.specs.Run.{runs_between}
 use Rattle.sii_words.specs.declared.run.Run.{Run}
@@ -31,13 +31,13 @@ use Rattle.sii_words.proofs.RunLaws.{redone-runs_between, LiesInside-runs_betwee
 pub edited-missing : (plant : List (List ℕ)) (expect : Option Expect) (edit : Edit) → length plant ≤ slave_of edit → edited plant expect edit ≡ Err NoSlave
 edited-missing plant expect edit missing =
     unless-stop (is_missing plant (slave_of edit)) NoSlave (causes_against expect edit (words_of plant (slave_of edit))) (slice_set plant (slave_of edit) (words_after edit (words_of plant (slave_of edit))))
-    (grind (arith, nat_tests))
+    (le-leb (length plant) (slave_of edit) missing)
 
 edited-there : (plant : List (List ℕ)) (expect : Option Expect) (edit : Edit) → slave_of edit < length plant
     → edited plant expect edit ≡ unless (causes_against expect edit (words_of plant (slave_of edit))) (slice_set plant (slave_of edit) (words_after edit (words_of plant (slave_of edit))))
 edited-there plant expect edit there =
     unless-pass (is_missing plant (slave_of edit)) NoSlave (causes_against expect edit (words_of plant (slave_of edit))) (slice_set plant (slave_of edit) (words_after edit (words_of plant (slave_of edit))))
-    (grind (arith, nat_tests))
+    (lt-leb (length plant) (slave_of edit) there)
 
 pub edited-ok : (plant : List (List ℕ)) (expect : Option Expect) (edit : Edit) (new : List ℕ) → slave_of edit < length plant
     → edited_words expect edit (words_of plant (slave_of edit)) ≡ Ok new → edited plant expect edit ≡ Ok (slice_set plant (slave_of edit) new)
@@ -62,20 +62,34 @@ length-edited_words expect edit words new judged =
 
 -- a swap, refusal by refusal
 pub swapped-missing : (plant : List (List ℕ)) (a b : ℕ) → (length plant ≤ a) ⊎ (length plant ≤ b) → swapped plant a b ≡ Err NoSlave
-swapped-missing plant a b (inl missing) = grind (arith, nat_tests)
-swapped-missing plant a b (inr missing) = grind (arith, nat_tests)
+swapped-missing plant a b (inl missing) = rw (or_left (is_missing plant a) (is_missing plant b) (le-leb (length plant) a missing)) refl
+swapped-missing plant a b (inr missing) = rw (or_right (is_missing plant a) (is_missing plant b) (le-leb (length plant) b missing)) refl
+
+both_there : (plant : List (List ℕ)) (a b : ℕ) → a < length plant → b < length plant → (is_missing plant a || is_missing plant b) ≡ false
+both_there plant a b a_there b_there = or_from (is_missing plant a) (is_missing plant b) (lt-leb (length plant) a a_there) (lt-leb (length plant) b b_there)
 
 pub swapped-same : (plant : List (List ℕ)) (a b : ℕ) → a < length plant → b < length plant → a ≡ b → swapped plant a b ≡ Err SameSlave
-swapped-same plant a b a_there b_there same = grind (arith, nat_tests)
+swapped-same plant a b a_there b_there same = rw (both_there plant a b a_there b_there, eq-eqb a b same) refl
+
+-- the test of the check byte, one way and the other
+unchecked : (words : List ℕ) → ¬ IsChecked words → is_unchecked words ≡ true
+unchecked words bad = ap not (ne_eqb (slice_index words 7 % 256) (check_byte_of words) bad)
+
+checked : (words : List ℕ) → IsChecked words → is_unchecked words ≡ false
+checked words right = ap not (eq-eqb (slice_index words 7 % 256) (check_byte_of words) right)
 
 pub swapped-unchecked : (plant : List (List ℕ)) (a b : ℕ) → a < length plant → b < length plant → a ≢ b
     → (¬ IsChecked (words_of plant a)) ⊎ (¬ IsChecked (words_of plant b)) → swapped plant a b ≡ Err BadCheck
-swapped-unchecked plant a b a_there b_there apart (inl bad) = grind (arith, nat_tests)
-swapped-unchecked plant a b a_there b_there apart (inr bad) = grind (arith, nat_tests)
+swapped-unchecked plant a b a_there b_there apart (inl bad) =
+    rw (both_there plant a b a_there b_there, ne_eqb a b apart, or_left (is_unchecked (words_of plant a)) (is_unchecked (words_of plant b)) (unchecked (words_of plant a) bad)) refl
+swapped-unchecked plant a b a_there b_there apart (inr bad) =
+    rw (both_there plant a b a_there b_there, ne_eqb a b apart, or_right (is_unchecked (words_of plant a)) (is_unchecked (words_of plant b)) (unchecked (words_of plant b) bad)) refl
 
 pub swapped-ok : (plant : List (List ℕ)) (a b : ℕ) → a < length plant → b < length plant → a ≢ b → IsChecked (words_of plant a) → IsChecked (words_of plant b)
     → swapped plant a b ≡ Ok (slice_set (slice_set plant a (with_alias (words_of plant a) (alias_of (words_of plant b)))) b (with_alias (words_of plant b) (alias_of (words_of plant a))))
-swapped-ok plant a b a_there b_there apart a_checked b_checked = grind (arith, nat_tests)
+swapped-ok plant a b a_there b_there apart a_checked b_checked =
+    let right = or_from (is_unchecked (words_of plant a)) (is_unchecked (words_of plant b)) (checked (words_of plant a) a_checked) (checked (words_of plant b) b_checked) in
+    rw (both_there plant a b a_there b_there, ne_eqb a b apart, right) refl
 
 -- other words of one slave, as many as before
 SameShape-set : (plant : List (List ℕ)) (slave : ℕ) (words : List ℕ) → length words ≡ length (words_of plant slave) → SameShape plant (slice_set plant slave words)

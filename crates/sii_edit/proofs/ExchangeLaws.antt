@@ -1,12 +1,12 @@
 -- Category edits: the words that they leave are those of the relation.
 use Rattle.std.proofs.Common.{◌≡◌, ◌≢◌, ◌+◌, ◌<◌, ◌≤◌, ℕ, zero, suc, ◌==◌, ◌||◌, Bool, true, false, cond, nat_lt, List, [], ◌∷◌, ◌++◌, length, take, drop, get_or, All, Option, Some, None, Result, Ok, Err, is_err, refl, sym, ap, subst, ◌∙◌, append_assoc, arith}
+use Rattle.std.proofs.lemmas.Bool.{eq-eqb, eqb-true, eqb-false}
 use Rattle.std.specs.Prelude.{slice_get, position}
 use Rattle.std.proofs.lemmas.List.{length-append, length-drop, drop_at, take_at, drop-drop, length-take-le}
 use Rattle.std.proofs.lemmas.List.Quantifiers.{position-Some}
-use Rattle.std.proofs.lemmas.List.Elements.{All-nil, All-cons, All-head, All-tail, All-append, All-take, All-drop, All-set, All-push}
-use Rattle.std.proofs.lemmas.Bool.Decides.{nat_tests}
+use Rattle.std.proofs.lemmas.List.Elements.{All-nil, All-cons, All-append, All-take, All-drop, All-set, All-push}
 use Rattle.sii_cats.specs.Items.{AreItems}
-use Rattle.sii_cats.specs.Chain.{Member, member_words, chain_words, Begins, IsEnd, IsChain}
+use Rattle.sii_cats.specs.Chain.{Member, chain_words, Begins, IsEnd, IsChain}
 use Rattle.sii_cats.specs.steps.Chain.{members_of}
 use Rattle.sii_cats.specs.Splice.{chain_end, closing, spliced, with_chain, IsEdit}
 use Rattle.sii_cats.specs.Laws.{ReadingsAgree}
@@ -22,7 +22,7 @@ use Rattle.sii_cats.proofs.Edits.{AreTyped, closing_ends, drop-closing, chain_of
 -- ---- the place of a category
 
 test_is : (kind : ℕ) (m : Member) → m.kind ≡ kind → cond {A = ℕ} (has_kind kind m) 1 0 ≡ 1
-test_is kind m is = grind (arith, nat_tests)
+test_is kind m is = ap (λ (test : Bool). cond {A = ℕ} test 1 0) (eq-eqb m.kind kind is)
 
 test_isnt : (kind : ℕ) (m : Member) → cond {A = ℕ} (has_kind kind m) 1 0 ≡ 0 → m.kind ≢ kind
 test_isnt kind m isnt = λ is. let one = test_is kind m is in absurd (omega arith)
@@ -58,7 +58,7 @@ read_at (m ∷ ms) zero d inside = refl
 read_at (m ∷ ms) (suc i) d inside = read_at ms i d (omega arith)
 
 kind_is : (kind : ℕ) (m : Member) → has_kind kind m ≡ true → m.kind ≡ kind
-kind_is kind m test = grind (arith, nat_tests)
+kind_is kind m test = eqb-true m.kind kind test
 
 pub place_is : (kind : ℕ) (ms : List Member) (place : Option ℕ) → position (has_kind kind) ms ≡ place → count_of kind ms ≤ 1 → IsPlaceOf kind ms place
 place_is kind ms None is few = none_of kind ms (count-None (has_kind kind) ms is)
@@ -120,7 +120,7 @@ first_fails true b fails = fails
 first_fails false b fails = refl
 
 other_kind : (kind : ℕ) (malformed : Bool) → (kind == 0xFFFF || malformed) ≡ false → kind ≢ 0xFFFF
-other_kind kind malformed fails = let test = first_fails (kind == 0xFFFF) malformed fails in grind (arith, nat_tests)
+other_kind kind malformed fails = let test = first_fails (kind == 0xFFFF) malformed fails in eqb-false kind 0xFFFF test
 
 few_of : (count : ℕ) → nat_lt 1 count ≡ false → count ≤ 1
 few_of count fails = within count 1 fails

@@ -12,5 +12,6 @@ mod PlaceLaws
 pub mod ProcessImageLaws
 mod LayoutLaws
 pub mod FoldLaws
+mod GroupLaws
 pub mod WordLaws
 pub mod PlantLaws

@@ -1,8 +1,8 @@
 -- Words of a slave with a new alias.
 use Rattle.std.proofs.Common.{◌≡◌, ℕ, ◌%◌, ◌<◌, List, length, slice_index, set, get_or, not, IsTrue, ◌==◌, ◌↔◌, [], ◌∷◌, ◌++◌, Option, Some, None, Result, Ok, Err, refl, sym, ap, ap₂, ◌∙◌, arith, get_or-set_same, get_or-set_other, length-set, append_assoc}
+use Rattle.std.proofs.lemmas.Bool.{eqb-true, eq-eqb}
 use Rattle.std.specs.Result.{OnOk}
 use Rattle.std.specs.declared.alloc.AllocError.{AllocError}
-use Rattle.std.proofs.lemmas.Bool.Decides.{nat_tests}
 use Rattle.sii_words.specs.declared.run.Run.{Run}
 use Rattle.sii_words.specs.Run.{stretches}
 use Rattle.sii_words.proofs.StretchLaws.{stretches-two_words}
@@ -90,10 +90,10 @@ checked_test words name byte long is =
     (λ test. checked_named words name long (equal_from_test (name.seven % 256) byte test ∙ is), λ checked. test_from_equal (name.seven % 256) byte (checked_from_named words name long checked ∙ sym is))
   where
     equal_from_test : (a b : ℕ) → IsTrue (a == b) → a ≡ b
-    equal_from_test a b test = grind (arith, nat_tests)
+    equal_from_test a b test = eqb-true a b test
 
     test_from_equal : (a b : ℕ) → a ≡ b → IsTrue (a == b)
-    test_from_equal a b same = grind (arith, nat_tests)
+    test_from_equal a b same = eq-eqb a b same
 
 -- the runs of words 4 and 7
 pub two_words : (slave : ℕ) (words : List ℕ) (name : Name) (before once after : List Run) (result : Result (Unit {0}) AllocError) → 7 < length words

@@ -5,8 +5,8 @@ use Rattle.std.proofs.lemmas.List.{length-append, length-drop, take-append-drop,
 use Rattle.std.proofs.lemmas.List.Elements.{All-head, All-tail}
 use Rattle.std.proofs.Math.Seq.{drop-append_seam}
 use Rattle.sii_cats.specs.Items.{AreItems}
-use Rattle.sii_cats.specs.Chain.{Member, member_words, chain_words, Begins, IsEnd, IsChain}
-use Rattle.sii_cats.specs.Splice.{chain_end, spliced, IsEdit}
+use Rattle.sii_cats.specs.Chain.{Member, member_words, chain_words, Begins, IsEnd}
+use Rattle.sii_cats.specs.Splice.{spliced, IsEdit}
 use Rattle.sii_cats.specs.Laws.{UniqueChain}
 use Rattle.sii_edit.specs.Category.{IsPlaceOf, ChangesCategory}
 

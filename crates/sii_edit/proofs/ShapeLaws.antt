@@ -1,7 +1,7 @@
 -- Edits keep how many words a slave has.
 use Rattle.std.proofs.Common.{◌≡◌, ◌≤◌, ℕ, nat_lt, false, List, ◌++◌, length, take, drop, Result, Ok, Err, Option, refl, arith, length-append, length-drop}
+use Rattle.std.proofs.lemmas.Bool.{ltb-false}
 use Rattle.std.proofs.lemmas.List.{length-take-le}
-use Rattle.std.proofs.lemmas.Bool.Decides.{nat_tests}
 use Rattle.sii_cats.specs.Chain.{Member, chain_words}
 use Rattle.sii_cats.specs.steps.Chain.{members_of}
 use Rattle.sii_cats.specs.Splice.{chain_end, closing, with_chain}
@@ -24,7 +24,7 @@ length-with_chain words ms fits =
     omega (arith, length-append front (closing (drop (length front) words)), length-append (take 64 words) (chain_words ms), length-take-le 64 words (omega arith), length-closing (drop (length front) words), length-drop (length front) words)
 
 pub within : (size limit : ℕ) → nat_lt limit size ≡ false → size ≤ limit
-within size limit fits = grind (arith, nat_tests)
+within size limit fits = ltb-false limit size fits
 
 pub length-rechained : (kind : ℕ) (content words : List ℕ) (read : Result (List Member) (List ℕ)) → if_read read (is_too_long words kind content) ≡ false → length (rechained kind content words read) ≡ length words
 length-rechained kind content words (Ok ms) fits = length-with_chain words (exchanged kind content ms) (within (chain_end (exchanged kind content ms)) (length words) fits)

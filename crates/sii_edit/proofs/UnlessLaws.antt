@@ -1,5 +1,5 @@
 -- The first cause that applies: what an answer means for the tests.
-use Rattle.std.proofs.Common.{◌≡◌, ◌≢◌, ◌⊎◌, ℕ, Bool, true, false, List, [], ◌∷◌, refl, sym, ap, ◌∙◌, inl, inr, Result, Ok, Err}
+use Rattle.std.proofs.Common.{◌≡◌, ◌≢◌, ◌⊎◌, ℕ, Bool, true, false, List, [], ◌∷◌, refl, sym, ap, ◌∙◌, inl, inr, Some, Result, Ok, Err}
 use Rattle.sii_edit.specs.declared.refusal.Cause.{Cause}
 use Rattle.sii_edit.specs.declared.refusal.Cause.TheVariants.{Memory}
 use Rattle.sii_edit.specs.declared.refusal.Refusal.{Refusal}
@@ -64,6 +64,10 @@ whole_err (Err cause) refusal is = let same : whole cause ≡ refusal = cc in ap
 pub place_ok : {A : Type 0} (place : ℕ) (judged : Result A Cause) (new : A) → of_place place judged ≡ Ok new → judged ≡ Ok new
 place_ok place (Ok given) new is = cc
 place_ok place (Err cause) new is = cc
+
+pub placed-other : (place : ℕ) (cause : Cause) → cause ≢ Memory → placed place cause ≡ record { cause = cause; position = Some place }
+placed-other place Memory other = absurd (other refl)
+placed-other place cause other = refl
 
 placed-cause : (place : ℕ) (cause : Cause) → (placed place cause).cause ≡ cause
 placed-cause place Memory = refl

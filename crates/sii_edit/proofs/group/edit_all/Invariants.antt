@@ -7,5 +7,5 @@ use Rattle.sii_edit.proofs.group.edit_all.Given as goal
 abbrev pub invariant-loop-place : goal.invariant-loop-place
 invariant-loop-place l = record {
   fits : IsDraftOf l.plant l.draft;
-  left : edits_from l.place (drafted l.plant l.draft) (map unguarded (drop l.place l.edits)) ≡ edits_from 0 (drafted l.plant l.initial.draft) (map unguarded l.edits);
+  left : edits_from l.place (drafted l.plant l.draft) (drop l.place (map unguarded l.edits)) ≡ edits_from 0 (drafted l.plant l.initial.draft) (map unguarded l.edits);
 }
