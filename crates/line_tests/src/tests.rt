@@ -7,6 +7,7 @@ mod rom_half;
 mod sent;
 mod site_faults;
 
+use crate::devices::{ZERO, words_of};
 use ecat_frame::{Command, Frame, FrameFault, fp};
 use esc_model::{ProcessHalf, RomHalf};
 use sii_words::Words;
@@ -21,13 +22,6 @@ fn put(bytes: &mut [u8], from: usize, new: &[u8]) {
     }
 }
 
-// 64 words: zeros, but for the check byte.
-fn zero_words(alloc: Global) -> Option<Words> {
-    let mut bytes = [0u8; 128];
-    bytes[14] = 0x30;
-    Words::from_bytes(alloc, &bytes).ok()
-}
-
 // The site of these parts, if they fit together.
 fn site_of(alloc: Global, parts: Parts) -> Option<MemSite> {
     if !parts.is_whole() {
@@ -40,7 +34,7 @@ fn site_of(alloc: Global, parts: Parts) -> Option<MemSite> {
 fn halves_of(alloc: Global, stations: &[u16], delay: u32) -> Option<Vec<Option<RomHalf>>> {
     let mut halves = Vec::new(alloc);
     for station in stations {
-        let half = RomHalf::power_up(zero_words(alloc)?, *station, delay);
+        let half = RomHalf::power_up(words_of(alloc, &ZERO)?, *station, delay);
         halves.push(Some(half)).ok()?;
     }
     Some(halves)
@@ -125,7 +119,7 @@ fn goes_and_comes(
     let mut frame = Frame::new();
     let is_exchanged = frame.push(command, 0, address, content).is_ok()
         && is_exchanged(&mut site, &mut frame, sent, back);
-    drop(site);
+    drop(site.into_parts());
     is_exchanged
 }
 

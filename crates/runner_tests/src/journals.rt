@@ -1,6 +1,6 @@
 //! Journals as a station finds them: none, those of two generations, and old ones, which are migrated.
 
-use crate::damage::{Reader, Verdict, verdict_of};
+use crate::damage::{READERS, Verdict, verdict_of};
 use crate::stops::writes_mended;
 use crate::story::Chapter::{Aliases, Bytes, Recovery, Session};
 use crate::story::{Chapter, STOPPED, Story, all_told};
@@ -164,8 +164,8 @@ const OF_2: &[u8] = &[
 #[test]
 fn what_is_no_journal_is_refused(rt: HostRuntime) {
     for (line, why) in REFUSED {
-        for reader in [Reader::Open, Reader::Recover] {
-            assert!(rt; verdict_of(rt.alloc(), line, reader) == Some(Verdict::Refused(*why)));
+        for reader in READERS {
+            assert!(rt; verdict_of(rt.alloc(), line, *reader) == Some(Verdict::Refused(*why)));
         }
     }
 }
@@ -273,7 +273,7 @@ fn writes_of_a_migration(alloc: Global, pattern: Pattern) -> Option<u64> {
 
 #[test]
 fn a_stop_at_each_write_of_a_migration(rt: HostRuntime) {
-    for pattern in PATTERNS {
-        assert_eq!(rt; writes_of_a_migration(rt.alloc(), pattern), Some(10));
+    for pattern in PATTERNS.as_slice() {
+        assert!(rt; writes_of_a_migration(rt.alloc(), *pattern) == Some(10));
     }
 }

@@ -75,17 +75,14 @@ fn writes_survived(alloc: Global, way: Way, pattern: Pattern) -> Option<u64> {
 
 #[test]
 fn a_stop_at_each_write_of_commands_one_by_one(rt: HostRuntime) {
-    for pattern in PATTERNS {
-        assert_eq!(rt;
-            writes_survived(rt.alloc(), Way::OneByOne, pattern),
-            Some(28)
-        );
+    for pattern in PATTERNS.as_slice() {
+        assert!(rt; writes_survived(rt.alloc(), Way::OneByOne, *pattern) == Some(28));
     }
 }
 
 #[test]
 fn a_stop_at_each_write_of_queued_commands(rt: HostRuntime) {
-    for pattern in PATTERNS {
-        assert_eq!(rt; writes_survived(rt.alloc(), Way::Queued, pattern), Some(12));
+    for pattern in PATTERNS.as_slice() {
+        assert!(rt; writes_survived(rt.alloc(), Way::Queued, *pattern) == Some(12));
     }
 }

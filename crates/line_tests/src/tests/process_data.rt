@@ -1,33 +1,14 @@
 //! A line of slaves in memory whose process data is configured and exchanged as their EEPROMs describe it.
 
 use super::{process_halves, process_line, put};
+use crate::devices::{self, BOTH, Device, INPUTS, NAMED, NOTHING, words_of};
 use cyclic::{CycleFault, configure, reconfigure, turn};
 use ecat_frame::{Command, Frame, fp};
 use esc_model::ProcessHalf;
 use sii_image::{Plan, image_of};
-use sii_words::{Plant, Words};
 use site_core::Site;
 use site_mem::MemSite;
 use std::alloc::Global;
-
-// A slave with a byte of outputs and four bytes of inputs: its SyncM, RXPDO and TXPDO categories.
-pub(super) const BOTH: &[u8] = &[
-    41, 0, 16, 0, 0x00, 0x10, 0x80, 0x00, 0x26, 0x00, 0x01, 0x01, 0x80, 0x10, 0x80, 0x00, 0x22,
-    0x00, 0x01, 0x02, 0x00, 0x11, 0x01, 0x00, 0x24, 0x00, 0x01, 0x03, 0x80, 0x11, 0x04, 0x00, 0x20,
-    0x00, 0x01, 0x04, 51, 0, 8, 0, 0x00, 0x16, 0x01, 0x02, 0x00, 0x00, 0x00, 0x00, 0x00, 0x70,
-    0x01, 0x00, 0x05, 0x08, 0x00, 0x00, 50, 0, 12, 0, 0x00, 0x1a, 0x02, 0x03, 0x00, 0x00, 0x00,
-    0x00, 0x00, 0x60, 0x01, 0x00, 0x06, 0x10, 0x00, 0x00, 0x00, 0x60, 0x02, 0x00, 0x06, 0x10, 0x00,
-    0x00, 0xff, 0xff,
-];
-
-// A slave with twelve bits of inputs.
-pub(super) const INPUTS: &[u8] = &[
-    41, 0, 4, 0, 0x00, 0x10, 0x02, 0x00, 0x20, 0x00, 0x01, 0x04, 50, 0, 8, 0, 0x00, 0x1a, 0x01,
-    0x00, 0x00, 0x00, 0x00, 0x00, 0x00, 0x60, 0x01, 0x00, 0x00, 0x0c, 0x00, 0x00, 0xff, 0xff,
-];
-
-// A slave without process data.
-const NOTHING: &[u8] = &[0xff, 0xff];
 
 // Slave, address, and the inputs that its memory holds there.
 const STANDING: &[(usize, u16, &[u8])] = &[
@@ -36,39 +17,24 @@ const STANDING: &[(usize, u16, &[u8])] = &[
 ];
 
 // Inputs after a turn: all have this byte, but for some from a place on.
-type Inputs = (u8, usize, &'static [u8]);
+pub(super) type Inputs = (u8, usize, &'static [u8]);
 
 // The inputs that come back from these two slaves, and from one whose inputs begin at 0x1000.
-const BACK: Inputs = (0, 0, &[0x11, 0x22, 0x33, 0x44, 0x55, 0x06]);
+pub(super) const BACK: Inputs = (0, 0, &[0x11, 0x22, 0x33, 0x44, 0x55, 0x06]);
 
 const ALL_BACK: Inputs = (0, 0x180, &[0x11, 0x22, 0x33, 0x44]);
 
 // A turn that fails leaves the inputs unchanged.
 const KEPT: Inputs = (0xee, 0, &[]);
 
-// The words of a slave, 512 of them, with these categories.
-fn words_of(alloc: Global, categories: &[u8]) -> Option<Words> {
-    let mut bytes = [0u8; 1024];
-    bytes[14] = 0x30;
-    put(&mut bytes, 128, categories);
-    Words::from_bytes(alloc, &bytes).ok()
-}
+// The two slaves, and two without process data.
+pub(super) const TWO: &[Device] = &[BOTH, INPUTS];
 
-// A line of slaves with these categories.
-fn plant_of(alloc: Global, categories: &[&[u8]]) -> Option<Plant> {
-    let mut slaves = Vec::new(alloc);
-    for of_slave in categories {
-        slaves.push(words_of(alloc, of_slave)?).ok()?;
-    }
-    if slaves.is_empty() || slaves.len() > 64 {
-        return None;
-    }
-    Some(Plant::of(slaves))
-}
+const NONE_OF_TWO: &[Device] = &[NOTHING, NOTHING];
 
-// The plan of a line of slaves with these categories.
-pub(super) fn plan_of(alloc: Global, categories: &[&[u8]]) -> Option<Plan> {
-    let plant = plant_of(alloc, categories)?;
+// The plan of a line of these slaves.
+pub(super) fn plan_of(alloc: Global, slaves: &[Device]) -> Option<Plan> {
+    let plant = devices::line_of(alloc, slaves)?;
     let image = image_of(alloc, &plant).ok()?;
     Some(Plan { prefix: 0, image })
 }
@@ -93,10 +59,10 @@ fn stand_all(halves: &mut [ProcessHalf]) {
 
 // A line of slaves with these station addresses. The site owns only their process halves.
 pub(super) fn line_of(alloc: Global, stations: &[u16]) -> Option<MemSite> {
-    let words = words_of(alloc, NOTHING)?;
+    let words = words_of(alloc, &NOTHING)?;
     let mut process = process_halves(alloc, &words, stations)?;
     stand_all(&mut process);
-    process_line(alloc, 512, process)
+    process_line(alloc, 128, process)
 }
 
 // Whether a datagram for a register of a station comes back from the process halves with these bytes at its end.
@@ -115,7 +81,7 @@ fn is_cycled(
 }
 
 // Whether a turn with these outputs has this answer, and leaves these inputs.
-fn turns(
+pub(super) fn turns(
     site: &mut impl Site,
     plan: &Plan,
     outputs: &[u8],
@@ -304,7 +270,7 @@ const LONGEST_INPUTS: &[Act] = &[
     Act::Read(0x1001, 0x15cd, &[0], &[0, 1, 0]),
 ];
 
-fn is_configured_for(site: &mut impl Site, plan: &Plan) -> bool {
+pub(super) fn is_configured_for(site: &mut impl Site, plan: &Plan) -> bool {
     site.has_process() && configure(site, plan).is_ok()
 }
 
@@ -363,48 +329,34 @@ fn each_comes(site: &mut MemSite, plan: &Plan, none: &Plan, all: &[&[Act]]) -> b
     true
 }
 
-// Whether all acts come to what they must on a line of slaves with these categories.
+// Whether all acts come to what they must on a line of these slaves, which may be configured for the process data of the others.
 fn goes_so(
     alloc: Global,
     stations: &[u16],
-    categories: &[&[u8]],
-    nothing: &[&[u8]],
+    slaves: &[Device],
+    others: &[Device],
     all: &[&[Act]],
 ) -> Option<bool> {
-    let plan = plan_of(alloc, categories)?;
-    let none = plan_of(alloc, nothing)?;
+    let plan = plan_of(alloc, slaves)?;
+    let none = plan_of(alloc, others)?;
     let mut site = line_of(alloc, stations)?;
     let come = each_comes(&mut site, &plan, &none, all);
-    drop(site);
+    drop(site.into_parts());
     Some(come)
 }
 
-// Whether all acts come to what they must on a line of two slaves.
-fn two_go_so(alloc: Global, all: &[&[Act]]) -> Option<bool> {
-    goes_so(
-        alloc,
-        &[0x1001, 0x1002],
-        &[BOTH, INPUTS],
-        &[NOTHING, NOTHING],
-        all,
-    )
-}
+// Two slaves exchange data, are reconfigured, and are configured by hand.
+const RUNS_OF_TWO: &[&[&[Act]]] = &[
+    &[&[Act::Configure], CONFIGURED, EXCHANGED],
+    &[NONE_AT_FIRST, CONFIGURED, GONE],
+    &[BY_HAND],
+];
 
 #[test]
 fn two_slaves_exchange_data(rt: HostRuntime) {
-    let alloc = rt.alloc();
-    assert!(rt; two_go_so(alloc, &[&[Act::Configure], CONFIGURED, EXCHANGED]) == Some(true));
-}
-
-#[test]
-fn two_slaves_are_reconfigured(rt: HostRuntime) {
-    let alloc = rt.alloc();
-    assert!(rt; two_go_so(alloc, &[NONE_AT_FIRST, CONFIGURED, GONE]) == Some(true));
-}
-
-#[test]
-fn two_slaves_are_configured_by_hand(rt: HostRuntime) {
-    assert!(rt; two_go_so(rt.alloc(), &[BY_HAND]) == Some(true));
+    for run in RUNS_OF_TWO {
+        assert!(rt; goes_so(rt.alloc(), &[0x1001, 0x1002], TWO, NONE_OF_TWO, run) == Some(true));
+    }
 }
 
 // Categories of a slave with one sync manager: 46 entries of 255 bits and one of this many, of which 158 make 1,486 bytes.
@@ -422,9 +374,14 @@ fn longest(direction: u8, kind: u8, last: u8) -> [u8; 402] {
     bytes
 }
 
-// Whether all acts come to what they must on a line of one slave.
+// Whether all acts come to what they must on a line of one slave of 512 words.
 fn goes_alone(alloc: Global, categories: &[u8], acts: &[Act]) -> Option<bool> {
-    goes_so(alloc, &[0x1001], &[categories], &[NOTHING], &[acts])
+    let slave = Device {
+        front: NAMED,
+        categories,
+        size: 1024,
+    };
+    goes_so(alloc, &[0x1001], &[slave], &[NOTHING], &[acts])
 }
 
 #[test]

@@ -1,6 +1,6 @@
 //! The process half of a slave, datagram by datagram.
 
-use super::zero_words;
+use crate::devices::{ZERO, words_of};
 use ecat_frame::{Command, fp};
 use esc_model::ProcessHalf;
 use std::alloc::Global;
@@ -131,7 +131,7 @@ fn stand(half: &mut ProcessHalf, place: u16, memory: &[u8]) {
 
 // A half with these FMMUs and bytes.
 fn half_of(alloc: Global, units: &[[u8; 16]], place: u16, memory: &[u8]) -> Option<ProcessHalf> {
-    let words = zero_words(alloc)?;
+    let words = words_of(alloc, &ZERO)?;
     let mut half = ProcessHalf::power_up(alloc, &words, STATION).ok()?;
     write_units(&mut half, units);
     stand(&mut half, place, memory);

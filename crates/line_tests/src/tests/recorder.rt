@@ -7,7 +7,6 @@ use site_core::{DeviceFault, Site};
 use site_mem::MemSite;
 use std::alloc::Global;
 
-#[derive(Drop)]
 pub(super) struct Recorder {
     site: MemSite,
     // The bytes of all frames, one frame after another.
@@ -57,6 +56,19 @@ impl Recorder {
             Some(left) => left.is_empty() && self.is_whole,
             None => false,
         }
+    }
+
+    // Lets go of the recorder, and of its site.
+    pub(super) fn end(self) {
+        let Recorder {
+            site,
+            sent,
+            is_whole: _,
+            passing: _,
+            losing: _,
+        } = self;
+        drop(sent);
+        drop(site.into_parts());
     }
 
     // The bytes that were sent.

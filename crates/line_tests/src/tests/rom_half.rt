@@ -1,9 +1,9 @@
 //! The EEPROM half of a slave, datagram by datagram.
 
 use super::put;
+use crate::devices::{Device, ZERO, words_of};
 use ecat_frame::{Command, fp};
 use esc_model::{Rest, RomHalf, WordWrite};
-use sii_words::Words;
 use std::alloc::Global;
 
 const STATION: u16 = 0x1001;
@@ -171,10 +171,11 @@ const CASES: &[Case] = &[
 
 // A half of 64 words: zeros, but for word 7, and for words 8 and 9.
 fn half_of(alloc: Global, check: u16, delay: u32) -> Option<RomHalf> {
-    let mut bytes = [0u8; 128];
-    put(&mut bytes, 14, &check.to_le_bytes());
-    put(&mut bytes, 16, &[0x21, 0x43, 0x65, 0x87]);
-    let words = Words::from_bytes(alloc, &bytes).ok()?;
+    let mut front = [0u8; 20];
+    put(&mut front, 14, &check.to_le_bytes());
+    put(&mut front, 16, &[0x21, 0x43, 0x65, 0x87]);
+    let front = front.as_slice();
+    let words = words_of(alloc, &Device { front, ..ZERO })?;
     Some(RomHalf::power_up(words, STATION, delay))
 }
 

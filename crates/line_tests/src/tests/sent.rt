@@ -3,10 +3,9 @@
 //! (4 reads, 5 writes), index, station, register, length, IRQ, content and working counter.
 
 use super::access::{Access, TAKEN, WRITTEN, all_come};
-use super::process_data::{BOTH, INPUTS, line_of, plan_of};
+use super::process_data::{BACK, TWO, is_configured_for, line_of, plan_of, turns};
 use super::recorder::{Recorder, behind};
 use super::{ISSUE, line};
-use cyclic::{configure, turn};
 use esc_rom::RomFault;
 use sii_image::Plan;
 use site_core::{Issued, Settled, Site};
@@ -105,7 +104,7 @@ fn sends(alloc: Global, row: &Sent) -> bool {
     };
     let mut recorder = Recorder::of(alloc, site, passing, losing);
     let sends = all_come(alloc, &mut recorder, accesses) && recorder.has_sent(frames);
-    drop(recorder);
+    recorder.end();
     sends
 }
 
@@ -138,7 +137,7 @@ fn reads(alloc: Global) -> bool {
         Some(left) => left.is_empty(),
         None => false,
     };
-    drop(recorder);
+    recorder.end();
     is_read && is_so
 }
 
@@ -187,18 +186,14 @@ const CYCLED: &[&[u8]] = &[
 
 // Whether the line is configured, and exchanges the output 0xaa.
 fn is_cycled(site: &mut impl Site, plan: &Plan) -> bool {
-    let mut inputs = [0u8; 6];
-    site.has_process()
-        && plan.image.outputs() == 1
-        && plan.image.inputs() == 6
-        && configure(site, plan).is_ok()
-        && turn(site, plan, &[0xaa], &mut inputs) == Ok(4)
-        && inputs == [0x11, 0x22, 0x33, 0x44, 0x55, 0x06]
+    plan.image.inputs() == 6
+        && is_configured_for(site, plan)
+        && turns(site, plan, &[0xaa], Ok(4), &BACK)
 }
 
 // Whether the line is configured, and exchanges its data, by these frames.
 fn cycles(alloc: Global, frames: &[&[u8]]) -> bool {
-    let Some(plan) = plan_of(alloc, &[BOTH, INPUTS]) else {
+    let Some(plan) = plan_of(alloc, TWO) else {
         return false;
     };
     let Some(site) = line_of(alloc, &[0x1001, 0x1002]) else {
@@ -206,7 +201,7 @@ fn cycles(alloc: Global, frames: &[&[u8]]) -> bool {
     };
     let mut recorder = Recorder::of(alloc, site, 0, 0);
     let cycles = is_cycled(&mut recorder, &plan) && recorder.has_sent(frames);
-    drop(recorder);
+    recorder.end();
     cycles
 }
 

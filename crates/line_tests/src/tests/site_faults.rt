@@ -359,10 +359,13 @@ fn is_written(site: &mut impl Site, at: usize, bytes: &[u8]) -> bool {
     if !site.has_disk() {
         return false;
     }
-    match site.disk_len() {
-        Ok(length) => at <= length && site.disk_write(at, bytes).is_ok(),
-        Err(_) => false,
+    let Ok(length) = site.disk_len() else {
+        return false;
+    };
+    if at > length {
+        return false;
     }
+    site.disk_write(at, bytes).is_ok()
 }
 
 // The last three bytes of five.
@@ -451,7 +454,7 @@ fn left_by(alloc: Global, site: MemSite, is_snapshot: bool) -> Option<Parts> {
         return Some(site.into_parts());
     }
     let parts = site.snapshot(alloc).ok();
-    drop(site);
+    drop(site.into_parts());
     parts
 }
 

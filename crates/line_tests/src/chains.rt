@@ -1,6 +1,6 @@
 //! Chains of categories, and edits that would leave a malformed one.
 
-use crate::devices::{BOTH, Device, INPUTS, NAMED, line_of, words_of};
+use crate::devices::{BOTH, CHECKED, Device, INPUTS, NAMED, NOTHING, line_of, words_of};
 use sii_cats::kind::{END, RXPDOS, STRINGS, SYNC_MANAGERS, TXPDOS};
 use sii_cats::{Category, chain};
 use sii_edit::{Cause, Command, Edit, EditList, Refusal, WordList, changes};
@@ -12,12 +12,13 @@ use std::alloc::Global;
 const FILLING: Device = Device {
     front: NAMED,
     categories: &[51, 0, 62, 0],
+    size: 256,
 };
 
 /// The categories of a device, each with its type, the number of its type word and the length of its content in words.
 #[derive(Clone, Copy)]
 struct Chain {
-    device: Device,
+    device: Device<'static>,
     categories: &'static [Category],
 }
 
@@ -97,12 +98,12 @@ struct Case {
 }
 
 /// A slave of zeros, but for the check byte and the end mark.
-const ZERO: Device = Device {
-    front: &[0, 0, 0, 0, 0, 0, 0, 0, 0, 0, 0, 0, 0, 0, 0x30],
-    categories: &[0xFF, 0xFF],
+const EMPTY: Device = Device {
+    front: CHECKED,
+    ..NOTHING
 };
 
-const ZEROS: &[Device] = &[ZERO, ZERO, ZERO];
+const EMPTY_LINE: &[Device] = &[EMPTY, EMPTY, EMPTY];
 
 const MALFORMED: &[Case] = &[
     // A text that is cut off.
@@ -162,7 +163,7 @@ fn refusal(alloc: Global, plant: &Plant, command: &Command) -> Option<Refusal> {
 
 /// Why the group is refused on a line of zeros.
 fn refusal_of(alloc: Global, case: &Case) -> Option<Refusal> {
-    let plant = line_of(alloc, ZEROS)?;
+    let plant = line_of(alloc, EMPTY_LINE)?;
     let command = group(alloc, case)?;
     refusal(alloc, &plant, &command)
 }

@@ -1,17 +1,28 @@
-//! Devices of 128 words, and lines of them.
+//! Devices, and lines of them.
 
 use sii_words::{Plant, Words};
 use std::alloc::{AllocError, Global};
 
-/// A device of 128 words: its first bytes, and those of its categories. The others are 0.
+/// A device: its first bytes, those of its categories, and how many it has. The others are 0.
 #[derive(Clone, Copy)]
-pub(crate) struct Device {
-    pub(crate) front: &'static [u8],
-    pub(crate) categories: &'static [u8],
+pub(crate) struct Device<'a> {
+    pub(crate) front: &'a [u8],
+    pub(crate) categories: &'a [u8],
+    pub(crate) size: usize,
 }
+
+/// The check byte of zeros.
+pub(crate) const CHECKED: &[u8] = &[0, 0, 0, 0, 0, 0, 0, 0, 0, 0, 0, 0, 0, 0, 0x30];
 
 /// Alias 0x0908.
 pub(crate) const NAMED: &[u8] = &[0, 0, 0, 0, 0, 0, 0, 0, 0x08, 0x09];
+
+/// 64 words: zeros, but for the check byte.
+pub(crate) const ZERO: Device = Device {
+    front: CHECKED,
+    categories: &[],
+    size: 128,
+};
 
 /// A slave with a byte of outputs and four bytes of inputs: its SyncM, RXPDO and TXPDO categories.
 pub(crate) const BOTH: Device = Device {
@@ -24,6 +35,7 @@ pub(crate) const BOTH: Device = Device {
         0x00, 0x00, 0x00, 0x60, 0x01, 0x00, 0x06, 0x10, 0x00, 0x00, 0x00, 0x60, 0x02, 0x00, 0x06,
         0x10, 0x00, 0x00, 0xff, 0xff,
     ],
+    size: 256,
 };
 
 /// A slave with twelve bits of inputs.
@@ -33,12 +45,14 @@ pub(crate) const INPUTS: Device = Device {
         41, 0, 4, 0, 0x00, 0x10, 0x02, 0x00, 0x20, 0x00, 0x01, 0x04, 50, 0, 8, 0, 0x00, 0x1a, 0x01,
         0x00, 0x00, 0x00, 0x00, 0x00, 0x00, 0x60, 0x01, 0x00, 0x00, 0x0c, 0x00, 0x00, 0xff, 0xff,
     ],
+    size: 256,
 };
 
 /// A slave without categories.
 pub(crate) const NOTHING: Device = Device {
     front: NAMED,
     categories: &[0xff, 0xff],
+    size: 256,
 };
 
 /// The bytes of a device.
@@ -46,7 +60,7 @@ pub(crate) fn bytes_of(alloc: Global, device: &Device) -> Result<Vec<u8>, AllocE
     let mut bytes = Vec::from_slice(alloc, device.front)?;
     bytes.resize(128, 0)?;
     bytes.extend_from_slice(device.categories)?;
-    bytes.resize(256, 0)?;
+    bytes.resize(device.size, 0)?;
     Ok(bytes)
 }
 
