@@ -1,12 +1,17 @@
--- An answer of the book that is no job, and what is noted of an answer.
-use Rattle.std.proofs.Common.{◌≡◌, ◌≢◌, ◌∙◌, ℕ, Bool, false, List, [], ◌∷◌, ◌++◌, refl, ap, subst}
+-- What is told of an answer of the book, and what is noted of it.
+use Rattle.std.proofs.Common.{◌≡◌, ◌≢◌, ◌∙◌, ℕ, Bool, false, List, [], ◌∷◌, ◌++◌, refl, sym, ap, subst}
 use Rattle.book_model.specs.declared.next.DiskNext.{DiskNext}
 use Rattle.book_model.specs.declared.next.DiskNext.TheVariants as disk
 use Rattle.book_model.specs.declared.next.RomNext.{RomNext}
 use Rattle.book_model.specs.declared.next.RomNext.TheVariants as rom
 use Rattle.desk_book.specs.declared.call.Call.{Call}
+use Rattle.book_model.specs.Book.{Book}
+use Rattle.book_core.specs.Wear.{IssuesFew}
+use Rattle.desk_book.specs.declared.call.Call.TheVariants.{DiskAsked, SlaveAsked}
+use Rattle.desk_book.specs.declared.heard.Heard.{Heard}
+use Rattle.desk_book.specs.declared.heard.Heard.TheVariants.{Work, Nothing, NoMemory, Stop}
 use Rattle.desk_book.specs.Serving.{Pooled, Serving, with_call}
-use Rattle.desk_book.specs.Asking.{is_disk_job, is_rom_job}
+use Rattle.desk_book.specs.Asking.{is_disk_job, is_rom_job, TellsDisk, TellsSlave, HearsDisk, HearsSlave, WearsFew}
 
 -- neither a job nor `Stop`
 pub disk-idle : (answer : DiskNext) → is_disk_job answer ≡ false → answer ≢ disk.Stop → answer ≡ disk.Idle
@@ -29,3 +34,23 @@ pub noted-call : (calls later : List Call) (tickets refusals : ℕ) (pool : Pool
 noted-call calls later tickets refusals pool stopped old noted call is more same =
     let with_calls : List Call → Serving = λ l. record { calls = l; tickets = tickets; refusals = refusals; pool = pool; has_stopped = stopped } in
     subst (λ (s : Serving). with_calls later ≡ with_call s call) is (ap with_calls (more ∙ ap (λ (c : Call). calls ++ c ∷ []) same))
+
+-- what is heard of an answer that the history has
+
+pub hears-disk : (heard : Heard (DiskNext × DiskNext)) (next : DiskNext) (old new : Serving) → TellsDisk next heard → new ≡ with_call old (DiskAsked next) → HearsDisk heard old new
+hears-disk (Work jobs) next old new tells is = (tells.0, tells.1, subst (λ (a : DiskNext). new ≡ with_call old (DiskAsked a)) tells.2 is)
+hears-disk Nothing next old new tells is = subst (λ (a : DiskNext). new ≡ with_call old (DiskAsked a)) tells is
+hears-disk NoMemory next old new tells is = absurd tells
+hears-disk Stop next old new tells is = subst (λ (a : DiskNext). new ≡ with_call old (DiskAsked a)) tells is
+
+pub hears-slave : (slave : ℕ) (heard : Heard RomNext) (next : RomNext) (old new : Serving) → TellsSlave next heard → new ≡ with_call old (SlaveAsked slave next) → HearsSlave slave heard old new
+hears-slave slave (Work job) next old new tells is = (tells.0, subst (λ (a : RomNext). new ≡ with_call old (SlaveAsked slave a)) tells.1 is)
+hears-slave slave Nothing next old new tells is = subst (λ (a : RomNext). new ≡ with_call old (SlaveAsked slave a)) tells is
+hears-slave slave NoMemory next old new tells is = absurd tells
+hears-slave slave Stop next old new tells is = subst (λ (a : RomNext). new ≡ with_call old (SlaveAsked slave a)) tells is
+
+pub wears-few : (heard : Heard RomNext) (book : Book) → IssuesFew book → WearsFew heard book
+wears-few (Work job) book few = few
+wears-few Nothing book few = tt
+wears-few NoMemory book few = tt
+wears-few Stop book few = tt

@@ -99,19 +99,12 @@ told-other slave outcome i log other = ap (λ (b : Bool). if b then with_outcome
 -- ---- the slave that the call is about
 
 module _ (slave at : ℕ) (old : List (Noted RomNext RomOutcome)) (same : at ≡ slave) (inside : at < length old) where
-  pub asked-noted : (answer : RomNext) (mid new : List (Noted RomNext RomOutcome)) → IsNoted old at (entries_at old at) mid → IsNoted mid at (with_job (entries_at mid at) answer) new → is_rom_job answer ≡ true
+  pub asked-noted : (answer : RomNext) (mid new : List (Noted RomNext RomOutcome)) → IsNoted old at (entries_at old at) mid → IsNoted mid at (with_rom_answer (entries_at mid at) answer) new
       → RomNoted (SlaveAsked slave answer) old new
-  asked-noted answer mid new one two job =
+  asked-noted answer mid new one two =
       subst (λ (s : ℕ). RomNoted (SlaveAsked s answer) old new) same
-      (rom-noted (SlaveAsked at answer) at old new (with_job (entries_at mid at) answer) inside (noted-twice at old mid new (entries_at old at) (with_job (entries_at mid at) answer) one two)
-      (ap (λ (l : List RomEntry). with_job l answer) one.here ∙ sym (with-rom-job (entries_at old at) answer job) ∙ sym (asked-here at answer (entries_at old at)))
-      (λ i l other. asked-other at answer i l other))
-
-  pub asked-rest : (answer : RomNext) (mid : List (Noted RomNext RomOutcome)) → IsNoted old at (entries_at old at) mid → is_rom_job answer ≡ false → RomNoted (SlaveAsked slave answer) old mid
-  asked-rest answer mid one none =
-      subst (λ (s : ℕ). RomNoted (SlaveAsked s answer) old mid) same
-      (rom-noted (SlaveAsked at answer) at old mid (entries_at old at) inside one
-      (sym (with-rom-rest (entries_at old at) answer none) ∙ sym (asked-here at answer (entries_at old at)))
+      (rom-noted (SlaveAsked at answer) at old new (with_rom_answer (entries_at mid at) answer) inside (noted-twice at old mid new (entries_at old at) (with_rom_answer (entries_at mid at) answer) one two)
+      (ap (λ (l : List RomEntry). with_rom_answer l answer) one.here ∙ sym (asked-here at answer (entries_at old at)))
       (λ i l other. asked-other at answer i l other))
 
   pub told-noted : (outcome : RomOutcome) (new : List (Noted RomNext RomOutcome)) → IsNoted old at (with_outcome (entries_at old at) outcome) new → RomNoted (SlaveTold slave outcome) old new

@@ -39,6 +39,13 @@ abbrev pub bytes_of : DiskNext → ℕ
 bytes_of (disk.Write at bytes) = length bytes
 bytes_of other = 0
 
+-- This is told of the book's answer: an action twice, and `Nothing` and `Stop` for `Idle` and `Stop`.
+abbrev pub TellsDisk : DiskNext → Heard (DiskNext × DiskNext) → Type 0
+TellsDisk next (Work jobs) = (jobs.1 ≡ jobs.0) × (is_disk_job jobs.0 ≡ true) × (next ≡ jobs.0)
+TellsDisk next Nothing = next ≡ disk.Idle
+TellsDisk next NoMemory = ⊥
+TellsDisk next Stop = next ≡ disk.Stop
+
 -- The book is asked for the next action on the disk. An action is answered twice. `Nothing` and `Stop` are the book's `Idle` and `Stop`.
 abbrev pub HearsDisk : Heard (DiskNext × DiskNext) → (old new : Serving) → Type 0
 HearsDisk (Work jobs) old new = (jobs.1 ≡ jobs.0) × (is_disk_job jobs.0 ≡ true) × (new ≡ with_call old (DiskAsked jobs.0))
@@ -63,6 +70,13 @@ abbrev pub is_rom_job : RomNext → Bool
 is_rom_job rom.Idle = false
 is_rom_job rom.Stop = false
 is_rom_job job = true
+
+-- This is told of the book's answer: a job, and `Nothing` and `Stop` for `Idle` and `Stop`.
+abbrev pub TellsSlave : RomNext → Heard RomNext → Type 0
+TellsSlave next (Work job) = (is_rom_job job ≡ true) × (next ≡ job)
+TellsSlave next Nothing = next ≡ rom.Idle
+TellsSlave next NoMemory = ⊥
+TellsSlave next Stop = next ≡ rom.Stop
 
 -- The book is asked for the next job of this slave. `Nothing` and `Stop` are the book's `Idle` and `Stop`.
 abbrev pub HearsSlave : ℕ → Heard RomNext → (old new : Serving) → Type 0

@@ -1,8 +1,9 @@
 //! Hands out the disk's actions, and takes their outcomes.
 
-ghost use Rattle.std.specs.Prelude.{◌≡◌, ◌≤◌, ◌++◌, ◌∷◌, [], vec_capacity, IfOk};
-ghost use Rattle.desk_book.specs.Asking.{AsksDisk, HearsDisk, disk_told, is_disk_job, bytes_of};
+ghost use Rattle.std.specs.Prelude.{◌≡◌, ◌≤◌, ◌<◌, ◌++◌, ◌∷◌, [], vec_capacity, IfOk, OnOk};
+ghost use Rattle.desk_book.specs.Asking.{AsksDisk, HearsDisk, TellsDisk, disk_told, is_disk_job, bytes_of};
 ghost use Rattle.desk_book.specs.Calls.{AreAnswered};
+ghost use Rattle.desk_book.specs.Logs.{with_disk_answer};
 
 use crate::call::{Call, Recalled};
 use crate::heard::Heard;
@@ -11,7 +12,11 @@ use crate::served::Served;
 use book_model::DiskNext;
 use sii_words::{History, ItemList};
 use site_core::DeviceFault;
+use station_jobs::Notes;
 use std::alloc::{AllocError, Global};
+
+/// The disk's actions that were handed out, with their outcomes.
+type DiskNotes = Notes<DiskNext, Result<(), DeviceFault>>;
 
 /// Adds a call of the book to its history.
 pub(crate) fn note(history: &mut History<Call>, call: Call)
@@ -30,11 +35,18 @@ fn is_job(next: &DiskNext) -> bool
     }
 }
 
-/// Memory for `bytes` bytes, twice.
-fn two_rooms(alloc: Global, bytes: usize) -> Result<(Vec<u8>, Vec<u8>), AllocError>
+/// Takes memory for one more action in the notes, and for `bytes` bytes, twice.
+fn rooms_for(
+    alloc: Global,
+    notes: &mut DiskNotes,
+    bytes: usize,
+) -> Result<(Vec<u8>, Vec<u8>), AllocError>
+    ensures same { notes.new.entries ≡ notes.old.entries }
+    ensures room { OnOk result (0 < notes.new.spare) }
     ensures first { IfOk result (λ rooms. (rooms.0.items ≡ []) × (bytes ≤ vec_capacity rooms.0)) }
     ensures second { IfOk result (λ rooms. (rooms.1.items ≡ []) × (bytes ≤ vec_capacity rooms.1)) }
 {
+    notes.reserve()?;
     let first = Vec::with_capacity(alloc, bytes)?;
     let second = Vec::with_capacity(alloc, bytes)?;
     Ok((first, second))
@@ -67,6 +79,30 @@ fn copied(next: &DiskNext, room: Vec<u8>) -> DiskNext
     }
 }
 
+/// Notes the book's answer, if it is an action, and answers it twice. The bytes of each copy are put into one of the rooms.
+fn hand_out(
+    notes: &mut DiskNotes,
+    next: DiskNext,
+    rooms: (Vec<u8>, Vec<u8>),
+) -> Heard<(DiskNext, DiskNext)>
+    requires notes { 0 < notes.old.spare }
+    requires first { (rooms.0.items ≡ []) × (bytes_of next ≤ vec_capacity rooms.0) }
+    requires second { (rooms.1.items ≡ []) × (bytes_of next ≤ vec_capacity rooms.1) }
+    ensures noted { notes.new.entries ≡ with_disk_answer notes.old.entries next }
+    ensures tells { TellsDisk next result }
+{
+    if is_job(&next) {
+        let (first, second) = rooms;
+        notes.hand_out(copied(&next, first));
+        let copy = copied(&next, second);
+        return Heard::Work((next, copy));
+    }
+    match next {
+        DiskNext::Stop => Heard::Stop,
+        _ => Heard::Nothing,
+    }
+}
+
 impl<T: Tickets, R: Refusals> Served<T, R> {
     /// Asks the book for the next action on the disk. Answers it twice: one is for the dispatch's log.
     ///
@@ -90,10 +126,8 @@ impl<T: Tickets, R: Refusals> Served<T, R> {
         ensures hears { HearsDisk result self.old self.new }
         ensures answered { AreAnswered T.opened self.new.calls }
     {
-        let Ok((first, second)) = two_rooms(self.alloc, self.core.disk_room()) else {
-            return Heard::NoMemory;
-        };
-        let Ok(()) = self.disk.reserve() else {
+        let bytes = self.core.disk_room();
+        let Ok(rooms) = rooms_for(self.alloc, &mut self.disk, bytes) else {
             return Heard::NoMemory;
         };
         let Ok(next) = self.core.disk_next() else {
@@ -101,15 +135,7 @@ impl<T: Tickets, R: Refusals> Served<T, R> {
         };
         let answer = Recalled::of(&next);
         note(&mut self.history, Call::DiskAsked { answer });
-        if is_job(&next) {
-            self.disk.hand_out(copied(&next, first));
-            let copy = copied(&next, second);
-            return Heard::Work((next, copy));
-        }
-        match next {
-            DiskNext::Stop => Heard::Stop,
-            _ => Heard::Nothing,
-        }
+        hand_out(&mut self.disk, next, rooms)
     }
 
     /// Reports the outcome of the disk action that is out. If none is out, nothing changes.

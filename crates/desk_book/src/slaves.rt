@@ -3,9 +3,9 @@
 ghost use Rattle.std.specs.Prelude.{◌≡◌, ◌↔◌, ◌<◌, length, slice_index_or, IsTrue, OnOk};
 ghost use Rattle.station_jobs.specs.Dispatch.{with_outcome};
 ghost use Rattle.station_jobs.specs.Noted.{is_waiting};
-ghost use Rattle.desk_book.specs.Logs.{with_job};
+ghost use Rattle.desk_book.specs.Logs.{with_rom_answer};
 ghost use Rattle.desk_book.specs.Serving.{IsNoted, entries_at, no_entries};
-ghost use Rattle.desk_book.specs.Asking.{AsksSlave, HearsSlave, SlaveIsTold, WearsFew, is_rom_job};
+ghost use Rattle.desk_book.specs.Asking.{AsksSlave, HearsSlave, SlaveIsTold, TellsSlave, WearsFew, is_rom_job};
 ghost use Rattle.desk_book.specs.Calls.{AreAnswered, replayed};
 
 use crate::call::Call;
@@ -58,14 +58,22 @@ fn reserve_at(slaves: &mut Vec<SlaveNotes>, at: usize) -> Result<(), AllocError>
     notes.reserve()
 }
 
-/// Notes one more job of slave `at`, for which there is room.
-fn hand_out_at(slaves: &mut Vec<SlaveNotes>, at: usize, job: RomNext)
+/// Notes the book's answer for slave `at`, if it is a job. There is room for it.
+fn hand_out_at(slaves: &mut Vec<SlaveNotes>, at: usize, next: RomNext) -> Heard<RomNext>
     requires inside { at < length slaves.old.items }
     requires room { 0 < (slice_index_or slaves.old.items at no_entries).spare }
-    ensures { IsNoted slaves.old.items at (with_job (entries_at slaves.old.items at) job) slaves.new.items }
+    ensures noted { IsNoted slaves.old.items at (with_rom_answer (entries_at slaves.old.items at) next) slaves.new.items }
+    ensures tells { TellsSlave next result }
 {
-    let notes = &mut slaves[at];
-    notes.hand_out(job);
+    if is_job(next) {
+        let notes = &mut slaves[at];
+        notes.hand_out(next);
+        return Heard::Work(next);
+    }
+    match next {
+        RomNext::Stop => Heard::Stop,
+        _ => Heard::Nothing,
+    }
 }
 
 /// Notes the outcome of the last job of slave `at`.
@@ -113,14 +121,7 @@ impl<T: Tickets, R: Refusals> Served<T, R> {
         };
         let answer = self.core.rom_next(slave);
         note(&mut self.history, Call::SlaveAsked { slave, answer });
-        if is_job(answer) {
-            hand_out_at(&mut self.slaves, at, answer);
-            return Heard::Work(answer);
-        }
-        match answer {
-            RomNext::Stop => Heard::Stop,
-            _ => Heard::Nothing,
-        }
+        hand_out_at(&mut self.slaves, at, answer)
     }
 
     /// Reports the outcome of the slave's job that is out. If none is out, nothing changes.

@@ -5,7 +5,6 @@ ghost use Rattle.std.specs.Prelude.{◌≡◌};
 use book_model::SubmitRefusal;
 use sii_edit::Command;
 use std::marker::Model;
-use thiserror::Error;
 
 /// An accepted command, with its number, counted from 0 in the order of acceptance.
 #[derive(Drop)]
@@ -54,10 +53,9 @@ pub struct Unacknowledged {
 }
 
 /// Why no share was given out.
-#[derive(Clone, Copy, Debug, PartialEq, Eq, Error)]
+#[derive(Drop)]
 pub enum ShareFault {
     /// The desk has no more shares to give out.
-    #[error("no share is left")]
     NoShare,
 }
 

@@ -197,8 +197,7 @@ servable (Ok same) sites capacity whole (Some b) halves long bytes held disk new
     let owned : OwnParts (λ (s : SiteValue). s.line) sites.disk sites.slaves.items sites.cycle = subst (λ (x : Sites). OwnParts (λ (s : SiteValue). s.line) x.disk x.slaves.items x.cycle) is.0 is.1 in
     subst (λ (x : Sites). IsServable capacity whole x) (sym is.0) (record {
       apart = record { disk = disk ∙ ap of_bytes bytes; new = new; slaves = subst (λ (l : List SlaveHalf). AllPlaced BeginsWith 0 l sites.slaves.items) held slaves; turning = turning };
-      owned = owned;
-      long = subst (λ (d : Disk). 8 + capacity ≤ length d.bytes) (sym disk) long;
+      own = record { owned = owned; long = subst (λ (d : Disk). 8 + capacity ≤ length d.bytes) (sym disk) long };
     })
 servable (Ok same) sites capacity whole None halves long bytes held disk new slaves turning is = absurd long
 servable (Err fault) sites capacity whole disk halves long bytes held of new slaves turning is = tt

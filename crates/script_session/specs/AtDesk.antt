@@ -1,5 +1,5 @@
 -- What holds of a line once its desk was closed, or a fault ended the work there.
-use Rattle.std.specs.Prelude.{◌≡◌, ◌⊎◌, ℕ, Bool, true, false, List, [], ◌∷◌, length, Option, Some, None, Result, Ok, Err, IfErr, MatchResult, OnOk}
+use Rattle.std.specs.Prelude.{◌≡◌, ◌⊎◌, ◌<◌, ℕ, Bool, true, false, List, [], ◌∷◌, length, Option, Some, None, Result, Ok, Err, IfErr, MatchResult, OnOk}
 use Rattle.std.specs.List.{AllByRecursion}
 use Rattle.sii_edit.specs.declared.command.Command.{Command}
 use Rattle.jrn_format.specs.declared.journal.Journal.{Journal}
@@ -33,7 +33,9 @@ use Rattle.station_files.specs.declared.faults.Fault.TheVariants as faults
 use Rattle.station_files.specs.declared.faults.ExitStatus.{ExitStatus}
 use Rattle.station_files.specs.declared.faults.ExitStatus.TheVariants.{Done}
 use Rattle.script_session.specs.Rounds.{AreAmong}
+use Rattle.script_session.specs.declared.closing.AtDesk.{AtDesk}
 use Rattle.script_session.specs.declared.closing.Ending.{Ending}
+use Rattle.script_session.specs.declared.threads.Opening.{Opening}
 use Rattle.script_session.specs.declared.threads.Left.{Left}
 use Rattle.script_session.specs.Asking.{commands_of, GivesUp}
 use Rattle.script_session.specs.Parts.{Sites, IsApart, AreEndsOfParts, AreFollowed, IsFollowed, IsTogether, Soundly}
@@ -100,6 +102,20 @@ pub record EndsSo (opened : Book) (commands : List Command) (ends : Ends SiteVal
   pub ended : MatchResult ending.closed
       (λ done. ClosesWith opened commands ending.is_driven ending.status ending.told ends)
       (λ why. IsStopped opened why ending.told ends)
+
+-- A desk of this book is made of this: the book, which has accepted no command, and ledgers with these names and parts, more than one each.
+pub record OpensDesk (opened : Book) (ticket_name ticket_parts refusal_name refusal_parts : ℕ) (opening : Opening) : Type 0 where
+  pub core : opening.core ≡ opened
+  pub none : opening.core.accepted ≡ []
+  pub tickets : (opening.tickets.name ≡ ticket_name) × (opening.tickets.count ≡ ticket_parts)
+  pub refusals : (opening.refusals.name ≡ refusal_name) × (opening.refusals.count ≡ refusal_parts)
+  pub parts : (1 < opening.tickets.count) × (1 < opening.refusals.count)
+
+-- A desk of this book served these sites, and leaves the ends of their threads, how the work ended, and the commands if they were not submitted.
+pub record ServesSites (opened : Book) (commands : List Command) (sites : Sites) (at : AtDesk SiteValue) : Type 0 where
+  pub of_sites : AreEndsOfParts sites at.ends
+  pub ending : EndsSo opened commands at.ends at.ending
+  pub unserved : at.ending.is_driven ≡ false → at.unserved.items ≡ commands
 
 -- ---- a line that is put together again
 

@@ -45,11 +45,15 @@ pub record IsApart (whole : State) (sites : Sites) : Type 0 where
   pub slaves : AllPlaced BeginsWith 0 whole.halves sites.slaves.items
   pub turning : is_some sites.cycle ≡ true
 
+-- Each site owns its part, and the disk reaches at least to this byte of the file.
+pub record OwnUpTo (limit : ℕ) (sites : Sites) : Type 0 where
+  pub owned : OwnParts (λ (s : SiteValue). s.line) sites.disk sites.slaves.items sites.cycle
+  pub long : limit ≤ length sites.disk.seen.state.disk.bytes
+
 -- The line is taken apart so, each site owns its part, and the disk reaches to the end of a journal's area of this capacity.
 pub record IsServable (capacity : ℕ) (whole : State) (sites : Sites) : Type 0 where
   pub apart : IsApart whole sites
-  pub owned : OwnParts (λ (s : SiteValue). s.line) sites.disk sites.slaves.items sites.cycle
-  pub long : 8 + capacity ≤ length sites.disk.seen.state.disk.bytes
+  pub own : OwnUpTo (8 + capacity) sites
 
 -- These are the ends of the threads that served these sites: each began with its site.
 pub record AreEndsOfParts (sites : Sites) (ends : Ends SiteValue) : Type 0 where

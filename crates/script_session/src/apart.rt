@@ -14,18 +14,30 @@ use station_files::Fault;
 use station_threads::{PerDevice, Sites, own_parts};
 use std::alloc::{AllocError, Global};
 
-/// The parts of a site that owns nothing of the line. `sizes` is the number of words of each slave.
-fn nothing(alloc: Global, sizes: &Vec<u16>) -> Result<Parts, AllocError> {
-    let mut halves = Vec::with_capacity(alloc, sizes.len())?;
-    for _slave in 0..sizes.len() {
+/// No EEPROM half, for each of `slaves` slaves.
+fn no_halves(alloc: Global, slaves: usize) -> Result<Vec<Option<RomHalf>>, AllocError> {
+    let mut halves = Vec::with_capacity(alloc, slaves)?;
+    for _slave in 0..slaves {
         halves.push(None)?;
     }
-    Ok(Parts {
-        sizes: sizes.clone()?,
-        disk: None,
-        halves,
-        process: None,
-    })
+    Ok(halves)
+}
+
+/// The parts of a site that owns nothing of the line. `sizes` is the number of words of each slave.
+fn nothing(alloc: Global, sizes: &Vec<u16>) -> Result<Parts, AllocError> {
+    let halves = no_halves(alloc, sizes.len())?;
+    match sizes.clone() {
+        Ok(sizes) => Ok(Parts {
+            sizes,
+            disk: None,
+            halves,
+            process: None,
+        }),
+        Err(AllocError) => {
+            drop(halves);
+            Err(AllocError)
+        }
+    }
 }
 
 /// The site with these parts and this device.
@@ -138,9 +150,16 @@ fn cycle_site<D: Device + Copy>(
     halves: &[Option<RomHalf>],
 ) -> Result<ShadowSite<D>, Fault> {
     let processes = processes(alloc, halves)?;
-    let mut parts = nothing(alloc, sizes)?;
-    parts.process = Some(processes);
-    site_of(alloc, parts, device)
+    match nothing(alloc, sizes) {
+        Ok(mut parts) => {
+            parts.process = Some(processes);
+            site_of(alloc, parts, device)
+        }
+        Err(AllocError) => {
+            drop(processes);
+            Err(Fault::Memory)
+        }
+    }
 }
 
 /// A site that owns this disk alone, and one that owns the process halves of these slaves alone.

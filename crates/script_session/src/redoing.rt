@@ -1,12 +1,10 @@
 //! Redoes by threads what is live in a journal: has a desk serve the line, to which no command is submitted.
 
-ghost use Rattle.std.specs.Prelude.{◌≡◌, ◌≤◌, ◌<◌, ◌+◌, ◌∷◌, [], length, vec_capacity, IfErr, IfOk};
-ghost use Rattle.site_shadow.specs.Site.{SiteValue};
-ghost use Rattle.station_threads.specs.Sites.{OwnParts};
+ghost use Rattle.std.specs.Prelude.{◌≡◌, ◌≤◌, ◌+◌, ◌∷◌, [], vec_capacity, IfErr, IfOk};
 ghost use Rattle.desk_book.specs.Calls.{replayed, AreAnswered};
 ghost use Rattle.script_session.specs.Asking.{no_counts};
-ghost use Rattle.script_session.specs.AtDesk.{Closes, IsServedFollowed, TellsWhy};
-ghost use Rattle.script_session.specs.Parts.{AreEndsOfParts, IsLineOf, Soundly};
+ghost use Rattle.script_session.specs.AtDesk.{Closes, IsServedFollowed, OpensDesk, TellsWhy};
+ghost use Rattle.script_session.specs.Parts.{AreEndsOfParts, IsLineOf, OwnUpTo, Soundly};
 ghost use Rattle.script_session.specs.Redoing.{
   IsCount,
   IsOpenedHere,
@@ -107,13 +105,8 @@ fn redo_at_desk<
     opening: Opening,
     sites: Sites<ShadowSite<D>>,
 ) -> Result<Ends<ShadowSite<D>>, Fault>
-    requires core { opening.core ≡ T.opened }
-    requires none { opening.core.accepted ≡ [] }
-    requires tickets { (opening.tickets.name ≡ T.name) × (opening.tickets.count ≡ T.parts) }
-    requires refusals { (opening.refusals.name ≡ R.name) × (opening.refusals.count ≡ R.parts) }
-    requires parts { (1 < opening.tickets.count) × (1 < opening.refusals.count) }
-    requires owned { OwnParts (λ (s : SiteValue). s.line) sites.disk sites.slaves.items sites.cycle }
-    requires long { 8 + opening.core.capacity ≤ length sites.disk.seen.state.disk.bytes }
+    requires opening { OpensDesk T.opened T.name T.parts R.name R.parts opening }
+    requires sites { OwnUpTo (8 + opening.core.capacity) sites }
     ensures of_sites { IfOk result (λ ends. AreEndsOfParts sites ends) }
     ensures closes { IfOk result (λ ends. Closes T.opened (no_counts ∷ []) [] ends) }
     ensures stopped { IfErr result (StopsRedoing T.opened) }
@@ -141,8 +134,7 @@ fn redo_opened<
 ) -> Result<Ends<ShadowSite<D>>, Fault>
     requires room { (opened.room.items ≡ []) × (1 ≤ vec_capacity opened.room) }
     requires share { opened.share ≡ no_counts }
-    requires owned { OwnParts (λ (s : SiteValue). s.line) sites.disk sites.slaves.items sites.cycle }
-    requires long { opened.desk.limit ≤ length sites.disk.seen.state.disk.bytes }
+    requires sites { OwnUpTo opened.desk.limit sites }
     ensures of_sites { IfOk result (λ ends. AreEndsOfParts sites ends) }
     ensures closes { IfOk result (λ ends. Closes T.opened (no_counts ∷ []) [] ends) }
     ensures stopped { IfErr result (StopsRedoing T.opened) }

@@ -1,11 +1,9 @@
 //! Serves a line by threads.
 
-ghost use Rattle.std.specs.Prelude.{◌≡◌, ◌+◌, ◌<◌, ◌≤◌, [], false, length, vec_capacity, IfOk, OnOk};
-ghost use Rattle.site_shadow.specs.Site.{SiteValue};
-ghost use Rattle.station_threads.specs.Sites.{OwnParts};
+ghost use Rattle.std.specs.Prelude.{◌≡◌, ◌+◌, ◌≤◌, [], false, vec_capacity, IfOk, OnOk};
 ghost use Rattle.script_session.specs.Asking.{no_counts};
-ghost use Rattle.script_session.specs.AtDesk.{EndsSo, LeavesSo, ServesFollowed};
-ghost use Rattle.script_session.specs.Parts.{AreEndsOfParts, AreFollowed, IsFollowed, IsLineOf, IsServable, IsTogether};
+ghost use Rattle.script_session.specs.AtDesk.{LeavesSo, OpensDesk, ServesFollowed, ServesSites};
+ghost use Rattle.script_session.specs.Parts.{AreEndsOfParts, AreFollowed, IsFollowed, IsLineOf, IsServable, IsTogether, OwnUpTo};
 
 use crate::apart::take_apart;
 use crate::asked::Asked;
@@ -159,17 +157,10 @@ fn serve_at_desk<
     work: Work,
     output: &'o mut O,
 ) -> Result<AtDesk<ShadowSite<D>>, AllocError>
-    requires core { opening.core ≡ T.opened }
-    requires none { opening.core.accepted ≡ [] }
-    requires tickets { (opening.tickets.name ≡ T.name) × (opening.tickets.count ≡ T.parts) }
-    requires refusals { (opening.refusals.name ≡ R.name) × (opening.refusals.count ≡ R.parts) }
-    requires parts { (1 < opening.tickets.count) × (1 < opening.refusals.count) }
+    requires opening { OpensDesk T.opened T.name T.parts R.name R.parts opening }
     requires commands { work.commands.items ≡ C.commands }
-    requires owned { OwnParts (λ (s : SiteValue). s.line) sites.disk sites.slaves.items sites.cycle }
-    requires long { 8 + opening.core.capacity ≤ length sites.disk.seen.state.disk.bytes }
-    ensures of_sites { IfOk result (λ at. AreEndsOfParts sites at.ends) }
-    ensures ending { IfOk result (λ at. EndsSo T.opened C.commands at.ends at.ending) }
-    ensures unserved { IfOk result (λ at. at.ending.is_driven ≡ false → at.unserved.items ≡ C.commands) }
+    requires sites { OwnUpTo (8 + opening.core.capacity) sites }
+    ensures { IfOk result (ServesSites T.opened C.commands sites) }
 {
     match open_desk::<T, R>(alloc, opening) {
         Ok(opened) => serve_opened::<T, R, C, D, O, W>(rt, alloc, opened, sites, work, output),
@@ -201,18 +192,15 @@ fn serve_opened<
     requires room { (opened.room.items ≡ []) × (1 ≤ vec_capacity opened.room) }
     requires share { opened.share ≡ no_counts }
     requires commands { work.commands.items ≡ C.commands }
-    requires owned { OwnParts (λ (s : SiteValue). s.line) sites.disk sites.slaves.items sites.cycle }
-    requires long { opened.desk.limit ≤ length sites.disk.seen.state.disk.bytes }
-    ensures of_sites { IfOk result (λ at. AreEndsOfParts sites at.ends) }
-    ensures ending { IfOk result (λ at. EndsSo T.opened C.commands at.ends at.ending) }
-    ensures unserved { IfOk result (λ at. at.ending.is_driven ≡ false → at.unserved.items ≡ C.commands) }
+    requires sites { OwnUpTo opened.desk.limit sites }
+    ensures { IfOk result (ServesSites T.opened C.commands sites) }
 {
     let Opened { desk, share, room } = opened;
     let Work {
         commands,
         tells_events,
     } = work;
-    let submitter = Submitter::<'o, T, R, C, O> {
+    let mut submitter = Submitter::<'o, T, R, C, O> {
         alloc,
         commands,
         tells_events,
@@ -222,33 +210,6 @@ fn serve_opened<
         came: None,
         of: PhantomData,
     };
-    serve_submitter(rt, alloc, desk, submitter, room, sites)
-}
-
-/// Serves the sites at the desk while the submitter submits, and closes the desk.
-fn serve_submitter<
-    T: Tickets + Send + Sync,
-    R: Refusals + Send + Sync,
-    C: Asked,
-    D: Device + Copy + Send,
-    O: Write,
-    W: Wait + Threads + Sync,
->(
-    rt: &W,
-    alloc: Global,
-    desk: Desk<T, R>,
-    submitter: Submitter<'_, T, R, C, O>,
-    room: Vec<Share<T, R>>,
-    sites: Sites<ShadowSite<D>>,
-) -> Result<AtDesk<ShadowSite<D>>, AllocError>
-    requires room { (room.items ≡ []) × (1 ≤ vec_capacity room) }
-    requires owned { OwnParts (λ (s : SiteValue). s.line) sites.disk sites.slaves.items sites.cycle }
-    requires long { desk.limit ≤ length sites.disk.seen.state.disk.bytes }
-    ensures of_sites { IfOk result (λ at. AreEndsOfParts sites at.ends) }
-    ensures ending { IfOk result (λ at. EndsSo T.opened C.commands at.ends at.ending) }
-    ensures unserved { IfOk result (λ at. at.ending.is_driven ≡ false → at.unserved.items ≡ C.commands) }
-{
-    let mut submitter = submitter;
     match serve_sites(rt, alloc, &desk, sites, &NoHook, &mut submitter) {
         Ok(ends) => Ok(hand_in(desk, submitter, room, ends)),
         Err(sites) => {
@@ -296,11 +257,7 @@ pub(crate) fn open_desk<T: Tickets, R: Refusals>(
     alloc: Global,
     opening: Opening,
 ) -> Result<Opened<T, R>, AllocError>
-    requires core { opening.core ≡ T.opened }
-    requires none { opening.core.accepted ≡ [] }
-    requires tickets { (opening.tickets.name ≡ T.name) × (opening.tickets.count ≡ T.parts) }
-    requires refusals { (opening.refusals.name ≡ R.name) × (opening.refusals.count ≡ R.parts) }
-    requires parts { (1 < opening.tickets.count) × (1 < opening.refusals.count) }
+    requires { OpensDesk T.opened T.name T.parts R.name R.parts opening }
     ensures limit { IfOk result (λ opened. opened.desk.limit ≡ 8 + opening.core.capacity) }
     ensures share { IfOk result (λ opened. opened.share ≡ no_counts) }
     ensures room { IfOk result (λ opened. (opened.room.items ≡ []) × (1 ≤ vec_capacity opened.room)) }
@@ -333,8 +290,7 @@ pub(crate) fn serve_sites<
     hook: &NoHook,
     client: &mut K,
 ) -> Result<Ends<ShadowSite<D>>, Sites<ShadowSite<D>>>
-    requires owned { OwnParts (λ (s : SiteValue). s.line) sites.disk sites.slaves.items sites.cycle }
-    requires long { desk.now.limit ≤ length sites.disk.seen.state.disk.bytes }
+    requires { OwnUpTo desk.now.limit sites }
     ensures { IfOk result (λ ends. AreEndsOfParts sites ends) }
 {
     serve_line(rt, alloc, desk, sites, hook, client)

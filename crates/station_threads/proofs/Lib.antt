@@ -4,3 +4,4 @@ pub mod Sent
 pub mod PlaceLaws
 mod EndLaws
 mod Turns
+mod Refusing

@@ -111,20 +111,20 @@ fn judge<T: Tickets, R: Refusals, S: Site>(
     requires next { AppendsNext T.opened }
     ensures same { book.new ≡ book.old }
     ensures shares { shares.new ≡ shares.old }
-    ensures handed_in { OnOk result (IsHandedIn T.opened book.old.calls shares.old receipts.now ends.now) }
-    ensures served { OnOk result (is_served (replayed T.opened book.old.calls) ≡ true) }
+    ensures handed_in { OnOk result (IsHandedIn T.opened book.new.calls shares.old receipts.now ends.now) }
+    ensures served { OnOk result (is_served (replayed T.opened book.new.calls) ≡ true) }
     ensures contents { OnOk result (IsJustOpened T.opened
-        → AllReadAsContents T.opened (replayed T.opened book.old.calls) S.seen ends.now.workers.items) }
-    ensures left { OnOk result (AllEndSo IsLeft T.opened book.old.calls S.seen ends.now.flusher ends.now.workers.items) }
-    ensures turns { OnOk result (IfSome ends.now.cycle (λ end. AreTurnsOf T.opened book.old.calls end.log)) }
+        → AllReadAsContents T.opened (replayed T.opened book.new.calls) S.seen ends.now.workers.items) }
+    ensures left { OnOk result (AllEndSo IsLeft T.opened book.new.calls S.seen ends.now.flusher ends.now.workers.items) }
+    ensures turns { OnOk result (IfSome ends.now.cycle (λ end. AreTurnsOf T.opened book.new.calls end.log)) }
     ensures all_shares { length shares.old ≡ book.old.pool.given → CountAll (replayed T.opened book.old.calls) book.old.calls shares.old }
     ensures mismatch { IfErr result (λ fault. fault ≡ CloseFault.Mismatch
-        → ¬ (IsHandedIn T.opened book.old.calls shares.old receipts.now ends.now)) }
-    ensures unserved { IfErr result (λ fault. fault ≡ CloseFault.Unserved → is_served (replayed T.opened book.old.calls) ≡ false) }
+        → ¬ (IsHandedIn T.opened book.new.calls shares.old receipts.now ends.now)) }
+    ensures unserved { IfErr result (λ fault. fault ≡ CloseFault.Unserved → is_served (replayed T.opened book.new.calls) ≡ false) }
     ensures kept { IfErr result (λ fault. fault ≡ CloseFault.Unserved
-        → AllEndSo IsKeptAs T.opened book.old.calls S.seen ends.now.flusher ends.now.workers.items) }
+        → AllEndSo IsKeptAs T.opened book.new.calls S.seen ends.now.flusher ends.now.workers.items) }
     ensures turns_kept { IfErr result (λ fault. fault ≡ CloseFault.Unserved
-        → IfSome ends.now.cycle (λ end. AreTurnsOf T.opened book.old.calls end.log)) }
+        → IfSome ends.now.cycle (λ end. AreTurnsOf T.opened book.new.calls end.log)) }
 {
     book.audit(shares);
     if !all_match(book, shares, receipts, ends) {

@@ -1,7 +1,8 @@
-use Rattle.std.proofs.Common.{◌∙◌, ap, sym, subst, length, List, IsTrue, Result}
+use Rattle.std.proofs.Common.{◌∙◌, ap, arith, refl, sym, subst, length, List, IsTrue, Result}
 use Rattle.std.specs.Prelude.{OnOk}
 use Rattle.site_core.specs.Line.{Line}
 use Rattle.site_core.specs.State.{Seen}
+use Rattle.book_model.specs.Book.{Book}
 use Rattle.station_files.specs.declared.faults.Fault.{Fault}
 use Rattle.script_session.specs.Parts.{AreFollowed, EndsSynced, IsApart, Soundly}
 use Rattle.site_shadow.specs.Site.{SiteValue}
@@ -11,6 +12,15 @@ use Rattle.script_session.specs.Redoing.{IsCount, issues_of}
 use Rattle.script_session.proofs.RedoLaws.{redone}
 use Rattle.script_session.proofs.SoundLaws.{parts_followed}
 use Rattle.script_session.proofs.redoing.redo_by_threads.Goals as goal
+
+pub redo_at_desk-requires-clause-opening : goal.redo_at_desk-requires-clause-opening
+redo_at_desk-requires-clause-opening g c κs lives = record {
+  core = refl;
+  none = ap (λ (b : Book). b.accepted) (c.of.ensures.core ∙ c.into_parts-core.ensures.book ∙ c.requires.book);
+  tickets = (refl, refl);
+  refusals = (refl, refl);
+  parts = (omega (arith, c.of.ensures.parts.0), omega (arith, c.of.ensures.parts.1));
+}
 
 pub returns-in-Ok-sound-clause-redone : goal.returns-in-Ok-sound-clause-redone
 returns-in-Ok-sound-clause-redone g c =

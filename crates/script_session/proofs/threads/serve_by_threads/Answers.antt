@@ -1,13 +1,20 @@
-use Rattle.std.proofs.Common.{◌∙◌, ap, length, subst, sym}
+use Rattle.std.proofs.Common.{◌∙◌, ap, arith, length, refl, subst, sym}
 use Rattle.site_core.specs.Line.{Line}
 use Rattle.site_core.specs.State.{Seen}
+use Rattle.book_model.specs.Book.{Book}
 use Rattle.script_session.specs.Parts.{IsFollowed}
 use Rattle.script_session.proofs.DeskLaws.{served-at-desk, serves-parts}
 use Rattle.script_session.proofs.SoundLaws.{followed_ends, on_ok}
 use Rattle.script_session.proofs.threads.serve_by_threads.Goals as goal
 
-pub serve_at_desk-requires-clause-none : goal.serve_at_desk-requires-clause-none
-serve_at_desk-requires-clause-none g c κs lives = ap (λ b. b.accepted) (c.of-opening.ensures.core ∙ c.into_parts-core.ensures.book) ∙ c.requires
+pub serve_at_desk-requires-clause-opening : goal.serve_at_desk-requires-clause-opening
+serve_at_desk-requires-clause-opening g c κs lives = record {
+  core = refl;
+  none = ap (λ (b : Book). b.accepted) (c.of-opening.ensures.core ∙ c.into_parts-core.ensures.book) ∙ c.requires;
+  tickets = (refl, refl);
+  refusals = (refl, refl);
+  parts = (omega (arith, c.of-opening.ensures.parts.0), omega (arith, c.of-opening.ensures.parts.1));
+}
 
 pub returns-clause-left : goal.returns-clause-left
 returns-clause-left g c =
