@@ -5,6 +5,7 @@ ghost use Rattle.std.specs.Prelude.{◌≡◌};
 use book_model::SubmitRefusal;
 use sii_edit::Command;
 use std::marker::Model;
+use thiserror::Error;
 
 /// An accepted command, with its number, counted from 0 in the order of acceptance.
 #[derive(Drop)]
@@ -53,9 +54,10 @@ pub struct Unacknowledged {
 }
 
 /// Why no share was given out.
-#[derive(Drop)]
+#[derive(Clone, Copy, Debug, PartialEq, Eq, Error)]
 pub enum ShareFault {
     /// The desk has no more shares to give out.
+    #[error("no share is left")]
     NoShare,
 }
 
