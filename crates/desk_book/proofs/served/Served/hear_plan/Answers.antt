@@ -24,7 +24,7 @@ invariant_of-self-in-Ok-plan g c =
       are-counted-same s.core c.plan.new.self s.history call s.tickets.total s.refusals.total i.1 (ap (λ (b : Book). b.accepted) same) refl,
       i.2,
       are-logs-more s.history call s.disk.entries s.disk.entries s.slaves.items s.slaves.items s.cycle.items c.push_reserved.new.self.items i.3 refl (λ n inside. (inside, refl))
-          (c.push_reserved.ensures.items ∙ ap (λ (l : List CycleNote). l ++ turn ∷ []) c.reserve.ensures.items),
+          (subst (λ (l : List CycleNote). c.push_reserved.new.self.items ≡ l ++ turn ∷ []) c.reserve.ensures.items c.push_reserved.ensures.items),
       i.4,
     )
 
