@@ -18,8 +18,9 @@ use Rattle.rom_steps.specs.declared.back.Rested as was
 use Rattle.rom_steps.specs.declared.back.WordPair as pairs
 use Rattle.rom_steps.specs.Accesses.Tried.{words_read as steps_read, try_failed as steps_failed, never_idle as steps_idle}
 use Rattle.rom_steps.specs.declared.step.End.{End}
+use Rattle.rom_steps.specs.declared.step.End.TheVariants as ends
 use Rattle.rom_steps.specs.declared.step.Step.{Step}
-use Rattle.rom_steps.specs.Remaining.{opening_end, reading_end, Remains}
+use Rattle.rom_steps.specs.Remaining.{opening_end, reading_end, IssueCourse, OpenCourse, SettleCourse, Remains}
 use Rattle.esc_rom.specs.declared.fault.Stop.{Stop}
 use Rattle.esc_rom.specs.declared.poll.Rested.{Rested}
 use Rattle.esc_rom.specs.declared.poll.Rested.TheVariants.{Well, Failed}
@@ -345,3 +346,58 @@ module _ {T V : Type 0} (f : T → V) (wrap : T → End) (slave : ℕ) (course :
 
   pub driven-cut : {a b : Seen} {stop : Stop} → Drives slave first a (Err stop) b → Takes other a (Err stop) b
   driven-cut drives = cut-by f wrap course other carries drives.log drives.asked (begins drives.log (Err tt) drives.took)
+
+-- THE ACCESSES THAT A DRIVER CARRIES OUT
+
+pub issue-driven : (slave word value : ℕ) (first : Step) → ((slave : ℕ) (log : List steps.Asked) (result : Result End steps.Stop)
+    → Remains slave first log result → IssueCourse slave word value log result)
+    → {a b : Seen} {end : End} → Drives slave first a (Ok end) b → EndsBy as_issued ends.Issued (IssuesBy slave word value) end a b
+issue-driven slave word value first begins =
+    driven as_issued ends.Issued slave (access.IssuesBy slave word value) (IssuesBy slave word value) (issues-carried slave word value) first (begins slave)
+
+pub issue-driven-cut : (slave word value : ℕ) (first : Step) → ((slave : ℕ) (log : List steps.Asked) (result : Result End steps.Stop)
+    → Remains slave first log result → IssueCourse slave word value log result)
+    → {a b : Seen} {stop : Stop} → Drives slave first a (Err stop) b → Takes (IssuesBy slave word value) a (Err stop) b
+issue-driven-cut slave word value first begins =
+    driven-cut as_issued ends.Issued slave (access.IssuesBy slave word value) (IssuesBy slave word value) (issues-carried slave word value) first (begins slave)
+
+-- the outcome at that end
+pub issue-took : (slave word value : ℕ) {a b : Seen} {end : End} (issued : Issued) → EndsBy as_issued ends.Issued (IssuesBy slave word value) end a b
+    → end ≡ ends.Issued issued → Takes (IssuesBy slave word value) a (Ok issued) b
+issue-took slave word value {a} {b} issued so is =
+    let wraps : ends.Issued so.value ≡ ends.Issued issued = sym so.is ∙ is in
+    let same : so.value ≡ issued = cc in
+    subst (λ (it : Issued). Takes (IssuesBy slave word value) a (Ok it) b) same so.takes
+
+pub settle-driven : (slave : ℕ) (taken : Bool) (first : Step) → ((slave : ℕ) (log : List steps.Asked) (result : Result End steps.Stop)
+    → Remains slave first log result → SettleCourse slave taken log result)
+    → {a b : Seen} {end : End} → Drives slave first a (Ok end) b → EndsBy kept ends.Settled (SettlesBy slave taken) end a b
+settle-driven slave taken first begins =
+    driven kept ends.Settled slave (access.SettlesBy slave taken) (SettlesBy slave taken) (settles-carried slave taken) first (begins slave)
+
+pub settle-driven-cut : (slave : ℕ) (taken : Bool) (first : Step) → ((slave : ℕ) (log : List steps.Asked) (result : Result End steps.Stop)
+    → Remains slave first log result → SettleCourse slave taken log result)
+    → {a b : Seen} {stop : Stop} → Drives slave first a (Err stop) b → Takes (SettlesBy slave taken) a (Err stop) b
+settle-driven-cut slave taken first begins =
+    driven-cut kept ends.Settled slave (access.SettlesBy slave taken) (SettlesBy slave taken) (settles-carried slave taken) first (begins slave)
+
+pub settle-took : (slave : ℕ) (taken : Bool) {a b : Seen} {end : End} (settled : Settled) → EndsBy kept ends.Settled (SettlesBy slave taken) end a b
+    → end ≡ ends.Settled settled → Takes (SettlesBy slave taken) a (Ok settled) b
+settle-took slave taken {a} {b} settled so is =
+    let wraps : ends.Settled so.value ≡ ends.Settled settled = sym so.is ∙ is in
+    let same_value : so.value ≡ settled = cc in
+    subst (λ (it : Settled). Takes (SettlesBy slave taken) a (Ok it) b) same_value so.takes
+
+pub open-driven : (slave : ℕ) (first : Step) → ((slave : ℕ) (log : List steps.Asked) (result : Result End steps.Stop)
+    → Remains slave first log result → OpenCourse slave log result)
+    → {a b : Seen} {end : End} → Drives slave first a (Ok end) b → (opened : Bool) → is_open end ≡ opened → Takes (OpensBy slave) a (Ok opened) b
+open-driven slave first begins {a} {b} {end} drives opened is =
+    let so : EndsBy same opening_end (OpensBy slave) end a b =
+    driven same opening_end slave (access.OpensBy slave) (OpensBy slave) (opens-carried slave) first (begins slave) drives in
+    subst (λ (it : Bool). Takes (OpensBy slave) a (Ok it) b) (sym (open-is so.value) ∙ sym (ap is_open so.is) ∙ is) so.takes
+
+pub open-driven-cut : (slave : ℕ) (first : Step) → ((slave : ℕ) (log : List steps.Asked) (result : Result End steps.Stop)
+    → Remains slave first log result → OpenCourse slave log result)
+    → {a b : Seen} {stop : Stop} → Drives slave first a (Err stop) b → Takes (OpensBy slave) a (Err stop) b
+open-driven-cut slave first begins =
+    driven-cut same opening_end slave (access.OpensBy slave) (OpensBy slave) (opens-carried slave) first (begins slave)

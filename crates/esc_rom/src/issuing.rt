@@ -6,11 +6,9 @@ ghost use Rattle.site_core.specs.Line.{Owns};
 ghost use Rattle.site_core.specs.declared.answers.Issued.{Issued};
 ghost use Rattle.rom_steps.specs.declared.step.End.TheVariants as ends;
 ghost use Rattle.esc_rom.specs.Access.{IssuesWord};
-ghost use Rattle.esc_rom.specs.Courses.{Takes};
-ghost use Rattle.esc_rom.specs.Sent.{IssuesBy, IssueSends};
+ghost use Rattle.esc_rom.specs.Sent.{IssueSends};
 
 use crate::driving::drive;
-use crate::fault::Stop;
 use rom_steps::{End, begin_issue};
 use site_core::{DeviceFault, Issued, Site};
 
@@ -39,16 +37,6 @@ fn issued_at(end: End) -> Issued
     }
 }
 
-/// Sends the command that writes a word, once.
-fn command<S: Site>(site: &mut S, slave: u16, word: u16, value: u16) -> Result<Issued, Stop>
-    requires { Owns (S.line site.old) slave }
-    ensures frames { Takes (IssuesBy slave word value) (S.seen site.old) result (S.seen site.new) }
-    ensures line { S.line site.new ≡ S.line site.old }
-{
-    let end = drive(site, slave, begin_issue(word, value))?;
-    Ok(issued_at(end))
-}
-
 /// Sends a slave the command to write one word of its EEPROM (ETG.1000.4, slave information interface), once: one frame with one
 /// datagram, of index 0.
 ///
@@ -70,6 +58,6 @@ pub fn issue<S: Site>(
     ensures frames { IssueSends slave word value (S.seen site.old) result (S.seen site.new) }
     ensures line { S.line site.new ≡ S.line site.old }
 {
-    let issued = command(site, slave, word, value)?;
-    Ok(issued)
+    let end = drive(site, slave, begin_issue(word, value))?;
+    Ok(issued_at(end))
 }

@@ -2,14 +2,12 @@
 
 ghost use Rattle.std.specs.Prelude.{◌≡◌};
 ghost use Rattle.site_core.specs.Line.{Owns};
-ghost use Rattle.esc_rom.specs.Runs.{Performs};
-ghost use Rattle.esc_rom.specs.Access.{OpensSlave, BecomesOpen};
-ghost use Rattle.esc_rom.specs.Courses.{Takes};
-ghost use Rattle.esc_rom.specs.Sent.{OpensBy, OpeningSends};
+ghost use Rattle.esc_rom.specs.Access.{OpensSlave};
+ghost use Rattle.esc_rom.specs.Sent.{OpeningSends};
 ghost use Rattle.esc_rom.specs.Driving.{is_open};
 
 use crate::driving::drive;
-use crate::fault::{RomFault, Stop};
+use crate::fault::RomFault;
 use rom_steps::{End, begin_opening};
 use site_core::Site;
 
@@ -21,17 +19,6 @@ fn is_open(end: End) -> bool
         End::Opened => true,
         _ => false,
     }
-}
-
-/// Takes the EEPROM from the PDI, waits until the slave is idle, and clears its errors. Returns whether all that succeeded.
-fn take_over<S: Site>(site: &mut S, slave: u16) -> Result<bool, Stop>
-    requires { Owns (S.line site.old) slave }
-    ensures runs { Performs (BecomesOpen (S.seen site.old) slave (S.seen site.new)) (S.seen site.old) slave 10009 result (S.seen site.new) }
-    ensures frames { Takes (OpensBy slave) (S.seen site.old) result (S.seen site.new) }
-    ensures line { S.line site.new ≡ S.line site.old }
-{
-    let end = drive(site, slave, begin_opening())?;
-    Ok(is_open(end))
 }
 
 /// Opens the EEPROM of a slave for word access (ETG.1000.4, slave information interface): takes it from the PDI, waits until the slave
@@ -48,7 +35,8 @@ pub fn open_slave<S: Site>(site: &mut S, slave: u16) -> Result<(), RomFault>
     ensures frames { OpeningSends slave (S.seen site.old) result (S.seen site.new) }
     ensures line { S.line site.new ≡ S.line site.old }
 {
-    if take_over(site, slave)? {
+    let end = drive(site, slave, begin_opening())?;
+    if is_open(end) {
         return Ok(());
     }
     Err(RomFault::SlaveDead { slave })

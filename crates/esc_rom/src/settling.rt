@@ -4,13 +4,10 @@ ghost use Rattle.std.specs.Prelude.{◌≡◌};
 ghost use Rattle.site_core.specs.Line.{Owns};
 ghost use Rattle.site_core.specs.declared.answers.Settled.{Settled};
 ghost use Rattle.rom_steps.specs.declared.step.End.TheVariants as ends;
-ghost use Rattle.esc_rom.specs.Runs.{Performs};
-ghost use Rattle.esc_rom.specs.Access.{SettlesSlave, BecomesSettled};
-ghost use Rattle.esc_rom.specs.Courses.{Takes};
-ghost use Rattle.esc_rom.specs.Sent.{SettlesBy, SettleSends};
+ghost use Rattle.esc_rom.specs.Access.{SettlesSlave};
+ghost use Rattle.esc_rom.specs.Sent.{SettleSends};
 
 use crate::driving::drive;
-use crate::fault::Stop;
 use rom_steps::{End, begin_settling};
 use site_core::{DeviceFault, Settled, Site};
 
@@ -23,17 +20,6 @@ fn settled_at(end: End) -> Settled
         End::Settled(settled) => settled,
         _ => unreachable!(),
     }
-}
-
-/// Polls a slave until it is idle. If the word isn't known to be written, clears the slave's errors.
-fn rest<S: Site>(site: &mut S, slave: u16, taken: bool) -> Result<Settled, Stop>
-    requires { Owns (S.line site.old) slave }
-    ensures runs { Performs (BecomesSettled (S.seen site.old) slave taken (S.seen site.new)) (S.seen site.old) slave 10001 result (S.seen site.new) }
-    ensures frames { Takes (SettlesBy slave taken) (S.seen site.old) result (S.seen site.new) }
-    ensures line { S.line site.new ≡ S.line site.old }
-{
-    let end = drive(site, slave, begin_settling(taken))?;
-    Ok(settled_at(end))
 }
 
 /// Waits until a slave to which a word was issued is idle, and returns whether the word is written (ETG.1000.4, slave information
@@ -54,6 +40,6 @@ pub fn settle<S: Site>(site: &mut S, slave: u16, taken: bool) -> Result<Settled,
     ensures frames { SettleSends slave taken (S.seen site.old) result (S.seen site.new) }
     ensures line { S.line site.new ≡ S.line site.old }
 {
-    let settled = rest(site, slave, taken)?;
-    Ok(settled)
+    let end = drive(site, slave, begin_settling(taken))?;
+    Ok(settled_at(end))
 }

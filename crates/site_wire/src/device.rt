@@ -385,15 +385,25 @@ impl<'f, L: Reach, F: RandomAccessFile, C: Clock> WireDevice<'f, L, F, C> {
                 }
             }
             Next::Again => self.try_again(slave, half, write, answer),
-            Next::ReadsBack => {
-                let found = self.read_back(slave, half, write);
-                if is_value(found, write.value) {
-                    self.resting = Resting::Well;
-                } else {
-                    self.try_again(slave, half, write, answer);
-                }
-            }
+            Next::ReadsBack => self.confirm(slave, half, write, answer),
         }
+    }
+
+    /// Reads the word in flight back: the half rests with it, or the slave is told again.
+    fn confirm(&mut self, slave: u16, half: &RomHalf, write: WordWrite, answer: Answer)
+        requires slave { slave < 64 }
+        requires flying { in_flight half.now.activity ≡ Some write }
+        requires inside { write.word < length half.now.words }
+        requires stays { self.old.resting ≡ resting.Stays }
+        ensures up { FollowsUp slave half.now write self.old.sender.moment self.new.sender.moment self.new.resting }
+        ensures journal { self.new.journal ≡ self.old.journal }
+    {
+        let found = self.read_back(slave, half, write);
+        if is_value(found, write.value) {
+            self.resting = Resting::Well;
+            return;
+        }
+        self.try_again(slave, half, write, answer);
     }
 
     /// Reads the word in flight back.

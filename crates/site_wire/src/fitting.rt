@@ -4,6 +4,7 @@ ghost use Rattle.ecat_frame.specs.Frame.{pdu};
 ghost use Rattle.site_wire.specs.Due.{WritesControl, IsFit, NamesInside, is_command};
 ghost use Rattle.wire_frames.specs.Sending.{IsForEeprom};
 ghost use Rattle.site_wire.specs.Known.{IsKnown};
+ghost use Rattle.esc_model.specs.Bytes.{double_word_at};
 ghost use Rattle.esc_model.specs.SlaveHalf.{is_busy};
 
 use ecat_frame::{Datagram, Frame};
@@ -95,14 +96,21 @@ pub(crate) fn is_fit(half: &RomHalf, datagram: Datagram<'_>) -> bool
 fn is_named(half: &RomHalf, content: &[u8]) -> bool
     ensures { IsTrue result ↔ NamesInside half.now content.now }
 {
-    match content {
-        [_, command, ..] if command % 8 == 0 => true,
-        [_, command, a, b, c, d, ..] if command % 8 == 1 => {
-            (u32::from_le_bytes([*a, *b, *c, *d]) as usize) + 1 < half.words().len()
-        }
-        [_, command, a, b, c, d, _, _, ..] if command % 8 == 2 => {
-            (u32::from_le_bytes([*a, *b, *c, *d]) as usize) < half.words().len()
-        }
+    if content.len() < 2 {
+        return false;
+    }
+    match content[1] % 8 {
+        0 => true,
+        1 => content.len() >= 6 && word_in(content) + 1 < half.words().len(),
+        2 => content.len() >= 8 && word_in(content) < half.words().len(),
         _ => false,
     }
+}
+
+/// The number of the word in the bytes of a command, from control and status on.
+fn word_in(content: &[u8]) -> usize
+    requires { 6 ≤ length content.now }
+    ensures { result ≡ double_word_at content.now 2 }
+{
+    u32::from_le_bytes([content[2], content[3], content[4], content[5]]) as usize
 }

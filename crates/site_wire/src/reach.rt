@@ -1,7 +1,7 @@
 //! How a device reaches the slaves of a wire.
 ghost use Rattle.std.specs.List.{All};
 ghost use Rattle.site_wire.specs.Due.{IsDue};
-ghost use Rattle.std.specs.Prelude.{◌<◌};
+ghost use Rattle.std.specs.Prelude.{◌<◌, IsTrue};
 ghost use Rattle.ecat_frame.specs.Frame.{pdu};
 ghost use Rattle.wire_frames.specs.Sending.{IsForEeprom, OnlyEeprom};
 
@@ -200,6 +200,25 @@ impl<'a, R: Wait, W> Clone for SharedLine<'a, R, W> {
 }
 
 impl<'a, R: Wait, W: Wire> SharedLine<'a, R, W> {
+    /// Puts down the datagram of this slave, if a line may have it. Returns whether it stands there now.
+    fn puts(&self, slave: usize, asked: Datagram<'_>) -> bool
+        requires { IsForEeprom (pdu asked) }
+        ensures { IsTrue result → slave < 64 }
+    {
+        if slave >= 64 {
+            return false;
+        }
+        self.board.lock(self.rt).put(slave, asked)
+    }
+
+    /// Sends a frame for the slave of this half with no other's datagram in it.
+    fn pass_alone(&self, half: &RomHalf, frame: &Frame) -> Option<Answer>
+        requires due { IsDue half.now frame.now }
+        requires eeprom { All IsForEeprom frame.now }
+    {
+        self.lock.lock(self.rt).pass(half, frame)
+    }
+
     /// The answer to the datagram of this slave, which was put down: it comes with another one's frame, or a frame of all that waits is sent.
     fn join(&self, slave: usize, about: (u16, Last)) -> Option<Answer>
         requires { slave < 64 }
@@ -233,10 +252,10 @@ impl<'a, R: Wait, W: Wire> Reach for SharedLine<'a, R, W> {
         let asked = only_datagram(frame)?;
         let about = unanswered(asked);
         let slave = usize::from(about.0);
-        if slave < 64 && self.board.lock(self.rt).put(slave, asked) {
+        if self.puts(slave, asked) {
             return self.join(slave, about);
         }
-        self.lock.lock(self.rt).pass(half, frame)
+        self.pass_alone(half, frame)
     }
 
     fn reason(&self) -> Option<StopReason> {

@@ -2,19 +2,15 @@ use book_model::CoreFault;
 use esc_rom::RomFault;
 use site_journal::ReadFault;
 use std::alloc::AllocError;
-use thiserror::Error;
 
 /// Why a station can't be opened.
-#[derive(Clone, Copy, Debug, PartialEq, Eq, Error)]
+#[derive(Clone, Copy, PartialEq, Eq)]
 pub enum OpenFault {
     /// The disk can't be read, or it holds no journal of this line.
-    #[error("{0}")]
     Journal(ReadFault),
     /// A slave can't be opened or read.
-    #[error("{0}")]
     Slave(RomFault),
     /// Out of memory.
-    #[error("out of memory")]
     Memory,
 }
 
