@@ -6,15 +6,19 @@ ghost use Rattle.site_core.specs.declared.fault.DeviceFault.TheVariants as devic
 
 use site_core::DeviceFault;
 use std::alloc::{AllocError, AllocFailed};
+use thiserror::Error;
 
 /// Why a slave's EEPROM (ETG.1000.4, slave information interface) could not be opened or read.
-#[derive(Clone, Copy, PartialEq, Eq)]
+#[derive(Clone, Copy, Debug, PartialEq, Eq, Error)]
 pub enum RomFault {
     /// Memory was refused.
+    #[error("out of memory")]
     Memory,
     /// The slave with this number doesn't take what is sent to it, doesn't become idle, or doesn't give its words.
+    #[error("slave {slave} is dead")]
     SlaveDead { slave: u16 },
     /// The site has stopped, as at a power cut.
+    #[error("the site has stopped")]
     Stopped,
 }
 

@@ -5,13 +5,16 @@ ghost use Rattle.std.specs.Prelude.{◌≡◌};
 use jrn_format::JournalFault;
 use site_core::DeviceFault;
 use std::alloc::AllocError;
+use thiserror::Error;
 
 /// Why a journal can't be read from a disk.
-#[derive(Clone, Copy, PartialEq, Eq)]
+#[derive(Clone, Copy, Debug, PartialEq, Eq, Error)]
 pub enum ReadFault {
     /// The disk failed, or the site has stopped.
+    #[error("{0}")]
     Device(DeviceFault),
     /// The disk holds no journal of this line, or memory was refused.
+    #[error("{0}")]
     Journal(JournalFault),
 }
 

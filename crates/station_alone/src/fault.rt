@@ -2,15 +2,19 @@ use book_model::CoreFault;
 use esc_rom::RomFault;
 use site_journal::ReadFault;
 use std::alloc::AllocError;
+use thiserror::Error;
 
 /// Why a station can't be opened.
-#[derive(Clone, Copy, PartialEq, Eq)]
+#[derive(Clone, Copy, Debug, PartialEq, Eq, Error)]
 pub enum OpenFault {
     /// The disk can't be read, or it holds no journal of this line.
+    #[error("{0}")]
     Journal(ReadFault),
     /// A slave can't be opened or read.
+    #[error("{0}")]
     Slave(RomFault),
     /// Out of memory.
+    #[error("out of memory")]
     Memory,
 }
 
