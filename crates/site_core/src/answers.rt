@@ -1,5 +1,5 @@
 /// The outcome of issuing a word: sending a slave the command that writes one word of its EEPROM.
-#[derive(Clone, Copy, PartialEq, Eq)]
+#[derive(Clone, Copy, Debug, PartialEq, Eq)]
 pub enum Issued {
     /// The slave took the command: the datagram came back with a working counter of 1.
     Taken,
@@ -10,7 +10,7 @@ pub enum Issued {
 }
 
 /// The outcome of waiting for a word that was issued.
-#[derive(Clone, Copy, PartialEq, Eq)]
+#[derive(Clone, Copy, Debug, PartialEq, Eq)]
 pub enum Settled {
     /// The word holds the value that was issued.
     Written,
