@@ -30,7 +30,7 @@ use Rattle.station_files.specs.declared.faults.ExitStatus.TheVariants.{Done}
 use Rattle.station_session.specs.Judging.{HasJournal, IsRunApart}
 use Rattle.station_session.specs.Site.{IsSiteOf, files_of, HoldsSite}
 use Rattle.script_session.specs.Rounds.{ServesSo}
-use Rattle.station_session.specs.Session.{is_old, BeginsCapture, EndsCaptured, EndsRecovery, EndsRun, EndsStation, IsOpened, Loads, RecoversFiles, RunsFiles, SavesRecovered, SavesRun, SavesServed, StartsFrom}
+use Rattle.station_session.specs.Session.{is_old, BeginsCapture, EndsCaptured, EndsRecovery, EndsRun, EndsStation, IsFresh, IsOpened, Loads, RecoversFiles, RunsFiles, SavesRecovered, SavesRun, SavesServed, StartsFrom}
 
 -- ---- what was read
 
@@ -47,6 +47,10 @@ loads files first second name line plant bytes site described same slaves still 
   made = made;
   count = ap length made.sizes ∙ length-map plant length ∙ count;
 }
+
+pub is_fresh : (files : Known) (name : List ℕ) (line : LineFile) (site : SiteValue) → Loads files name line site → IsFresh line site
+is_fresh files name line site loaded =
+    record { has_disk = loaded.made.has_disk; owned = loaded.made.owned; new = ap (λ (seen : Seen). seen.past) loaded.made.seen; count = loaded.count }
 
 -- ---- the same line
 
@@ -87,14 +91,14 @@ ends-station old new line commands opened left served saved state status one oth
 }
 
 -- the station was served without a fault
-pub ends-alone : (old new : Known) (line : LineFile) (commands : List Command) (opened left : Station) (served saved : Result (Unit {0}) Fault) (state : State) (status other final : ExitStatus) → served ≡ Ok tt → ServesSo commands served Done status opened left
-    → state ≡ left.seen.state → OnOk saved (HoldsSite new line state) → ChangesAmong old new (files_of line) → OnErr saved (¬ IsFaultless other) → (final ≡ Done → (status ≡ Done) × (other ≡ Done)) → (IsFaultless final → IsFaultless status × IsFaultless other)
+pub ends-alone : (old new : Known) (line : LineFile) (commands : List Command) (opened left : Station) (served : Result (Unit {0}) Fault) (status saved final : ExitStatus) → served ≡ Ok tt → ServesSo commands served Done status opened left
+    → (IsFaultless saved → HoldsSite new line left.seen.state) → ChangesAmong old new (files_of line) → (final ≡ Done → (status ≡ Done) × (saved ≡ Done)) → (IsFaultless final → IsFaultless status × IsFaultless saved)
     → EndsStation true old new line opened commands final
-ends-alone old new line commands opened left served saved state status other final told so is held others no_other done_too faultless_too = record {
+ends-alone old new line commands opened left served status saved final told so held others done_too faultless_too = record {
   others = others;
   saved = λ good.
       let served_so = subst (λ (r : Result (Unit {0}) Fault). ServesSo commands r Done status opened left) told so in
-      saves-by new line commands opened left (Ok tt) saved state status Done other final served_so is held tt no_other tt (faultless_too good).1 (λ done. (done_too done).0);
+      saves-by new line commands opened left (Ok tt) (Ok tt) left.seen.state status Done saved final served_so refl (held (faultless_too good).1) tt tt tt (faultless_too good).1 (λ done. (done_too done).0);
 }
 
 pub ends-opened : (is_cut : Bool) (old new : Known) (line : LineFile) (site : SiteValue) (was_old : Bool) (opened : Station) (commands : List Command) (status : ExitStatus) → was_old ≡ is_old site.seen.state.disk.bytes → StartsFrom was_old site opened

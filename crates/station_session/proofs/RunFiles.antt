@@ -246,6 +246,10 @@ pub behind_told : (Stage : Seen → Seen → Type 0) (sound : Result (Unit {0}) 
 behind_told Stage (Ok done) left one final worse goes = goes
 behind_told Stage (Err fault) left one final worse goes = worse goes
 
+-- the parts ended soundly, and this is what went behind the desk
+pub behind_goes : (Stage : Seen → Seen → Type 0) (sound : Result (Unit {0}) Fault) (left : Seen) (status : ExitStatus) → sound ≡ Ok tt → (last : Seen) × Stage left last → GoesBehind Stage sound left status
+behind_goes Stage sound left status is goes = subst (λ (r : Result (Unit {0}) Fault). GoesBehind Stage r left status) (sym is) goes
+
 desk_told : (F : Type 0) (station : Station) (commands : List Command) (one final : ExitStatus) → (¬ IsFaultless one → ¬ IsFaultless final) → DeskGoes (KeepsOn F) (KeepsAtDesk F) station commands one
     → DeskGoes (KeepsOn F) (KeepsAtDesk F) station commands final
 desk_told F station commands one final worse (unserved bad) = unserved (worse bad)

@@ -93,11 +93,14 @@ pub saves_behind : (files : Known) (line : LineFile) (before : Seen) (r : Statio
     → (IsFaultless status → HoldsBehind is_driven files line r commands status) → IsFaultless status → SavesBehind files line before is_driven commands status
 saves_behind files line before r is_driven commands status recovered begins holds good = record { r = r; recovered = recovered; begins = begins; holds = holds good }
 
+-- the line of a station is saved
+pub saves-station : (files : Known) (line : LineFile) (s : Station) (saved : Result (Unit {0}) Fault) (state : State) (status : ExitStatus) → state ≡ s.seen.state → OnOk saved (HoldsSite files line state)
+    → OnErr saved (¬ IsFaultless status) → IsFaultless status → HoldsSite files line s.seen.state
+saves-station files line s saved state status is held bad good = subst (λ (x : State). HoldsSite files line x) is (saved-still files line saved state status held bad good)
+
 -- what was recovered is saved
-pub holds-driven : (is_driven : Bool) (files : Known) (line : LineFile) (r : Station) (commands : List Command) (saved : Result (Unit {0}) Fault) (state : State) (status : ExitStatus) → is_driven ≡ true → state ≡ r.seen.state → OnOk saved (HoldsSite files line state)
-    → OnErr saved (¬ IsFaultless status) → IsFaultless status → HoldsBehind is_driven files line r commands status
-holds-driven is_driven files line r commands saved state status driven is held bad good =
-    subst (λ (b : Bool). HoldsBehind b files line r commands status) (sym driven) (subst (λ (s : State). HoldsSite files line s) is (saved-still files line saved state status held bad good))
+pub holds-driven : (is_driven : Bool) (files : Known) (line : LineFile) (r : Station) (commands : List Command) (status : ExitStatus) → is_driven ≡ true → HoldsSite files line r.seen.state → HoldsBehind is_driven files line r commands status
+holds-driven is_driven files line r commands status driven holds = subst (λ (b : Bool). HoldsBehind b files line r commands status) (sym driven) holds
 
 pub holds-undriven : (is_driven : Bool) (files : Known) (line : LineFile) (r : Station) (commands : List Command) (status : ExitStatus) → is_driven ≡ false → SavesServed files line r commands status → HoldsBehind is_driven files line r commands status
 holds-undriven is_driven files line r commands status undriven saves = subst (λ (b : Bool). HoldsBehind b files line r commands status) (sym undriven) saves

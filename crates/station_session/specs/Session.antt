@@ -1,10 +1,11 @@
 -- `run` and `recover`: what is read from the files of a line, how the station starts, and what the files hold in the end.
-use Rattle.std.specs.Prelude.{◌≡◌, Ok, ◌==◌, ◌&&◌, Bool, true, false, not, nat_le, List, Option, None, Some, length, slice_index, string_bytes, ℕ, ⊤}
+use Rattle.std.specs.Prelude.{◌≡◌, Ok, ◌==◌, ◌&&◌, Bool, true, false, not, nat_le, List, [], Option, None, Some, length, slice_index, string_bytes, ℕ, IsTrue, ⊤}
 use Rattle.sii_edit.specs.declared.command.Command.{Command}
 use Rattle.site_core.specs.Line.{Line}
 use Rattle.site_core.specs.State.{Seen}
 use Rattle.site_shadow.specs.Site.{SiteValue}
 use Rattle.site_file.specs.Calls.{Asked}
+use Rattle.esc_rom.specs.Owned.{OwnsAll}
 use Rattle.kept_files.specs.KeptFiles.{BecomeOnly, HasContents, KeepsFiles}
 use Rattle.site_journal.specs.declared.fault.ReadFault.TheVariants as read
 use Rattle.station_alone.specs.declared.fault.OpenFault.{OpenFault}
@@ -41,6 +42,13 @@ pub record Loads (files : Known) (name : List ℕ) (line : LineFile) (site : Sit
   pub bytes : List ℕ
   pub given : IsLine files name line plant bytes
   pub made : IsSiteOf plant bytes site
+  pub count : length site.line.sizes ≡ length line.images.items
+
+-- A line that was read and just switched on: no call was seen yet, and it has a slave for each image of the line file.
+pub record IsFresh (line : LineFile) (site : SiteValue) : Type 0 where
+  pub has_disk : IsTrue site.line.has_disk
+  pub owned : OwnsAll site.line
+  pub new : site.seen.past ≡ []
   pub count : length site.line.sizes ≡ length line.images.items
 
 -- the journal was read, and its content was refused

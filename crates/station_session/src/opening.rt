@@ -1,5 +1,5 @@
 //! Opens the files of a line, for work on them in place.
-ghost use Rattle.std.specs.Prelude.{◌≡◌, map, string_bytes, IfErr};
+ghost use Rattle.std.specs.Prelude.{map, string_bytes, IfErr};
 ghost use Rattle.station_files.specs.Faults.{IsOfStream};
 ghost use Rattle.station_files.specs.Files.{ChangesAmong};
 ghost use Rattle.station_session.specs.Site.{files_of};

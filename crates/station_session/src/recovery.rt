@@ -1,13 +1,7 @@
 //! The subcommand `recover`.
-ghost use Rattle.std.specs.Prelude.{◌≡◌, [], length, IfErr, IfOk, IsTrue, OnErr};
-ghost use Rattle.esc_rom.specs.Owned.{OwnsAll};
-ghost use Rattle.site_core.specs.State.{Seen};
-ghost use Rattle.station_alone.specs.Station.{Station};
-ghost use Rattle.station_files.specs.Files.{ChangesAmong};
-ghost use Rattle.station_alone.specs.Recovery.{BeginsRecovered, HasRecovered};
-ghost use Rattle.station_session.specs.Site.{files_of, HoldsSite};
+ghost use Rattle.std.specs.Prelude.{◌≡◌, IfErr, IfOk, OnErr};
 ghost use Rattle.station_session.specs.Refusals.{RefusesRecovery};
-ghost use Rattle.station_session.specs.Session.{RecoversFiles, EndsRecovery};
+ghost use Rattle.station_session.specs.Session.{EndsRecovery, IsFresh, RecoversFiles};
 
 use crate::faults::{of_journal, of_open};
 use crate::on_files::{WatchedSite, save_sound, take_apart};
@@ -66,10 +60,7 @@ fn recover_session<S: Store, W: Write, E: Write, T: Write, R: Wait + Clock + All
     store: &mut S,
     streams: Streams<'_, W, E>,
 ) -> ExitStatus
-    requires disk { IsTrue session.site.line.has_disk }
-    requires owned { OwnsAll session.site.line }
-    requires new { session.site.seen.past ≡ [] }
-    requires slaves { length session.site.line.sizes ≡ length session.line.images.items }
+    requires fresh { IsFresh session.line session.site }
     ensures { EndsRecovery (S.files store.old) (S.files store.new) session.line session.site.seen result }
 {
     let Watch { rt, progress } = watch;
@@ -112,10 +103,7 @@ fn recover_site<S: Store, W: Write, E: Write, T: Write, R: Clock>(
     output: &mut W,
     faults: &mut E,
 ) -> ExitStatus
-    requires disk { IsTrue site.line.has_disk }
-    requires owned { OwnsAll site.line }
-    requires new { site.seen.past ≡ [] }
-    requires slaves { length site.line.sizes ≡ length line.now.images.items }
+    requires { IsFresh line.now site }
     ensures { EndsRecovery (S.files store.old) (S.files store.new) line.now site.entry.seen result }
 {
     match recover(alloc, site) {

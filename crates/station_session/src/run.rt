@@ -1,5 +1,5 @@
 //! The subcommand `run`.
-ghost use Rattle.std.specs.Prelude.{◌≡◌, [], length, is_some, option_map, false, true, IfErr, IfOk, IsTrue, MatchResult, OnErr, OnOk};
+ghost use Rattle.std.specs.Prelude.{◌≡◌, length, is_some, option_map, false, true, IfErr, IfOk, IsTrue, MatchResult, OnErr, OnOk};
 ghost use Rattle.station_files.specs.Faults.{IsFaultless};
 ghost use Rattle.esc_rom.specs.Owned.{OwnsAll};
 ghost use Rattle.station_files.specs.ScriptFiles.{SpellsCommands};
@@ -7,7 +7,7 @@ ghost use Rattle.station_files.specs.FileNames.{spelt};
 ghost use Rattle.station_session.specs.Judging.{AreRunApart, HasJournal, IsRunApart};
 ghost use Rattle.station_session.specs.Refusals.{RefusesCommandFiles, RefusesRun};
 ghost use Rattle.station_session.specs.RunFiles.{GoesKept, KeepsRunFiles, RunKeepsFiles, RunsFollowed};
-ghost use Rattle.station_session.specs.Session.{is_old, EndsCaptured, EndsRun, EndsStation, IsOpened, Loads, RunsFiles, StartsFrom};
+ghost use Rattle.station_session.specs.Session.{is_old, EndsCaptured, EndsRun, EndsStation, IsFresh, IsOpened, Loads, RunsFiles, StartsFrom};
 
 use crate::capture::{begin_capture, end_capture};
 use crate::faults::{of_journal, of_open};
@@ -20,7 +20,7 @@ use crate::watch::Watch;
 use line_watch::{Capture, Captured, Cleared, Watched};
 use script_session::serve_commands;
 use sii_edit::Command;
-use site_file::FileDevice;
+use site_file::{FileDevice, OpenFiles};
 use site_mem::{FaultPlan, Pattern};
 use site_shadow::{Device, ShadowSite};
 use station_alone::{Alone, OpenFault, recover};
@@ -148,66 +148,36 @@ fn run_captured<
     store: &mut S,
     streams: Streams<'_, W, E>,
 ) -> Ran
-    requires disk { IsTrue given.session.site.line.has_disk }
-    requires owned { OwnsAll given.session.site.line }
-    requires new { given.session.site.seen.past ≡ [] }
-    requires slaves { length given.session.site.line.sizes ≡ length given.session.line.images.items }
+    requires fresh { IsFresh given.session.line given.session.site }
     requires old { given.session.is_old ≡ is_old given.session.site.seen.state.disk.bytes }
     ensures ends { EndsCaptured (is_some fuse) (option_map (λ given. given.now) capture.entry) (S.files store.old) (S.files store.new)
         given.session.line given.session.site given.commands.items result.status }
     ensures begun { IsFaultless result.status → IsTrue result.is_begun }
     ensures kept { is_some fuse ≡ false → IsTrue result.is_begun → RunKeepsFiles S.File given.session.site.seen given.commands.items result.status }
 {
-    match begin_capture(capture, store) {
-        Ok(begun) => run_begun(watch, given, fuse, begun, store, streams),
+    let Streams { output, faults } = streams;
+    let begun = match begin_capture(capture, store) {
+        Ok(begun) => begun,
         Err(fault) => {
             drop(given);
-            Ran {
+            return Ran {
                 is_begun: false,
-                status: report_fault(fault, streams.faults),
-            }
+                status: report_fault(fault, faults),
+            };
         }
-    }
-}
-
-/// Serves the commands, and ends the capture, if there is one.
-fn run_begun<
-    S: Store,
-    W: Write,
-    E: Write,
-    T: Write + Send,
-    R: Wait + Threads + Clock + AllocGlobal + Sync,
->(
-    watch: Watch<'_, T, R>,
-    given: Given<S::Lock>,
-    fuse: Option<Fuse>,
-    capture: Option<Capture<S::File>>,
-    store: &mut S,
-    streams: Streams<'_, W, E>,
-) -> Ran
-    requires disk { IsTrue given.session.site.line.has_disk }
-    requires owned { OwnsAll given.session.site.line }
-    requires new { given.session.site.seen.past ≡ [] }
-    requires slaves { length given.session.site.line.sizes ≡ length given.session.line.images.items }
-    requires old { given.session.is_old ≡ is_old given.session.site.seen.state.disk.bytes }
-    ensures ends { EndsRun (is_some fuse) (S.files store.old) (S.files store.new) given.session.line given.session.site given.commands.items
-        result.status }
-    ensures begun { IsFaultless result.status → IsTrue result.is_begun }
-    ensures kept { is_some fuse ≡ false → IsTrue result.is_begun → RunKeepsFiles S.File given.session.site.seen given.commands.items result.status }
-{
-    let Streams { output, faults } = streams;
+    };
     let lent = Streams {
         output,
         faults: &mut *faults,
     };
-    let ran = run_given(watch, given, fuse, capture.as_ref(), store, lent);
+    let ran = run_given(watch, given, fuse, begun.as_ref(), store, lent);
     Ran {
         is_begun: ran.is_begun,
-        status: end_capture(capture, ran.status, faults),
+        status: end_capture(begun, ran.status, faults),
     }
 }
 
-/// Serves the commands on the line's files, or with a fuse in memory.
+/// Serves the commands, with a fuse in memory, and else on the line's files, which it opens.
 fn run_given<
     S: Store,
     W: Write,
@@ -222,10 +192,7 @@ fn run_given<
     store: &mut S,
     streams: Streams<'_, W, E>,
 ) -> Ran
-    requires disk { IsTrue given.session.site.line.has_disk }
-    requires owned { OwnsAll given.session.site.line }
-    requires new { given.session.site.seen.past ≡ [] }
-    requires slaves { length given.session.site.line.sizes ≡ length given.session.line.images.items }
+    requires fresh { IsFresh given.session.line given.session.site }
     requires old { given.session.is_old ≡ is_old given.session.site.seen.state.disk.bytes }
     ensures ends { EndsRun (is_some fuse) (S.files store.old) (S.files store.new) given.session.line given.session.site given.commands.items
         result.status }
@@ -237,7 +204,22 @@ fn run_given<
             is_begun: true,
             status: run_fused(watch.rt, given, fuse, capture, store, streams),
         },
-        None => run_on_files(watch, given, capture, store, streams),
+        None => match open_files(watch.rt.alloc(), &given.session.line, store) {
+            Ok(files) => {
+                let status = run_opened(watch, given, &files, capture, store, streams);
+                Ran {
+                    is_begun: true,
+                    status,
+                }
+            }
+            Err(fault) => {
+                drop(given);
+                Ran {
+                    is_begun: false,
+                    status: report_fault(fault, streams.faults),
+                }
+            }
+        },
     }
 }
 
@@ -250,9 +232,7 @@ fn run_fused<S: Store, W: Write, E: Write, R: Wait + Clock + AllocGlobal>(
     store: &mut S,
     streams: Streams<'_, W, E>,
 ) -> ExitStatus
-    requires disk { IsTrue given.session.site.line.has_disk }
-    requires owned { OwnsAll given.session.site.line }
-    requires slaves { length given.session.site.line.sizes ≡ length given.session.line.images.items }
+    requires fresh { IsFresh given.session.line given.session.site }
     requires old { given.session.is_old ≡ is_old given.session.site.seen.state.disk.bytes }
     ensures { EndsRun true (S.files store.old) (S.files store.new) given.session.line given.session.site given.commands.items result }
 {
@@ -277,9 +257,8 @@ fn run_fused<S: Store, W: Write, E: Write, R: Wait + Clock + AllocGlobal>(
     }
 }
 
-/// Opens the files of a line that was read, and serves the commands on them by threads. The line of the progress gives way to what is
-/// printed.
-fn run_on_files<
+/// Serves the commands by threads on the open files of the line. The line of the progress gives way to what is printed.
+fn run_opened<
     'a,
     S: Store,
     W: Write,
@@ -289,18 +268,15 @@ fn run_on_files<
 >(
     watch: Watch<'a, T, R>,
     given: Given<S::Lock>,
+    files: &'a OpenFiles<S::File>,
     capture: Option<&'a Capture<S::File>>,
     store: &mut S,
     streams: Streams<'_, W, E>,
-) -> Ran
-    requires disk { IsTrue given.session.site.line.has_disk }
-    requires owned { OwnsAll given.session.site.line }
-    requires new { given.session.site.seen.past ≡ [] }
-    requires slaves { length given.session.site.line.sizes ≡ length given.session.line.images.items }
+) -> ExitStatus
+    requires fresh { IsFresh given.session.line given.session.site }
     requires old { given.session.is_old ≡ is_old given.session.site.seen.state.disk.bytes }
-    ensures ends { EndsRun false (S.files store.old) (S.files store.new) given.session.line given.session.site given.commands.items result.status }
-    ensures begun { IsFaultless result.status → IsTrue result.is_begun }
-    ensures kept { IsTrue result.is_begun → RunKeepsFiles S.File given.session.site.seen given.commands.items result.status }
+    ensures ends { EndsRun false (S.files store.old) (S.files store.new) given.session.line given.session.site given.commands.items result }
+    ensures kept { RunKeepsFiles S.File given.session.site.seen given.commands.items result }
 {
     let Watch { rt, progress } = watch;
     let Streams { output, faults } = streams;
@@ -312,39 +288,23 @@ fn run_on_files<
         refusal: _,
         lock: _lock,
     } = session;
-    match open_files(rt.alloc(), &line, store) {
-        Ok(files) => {
-            watch.expect(commands.len());
-            let device = Watched::new(FileDevice::new(&files), progress, rt);
-            let site = site.with_device(Captured::new(device, capture, rt));
-            let ready = Ready {
-                site,
-                is_old,
-                commands,
-            };
-            let status = run_site(
-                rt,
-                &line,
-                ready,
-                store,
-                &mut Cleared::new(output, progress, rt),
-                &mut Cleared::new(faults, progress, rt),
-            );
-            watch.erase();
-            Ran {
-                is_begun: true,
-                status,
-            }
-        }
-        Err(fault) => {
-            drop(site);
-            drop(commands);
-            Ran {
-                is_begun: false,
-                status: report_fault(fault, faults),
-            }
-        }
-    }
+    watch.expect(commands.len());
+    let device = Watched::new(FileDevice::new(files), progress, rt);
+    let ready = Ready {
+        site: site.with_device(Captured::new(device, capture, rt)),
+        is_old,
+        commands,
+    };
+    let status = run_site(
+        rt,
+        &line,
+        ready,
+        store,
+        &mut Cleared::new(output, progress, rt),
+        &mut Cleared::new(faults, progress, rt),
+    );
+    watch.erase();
+    status
 }
 
 /// Opens the station on this line, and serves the commands by threads.
@@ -362,8 +322,7 @@ fn run_site<
     output: &mut W,
     faults: &mut E,
 ) -> ExitStatus
-    requires disk { IsTrue ready.site.line.has_disk }
-    requires owned { OwnsAll ready.site.line }
+    requires fresh { IsFresh line.now ready.site }
     requires old { ready.is_old ≡ is_old ready.site.seen.state.disk.bytes }
     ensures ends { EndsRun false (S.files store.old) (S.files store.new) line.now ready.site ready.commands.items result }
     ensures goes { RunsFollowed D.follows D.well ready.site.seen ready.commands.items result }

@@ -1,5 +1,5 @@
 //! Makes a line in memory of the words and bytes that its files hold, and saves a line to its files.
-ghost use Rattle.std.specs.Prelude.{◌≡◌, ◌∷◌, ◌≤◌, length, map, string_bytes, IfErr, IfOk, IsTrue, OnOk};
+ghost use Rattle.std.specs.Prelude.{◌≡◌, ◌∷◌, ◌≤◌, length, map, IfErr, IfOk, IsTrue, OnOk};
 ghost use Rattle.std.specs.List.{AllByRecursion};
 ghost use Rattle.sii_words.specs.Words.{bytes_of, IsDeviceSize};
 ghost use Rattle.site_shadow.specs.Line.{half_of, halves_of};

@@ -1,12 +1,11 @@
 //! Runs commands by threads, on the files of a line.
 ghost use Rattle.std.specs.Prelude.{◌≡◌, [], false, true, length, IsTrue, Ok, OnOk};
-ghost use Rattle.site_core.specs.State.{Seen};
 ghost use Rattle.station_files.specs.Faults.{IsFaultless};
 ghost use Rattle.station_files.specs.Files.{ChangesAmong};
-ghost use Rattle.station_session.specs.Site.{files_of};
+ghost use Rattle.station_session.specs.Site.{files_of, HoldsSite};
 ghost use Rattle.script_session.specs.Parts.{IsFollowed, IsLineOf};
 ghost use Rattle.station_session.specs.RunFiles.{GoesBehind, GoesFollowed, ServesFollowedBy};
-ghost use Rattle.station_session.specs.Session.{EndsStation, HoldsBehind, SavesBehind, SavesLeft};
+ghost use Rattle.station_session.specs.Session.{EndsStation, SavesBehind, SavesLeft};
 
 use crate::faults::of_open;
 use crate::site::save_site;
@@ -15,23 +14,12 @@ use script_session::{Ending, Left, Work, serve_by_threads, serve_commands};
 use sii_edit::Command;
 use site_shadow::{Device, ShadowSite};
 use station_alone::{Alone, recover};
-use station_files::{ExitStatus, Fault, Store, report_fault, status_of, worse};
+use station_files::{ExitStatus, Store, report_fault, status_of, worse};
 use station_text::LineFile;
 use std::alloc::Global;
 use std::io::Write;
 use std::sync::Wait;
 use std::thread::Threads;
-
-/// What a desk has left to be done.
-#[derive(Drop)]
-struct Unserved {
-    /// The fault to be told where the parts didn't end soundly.
-    sound: Result<(), Fault>,
-    /// Whether the commands were submitted there.
-    is_driven: bool,
-    /// The commands, where they were not.
-    commands: Vec<Command>,
-}
 
 /// Serves the commands by threads, recovers the line so that nothing is live, and saves what it holds. The station must not have accepted
 /// a command yet.
@@ -87,53 +75,64 @@ fn end_threads<D: Device + Copy, S: Store, W: Write, E: Write>(
     ensures goes { left.ending.closed ≡ Ok tt → IsTrue left.ending.is_driven
         → GoesBehind (GoesFollowed D.follows) left.sound left.site.seen result }
 {
-    let Left {
-        site,
-        unserved: commands,
-        ending,
-        sound,
-    } = left;
-    let Ending {
-        is_driven,
-        status,
-        closed,
-        told,
-    } = ending;
-    let told = status_of(told, streams.faults);
-    match closed {
+    let status = left.ending.status;
+    let told = status_of(left.ending.told, streams.faults);
+    match left.ending.closed {
         Ok(()) => {
-            let unserved = Unserved {
-                sound,
-                is_driven,
-                commands,
-            };
-            let saved = save_behind(alloc, line, site, unserved, store, streams);
+            let saved = save_behind(alloc, line, left, store, streams);
             worse(status, worse(told, saved))
         }
         Err(_) => {
-            drop(site);
-            drop(commands);
+            drop(left);
             worse(status, told)
         }
     }
 }
 
-/// Recovers the line whose parts ended soundly, and saves what it holds. Otherwise tells of the fault.
+/// Recovers the line whose parts ended soundly, and saves what it holds. If the commands were not submitted yet, they are served between the
+/// two. Otherwise tells of the fault.
 fn save_behind<D: Device + Copy, S: Store, W: Write, E: Write>(
     alloc: Global,
     line: &LineFile,
-    site: ShadowSite<D>,
-    unserved: Unserved,
+    left: Left<ShadowSite<D>>,
     store: &mut S,
     streams: Streams<'_, W, E>,
 ) -> ExitStatus
-    requires line { IsLineOf (length line.now.images.items) site.line }
+    requires { IsLineOf (length line.now.images.items) left.site.line }
     ensures others { ChangesAmong (S.files store.old) (S.files store.new) (files_of line.now) }
-    ensures saved { IsFaultless result → SavesBehind (S.files store.new) line.now site.seen unserved.is_driven unserved.commands.items result }
-    ensures goes { IsTrue unserved.is_driven → GoesBehind (GoesFollowed D.follows) unserved.sound site.seen result }
+    ensures saved { IsFaultless result
+        → SavesBehind (S.files store.new) line.now left.site.seen left.ending.is_driven left.unserved.items result }
+    ensures goes { IsTrue left.ending.is_driven → GoesBehind (GoesFollowed D.follows) left.sound left.site.seen result }
 {
-    match unserved.sound {
-        Ok(()) => recover_behind(alloc, line, site, unserved, store, streams),
+    let Left {
+        site,
+        unserved,
+        ending,
+        sound,
+    } = left;
+    let Ending {
+        is_driven,
+        status: _,
+        closed: _,
+        told: _,
+    } = ending;
+    match sound {
+        Ok(()) => match recover(alloc, site) {
+            Ok((alone, _recovered)) => {
+                if is_driven {
+                    drop(unserved);
+                    return save_station(alloc, line, alone, store, streams.faults);
+                }
+                run_alone(alloc, line, alone, unserved, store, streams)
+            }
+            Err((back, fault)) => {
+                // What its device followed, it followed up to here.
+                let (parts, _device) = back.into_parts();
+                drop(parts);
+                drop(unserved);
+                report_fault(of_open(fault), streams.faults)
+            }
+        },
         Err(fault) => {
             drop(site);
             drop(unserved);
@@ -142,60 +141,24 @@ fn save_behind<D: Device + Copy, S: Store, W: Write, E: Write>(
     }
 }
 
-/// Recovers the line, and saves what it holds. If the commands were not submitted yet, they are served between the two.
-fn recover_behind<D: Device + Copy, S: Store, W: Write, E: Write>(
-    alloc: Global,
-    line: &LineFile,
-    site: ShadowSite<D>,
-    unserved: Unserved,
-    store: &mut S,
-    streams: Streams<'_, W, E>,
-) -> ExitStatus
-    requires line { IsLineOf (length line.now.images.items) site.line }
-    ensures others { ChangesAmong (S.files store.old) (S.files store.new) (files_of line.now) }
-    ensures saved { IsFaultless result → SavesBehind (S.files store.new) line.now site.seen unserved.is_driven unserved.commands.items result }
-    ensures goes { IsTrue unserved.is_driven → (last : Seen) × GoesFollowed D.follows site.seen last }
-{
-    match recover(alloc, site) {
-        Ok((alone, _recovered)) => save_recovered(alloc, line, alone, unserved, store, streams),
-        Err((left, fault)) => {
-            // What its device followed, it followed up to here.
-            let (parts, _device) = left.into_parts();
-            drop(parts);
-            drop(unserved);
-            report_fault(of_open(fault), streams.faults)
-        }
-    }
-}
-
-/// Saves what a recovered line holds. If the commands were not submitted yet, they are served first.
-fn save_recovered<D: Device + Copy, S: Store, W: Write, E: Write>(
+/// Saves what the line of this station holds.
+fn save_station<D: Device + Copy, S: Store, E: Write>(
     alloc: Global,
     line: &LineFile,
     alone: Alone<ShadowSite<D>>,
-    unserved: Unserved,
     store: &mut S,
-    streams: Streams<'_, W, E>,
+    faults: &mut E,
 ) -> ExitStatus
     requires disk { IsTrue alone.line.has_disk }
     requires slaves { length alone.line.sizes ≡ length line.now.images.items }
     ensures others { ChangesAmong (S.files store.old) (S.files store.new) (files_of line.now) }
-    ensures saved { IsFaultless result → HoldsBehind unserved.is_driven (S.files store.new) line.now alone unserved.commands.items result }
-    ensures followed { IsTrue unserved.is_driven → IsFollowed D.follows alone.seen }
+    ensures saved { IsFaultless result → HoldsSite (S.files store.new) line.now alone.seen.state }
+    ensures followed { IsFollowed D.follows alone.seen }
 {
-    let Unserved {
-        sound: _,
-        is_driven,
-        commands,
-    } = unserved;
-    if !is_driven {
-        return run_alone(alloc, line, alone, commands, store, streams);
-    }
-    drop(commands);
     let (core, site) = alone.into_parts();
     drop(core);
     let saved = save_site(alloc, line, site, store);
-    status_of(saved, streams.faults)
+    status_of(saved, faults)
 }
 
 /// Serves the commands on an open station on this thread, and saves what its line holds. After a fault nothing more is written.
@@ -215,10 +178,8 @@ fn run_alone<D: Device + Copy, S: Store, W: Write, E: Write>(
     let slaves = line.images.len() as u16;
     match serve_commands(&mut alone, slaves, commands, streams.output, &mut status) {
         Ok(()) => {
-            let (core, site) = alone.into_parts();
-            drop(core);
-            let saved = save_site(alloc, line, site, store);
-            worse(status, status_of(saved, streams.faults))
+            let saved = save_station(alloc, line, alone, store, streams.faults);
+            worse(status, saved)
         }
         Err(fault) => {
             drop(alone);

@@ -1,22 +1,14 @@
-use Rattle.std.proofs.Common.{ap, inl, inr}
-use Rattle.site_core.specs.State.{Seen}
+use Rattle.std.proofs.Common.{inl, inr}
 use Rattle.station_files.proofs.Loaded.{handed_on}
 use Rattle.station_session.specs.Refusals.{RefusesRecovery}
-use Rattle.station_session.proofs.Ending.{recovers}
+use Rattle.station_session.proofs.Ending.{is_fresh, recovers}
 use Rattle.station_session.proofs.Judged.{has_journal, journal_refused}
 use Rattle.station_session.proofs.recovery.recover_line.Goals as goal
 
-pub recover_session-requires-clause-disk : goal.recover_session-requires-clause-disk
-recover_session-requires-clause-disk g c κs lives = c.in_ok-session.ensures.loaded.made.has_disk
-
-pub recover_session-requires-clause-owned : goal.recover_session-requires-clause-owned
-recover_session-requires-clause-owned g c κs lives = c.in_ok-session.ensures.loaded.made.owned
-
-pub recover_session-requires-clause-new : goal.recover_session-requires-clause-new
-recover_session-requires-clause-new g c κs lives = ap (λ (seen : Seen). seen.past) c.in_ok-session.ensures.loaded.made.seen
-
-pub recover_session-requires-clause-slaves : goal.recover_session-requires-clause-slaves
-recover_session-requires-clause-slaves g c κs lives = c.in_ok-session.ensures.loaded.count
+pub recover_session-requires-clause-fresh : goal.recover_session-requires-clause-fresh
+recover_session-requires-clause-fresh g c κs lives =
+    let session = c.in_ok-session.session in
+    is_fresh (g.S.Store.files c.args.store.now) c.args.name.now session.line session.site c.in_ok-session.ensures.loaded
 
 pub returns-in-None-clause-recovered : goal.returns-in-None-clause-recovered
 returns-in-None-clause-recovered g c =

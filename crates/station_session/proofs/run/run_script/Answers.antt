@@ -1,26 +1,18 @@
-use Rattle.std.proofs.Common.{Bor, List, ℕ, ap}
-use Rattle.site_core.specs.State.{Seen}
+use Rattle.std.proofs.Common.{Bor, List, ℕ}
 use Rattle.std.specs.Prelude.{is_some, option_map}
-use Rattle.station_session.proofs.Ending.{runs}
+use Rattle.station_session.proofs.Ending.{is_fresh, runs}
 use Rattle.station_session.proofs.RunFiles.{runs_kept}
 use Rattle.station_session.proofs.run.run_script.Goals as goal
 
-pub run_captured-requires-clause-disk : goal.run_captured-requires-clause-disk
-run_captured-requires-clause-disk g c κs lives = c.in-Ok.ensures.loaded.made.has_disk
-
-pub run_captured-requires-clause-owned : goal.run_captured-requires-clause-owned
-run_captured-requires-clause-owned g c κs lives = c.in-Ok.ensures.loaded.made.owned
-
-pub run_captured-requires-clause-slaves : goal.run_captured-requires-clause-slaves
-run_captured-requires-clause-slaves g c κs lives = c.in-Ok.ensures.loaded.count
+pub run_captured-requires-clause-fresh : goal.run_captured-requires-clause-fresh
+run_captured-requires-clause-fresh g c κs lives =
+    let given = c.in-Ok.given in
+    is_fresh (g.S.Store.files c.args.store.now) c.args.names.line.now given.session.line given.session.site c.in-Ok.ensures.loaded
 
 pub returns-in-Ok-clause-ran : goal.returns-in-Ok-clause-ran
 returns-in-Ok-clause-ran g c =
     runs g.S.Store.leads (is_some c.args.fuse) (option_map (λ (name : Bor (List ℕ)). name.now) c.args.names.capture) (g.S.Store.files c.args.store.now) (g.S.Store.files c.load.new.store) (g.S.Store.files c.run_captured.new.store) c.args.names.line.now c.args.names.script.now c.in-Ok.given.session.line c.in-Ok.given.session.site c.in-Ok.given.commands.items c.run_captured.result.status
     c.in-Ok.ensures.loaded c.in-Ok.ensures.apart c.in-Ok.ensures.journal c.in-Ok.ensures.spelt c.load.ensures.same c.run_captured.ensures.ends
-
-pub run_captured-requires-clause-new : goal.run_captured-requires-clause-new
-run_captured-requires-clause-new g c κs lives = ap (λ (seen : Seen). seen.past) c.in-Ok.ensures.loaded.made.seen
 
 pub returns-in-Ok-clause-kept : goal.returns-in-Ok-clause-kept
 returns-in-Ok-clause-kept g c none begun =

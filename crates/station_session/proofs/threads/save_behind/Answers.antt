@@ -1,0 +1,39 @@
+use Rattle.station_session.specs.RunFiles.{GoesFollowed}
+use Rattle.station_session.proofs.ThreadsEnd.{holds-driven, holds-undriven, saves_behind}
+use Rattle.station_session.proofs.RunFiles.{behind_goes, recovery_goes, failure_goes}
+use Rattle.station_session.proofs.threads.save_behind.Goals as goal
+
+pub returns-then-is_driven-clause-saved : goal.returns-then-is_driven-clause-saved
+returns-then-is_driven-clause-saved g c =
+    let left = c.args.left in
+    let new = g.S.Store.files c.save_station.new.store in
+    let r = c.in-Ok-recover in
+    saves_behind new c.args.line.now left.site.seen r.alone left.ending.is_driven left.unserved.items c.save_station.result r.ensures.recovered r.ensures.begins
+    (λ good. holds-driven left.ending.is_driven new c.args.line.now r.alone left.unserved.items c.save_station.result c.if-is_driven.true (c.save_station.ensures.saved good))
+
+pub returns-else-is_driven-clause-saved : goal.returns-else-is_driven-clause-saved
+returns-else-is_driven-clause-saved g c =
+    let left = c.args.left in
+    let new = g.S.Store.files c.run_alone.new.store in
+    let r = c.in-Ok-recover in
+    saves_behind new c.args.line.now left.site.seen r.alone left.ending.is_driven left.unserved.items c.run_alone.result r.ensures.recovered r.ensures.begins
+    (λ good. holds-undriven left.ending.is_driven new c.args.line.now r.alone left.unserved.items c.run_alone.result c.if-is_driven.false (c.run_alone.ensures.saved good))
+
+pub returns-then-is_driven-clause-goes : goal.returns-then-is_driven-clause-goes
+returns-then-is_driven-clause-goes g c driven =
+    let r = c.in-Ok-recover in
+    behind_goes (GoesFollowed g.D.Device.follows) c.args.left.sound c.args.left.site.seen c.save_station.result c.in-Ok.is (
+      r.alone.seen,
+      record { goes = recovery_goes c.args.left.site.line c.args.left.site.seen r.alone r.ensures.steps r.ensures.keeps; followed = c.save_station.ensures.followed },
+    )
+
+pub returns-in-Err-recover-clause-goes : goal.returns-in-Err-recover-clause-goes
+returns-in-Err-recover-clause-goes g c driven =
+    let e = c.in-Err-recover in
+    behind_goes (GoesFollowed g.D.Device.follows) c.args.left.sound c.args.left.site.seen c.report_fault.result c.in-Ok.is (
+      e.back.seen,
+      record {
+        goes = failure_goes c.args.left.site.line c.args.left.site.seen e.fault e.back.line e.back.seen e.ensures.refused e.ensures.keeps;
+        followed = (c.into_parts-parts.result.1, c.into_parts-parts.ensures.device);
+      },
+    )

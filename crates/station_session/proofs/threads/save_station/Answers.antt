@@ -1,0 +1,13 @@
+use Rattle.std.proofs.Common.{ap, subst}
+use Rattle.site_core.specs.State.{Seen}
+use Rattle.script_session.specs.Parts.{IsFollowed}
+use Rattle.station_session.proofs.ThreadsEnd.{saves-station}
+use Rattle.station_session.proofs.threads.save_station.Goals as goal
+
+pub returns-clause-saved : goal.returns-clause-saved
+returns-clause-saved g c good =
+    saves-station (g.S.Store.files c.save_site-saved.new.store) c.args.line.now c.args.alone c.save_site-saved.result c.into_parts-core.result.1.seen.state c.status_of.result
+    (ap (λ (seen : Seen). seen.state) c.into_parts-core.ensures.seen) c.save_site-saved.ensures.saved c.status_of.ensures.fault good
+
+pub returns-clause-followed : goal.returns-clause-followed
+returns-clause-followed g c = subst (λ (seen : Seen). IsFollowed g.D.Device.follows seen) c.into_parts-core.ensures.seen c.save_site-saved.ensures.followed
