@@ -12,6 +12,132 @@ pub enum Shell {
     Fish,
 }
 
+/// A block of a shell's script. In its texts `@p` is the program's name, `@s` are the names of all subcommands, `@n` is the subcommand's name
+/// and `@a` what it does, and `@l` is the option's name and `@h` what it does.
+#[derive(Clone, Copy)]
+struct Block {
+    /// Whether there is one of each subcommand; else it is about the program itself.
+    is_each: bool,
+    before: &'static str,
+    /// What stands there of each option.
+    option: &'static str,
+    behind: &'static str,
+}
+
+/// Of each subcommand a line `show) options='--hex --help' ;;`, after one of the program itself, and one of its subcommand `help`, which is
+/// followed by a subcommand's name.
+const BASH: &[Block] = &[
+    Block {
+        is_each: false,
+        before: "_@p() {
+    local word=${COMP_WORDS[COMP_CWORD]} sub= i names= options=
+    for ((i = 1; i < COMP_CWORD; i++)); do
+        case ${COMP_WORDS[i]} in -*) ;; *) sub=${COMP_WORDS[i]}; break ;; esac
+    done
+    case $sub in
+    '') names='@s' options='",
+        option: " --@l",
+        behind: "' ;;
+    help) names='@s' ;;
+",
+    },
+    Block {
+        is_each: true,
+        before: "    @n) options='",
+        option: " --@l",
+        behind: "' ;;\n",
+    },
+    Block {
+        is_each: false,
+        before: "    esac
+    if [[ $word == -* ]]; then
+        COMPREPLY=($(compgen -W \"$options\" -- \"$word\"))
+    elif [[ $names ]]; then
+        COMPREPLY=($(compgen -W \"$names\" -- \"$word\"))
+    else
+        COMPREPLY=($(compgen -f -- \"$word\"))
+    fi
+}
+complete -o filenames -F _@p @p
+",
+        option: "",
+        behind: "",
+    },
+];
+
+/// Of each subcommand a line `'show:What it does'`, and a line `show) _arguments '--hex[What it does]' '*:file:_files' ;;`: its options, which
+/// are followed by files; then the options of the program itself.
+const ZSH: &[Block] = &[
+    Block {
+        is_each: false,
+        before: "#compdef @p
+_@p() {
+    local -a names
+    names=(
+",
+        option: "",
+        behind: "",
+    },
+    Block {
+        is_each: true,
+        before: "        '@n:@a'\n",
+        option: "",
+        behind: "",
+    },
+    Block {
+        is_each: false,
+        before: "    )
+    if (( CURRENT == 2 )); then
+        _describe subcommand names
+    fi
+    case $words[2] in
+",
+        option: "",
+        behind: "",
+    },
+    Block {
+        is_each: true,
+        before: "    @n) _arguments",
+        option: " '--@l[@h]'",
+        behind: " '*:file:_files' ;;\n",
+    },
+    Block {
+        is_each: false,
+        before: "    -*) _arguments",
+        option: " '--@l[@h]'",
+        behind: " ;;
+    esac
+}
+compdef _@p @p
+",
+    },
+];
+
+/// A line of each option of the program; then of each subcommand a line, and a line of each of its options.
+const FISH: &[Block] = &[
+    Block {
+        is_each: false,
+        before: "",
+        option: "complete -c @p -n '__fish_use_subcommand' -l @l -d '@h'\n",
+        behind: "",
+    },
+    Block {
+        is_each: true,
+        before: "complete -c @p -n __fish_use_subcommand -f -a @n -d '@a'\n",
+        option: "complete -c @p -n '__fish_seen_subcommand_from @n' -l @l -d '@h'\n",
+        behind: "",
+    },
+];
+
+/// What the texts of a block are about.
+#[derive(Clone, Copy)]
+struct Subject<'c, 'a> {
+    program: &'c Command<'a>,
+    /// The subcommand, or the program itself.
+    command: &'c Command<'a>,
+    option: Option<&'c Arg<'a>>,
+}
+
 /// A script that makes a shell complete the program's subcommands, options and file names.
 ///
 /// # Errors
@@ -34,239 +160,97 @@ fn push_described(
     text: &mut String,
 ) -> Result<(), AllocError> {
     let mut command = described(alloc, program)?;
-    let ended = push_script(shell, &mut command, text);
+    let ended = match command.build() {
+        Ok(()) => push_script(&command, shell, text),
+        Err(error) => Err(error),
+    };
     drop(command);
     ended
 }
 
-fn push_script(
-    shell: Shell,
-    command: &mut Command<'_>,
+fn push_script(program: &Command<'_>, shell: Shell, text: &mut String) -> Result<(), AllocError> {
+    let blocks = match shell {
+        Shell::Bash => BASH,
+        Shell::Zsh => ZSH,
+        Shell::Fish => FISH,
+    };
+    for block in blocks {
+        if block.is_each {
+            push_each(*block, program, text)?;
+        } else {
+            push_block(*block, program, program, text)?;
+        }
+    }
+    Ok(())
+}
+
+/// A block of each subcommand.
+fn push_each(block: Block, program: &Command<'_>, text: &mut String) -> Result<(), AllocError> {
+    for command in program.get_subcommands() {
+        push_block(block, program, command, text)?;
+    }
+    Ok(())
+}
+
+fn push_block<'c, 'a>(
+    block: Block,
+    program: &'c Command<'a>,
+    command: &'c Command<'a>,
     text: &mut String,
 ) -> Result<(), AllocError> {
-    command.build()?;
-    match shell {
-        Shell::Bash => push_bash(command, text),
-        Shell::Zsh => push_zsh(command, text),
-        Shell::Fish => push_fish(command, text),
+    let subject = Subject {
+        program,
+        command,
+        option: None,
+    };
+    push_words(block.before, subject, text)?;
+    for option in command.get_arguments() {
+        if option.get_long().is_some() {
+            let option = Some(option);
+            push_words(block.option, Subject { option, ..subject }, text)?;
+        }
     }
+    push_words(block.behind, subject, text)
 }
 
-const BASH_HEAD: &str = "() {
-    local word=${COMP_WORDS[COMP_CWORD]} sub= i names= options=
-    for ((i = 1; i < COMP_CWORD; i++)); do
-        case ${COMP_WORDS[i]} in -*) ;; *) sub=${COMP_WORDS[i]}; break ;; esac
-    done
-    case $sub in
-";
-
-const BASH_TAIL: &str = "    esac
-    if [[ $word == -* ]]; then
-        COMPREPLY=($(compgen -W \"$options\" -- \"$word\"))
-    elif [[ $names ]]; then
-        COMPREPLY=($(compgen -W \"$names\" -- \"$word\"))
-    else
-        COMPREPLY=($(compgen -f -- \"$word\"))
-    fi
-}
-";
-
-/// Of each subcommand a line `show) options='--hex --help' ;;`, after one of the program itself.
-fn push_bash(command: &Command<'_>, text: &mut String) -> Result<(), AllocError> {
-    let program = command.get_name();
-    push_all(text, &["_", program, BASH_HEAD])?;
-    push_bash_head(command, text)?;
-    for subcommand in command.get_subcommands() {
-        push_bash_line(subcommand, text)?;
+/// A text of a block.
+fn push_words(words: &str, subject: Subject<'_, '_>, text: &mut String) -> Result<(), AllocError> {
+    let mut is_marked = false;
+    for letter in words.chars() {
+        match (is_marked, letter) {
+            (true, _) => push_marked(letter, subject, text)?,
+            (false, '@') => {}
+            (false, _) => text.push(letter)?,
+        }
+        is_marked = !is_marked && letter == '@';
     }
-    push_all(
-        text,
-        &[
-            BASH_TAIL,
-            "complete -o filenames -F _",
-            program,
-            " ",
-            program,
-            "\n",
-        ],
-    )
+    Ok(())
 }
 
-/// The program itself, and its subcommand `help`, which is followed by a subcommand's name.
-fn push_bash_head(command: &Command<'_>, text: &mut String) -> Result<(), AllocError> {
-    let subcommands = command.get_subcommands();
-    text.push_str("    '') names='")?;
-    push_bash_names(subcommands, text)?;
-    text.push_str("' options='")?;
-    push_bash_options(command.get_arguments(), text)?;
-    text.push_str("' ;;\n    help) names='")?;
-    push_bash_names(subcommands, text)?;
-    text.push_str("' ;;\n")
+/// What stands for `@` and this letter.
+fn push_marked(
+    letter: char,
+    subject: Subject<'_, '_>,
+    text: &mut String,
+) -> Result<(), AllocError> {
+    let words = match (letter, subject.option) {
+        ('s', _) => return push_names(subject.program, text),
+        ('p', _) => subject.program.get_name(),
+        ('n', _) => subject.command.get_name(),
+        ('a', _) => subject.command.get_about().unwrap_or(""),
+        ('l', Some(option)) => option.get_long().unwrap_or(""),
+        ('h', Some(option)) => option.get_help().unwrap_or(""),
+        _ => "",
+    };
+    push_quoted(words, text)
 }
 
-fn push_bash_line(command: &Command<'_>, text: &mut String) -> Result<(), AllocError> {
-    push_all(text, &["    ", command.get_name(), ") options='"])?;
-    push_bash_options(command.get_arguments(), text)?;
-    text.push_str("' ;;\n")
-}
-
-/// The names of subcommands, each behind a blank.
-fn push_bash_names(subcommands: &[Command<'_>], text: &mut String) -> Result<(), AllocError> {
-    for subcommand in subcommands {
+/// The names of a program's subcommands, each behind a blank.
+fn push_names(program: &Command<'_>, text: &mut String) -> Result<(), AllocError> {
+    for subcommand in program.get_subcommands() {
         push_all(text, &[" ", subcommand.get_name()])?;
     }
     Ok(())
-}
-
-/// The options among these arguments, each behind a blank.
-fn push_bash_options(arguments: &[Arg<'_>], text: &mut String) -> Result<(), AllocError> {
-    for argument in arguments {
-        if let Some(long) = argument.get_long() {
-            push_all(text, &[" --", long])?;
-        }
-    }
-    Ok(())
-}
-
-const ZSH_HEAD: &str = "() {
-    local -a names
-    names=(
-";
-
-const ZSH_MIDDLE: &str = "    )
-    if (( CURRENT == 2 )); then
-        _describe subcommand names
-    fi
-    case $words[2] in
-";
-
-const ZSH_TAIL: &str = "    esac
-}
-";
-
-/// Of each subcommand a line `'show:What it does'`, and a line `show) _arguments '--hex[What it does]' '*:file:_files' ;;`.
-fn push_zsh(command: &Command<'_>, text: &mut String) -> Result<(), AllocError> {
-    let program = command.get_name();
-    push_all(text, &["#compdef ", program, "\n_", program, ZSH_HEAD])?;
-    for subcommand in command.get_subcommands() {
-        push_zsh_name(subcommand, text)?;
-    }
-    text.push_str(ZSH_MIDDLE)?;
-    push_zsh_cases(command, text)?;
-    push_all(text, &[ZSH_TAIL, "compdef _", program, " ", program, "\n"])
-}
-
-/// The options of each subcommand, which are followed by files, and those of the program itself.
-fn push_zsh_cases(command: &Command<'_>, text: &mut String) -> Result<(), AllocError> {
-    for subcommand in command.get_subcommands() {
-        push_zsh_case(subcommand.get_name(), subcommand, " '*:file:_files'", text)?;
-    }
-    push_zsh_case("-*", command, "", text)
-}
-
-fn push_zsh_name(command: &Command<'_>, text: &mut String) -> Result<(), AllocError> {
-    push_all(text, &["        '", command.get_name(), ":"])?;
-    push_quoted(command.get_about().unwrap_or(""), text)?;
-    text.push_str("'\n")
-}
-
-/// The options of a command where the second word is of this pattern, as `_arguments` wants them, each behind a blank.
-fn push_zsh_case(
-    pattern: &str,
-    command: &Command<'_>,
-    more: &str,
-    text: &mut String,
-) -> Result<(), AllocError> {
-    push_all(text, &["    ", pattern, ") _arguments"])?;
-    for argument in command.get_arguments() {
-        if let Some(long) = argument.get_long() {
-            push_option(&[" '--", long, "["], argument, "]'", text)?;
-        }
-    }
-    push_all(text, &[more, " ;;\n"])
-}
-
-/// Of each subcommand a line, and a line of each of its options.
-fn push_fish(command: &Command<'_>, text: &mut String) -> Result<(), AllocError> {
-    let program = command.get_name();
-    push_fish_options(
-        program,
-        "__fish_use_subcommand",
-        "",
-        command.get_arguments(),
-        text,
-    )?;
-    for subcommand in command.get_subcommands() {
-        push_fish_lines(program, subcommand, text)?;
-    }
-    Ok(())
-}
-
-fn push_fish_lines(
-    program: &str,
-    command: &Command<'_>,
-    text: &mut String,
-) -> Result<(), AllocError> {
-    let name = command.get_name();
-    push_all(
-        text,
-        &[
-            "complete -c ",
-            program,
-            " -n __fish_use_subcommand -f -a ",
-            name,
-            " -d '",
-        ],
-    )?;
-    push_quoted(command.get_about().unwrap_or(""), text)?;
-    text.push_str("'\n")?;
-    push_fish_options(
-        program,
-        "__fish_seen_subcommand_from ",
-        name,
-        command.get_arguments(),
-        text,
-    )
-}
-
-/// A line of each option among these arguments, which is offered where a condition with this name at its end holds.
-fn push_fish_options(
-    program: &str,
-    condition: &str,
-    name: &str,
-    arguments: &[Arg<'_>],
-    text: &mut String,
-) -> Result<(), AllocError> {
-    for argument in arguments {
-        if let Some(long) = argument.get_long() {
-            push_all(
-                text,
-                &[
-                    "complete -c ",
-                    program,
-                    " -n '",
-                    condition,
-                    name,
-                    "' -l ",
-                    long,
-                ],
-            )?;
-            push_option(&[" -d '"], argument, "'\n", text)?;
-        }
-    }
-    Ok(())
-}
-
-/// What an option does, between these texts.
-fn push_option(
-    before: &[&str],
-    option: &Arg<'_>,
-    after: &str,
-    text: &mut String,
-) -> Result<(), AllocError> {
-    push_all(text, before)?;
-    push_quoted(option.get_help().unwrap_or(""), text)?;
-    text.push_str(after)
 }
 
 /// A text as it stands between single quotes of a shell, with signs in place of brackets and colons, which mean something to zsh.

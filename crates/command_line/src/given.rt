@@ -137,5 +137,10 @@ fn text_in<'a>(argument: Argument, found: &ArgMatches<'a>) -> Option<&'a str> {
 
 /// Whether a text has digits only: a sign is not taken.
 pub fn is_digits(text: &str) -> bool {
-    text.bytes().all(|byte| byte.is_ascii_digit())
+    for byte in text.bytes() {
+        if !byte.is_ascii_digit() {
+            return false;
+        }
+    }
+    true
 }

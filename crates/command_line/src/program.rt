@@ -1,7 +1,7 @@
 //! A program as its command line is described: its texts, its options and its subcommands.
 
 use crate::argument::Argument;
-use crate::subcommand::{Subcommand, with_arguments, with_subcommands};
+use crate::subcommand::{Subcommand, described_arguments, with_subcommands};
 use clap::Command;
 use std::alloc::{AllocError, Global};
 
@@ -31,10 +31,9 @@ pub(crate) fn described<'a>(
     alloc: Global,
     program: Program<'_>,
 ) -> Result<Command<'a>, AllocError> {
-    match with_arguments(alloc, named(alloc, program), program.options) {
-        Ok(command) => with_subcommands(alloc, command, program.subcommands),
-        Err(error) => Err(error),
-    }
+    let options = described_arguments(alloc, program.options)?;
+    let command = named(alloc, program).args(options)?;
+    with_subcommands(alloc, command, program.subcommands)
 }
 
 /// The program with its texts, without its options and subcommands.

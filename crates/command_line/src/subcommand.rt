@@ -11,7 +11,7 @@ pub struct Subcommand {
     pub name: &'static str,
     /// What it does, in one line.
     pub about: &'static str,
-    /// What `--help` says of it at its head; empty where that is the same, and nothing but its options follows.
+    /// What `--help` says of it at its head; empty where that is the same, and nothing but its arguments follows.
     pub long_about: &'static str,
     /// What stands at the end of the help.
     pub after_help: &'static str,
@@ -24,34 +24,21 @@ pub struct Subcommand {
 impl Subcommand {
     /// The subcommand as `clap` takes it.
     fn described<'a>(self, alloc: Global) -> Result<Command<'a>, AllocError> {
+        let arguments = described_arguments(alloc, self.arguments)?;
         let command = Command::new(alloc, self.name).about(self.about);
         if self.long_about.is_empty() {
-            return Ok(command);
+            return command.args(arguments);
         }
-        let command = command
+        command
             .long_about(self.long_about)
             .after_help(self.after_help)
-            .after_long_help(text_or(self.after_long_help, self.after_help));
-        with_arguments(alloc, command, self.arguments)
+            .after_long_help(text_or(self.after_long_help, self.after_help))
+            .args(arguments)
     }
 }
 
-/// The command with these arguments behind those that it has.
-pub(crate) fn with_arguments<'a>(
-    alloc: Global,
-    command: Command<'a>,
-    arguments: &[Argument],
-) -> Result<Command<'a>, AllocError> {
-    match described_arguments(alloc, arguments) {
-        Ok(described) => command.args(described),
-        Err(error) => {
-            drop(command);
-            Err(error)
-        }
-    }
-}
-
-fn described_arguments<'a>(
+/// These arguments as `clap` takes them.
+pub(crate) fn described_arguments<'a>(
     alloc: Global,
     arguments: &[Argument],
 ) -> Result<Vec<Arg<'a>>, AllocError> {

@@ -149,13 +149,26 @@ fn partner_of<'a>(
     others: &'a [CategoryLines],
 ) -> Option<&'a CategoryLines> {
     let kind = categories.get(place)?.kind;
-    let before = categories
-        .iter()
-        .take(place)
-        .filter(|category| category.kind == kind)
-        .count();
-    let mut same = others.iter().filter(|other| other.kind == kind);
-    same.nth(before)
+    let mut before = 0usize;
+    for category in categories.iter().take(place) {
+        if category.kind == kind {
+            before = before.saturating_add(1);
+        }
+    }
+    of_kind(others, kind, before)
+}
+
+/// The category of this type that has so many others of it before it.
+fn of_kind(categories: &[CategoryLines], kind: u16, before: usize) -> Option<&CategoryLines> {
+    let mut passed = 0usize;
+    for category in categories {
+        let is_same = category.kind == kind;
+        if is_same && passed == before {
+            return Some(category);
+        }
+        passed = passed.saturating_add(usize::from(is_same));
+    }
+    None
 }
 
 fn lonely<'a>(image: Side, category: &CategoryLines) -> CategoryChange<'a> {
@@ -242,25 +255,40 @@ fn tell_other_items<T: CategoryTeller>(
 /// The item with this label: the one at this place, if it has it, or else the first.
 fn find_item(items: &[Line], place: usize, label: Label) -> Option<&Line> {
     match items.get(place) {
-        Some(item) if item.label == label => Some(item),
-        _ => items.iter().find(|item| item.label == label),
+        Some(item) if item.label == label => return Some(item),
+        _ => {}
     }
+    for item in items {
+        if item.label == label {
+            return Some(item);
+        }
+    }
+    None
 }
 
 /// Tells the fields in which two items differ.
 fn tell_fields<T: CategoryTeller>(old: &Line, new: &Line, teller: &mut T) -> Result<(), Fault>
     ensures { IfErr result IsOfStream }
 {
-    let item = old.label;
-    for (place, old) in old.fields.iter().enumerate() {
-        match new.fields.get(place) {
-            Some(new) if old.value.as_str() != new.value.as_str() => {
-                teller.tell(CategoryChange::Field { item, old, new })?
-            }
-            _ => {}
-        }
+    for (was, is) in old.fields.iter().zip(new.fields.iter()) {
+        tell_field(old.label, was, is, teller)?;
     }
     Ok(())
+}
+
+/// Tells a field if its values differ.
+fn tell_field<T: CategoryTeller>(
+    item: Label,
+    old: &Field,
+    new: &Field,
+    teller: &mut T,
+) -> Result<(), Fault>
+    ensures { IfErr result IsOfStream }
+{
+    if old.value.as_str() == new.value.as_str() {
+        return Ok(());
+    }
+    teller.tell(CategoryChange::Field { item, old, new })
 }
 
 impl fmt::Display for Side {

@@ -121,23 +121,17 @@ fn write_run<W: Write>(run: &[ChangedWord], output: &mut W) -> io::Result<()> {
     if run.len() > MOST_PRINTED {
         return writeln!(output, " count {}", run.len());
     }
-    write_old(run, output)?;
-    write_new(run, output)?;
+    write_values(run, false, output)?;
+    write_values(run, true, output)?;
     writeln!(output)
 }
 
-fn write_old<W: Write>(run: &[ChangedWord], output: &mut W) -> io::Result<()> {
-    write!(output, " old")?;
+/// Writes the new values of a run of words, or the old ones.
+fn write_values<W: Write>(run: &[ChangedWord], is_new: bool, output: &mut W) -> io::Result<()> {
+    output.write_all(if is_new { b" new" } else { b" old" })?;
     for word in run {
-        write!(output, " 0x{:04x}", word.old)?;
-    }
-    Ok(())
-}
-
-fn write_new<W: Write>(run: &[ChangedWord], output: &mut W) -> io::Result<()> {
-    write!(output, " new")?;
-    for word in run {
-        write!(output, " 0x{:04x}", word.new)?;
+        let value = if is_new { word.new } else { word.old };
+        write!(output, " 0x{value:04x}")?;
     }
     Ok(())
 }

@@ -77,25 +77,20 @@ fn print_words<W: fmt::Write>(
     olds: &[u16],
     news: &[u16],
 ) -> fmt::Result {
-    if let ([old], [new]) = (olds, news) {
-        return print_word(f, at, *old, *new);
-    }
+    let (was, is) = match olds.len() {
+        1 => ("", ""),
+        _ => (" old", " new"),
+    };
     print_range(f, at, olds.len())?;
-    print_values(f, " old", olds)?;
-    print_values(f, " new", news)?;
+    print_values(f, was, olds)?;
+    print_values(f, is, news)?;
     f.write_str("\n")
 }
 
-fn print_word<W: fmt::Write>(
-    f: &mut fmt::Formatter<W>,
-    at: usize,
-    old: u16,
-    new: u16,
-) -> fmt::Result {
-    writeln!(f, "word 0x{at:04x} 0x{old:04x} 0x{new:04x}")
-}
-
 fn print_range<W: fmt::Write>(f: &mut fmt::Formatter<W>, at: usize, count: usize) -> fmt::Result {
+    if count == 1 {
+        return write!(f, "word 0x{at:04x}");
+    }
     let last = at.saturating_add(count).saturating_sub(1);
     write!(f, "words 0x{at:04x} to 0x{last:04x}")
 }

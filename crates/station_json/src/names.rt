@@ -34,7 +34,10 @@ impl<'a> Names<'a> {
     /// What a reference to string `number` says; `None` for 0, which refers to none.
     fn name(self, number: u8) -> Option<Name<'a>> {
         let place = usize::from(number).checked_sub(1)?;
-        let text = self.lines.get(place).map(text_of);
+        let text = match self.lines.get(place) {
+            Some(line) => Some(text_of(line)),
+            None => None,
+        };
         Some(Name {
             string: number,
             text,

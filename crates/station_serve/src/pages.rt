@@ -112,9 +112,8 @@ pub(crate) fn explanation(alloc: Global, code: Option<Code>) -> Result<String, A
 
 /// What the program prints of one code.
 fn paragraph(alloc: Global, code: Code) -> Result<String, AllocError> {
-    let entry = code.entry();
-    let (meaning, reason, remedy) = (entry.meaning, entry.reason, entry.remedy);
-    format!(in alloc; "{code}: {meaning} {reason} {remedy}\n")
+    let explanation = code.entry().explanation;
+    format!(in alloc; "{code}: {explanation}\n")
 }
 
 /// The paragraphs of all codes, separated by empty lines.

@@ -153,7 +153,11 @@ fn count_of(journal: &[u8]) -> u16 {
 
 /// The number of words of each slave.
 fn sizes_of(alloc: Global, slaves: &[Words]) -> Result<Vec<u16>, AllocError> {
-    slaves.iter().map(|words| words.len() as u16).collect(alloc)
+    let mut sizes = Vec::with_capacity(alloc, slaves.len())?;
+    for words in slaves {
+        sizes.push(words.len() as u16)?;
+    }
+    Ok(sizes)
 }
 
 impl fmt::Display for BadImage {
@@ -173,44 +177,22 @@ impl fmt::Display for BadImage {
 
 impl fmt::Display for BadJournal {
     fn fmt<W: fmt::Write>(&self, f: &mut fmt::Formatter<W>) -> fmt::Result {
-        match self.fault {
-            JournalFault::WrongLine => print_wrong_line(f, self.count, self.slaves),
-            fault => {
-                fault.fmt(f)?;
-                print_more(f, fault, self.bytes)
+        let (fault, bytes, count, slaves) = (self.fault, self.bytes, self.count, self.slaves);
+        match fault {
+            JournalFault::WrongLine if usize::from(count) == slaves => {
+                f.write_str("the journal names a slave or a word that this line doesn't have")
             }
+            JournalFault::WrongLine => write!(
+                f,
+                "the journal is of {count} slaves, and the line has {slaves}"
+            ),
+            JournalFault::NotAJournal => write!(
+                f,
+                "{fault}: it has {bytes} bytes, and a journal has 8 or more and begins with 0xA5"
+            ),
+            JournalFault::BadVersion { .. } => write!(f, "{fault}, and 1 and 2 are known"),
+            JournalFault::BadJournal { .. } => write!(f, "{fault} of {bytes}"),
+            JournalFault::Memory => fault.fmt(f),
         }
-    }
-}
-
-/// Prints why a journal of so many slaves is refused on a line of so many.
-fn print_wrong_line<W: fmt::Write>(
-    f: &mut fmt::Formatter<W>,
-    count: u16,
-    slaves: usize,
-) -> fmt::Result {
-    if usize::from(count) == slaves {
-        return f.write_str("the journal names a slave or a word that this line doesn't have");
-    }
-    write!(
-        f,
-        "the journal is of {count} slaves, and the line has {slaves}"
-    )
-}
-
-/// Prints what is said behind a fault of a journal of so many bytes.
-fn print_more<W: fmt::Write>(
-    f: &mut fmt::Formatter<W>,
-    fault: JournalFault,
-    bytes: usize,
-) -> fmt::Result {
-    match fault {
-        JournalFault::NotAJournal => write!(
-            f,
-            ": it has {bytes} bytes, and a journal has 8 or more and begins with 0xA5"
-        ),
-        JournalFault::BadVersion { .. } => f.write_str(", and 1 and 2 are known"),
-        JournalFault::BadJournal { .. } => write!(f, " of {bytes}"),
-        JournalFault::Memory | JournalFault::WrongLine => Ok(()),
     }
 }

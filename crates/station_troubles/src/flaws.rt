@@ -1,8 +1,8 @@
 //! What is wrong in a text, in words, and where.
 
-use crate::command_text::script_spot;
-use crate::line_text::line_spot;
-use crate::places::{Stretch, blanked, from_key, line_at};
+use crate::command_text::judge_script;
+use crate::line_text::judge_line;
+use crate::places::{Part, blanked, line_at};
 use station_text::forms::{Field, Form, Shape};
 use std::alloc::{AllocError, Global};
 use std::fmt;
@@ -68,61 +68,82 @@ impl Found {
 }
 
 impl<'a> Flaw<'a> {
-    /// The flaw of a table at a field of its form, if it has one there.
-    fn at_field(table: &Table, field: Field) -> Option<Flaw<'a>> {
-        let (key, shape) = (field.key(), field.shape());
-        match table.get(key) {
-            Some(value) if shape.fits(value) => None,
-            Some(value) => Some(Flaw::Wrong(key, Found::of(value, shape), shape)),
-            None if field.is_needed() => Some(Flaw::Missing(key)),
-            None => None,
-        }
-    }
-
     /// The place of this flaw of a table that stands in this part of a text: that of its key, if it has one there.
-    fn spot(self, text: &[u8], within: Stretch) -> Spot<'a> {
+    pub(crate) fn within(self, part: Part<'_>) -> Spot<'a> {
         let at = match self {
-            Flaw::Unknown(key, _) => from_key(text, within, key).from,
-            Flaw::Wrong(key, ..) => from_key(text, within, key).from,
-            _ => within.from,
+            Flaw::Unknown(key, _) => part.from_key(key).from,
+            Flaw::Wrong(key, ..) => part.from_key(key).from,
+            Flaw::Slaves(_) => part.from_key("slave").from,
+            _ => part.from,
         };
         Spot { flaw: self, at }
     }
 }
 
-/// The first flaw of a table of this form, in this part of a text: an unknown key, else the first key in the form's order that is missing or
-/// has a value of another shape.
-pub(crate) fn spot_in<'a>(
-    text: &[u8],
-    within: Stretch,
+/// Judges the entry of an array, which has to be a table of this form and stands in this part of a text.
+pub(crate) fn judge_entry<'a>(
+    part: Part<'_>,
+    value: &'a Value,
+    form: Form,
+) -> Result<&'a Table, Spot<'a>> {
+    let Some(table) = value.as_table() else {
+        return Err(Flaw::NoTable(Found::of(value, Shape::Table)).within(part));
+    };
+    judge_table(part, table, form)?;
+    Ok(table)
+}
+
+/// Judges a table of this form, in this part of a text. Its first flaw is an unknown key, else the first key in the form's order that is missing
+/// or has a value of another shape.
+pub(crate) fn judge_table<'a>(
+    part: Part<'_>,
     table: &'a Table,
     form: Form,
-) -> Option<Spot<'a>> {
-    let flaw = match unknown_key(table, form) {
-        Some(key) => Flaw::Unknown(key, form.names),
-        None => flawed_field(table, form)?,
-    };
-    Some(flaw.spot(text, within))
+) -> Result<(), Spot<'a>> {
+    if let Some(key) = unknown_key(table, form) {
+        return Err(Flaw::Unknown(key, form.names).within(part));
+    }
+    for field in form.fields {
+        if let Some(flaw) = flaw_at(table, *field) {
+            return Err(flaw.within(part));
+        }
+    }
+    Ok(())
+}
+
+/// The values of the array at a key, if there is one.
+pub(crate) fn array_at<'a>(table: &'a Table, key: &str) -> Option<&'a [Value]> {
+    Some(table.get(key)?.as_array()?.as_slice())
+}
+
+/// The flaw of a table at a field of its form, if it has one there.
+fn flaw_at<'a>(table: &Table, field: Field) -> Option<Flaw<'a>> {
+    let (key, shape) = (field.key(), field.shape());
+    match table.get(key) {
+        Some(value) if shape.fits(value) => None,
+        Some(value) => Some(Flaw::Wrong(key, Found::of(value, shape), shape)),
+        None if field.is_needed() => Some(Flaw::Missing(key)),
+        None => None,
+    }
 }
 
 /// The first key of a table that its form doesn't have.
 fn unknown_key<'a>(table: &'a Table, form: Form) -> Option<&'a str> {
     for key in table.keys() {
-        if !form.fields.iter().any(|field| field.key() == key.as_str()) {
+        if !has_key(form, key.as_str()) {
             return Some(key.as_str());
         }
     }
     None
 }
 
-/// The flaw of a table at the first field of its form where it has one.
-fn flawed_field<'a>(table: &Table, form: Form) -> Option<Flaw<'a>> {
+fn has_key(form: Form, key: &str) -> bool {
     for field in form.fields {
-        if let Some(flaw) = Flaw::at_field(table, *field) {
-            return Some(flaw);
+        if field.key() == key {
+            return true;
         }
     }
-    None
+    false
 }
 
 /// What a text is read as.
@@ -153,37 +174,39 @@ fn trouble_in(
     kind: TextKind,
 ) -> Result<TextTrouble, AllocError> {
     let code = blanked(alloc, text.as_bytes())?;
-    let spot = match kind {
-        TextKind::Line => line_spot(&code, table),
-        TextKind::Script(command) => script_spot(&code, table, command),
+    let part = Part::whole(&code);
+    let judged = match kind {
+        TextKind::Line => judge_line(part, table),
+        TextKind::Script(command) => judge_script(part, table, command),
     };
-    match spot {
-        Some(spot) => trouble_at(alloc, text, spot),
-        None => no_spot(alloc, kind),
+    match judged {
+        Err(Spot { flaw, at }) => trouble_at(text, at, format!(in alloc; "{flaw}")),
+        Ok(()) => trouble_at(text, None, none_found(alloc, kind)),
     }
 }
 
-/// The trouble of a text that is TOML, from what is wrong in it.
-fn trouble_at(alloc: Global, text: &str, spot: Spot<'_>) -> Result<TextTrouble, AllocError> {
-    let flaw = spot.flaw;
-    Ok(TextTrouble {
-        line: spot.at.map(|at| line_at(text.as_bytes(), at)),
-        what: format!(in alloc; "{flaw}")?,
-    })
+/// The trouble that these words say, and that stands at this offset.
+fn trouble_at(
+    text: &str,
+    at: Option<usize>,
+    what: Result<String, AllocError>,
+) -> Result<TextTrouble, AllocError> {
+    let what = what?;
+    let line = match at {
+        Some(at) => Some(line_at(text.as_bytes(), at)),
+        None => None,
+    };
+    Ok(TextTrouble { line, what })
 }
 
-/// The trouble of a text in which nothing is found.
-fn no_spot(alloc: Global, kind: TextKind) -> Result<TextTrouble, AllocError> {
-    let what = match kind {
+/// What is said of a text in which nothing is found.
+fn none_found(alloc: Global, kind: TextKind) -> Result<String, AllocError> {
+    match kind {
         TextKind::Line => String::from_str(alloc, "no line file"),
         TextKind::Script(command) => format!(in alloc;
             "command {command} is none that the program knows"
         ),
-    };
-    Ok(TextTrouble {
-        line: None,
-        what: what?,
-    })
+    }
 }
 
 /// The trouble of a text that isn't TOML.
@@ -196,11 +219,11 @@ fn no_document(
         return Err(AllocError);
     }
     let why = error.message();
-    let span = error.span();
-    Ok(TextTrouble {
-        line: span.map(|span| line_at(text.as_bytes(), span.start)),
-        what: format!(in alloc; "no TOML: {why}")?,
-    })
+    let at = match error.span() {
+        Some(span) => Some(span.start),
+        None => None,
+    };
+    trouble_at(text, at, format!(in alloc; "no TOML: {why}"))
 }
 
 impl fmt::Display for Found {

@@ -3,12 +3,14 @@ ghost use Rattle.std.specs.Prelude.{IfOk, IfSome};
 ghost use Rattle.station_files.specs.LineFiles.{DescribesLine};
 ghost use Rattle.station_text.specs.declared.line_file.LineFile.{LineFile};
 
-use crate::flaws::{Flaw, Found, Spot, TextKind, TextTrouble, spot_in, trouble_of};
-use crate::places::{Stretch, entry, from_key};
-use station_text::forms::{LINE, SLAVE, Shape};
+use crate::flaws::{
+    Flaw, Spot, TextKind, TextTrouble, array_at, judge_entry, judge_table, trouble_of,
+};
+use crate::places::Part;
+use station_text::forms::{LINE, SLAVE};
 use station_text::{LineFault, read_line};
 use std::alloc::{AllocError, Global};
-use toml::{Table, Value};
+use toml::Table;
 
 /// What is wrong in a text that is no line file, in the order in which a line file is read; `None` where it is one.
 ///
@@ -28,38 +30,17 @@ pub fn line_trouble(alloc: Global, text: &str) -> Result<Option<TextTrouble>, Al
     }
 }
 
-/// What is wrong in a text with this document, whose strings and comments are blanked.
-pub(crate) fn line_spot<'a>(text: &[u8], table: &'a Table) -> Option<Spot<'a>> {
-    let whole = Stretch::whole(text);
-    if let Some(spot) = spot_in(text, whole, table, LINE) {
-        return Some(spot);
-    }
-    let slaves = table.get("slave")?.as_array()?.as_slice();
+/// Judges a line file with this document. The text's strings and comments are blanked.
+pub(crate) fn judge_line<'a>(text: Part<'_>, table: &'a Table) -> Result<(), Spot<'a>> {
+    judge_table(text, table, LINE)?;
+    let Some(slaves) = array_at(table, "slave") else {
+        return Ok(());
+    };
     if slaves.is_empty() || slaves.len() > 64 {
-        return Some(Spot {
-            flaw: Flaw::Slaves(slaves.len()),
-            at: from_key(text, whole, "slave").from,
-        });
+        return Err(Flaw::Slaves(slaves.len()).within(text));
     }
-    slaves_spot(text, slaves)
-}
-
-fn slaves_spot<'a>(text: &[u8], slaves: &'a [Value]) -> Option<Spot<'a>> {
     for index in 0..slaves.len() {
-        let within = entry(text, Stretch::whole(text), "slave", index);
-        if let Some(spot) = slave_spot(text, within, &slaves[index]) {
-            return Some(spot);
-        }
+        judge_entry(text.entry("slave", index), &slaves[index], SLAVE)?;
     }
-    None
-}
-
-fn slave_spot<'a>(text: &[u8], within: Stretch, slave: &'a Value) -> Option<Spot<'a>> {
-    match slave.as_table() {
-        Some(table) => spot_in(text, within, table, SLAVE),
-        None => Some(Spot {
-            flaw: Flaw::NoTable(Found::of(slave, Shape::Table)),
-            at: within.from,
-        }),
-    }
+    Ok(())
 }

@@ -11,6 +11,10 @@ use station_text::{LineFile, ScriptCommand};
 use std::alloc::Global;
 use std::io;
 
+/// What is said of a fault of a file where every file could be read again.
+const WRITING: &str =
+    "every file can be read, so a file, its folder or standard output can't be written";
+
 /// The files that a subcommand reads, in the order in which it reads them.
 #[derive(Clone, Copy)]
 pub enum Files<'a> {
@@ -52,7 +56,7 @@ pub struct LineNames<'a> {
 }
 
 /// What a subcommand does with a journal's file.
-#[derive(Clone, Copy, PartialEq, Eq)]
+#[derive(Clone, Copy)]
 pub enum Journal {
     /// It isn't read.
     Unread,
@@ -82,18 +86,9 @@ pub fn look_again<S: Store>(
     };
     match looked {
         Err(End::Told(text)) => Some(text),
-        Err(_) => None,
-        Ok(()) => text_of_none(alloc, code),
+        Ok(()) if search.is_for(Code::File) => String::from_str(alloc, WRITING).ok(),
+        _ => None,
     }
-}
-
-/// What is said where every file could be read again.
-fn text_of_none(alloc: Global, code: Code) -> Option<String> {
-    let Code::File = code else {
-        return None;
-    };
-    let what = "every file can be read, so a file, its folder or standard output can't be written";
-    String::from_str(alloc, what).ok()
 }
 
 /// What a fault of a subcommand that only prints is about.
@@ -171,9 +166,9 @@ fn look_behind_line<S: Store>(
     if may_clash || (search.is_for(Code::Exists) && names.capture.is_some()) {
         return look_at_names(search, names, line, store);
     }
-    look_at_lock(search, names.journal, line, store)?;
+    but_others(look_at_lock(search, names.journal, line, store))?;
     images_again(search, &line.images, Image::Eeprom, store)?;
-    look_at_journal(search, names.journal, line, store)?;
+    but_others(look_at_journal(search, names.journal, line, store))?;
     match names.script {
         Some(script) => look_at_script(search, script, store),
         None => Ok(()),
@@ -243,15 +238,10 @@ fn look_at_lock<S: Store>(
 ) -> Result<(), End>
     ensures same { S.files store.new ≡ S.files store.old }
 {
-    match journal {
-        Journal::Kept => but_others(lock_again(search, line.journal.as_str(), store)),
-        _ => Ok(()),
-    }
-}
-
-fn lock_again<S: Store>(search: Search, name: &str, store: &mut S) -> Result<(), End>
-    ensures same { S.files store.new ≡ S.files store.old }
-{
+    let Journal::Kept = journal else {
+        return Ok(());
+    };
+    let name = line.journal.as_str();
     match store.lock(name) {
         Ok(_lock) => Ok(()),
         Err(LockFault::Busy) => Err(search.end(Code::Busy, name, &"another station has locked it")),
@@ -295,8 +285,8 @@ fn look_at_journal<S: Store>(
 {
     match journal {
         Journal::Unread => Ok(()),
-        Journal::New => but_others(new_journal(search, line.journal.as_str(), store)),
-        Journal::Kept => but_others(kept_journal(search, line, store)),
+        Journal::New => new_journal(search, line.journal.as_str(), store),
+        Journal::Kept => kept_journal(search, line, store),
     }
 }
 

@@ -3,7 +3,7 @@
 use std::alloc::{AllocError, Global};
 
 /// What a byte of a text belongs to.
-#[derive(Clone, Copy, PartialEq, Eq)]
+#[derive(Clone, Copy)]
 enum Within {
     Code,
     Comment,
@@ -17,10 +17,11 @@ enum Within {
 
 /// A part of a text, in bytes: from an offset on, to before another.
 #[derive(Clone, Copy)]
-pub(crate) struct Stretch {
+pub(crate) struct Part<'t> {
+    text: &'t [u8],
     /// Where it begins; `None` for the whole text.
     pub from: Option<usize>,
-    pub to: usize,
+    to: usize,
 }
 
 impl Within {
@@ -49,7 +50,7 @@ pub(crate) fn blanked(alloc: Global, text: &[u8]) -> Result<Vec<u8>, AllocError>
     let mut bytes = Vec::with_capacity(alloc, text.len())?;
     for byte in text {
         within = within.after(*byte);
-        let is_kept = within == Within::Code || *byte == b'\n';
+        let is_kept = matches!(within, Within::Code) || *byte == b'\n';
         bytes.push(if is_kept { *byte } else { b' ' })?;
     }
     Ok(bytes)
@@ -57,49 +58,113 @@ pub(crate) fn blanked(alloc: Global, text: &[u8]) -> Result<Vec<u8>, AllocError>
 
 /// The number of the line, from 1, that has the byte at this offset.
 pub(crate) fn line_at(text: &[u8], at: usize) -> usize {
-    let breaks = text.iter().take(at).filter(|byte| **byte == b'\n').count();
-    breaks.saturating_add(1)
+    let mut line = 1usize;
+    for byte in text.iter().take(at) {
+        if *byte == b'\n' {
+            line = line.saturating_add(1);
+        }
+    }
+    line
 }
 
-impl Stretch {
+impl<'t> Part<'t> {
     /// The whole of a text.
-    pub(crate) fn whole(text: &[u8]) -> Stretch {
-        Stretch {
+    pub(crate) fn whole(text: &'t [u8]) -> Part<'t> {
+        let to = text.len();
+        Part {
+            text,
             from: None,
-            to: text.len(),
+            to,
         }
     }
 
     fn start(self) -> usize {
         self.from.unwrap_or(0)
     }
-}
 
-/// The part from the key on; the same part where the key isn't found.
-pub(crate) fn from_key(text: &[u8], within: Stretch, key: &str) -> Stretch {
-    match key_at(text, within, key) {
-        Some(at) => Stretch {
-            from: Some(at),
-            to: within.to,
-        },
-        None => within,
+    /// The part from the key on; the same part where the key isn't found.
+    pub(crate) fn from_key(self, key: &str) -> Part<'t> {
+        for at in self.start()..self.to {
+            if stands_at(self.text, at, key.as_bytes()) {
+                return Part {
+                    from: Some(at),
+                    ..self
+                };
+            }
+        }
+        self
     }
-}
 
-/// Where a key stands first in a part of the text.
-fn key_at(text: &[u8], within: Stretch, key: &str) -> Option<usize> {
-    (within.start()..within.to).find(|at| stands_at(text, *at, key.as_bytes()))
+    /// The part of the entry `index`, from 0, of the array at a key: a table below a header `[[key]]`, or a value between brackets.
+    pub(crate) fn entry(self, key: &str, index: usize) -> Part<'t> {
+        let behind = index.saturating_add(1);
+        let array = self.from_key(key);
+        let (from, next) = match self.header_at(key, index) {
+            None => (array.value_at(index), array.value_at(behind)),
+            header => (header, self.header_at(key, behind)),
+        };
+        match from {
+            Some(_) => Part {
+                from,
+                to: next.unwrap_or(self.to),
+                ..self
+            },
+            None => array,
+        }
+    }
+
+    /// Where the header `[[key]]`, or `[[other.key]]`, stands for the time `index`, from 0.
+    fn header_at(self, key: &str, index: usize) -> Option<usize> {
+        let mut passed = 0usize;
+        for at in self.start()..self.to {
+            let is_header = is_header_at(self.text, at, key.as_bytes());
+            if is_header && passed == index {
+                return Some(at);
+            }
+            passed = passed.saturating_add(usize::from(is_header));
+        }
+        None
+    }
+
+    /// Where value `index`, from 0, of the first array in the part begins.
+    fn value_at(self, index: usize) -> Option<usize> {
+        let mut depth = 0usize;
+        let mut commas = 0usize;
+        for at in self.start()..self.to {
+            let byte = self.text.get(at).copied().unwrap_or(0);
+            let is_begin = match byte {
+                b'[' | b'{' => {
+                    depth = depth.saturating_add(1);
+                    depth == 1
+                }
+                b',' if depth == 1 => {
+                    commas = commas.saturating_add(1);
+                    true
+                }
+                b']' | b'}' if depth <= 1 => return None,
+                b']' | b'}' => {
+                    depth = depth.saturating_sub(1);
+                    false
+                }
+                _ => false,
+            };
+            if is_begin && commas == index {
+                return Some(behind_blanks(self.text, at.saturating_add(1)));
+            }
+        }
+        None
+    }
 }
 
 /// Whether a key stands at an offset: its name, with no other letter of a name before it, and `=`, `.` or `]` behind it.
 fn stands_at(text: &[u8], at: usize, key: &[u8]) -> bool {
-    let (before, rest) = (text.get(..at), text.get(at..));
-    let is_begun = before
-        .and_then(|bytes| bytes.last())
-        .is_some_and(|byte| is_of_name(*byte));
-    match rest.and_then(|bytes| bytes.strip_prefix(key)) {
-        Some(behind) => !is_begun && is_end_of_key(behind),
-        None => false,
+    let (Some(before), Some(rest)) = (text.get(..at), text.get(at..)) else {
+        return false;
+    };
+    match (before.last(), rest.strip_prefix(key)) {
+        (Some(byte), Some(behind)) => !is_of_name(*byte) && is_end_of_key(behind),
+        (None, Some(behind)) => is_end_of_key(behind),
+        _ => false,
     }
 }
 
@@ -110,98 +175,54 @@ fn is_of_name(byte: u8) -> bool {
 
 /// Whether a key ends before these bytes.
 fn is_end_of_key(behind: &[u8]) -> bool {
-    let next = behind.iter().find(|byte| **byte != b' ' && **byte != b'\t');
-    matches!(next, Some(b'=' | b'.' | b']'))
-}
-
-/// The part of the entry `index`, from 0, of the array at a key: a table below a header `[[key]]`, or a value between brackets.
-pub(crate) fn entry(text: &[u8], within: Stretch, key: &str, index: usize) -> Stretch {
-    if let Some(from) = header_at(text, within, key, index) {
-        let next = header_at(text, within, key, index.saturating_add(1));
-        return Stretch {
-            from: Some(from),
-            to: next.unwrap_or(within.to),
-        };
+    for byte in behind {
+        match byte {
+            b' ' | b'\t' => {}
+            _ => return matches!(byte, b'=' | b'.' | b']'),
+        }
     }
-    let array = from_key(text, within, key);
-    match value_at(text, array, index) {
-        Some(from) => Stretch {
-            from: Some(from),
-            to: value_at(text, array, index.saturating_add(1)).unwrap_or(within.to),
-        },
-        None => array,
-    }
+    false
 }
 
-/// Where the header `[[key]]`, or `[[other.key]]`, stands for the time `index`, from 0.
-fn header_at(text: &[u8], within: Stretch, key: &str, index: usize) -> Option<usize> {
-    let headers = (within.start()..within.to).filter(|at| is_header_at(text, *at, key.as_bytes()));
-    headers.skip(index).next()
-}
-
-/// Whether the `[[` of a header of this key stands at an offset.
+/// Whether a header of this key stands at an offset: `[[`, and before the next `]` the key, as the last name of a dotted one.
 fn is_header_at(text: &[u8], at: usize, key: &[u8]) -> bool {
     let Some(rest) = text.get(at..) else {
         return false;
     };
-    let Some(inner) = rest.strip_prefix(b"[[") else {
+    let Some(names) = rest.strip_prefix(b"[[") else {
         return false;
     };
-    let end = inner.iter().position(|byte| *byte == b']').unwrap_or(0);
-    let Some(name) = inner.get(..end) else {
-        return false;
-    };
-    last_name(name) == key
-}
-
-/// The last name of a dotted one, without blanks before and behind.
-fn last_name(name: &[u8]) -> &[u8] {
-    let dot = name.iter().rposition(|byte| *byte == b'.');
-    let from = dot.map_or(0, |at| at.saturating_add(1));
-    let last = name.get(from..).unwrap_or(name);
-    let blanks = last.iter().take_while(|byte| **byte == b' ').count();
-    let begun = last.get(blanks..).unwrap_or(last);
-    let len = begun.iter().take_while(|byte| **byte != b' ').count();
-    begun.get(..len).unwrap_or(begun)
-}
-
-/// Where value `index`, from 0, of the first array in a part of the text begins.
-fn value_at(text: &[u8], within: Stretch, index: usize) -> Option<usize> {
-    let mut depth = 0usize;
-    let mut commas = 0usize;
-    for at in within.start()..within.to {
-        let byte = text.get(at).copied().unwrap_or(0);
-        let is_begin = match byte {
-            b'[' | b'{' => {
-                depth = depth.saturating_add(1);
-                depth == 1
-            }
-            b',' if depth == 1 => {
-                commas = commas.saturating_add(1);
-                true
-            }
-            b']' | b'}' if depth <= 1 => return None,
-            b']' | b'}' => {
-                depth = depth.saturating_sub(1);
-                false
-            }
-            _ => false,
-        };
-        if is_begin && commas == index {
-            return Some(behind_blanks(text, at.saturating_add(1)));
+    let mut from = 0usize;
+    for (end, byte) in names.iter().enumerate() {
+        match byte {
+            b']' => return is_name_at(names, from, key),
+            b'.' => from = end.saturating_add(1),
+            b' ' if from == end => from = end.saturating_add(1),
+            _ => {}
         }
     }
-    None
+    false
+}
+
+/// Whether the name at an offset, which ends before a blank or a `]`, is this key.
+fn is_name_at(names: &[u8], from: usize, key: &[u8]) -> bool {
+    let Some(name) = names.get(from..) else {
+        return false;
+    };
+    match name.strip_prefix(key) {
+        Some(behind) => matches!(behind.first(), Some(b' ' | b']')),
+        None => false,
+    }
 }
 
 /// The offset of the first byte from here on that is neither a blank nor the end of a line.
 fn behind_blanks(text: &[u8], at: usize) -> usize {
-    let Some(rest) = text.get(at..) else {
-        return at;
-    };
-    let blanks = rest
-        .iter()
-        .take_while(|byte| byte.is_ascii_whitespace())
-        .count();
-    at.saturating_add(blanks)
+    let mut behind = at;
+    for byte in text.iter().skip(at) {
+        if !byte.is_ascii_whitespace() {
+            return behind;
+        }
+        behind = behind.saturating_add(1);
+    }
+    behind
 }

@@ -73,15 +73,17 @@ fn commands_again<S: Store>(
     }
 }
 
-/// Finds the first two of these files of which one would be lost where the other is written.
+/// Finds the first two of these files of which one would be lost where the other is written. Else the capture's file is there, and is none of
+/// the others.
 fn look_at_files<S: Store>(search: Search, files: FilesOfLine<'_>, store: &mut S) -> Result<(), End>
     ensures same { S.files store.new ≡ S.files store.old }
 {
     let names = files.names(search.alloc)?;
-    match find_clash(search.alloc, &names, store) {
-        Ok(Some(clash)) => Err(meeting_of(search.alloc, files, &names, clash, store)),
-        Ok(None) => look_at_capture(search, files.names.capture),
-        Err(_) => Err(End::Memory),
+    match (find_clash(search.alloc, &names, store), files.names.capture) {
+        (Ok(Some(clash)), _) => Err(meeting_of(search.alloc, files, &names, clash, store)),
+        (Ok(None), Some(name)) => Err(search.end(Code::Exists, name, &TAKEN)),
+        (Ok(None), None) => Ok(()),
+        (Err(_), _) => Err(End::Memory),
     }
 }
 
@@ -97,16 +99,9 @@ fn meeting_of<S: Store>(
 {
     let one = files.told(alloc, names, clash.one);
     let other = files.told(alloc, names, clash.other);
-    match (one, other) {
-        (Ok(one), Ok(other)) => meeting(alloc, one, other, store),
-        _ => End::Memory,
-    }
-}
-
-/// Says how these two files meet.
-fn meeting<S: Store>(alloc: Global, one: Told<'_>, other: Told<'_>, store: &mut S) -> End
-    ensures same { S.files store.new ≡ S.files store.old }
-{
+    let (Ok(one), Ok(other)) = (one, other) else {
+        return End::Memory;
+    };
     let how = if is_same_file(alloc, one.name, other.name, store) {
         " are the same file"
     } else {
@@ -125,21 +120,14 @@ fn is_same_file<S: Store>(alloc: Global, one: &str, other: &str, store: &mut S) 
     }
 }
 
-/// The end where the capture's file is there, and is none of the others.
-fn look_at_capture(search: Search, capture: Option<&str>) -> Result<(), End> {
-    match capture {
-        Some(name) => Err(search.end(Code::Exists, name, &TAKEN)),
-        None => Ok(()),
-    }
-}
-
 impl FilesOfLine<'_> {
     /// Their names.
     fn names(self, alloc: Global) -> Result<FileNames, AllocError> {
         let names = self.names;
+        let images = image_names(alloc, self.commands)?;
         let files = FileNames::of_line(alloc, self.line, names.line, names.capture)?;
         match names.script {
-            Some(script) => with_script(alloc, files, script, self.commands),
+            Some(script) => files.with_script(alloc, script, &images),
             None => Ok(files),
         }
     }
@@ -161,40 +149,20 @@ impl FilesOfLine<'_> {
 
     /// What the file at this place of their names is.
     fn role(self, alloc: Global, place: usize) -> Result<Role, AllocError> {
-        match (self.names.capture, place) {
-            (Some(_), 0) => Ok(Role::Capture),
-            (Some(_), _) => self.role_behind(alloc, place - 1),
-            (None, _) => self.role_behind(alloc, place),
-        }
-    }
-
-    /// What the file at this place behind the capture is.
-    fn role_behind(self, alloc: Global, place: usize) -> Result<Role, AllocError> {
         let slaves = self.line.images.len();
-        if place == 0 {
-            return Ok(Role::Journal);
-        }
-        if place <= slaves {
+        let captures = usize::from(self.names.capture.is_some());
+        let Some(place) = place.checked_sub(captures) else {
+            return Ok(Role::Capture);
+        };
+        if place > 0 && place <= slaves {
             return Ok(Role::Slave(place - 1));
         }
-        match place - slaves {
+        match place.saturating_sub(slaves) {
+            0 => Ok(Role::Journal),
             1 => Ok(Role::LineFile),
             2 => Ok(Role::Script),
             behind => Ok(Role::Image(command_of(alloc, self.commands, behind - 3)?)),
         }
-    }
-}
-
-/// These files, with a script of these commands and the images that it names.
-fn with_script(
-    alloc: Global,
-    files: FileNames,
-    script: &str,
-    commands: &[ScriptCommand],
-) -> Result<FileNames, AllocError> {
-    match image_names(alloc, commands) {
-        Ok(images) => files.with_script(alloc, script, &images),
-        Err(error) => Err(error),
     }
 }
 

@@ -47,42 +47,42 @@ pub enum WireFault {
     Station(Fault),
 }
 
-/// The station's fault for a line that can't be brought up, if the station has one.
-fn fault_of_station(fault: LineFault) -> Option<Fault> {
-    match fault {
-        LineFault::Memory => Some(Fault::Memory),
-        LineFault::Slave {
-            slave,
-            why: SlaveFault::Dead(_),
-        } => Some(Fault::SlaveDead { slave }),
-        _ => None,
-    }
+/// How a fault is printed.
+#[derive(Clone, Copy)]
+enum Printed {
+    /// As this fault of the station.
+    Station(Fault),
+    /// As one that the station doesn't have: its code, and the number behind it.
+    Wire(WireCode, Option<usize>),
 }
 
-/// How the fault of a line is printed that the station doesn't have: its code, and the number behind it.
-fn code_of_line(fault: LineFault) -> (WireCode, Option<usize>) {
-    match fault {
-        LineFault::NoSlaves => (WireCode::NoSlaves, None),
-        LineFault::TooManySlaves { slaves } => (WireCode::TooManySlaves, Some(usize::from(slaves))),
+/// How it is printed that a line can't be brought up.
+fn printed_line(fault: LineFault) -> Printed {
+    let (code, slave) = match fault {
+        LineFault::Memory => return Printed::Station(Fault::Memory),
+        LineFault::Silent => return Printed::Wire(WireCode::Silent, None),
+        LineFault::NoSlaves => return Printed::Wire(WireCode::NoSlaves, None),
+        LineFault::TooManySlaves { slaves } => (WireCode::TooManySlaves, slaves),
         LineFault::Unaddressed { slave } | LineFault::SharedAddress { slave, .. } => {
-            (WireCode::StationAddress, Some(usize::from(slave)))
+            (WireCode::StationAddress, slave)
         }
-        LineFault::Slave {
-            slave,
-            why: SlaveFault::Held,
-        } => (WireCode::Held, Some(usize::from(slave))),
-        LineFault::Slave { slave, .. } => (WireCode::SmallerChip, Some(usize::from(slave))),
-        _ => (WireCode::Silent, None),
-    }
+        LineFault::Slave { slave, why } => match why {
+            SlaveFault::Dead(_) => return Printed::Station(Fault::SlaveDead { slave }),
+            SlaveFault::Held => (WireCode::Held, slave),
+            SlaveFault::Smaller { .. } => (WireCode::SmallerChip, slave),
+        },
+    };
+    Printed::Wire(code, Some(usize::from(slave)))
 }
 
-/// How it is printed that a site has stopped: its code, and the number of the slave.
-fn code_of_stop(reason: StopReason) -> (WireCode, Option<usize>) {
+/// How it is printed that a site has stopped.
+fn printed_stop(reason: StopReason) -> Printed {
     match reason {
-        StopReason::Silent | StopReason::Journal => (WireCode::Silent, None),
-        StopReason::Differs { slave, .. } => (WireCode::Differs, Some(slave)),
-        StopReason::WordFailed { slave } => (WireCode::WordFailed, Some(slave)),
-        StopReason::NotOneDatagram { slave } => (WireCode::NotForWire, Some(slave)),
+        StopReason::Journal => Printed::Station(Fault::Disk),
+        StopReason::Silent => Printed::Wire(WireCode::Silent, None),
+        StopReason::Differs { slave, .. } => Printed::Wire(WireCode::Differs, Some(slave)),
+        StopReason::WordFailed { slave } => Printed::Wire(WireCode::WordFailed, Some(slave)),
+        StopReason::NotOneDatagram { slave } => Printed::Wire(WireCode::NotForWire, Some(slave)),
     }
 }
 
@@ -100,81 +100,56 @@ pub fn why_ended(reason: Option<StopReason>, seen: Option<Sighting>, fault: Wire
 }
 
 impl WireFault {
-    /// The fault of the station that this one is, if it is one.
-    fn of_station(self) -> Option<Fault> {
-        match self {
-            WireFault::Station(fault) => Some(fault),
-            WireFault::Line(fault) => fault_of_station(fault),
-            WireFault::Stopped {
-                reason: StopReason::Journal,
-                ..
-            } => Some(Fault::Disk),
-            _ => None,
-        }
-    }
-
-    /// The code and the number of a fault that the station doesn't have.
-    fn of_wire(self) -> (WireCode, Option<usize>) {
-        match self {
-            WireFault::OtherCount { slaves } => (WireCode::OtherCount, Some(slaves)),
-            WireFault::Line(fault) => code_of_line(fault),
-            WireFault::Stopped { reason, .. } => code_of_stop(reason),
-            WireFault::UnknownSize { slave, .. } => (WireCode::UnknownSize, Some(slave)),
-            WireFault::Running { slave } => (WireCode::Running, Some(slave)),
-            WireFault::Held { slave } => (WireCode::Held, Some(slave)),
-            WireFault::OtherSize { command, .. } => (WireCode::OtherSize, Some(command)),
-            WireFault::Station(_) => (WireCode::Silent, None),
-        }
+    fn printed(self) -> Printed {
+        let (code, number) = match self {
+            WireFault::Station(fault) => return Printed::Station(fault),
+            WireFault::Line(fault) => return printed_line(fault),
+            WireFault::Stopped { reason, .. } => return printed_stop(reason),
+            WireFault::OtherCount { slaves } => (WireCode::OtherCount, slaves),
+            WireFault::UnknownSize { slave, .. } => (WireCode::UnknownSize, slave),
+            WireFault::Running { slave } => (WireCode::Running, slave),
+            WireFault::Held { slave } => (WireCode::Held, slave),
+            WireFault::OtherSize { command, .. } => (WireCode::OtherSize, command),
+        };
+        Printed::Wire(code, Some(number))
     }
 
     /// The number and the name of the code that the fault is printed with.
     pub fn code(self) -> (u8, &'static str) {
-        match self.of_station() {
-            Some(fault) => {
+        match self.printed() {
+            Printed::Station(fault) => {
                 let code = fault.code();
                 (code.number(), code.entry().name)
             }
-            None => {
-                let (code, _) = self.of_wire();
-                (code.number(), code.entry().name)
-            }
+            Printed::Wire(code, _) => (code.number(), code.entry().name),
         }
     }
 
     /// The exit status for this fault: that of the station's fault, 3 where a file is another line's or isn't for this line, and 4 for any
     /// other.
     pub fn status(self) -> ExitStatus {
-        match self {
-            WireFault::OtherCount { .. } | WireFault::OtherSize { .. } => ExitStatus::File,
-            WireFault::Line(
-                LineFault::Slave {
-                    why: SlaveFault::Smaller { .. },
-                    ..
-                },
-            ) => ExitStatus::File,
-            _ => match self.of_station() {
-                Some(fault) => fault.status(),
-                None => ExitStatus::Device,
-            },
+        match self.printed() {
+            Printed::Station(fault) => fault.status(),
+            Printed::Wire(WireCode::OtherCount | WireCode::OtherSize | WireCode::SmallerChip, _) =>
+                { ExitStatus::File }
+            Printed::Wire(..) => ExitStatus::Device,
         }
     }
 }
 
 impl fmt::Display for WireFault {
     fn fmt<W: fmt::Write>(&self, f: &mut fmt::Formatter<W>) -> fmt::Result {
-        if let Some(fault) = self.of_station() {
-            return write!(f, "{fault}");
-        }
-        match (self.of_wire(), self) {
+        match (self.printed(), self) {
+            (Printed::Station(fault), _) => fault.fmt(f),
             (
-                (code, Some(slave)),
+                Printed::Wire(code, Some(slave)),
                 WireFault::Stopped {
                     reason: StopReason::Differs { what, .. },
                     ..
                 },
             ) => write!(f, "fault {code} {slave} ({what})"),
-            ((code, Some(number)), _) => write!(f, "fault {code} {number}"),
-            ((code, None), _) => write!(f, "fault {code}"),
+            (Printed::Wire(code, Some(number)), _) => write!(f, "fault {code} {number}"),
+            (Printed::Wire(code, None), _) => write!(f, "fault {code}"),
         }
     }
 }

@@ -67,9 +67,9 @@ fn write_answering<W: fmt::Write>(
     answering: Option<u16>,
 ) -> fmt::Result {
     match answering {
-        None => write!(f, "; no broadcast comes back"),
-        Some(0) => write!(f, "; no slave answers a broadcast"),
-        Some(1) => write!(f, "; slave 0 alone answers a broadcast"),
+        None => f.write_str("; no broadcast comes back"),
+        Some(0) => f.write_str("; no slave answers a broadcast"),
+        Some(1) => f.write_str("; slave 0 alone answers a broadcast"),
         Some(count) => {
             let last = count.saturating_sub(1);
             write!(
@@ -92,7 +92,7 @@ fn write_seen<W: fmt::Write>(f: &mut fmt::Formatter<W>, slave: u16, seen: Sighti
     )?;
     match seen.counter {
         Some(counter) => write!(f, "and counter {counter} came back")?,
-        None => write!(f, "and nothing came back")?,
+        None => f.write_str("and nothing came back")?,
     }
     if let Some(status) = seen.status {
         write!(f, "; control and status was last 0x{status:02x} in 0x0503")?;
@@ -147,9 +147,8 @@ fn write_line<W: fmt::Write>(f: &mut fmt::Formatter<W>, fault: LineFault) -> fmt
             f,
             "a frame was sent {TRIES} times, and none came back: look at the interface, the cable and the slaves' power"
         ),
-        LineFault::NoSlaves => write!(
-            f,
-            "a broadcast came back with counter 0: what the interface is connected to is no EtherCAT slave"
+        LineFault::NoSlaves => f.write_str(
+            "a broadcast came back with counter 0: what the interface is connected to is no EtherCAT slave",
         ),
         LineFault::TooManySlaves { slaves } => write!(
             f,

@@ -8,7 +8,7 @@ const BLANK: u16 = 0xffff;
 /// The words of an EEPROM. Addresses behind its end roll over.
 #[derive(Drop)]
 pub(crate) struct Chip {
-    words: Vec<u16>,
+    pub(crate) words: Vec<u16>,
 }
 
 impl Chip {
@@ -27,14 +27,6 @@ impl Chip {
             words.push(image.get(place).copied().unwrap_or(BLANK))?;
         }
         Ok(Chip { words })
-    }
-
-    pub(crate) fn as_slice(&self) -> &[u16] {
-        self.words.as_slice()
-    }
-
-    pub(crate) fn len(&self) -> usize {
-        self.words.len()
     }
 
     /// Where a word address lies on the chip.

@@ -54,7 +54,8 @@ struct Programming {
 /// The registers of a slave's EEPROM, and its chip. Moments are in microseconds.
 #[derive(Drop)]
 pub(crate) struct Eeprom {
-    chip: Chip,
+    /// The chip. A word in flight still has its old value there.
+    pub(crate) chip: Chip,
     quirks: Quirks,
     /// The sixteen registers, without what is kept below.
     registers: [u8; 16],
@@ -106,11 +107,6 @@ impl Eeprom {
         self.errors = 0;
         self.registers = registers_at_first(&self.quirks);
         self.is_loaded_wrong = !self.chip.is_checked();
-    }
-
-    /// The words of the chip. A word in flight still has its old value here.
-    pub(crate) fn chip(&self) -> &Chip {
-        &self.chip
     }
 
     /// The word in flight: the controller is busy with it, or the chip programs it.
@@ -235,7 +231,7 @@ impl Eeprom {
     /// Whether the command names a word that isn't there. Where addresses roll over each one is.
     fn is_outside(&self, command: u8) -> bool {
         let address = self.address() as usize;
-        let count = self.chip.len();
+        let count = self.chip.words.len();
         if self.quirks.chip.is_some() {
             return false;
         }

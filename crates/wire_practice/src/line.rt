@@ -144,7 +144,7 @@ impl PracticeLine {
     /// The words of a slave. None where there is no such slave.
     pub fn words(&self, slave: usize) -> Option<&[u16]> {
         match self.slaves.get(slave) {
-            Some(slave) => Some(slave.words()),
+            Some(slave) => Some(slave.eeprom.chip.words.as_slice()),
             None => None,
         }
     }
@@ -152,7 +152,7 @@ impl PracticeLine {
     /// The word that a slave is writing. None where it writes none, or there is no such slave.
     pub fn in_flight(&self, slave: usize) -> Option<WordWrite> {
         match self.slaves.get(slave) {
-            Some(slave) => slave.in_flight(),
+            Some(slave) => slave.eeprom.in_flight(),
             None => None,
         }
     }
@@ -161,7 +161,7 @@ impl PracticeLine {
     pub fn begun(&self) -> u32 {
         let mut begun = 0u32;
         for slave in &self.slaves {
-            begun = begun.saturating_add(slave.begun());
+            begun = begun.saturating_add(slave.counts.words);
         }
         begun
     }

@@ -9,14 +9,13 @@ use crate::eeprom::Eeprom;
 use crate::power::Counts;
 use crate::quirks::{PowerLoss, Quirks};
 use ecat_frame::Datagram;
-use esc_model::WordWrite;
 use site_shadow::Pattern;
 use std::alloc::{AllocError, Global};
 
 /// A slave in memory.
 #[derive(Drop)]
 pub struct PracticeSlave {
-    eeprom: Eeprom,
+    pub(crate) eeprom: Eeprom,
     quirks: Quirks,
     /// The configured station address; 0 where it has none.
     station: u16,
@@ -24,7 +23,7 @@ pub struct PracticeSlave {
     alias: u16,
     /// Whether it takes FP commands to its alias.
     has_alias_addressing: bool,
-    counts: Counts,
+    pub(crate) counts: Counts,
 }
 
 /// A datagram on its way through the slaves.
@@ -70,7 +69,7 @@ impl PracticeSlave {
     pub(crate) fn cut_power(&mut self, pattern: Pattern) {
         self.eeprom.cut_power(pattern);
         self.station = self.quirks.station.unwrap_or(0);
-        self.alias = self.eeprom.chip().get(4);
+        self.alias = self.eeprom.chip.get(4);
         self.has_alias_addressing = self.quirks.has_alias_addressing;
     }
 
@@ -84,29 +83,14 @@ impl PracticeSlave {
         }
     }
 
-    /// The words of its chip. A word in flight still has its old value here.
-    pub(crate) fn words(&self) -> &[u16] {
-        self.eeprom.chip().as_slice()
-    }
-
-    /// The word that it is writing.
-    pub(crate) fn in_flight(&self) -> Option<WordWrite> {
-        self.eeprom.in_flight()
-    }
-
-    /// How many words it has begun to write.
-    pub(crate) fn begun(&self) -> u32 {
-        self.counts.words
-    }
-
     /// Takes a datagram, and answers what that adds to its working counter. Counts a word that it begins to write.
     pub(crate) fn take(&mut self, datagram: Passing, content: &mut [u8]) -> u16 {
         if !self.is_meant(datagram) {
             return 0;
         }
-        let before = self.in_flight();
+        let before = self.eeprom.in_flight();
         let added = self.answer(datagram, content);
-        let now = self.in_flight();
+        let now = self.eeprom.in_flight();
         if now.is_some() && now != before {
             self.counts.words = self.counts.words.saturating_add(1);
         }

@@ -26,8 +26,8 @@ fn push_paragraph<C: Display>(
     entry: &CodeEntry,
     text: &mut String,
 ) -> Result<(), AllocError> {
-    let (meaning, reason, remedy) = (entry.meaning, entry.reason, entry.remedy);
-    let paragraph = format!(in alloc; "{code}: {meaning} {reason} {remedy}\n")?;
+    let explanation = entry.explanation;
+    let paragraph = format!(in alloc; "{code}: {explanation}\n")?;
     if !text.is_empty() {
         text.push_str("\n")?;
     }
