@@ -12,8 +12,8 @@ use Rattle.desk_book.specs.Closing.{StandsAt}
 use Rattle.station_files.specs.declared.faults.Fault.{Fault}
 use Rattle.station_files.specs.declared.faults.ExitStatus.{ExitStatus}
 use Rattle.station_files.specs.declared.faults.ExitStatus.TheVariants.{Done}
-use Rattle.script_session.specs.Rounds.{AreAmong}
-use Rattle.script_session.proofs.RoundSubmitting.{among-then}
+use Rattle.station_line.specs.Rounds.{AreAmong}
+use Rattle.station_line.proofs.RoundSubmitting.{among-then}
 use Rattle.script_session.specs.Asking.{commands_of, no_counts, AreInOrder, Asks, AsksAll, ComesTo, GivesUp, Receives}
 
 -- no command was submitted yet

@@ -26,7 +26,7 @@ use Rattle.station_files.specs.Faults.{IsOfStream}
 use Rattle.station_files.specs.declared.faults.Fault.{Fault}
 use Rattle.station_files.specs.declared.faults.ExitStatus.{ExitStatus}
 use Rattle.station_files.specs.declared.faults.ExitStatus.TheVariants.{Done}
-use Rattle.script_session.specs.Rounds.{AreAmong}
+use Rattle.station_line.specs.Rounds.{AreAmong}
 use Rattle.station_threads.specs.Places.{AllPlaced}
 use Rattle.station_threads.specs.Sites.{OwnParts}
 use Rattle.script_session.specs.Asking.{no_counts, ComesTo, GivesUp, Receives, fault_of, receipts_of}

@@ -7,6 +7,4 @@ pub mod SoundLaws
 pub mod DeskLaws
 pub mod IssueLaws
 pub mod RedoLaws
-pub mod RoundLaws
-pub mod RoundServing
-pub mod RoundSubmitting
+pub mod SavingLaws

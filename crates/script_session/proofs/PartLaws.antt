@@ -18,7 +18,8 @@ use Rattle.station_jobs.specs.Ends.{Stay}
 use Rattle.station_jobs.specs.Flushing.{IsFlushed}
 use Rattle.station_threads.specs.Places.{AllPlaced}
 use Rattle.station_threads.proofs.PlaceLaws.{placed-long, placed-more}
-use Rattle.script_session.specs.Parts.{AreFollowed, BeginsWith, HasDiskOf, EndsWith, IsFollowed, IsLineOf, IsTogether, IsWorkFollowed}
+use Rattle.script_session.specs.Parts.{AreFollowed, BeginsWith, HasDiskOf, EndsWith, IsLineOf, IsTogether, IsWorkFollowed}
+use Rattle.station_line.specs.Site.{IsFollowed}
 
 -- one site more
 pub sites-more : (halves : List (Option SlaveHalf)) (sites : List SiteValue) (half : Option SlaveHalf) (site : SiteValue) (slave : ℕ) → AllPlaced BeginsWith 0 (halves_of halves) sites → slave ≡ length sites → BeginsWith slave (half_of half) site

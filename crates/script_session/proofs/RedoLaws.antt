@@ -29,13 +29,12 @@ use Rattle.station_alone.specs.Opening.{Begins, OpensCounted}
 use Rattle.station_alone.specs.declared.opening.Found.{Found}
 use Rattle.desk_book.specs.declared.call.Call.{Call}
 use Rattle.desk_book.specs.declared.call.Call.TheVariants.{Submitted, DiskAsked, DiskTold, SlaveAsked, SlaveTold, PlanAsked, Finished}
-use Rattle.desk_book.specs.Calls.{after, replayed, is_refusal}
+use Rattle.desk_book.specs.Calls.{after, replayed, is_refusal, AreAnswered}
 use Rattle.desk_book.proofs.CountLaws.{each-slave}
 use Rattle.desk_book.proofs.KeptLaws.{keeps-disk_next, keeps-disk_done, keeps-rom_next, keeps-rom_done}
 use Rattle.desk_laws.specs.Joined.{CallFits, served_by}
 use Rattle.desk_laws.specs.Together.{AllEndSo, IsLeft}
 use Rattle.desk_laws.specs.Slaves.{AllReadAsContents, IsJustOpened}
-use Rattle.desk_book.specs.Calls.{AreAnswered}
 use Rattle.desk_book.specs.Closing.{is_served}
 use Rattle.desk_book.specs.Numbered.{Numbered}
 use Rattle.desk_book.specs.Serving.{ShareCounts}

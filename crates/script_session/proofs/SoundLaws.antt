@@ -15,7 +15,8 @@ use Rattle.station_jobs.specs.Jobs.{DoneInTurn, IsDone, IsLast, MayEnd}
 use Rattle.station_threads.specs.declared.closing.Ends.{Ends}
 use Rattle.station_alone.specs.Station.{Station}
 use Rattle.station_files.specs.declared.faults.Fault.{Fault}
-use Rattle.script_session.specs.Parts.{Sites, IsApart, AreEndsOfParts, AreFollowed, EndsSynced, IsFollowed, Soundly}
+use Rattle.script_session.specs.Parts.{Sites, IsApart, AreEndsOfParts, AreFollowed, EndsSynced, Soundly}
+use Rattle.station_line.specs.Site.{IsFollowed}
 use Rattle.sii_edit.specs.declared.command.Command.{Command}
 use Rattle.script_session.specs.declared.threads.Left.{Left}
 use Rattle.script_session.specs.AtDesk.{EndsFollowed, IsServedFollowed, PartsFollowed, ServesFollowed}

@@ -9,7 +9,7 @@ use Rattle.station_files.specs.declared.faults.Fault.{Fault}
 use Rattle.station_files.specs.declared.faults.Fault.TheVariants.{Unserved}
 use Rattle.station_files.specs.declared.faults.ExitStatus.{ExitStatus}
 use Rattle.station_files.specs.declared.faults.ExitStatus.TheVariants.{Done}
-use Rattle.script_session.specs.Rounds.{AreAmong}
+use Rattle.station_line.specs.Rounds.{AreAmong}
 
 -- the commands of tickets or receipts
 abbrev pub commands_of : List Numbered → List Command

@@ -1,5 +1,5 @@
 -- What holds of a line once its desk was closed, or a fault ended the work there.
-use Rattle.std.specs.Prelude.{◌≡◌, ◌⊎◌, ◌<◌, ℕ, Bool, true, false, List, [], ◌∷◌, length, Option, Some, None, Result, Ok, Err, IfErr, MatchResult, OnOk}
+use Rattle.std.specs.Prelude.{◌≡◌, ◌⊎◌, ◌<◌, ℕ, Bool, true, false, List, [], ◌∷◌, length, Result, Ok, Err, IfErr, MatchResult, OnOk}
 use Rattle.std.specs.List.{AllByRecursion}
 use Rattle.sii_edit.specs.declared.command.Command.{Command}
 use Rattle.jrn_format.specs.declared.journal.Journal.{Journal}
@@ -7,8 +7,6 @@ use Rattle.site_core.specs.State.{State, Seen}
 use Rattle.site_core.specs.Passes.{LeavesOnly}
 use Rattle.book_model.specs.Book.{Book}
 use Rattle.book_model.specs.Machine.{Machine}
-use Rattle.book_model.specs.declared.fault.Fault.{Fault as BookFault}
-use Rattle.book_model.specs.declared.fault.Fault.TheVariants as books
 use Rattle.site_shadow.specs.Site.{SiteValue}
 use Rattle.site_shadow.specs.Unsynced.{of_bytes}
 use Rattle.station_alone.specs.Station.{Station}
@@ -29,16 +27,17 @@ use Rattle.station_threads.specs.declared.closing.Ends.{Ends}
 use Rattle.station_threads.specs.Closing.{IsHandedIn}
 use Rattle.station_files.specs.Faults.{IsOfStream}
 use Rattle.station_files.specs.declared.faults.Fault.{Fault}
-use Rattle.station_files.specs.declared.faults.Fault.TheVariants as faults
+use Rattle.station_line.specs.Faults.{fault_of_book}
 use Rattle.station_files.specs.declared.faults.ExitStatus.{ExitStatus}
 use Rattle.station_files.specs.declared.faults.ExitStatus.TheVariants.{Done}
-use Rattle.script_session.specs.Rounds.{AreAmong}
+use Rattle.station_line.specs.Rounds.{AreAmong}
 use Rattle.script_session.specs.declared.closing.AtDesk.{AtDesk}
 use Rattle.script_session.specs.declared.closing.Ending.{Ending}
 use Rattle.script_session.specs.declared.threads.Opening.{Opening}
 use Rattle.script_session.specs.declared.threads.Left.{Left}
 use Rattle.script_session.specs.Asking.{commands_of, GivesUp}
-use Rattle.script_session.specs.Parts.{Sites, IsApart, AreEndsOfParts, AreFollowed, IsFollowed, IsTogether, Soundly}
+use Rattle.script_session.specs.Parts.{Sites, IsApart, AreEndsOfParts, AreFollowed, IsTogether, Soundly}
+use Rattle.station_line.specs.Site.{IsFollowed}
 
 -- the state of a site and its past
 abbrev pub seen_of : SiteValue → Seen
@@ -64,13 +63,6 @@ pub record IsClosed (opened : Book) (calls : List Call) (shares : List ShareCoun
 pub record Closes (opened : Book) (shares : List ShareCounts) (receipts : List Numbered) (ends : Ends SiteValue) : Type 0 where
   pub calls : List Call
   pub closed : IsClosed opened calls shares receipts ends
-
--- the fault that tells why a desk isn't closed: that of its book, or `Unserved` where work is left or something isn't handed in
-abbrev pub fault_of_book : Option BookFault → Fault
-fault_of_book (Some books.Disk) = faults.Disk
-fault_of_book (Some books.Stopped) = faults.Stopped
-fault_of_book (Some (books.SlaveDead slave)) = faults.SlaveDead slave
-fault_of_book None = faults.Unserved
 
 -- A desk of this book was closed with one share. If no fault is told to the user, it accepted of these commands those that it should, and
 -- each of them was acknowledged.

@@ -1,5 +1,5 @@
 pub mod Asking
 pub mod Parts
 pub mod AtDesk
-pub mod Rounds
 pub mod Redoing
+pub mod Saving

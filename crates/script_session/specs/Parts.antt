@@ -8,6 +8,7 @@ use Rattle.site_core.specs.State.{State, Seen}
 use Rattle.site_shadow.specs.Unsynced.{of_bytes}
 use Rattle.esc_rom.specs.Owned.{OwnsAll}
 use Rattle.site_shadow.specs.Site.{SiteValue}
+use Rattle.station_line.specs.Site.{IsFollowed}
 use Rattle.book_model.specs.declared.next.DiskNext.TheVariants as disk
 use Rattle.desk_book.specs.Logs.{DiskEntry}
 use Rattle.station_jobs.specs.declared.log.SlaveLog.{SlaveLog}
@@ -64,10 +65,6 @@ pub record AreEndsOfParts (sites : Sites) (ends : Ends SiteValue) : Type 0 where
 -- A device keeps this of a site, nothing has failed that it was asked, and the site has not stopped.
 abbrev pub Soundly : {D : Type 0} → (D → Seen → Type 0) → (D → Type 0) → D → Seen → Type 0
 Soundly follows well device seen = follows device seen × well device × (seen.is_stopped ≡ false)
-
--- A device keeps this of a site.
-abbrev pub IsFollowed : {D : Type 0} → (D → Seen → Type 0) → Seen → Type 0
-IsFollowed {D} follows seen = (device : D) × follows device seen
 
 -- The jobs of its log led the site of a slave's end there, and a device keeps this of it.
 pub record IsWorkFollowed {D : Type 0} (follows : D → Seen → Type 0) (end : Stay SiteValue SlaveLog) : Type 0 where

@@ -6,7 +6,8 @@ ghost use Rattle.site_shadow.specs.Parts.{site_of};
 ghost use Rattle.site_shadow.specs.Site.{SiteValue};
 ghost use Rattle.station_threads.specs.Places.{AllPlaced};
 ghost use Rattle.station_threads.specs.Sites.{OwnParts};
-ghost use Rattle.script_session.specs.Parts.{BeginsWith, HasDiskOf, IsFollowed, IsServable};
+ghost use Rattle.script_session.specs.Parts.{BeginsWith, HasDiskOf, IsServable};
+ghost use Rattle.station_line.specs.Site.{IsFollowed};
 
 use esc_model::{FIRST_STATION, ProcessHalf, RomHalf};
 use site_shadow::{Device, Parts, ShadowSite};

@@ -6,13 +6,13 @@ ghost use Rattle.station_files.specs.Faults.{IsOfStream};
 ghost use Rattle.script_session.specs.Asking.{fault_of, receipts_of};
 ghost use Rattle.script_session.specs.AtDesk.{Closes, EndsSo, IsStopped, TellsWhy};
 
-use crate::answers::{fault_of_book, print_totals};
 use crate::asked::Asked;
 use crate::submitter::Submitter;
 use sii_edit::Command;
 use site_core::Site;
 use site_shadow::{Device, ShadowSite};
 use station_files::{ExitStatus, Fault};
+use station_line::fault_of_book;
 use station_threads::{
     CloseFault, Closed, Desk, Ends, NotClosed, Receipt, Refusals, Served, Share, Tickets, close,
 };
@@ -200,4 +200,27 @@ pub(crate) fn why_open<T: Tickets, R: Refusals>(book: &Served<T, R>) -> Fault
         None if book.is_out_of_memory() => Fault::Memory,
         None => Fault::Unserved,
     }
+}
+
+/// Prints how many commands a book has accepted, and how many of them are durable and settled, if `is_asked`.
+fn print_totals<T: Tickets, R: Refusals, O: Write>(
+    book: &Served<T, R>,
+    is_asked: bool,
+    output: &mut O,
+) -> Result<(), Fault>
+    ensures answered { AreAnswered T.opened book.now.calls }
+    ensures failed { IfErr result IsOfStream }
+{
+    let accepted = book.accepted().len();
+    if !is_asked {
+        return Ok(());
+    }
+    let totals = book.status();
+    let (durable, settled) = (totals.durable, totals.settled);
+    writeln!(
+        output,
+        "accepted {accepted} durable {durable} settled {settled}"
+    )?;
+    output.flush()?;
+    Ok(())
 }

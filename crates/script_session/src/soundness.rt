@@ -3,7 +3,8 @@
 ghost use Rattle.std.specs.Prelude.{◌≡◌, length, Ok, Some, IsTrue, OnOk};
 ghost use Rattle.std.specs.List.{AllByRecursion};
 ghost use Rattle.book_model.specs.declared.next.DiskNext.TheVariants as next;
-ghost use Rattle.script_session.specs.Parts.{AreFollowed, EndsSynced, IsFollowed, IsWorkFollowed, Soundly};
+ghost use Rattle.script_session.specs.Parts.{AreFollowed, EndsSynced, IsWorkFollowed, Soundly};
+ghost use Rattle.station_line.specs.Site.{IsFollowed};
 
 use book_model::DiskNext;
 use site_core::Site;

@@ -4,12 +4,12 @@ ghost use Rattle.std.specs.Prelude.{◌≡◌, ◌+◌, ◌++◌, option_to_list
 ghost use Rattle.station_files.specs.Faults.{IsOfStream};
 ghost use Rattle.script_session.specs.Asking.{AreInOrder, Asks, AsksAll, GivesUp, Receives};
 
-use crate::answers::{print_accepted, print_refused, refused_as};
 use crate::events::tell_events;
 use crate::work::Work;
 use book_model::{Status, SubmitRefusal};
 use sii_edit::{Cause, Command, Refusal};
 use station_files::{ExitStatus, Fault};
+use station_line::{print_accepted, print_refused, refused_as};
 use station_threads::{Desk, Receipt, Refusals, Refused, Share, Ticket, Tickets};
 use std::alloc::Global;
 use std::io::Write;

@@ -3,7 +3,8 @@
 ghost use Rattle.std.specs.Prelude.{◌≡◌, ◌+◌, ◌≤◌, [], false, vec_capacity, IfOk, OnOk};
 ghost use Rattle.script_session.specs.Asking.{no_counts};
 ghost use Rattle.script_session.specs.AtDesk.{LeavesSo, OpensDesk, ServesFollowed, ServesSites};
-ghost use Rattle.script_session.specs.Parts.{AreEndsOfParts, AreFollowed, IsFollowed, IsLineOf, IsServable, IsTogether, OwnUpTo};
+ghost use Rattle.script_session.specs.Parts.{AreEndsOfParts, AreFollowed, IsLineOf, IsServable, IsTogether, OwnUpTo};
+ghost use Rattle.station_line.specs.Site.{IsFollowed};
 
 use crate::apart::take_apart;
 use crate::asked::Asked;

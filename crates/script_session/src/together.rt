@@ -5,15 +5,8 @@ ghost use Rattle.std.specs.List.{AllByRecursion};
 ghost use Rattle.site_shadow.specs.Line.{half_of, halves_of};
 ghost use Rattle.station_jobs.specs.Flushing.{IsFlushed};
 ghost use Rattle.station_threads.specs.Places.{AllPlaced};
-ghost use Rattle.script_session.specs.Parts.{
-  AreFollowed,
-  EndsWith,
-  HasDiskOf,
-  IsFollowed,
-  IsLineOf,
-  IsTogether,
-  IsWorkFollowed,
-};
+ghost use Rattle.script_session.specs.Parts.{AreFollowed, EndsWith, HasDiskOf, IsLineOf, IsTogether, IsWorkFollowed};
+ghost use Rattle.station_line.specs.Site.{IsFollowed};
 
 use crate::apart::site_of;
 use esc_model::RomHalf;

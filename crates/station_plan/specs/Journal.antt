@@ -6,7 +6,7 @@ use Rattle.station_alone.specs.Station.{Station}
 use Rattle.station_alone.specs.Recovery.{BeginsRecovered, CountsRecovered, HasRecovered}
 use Rattle.station_text.specs.declared.line_file.LineFile.{LineFile}
 use Rattle.station_files.specs.Files.{Known}
-use Rattle.station_session.specs.Session.{Loads}
+use Rattle.station_line.specs.Opened.{Loads}
 use Rattle.line_changes.specs.Changes.{changes_between}
 use Rattle.station_plan.specs.declared.journal.Restored.{Restored}
 

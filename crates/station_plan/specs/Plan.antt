@@ -12,8 +12,8 @@ use Rattle.station_files.specs.ScriptFiles.{SpellsCommands}
 use Rattle.station_files.specs.declared.faults.ExitStatus.{ExitStatus}
 use Rattle.station_files.specs.declared.faults.ExitStatus.TheVariants.{Done}
 use Rattle.station_files.specs.declared.faults.Fault.{Fault}
-use Rattle.script_session.specs.Rounds.{ServesSo}
-use Rattle.station_session.specs.Session.{is_old, Loads, StartsFrom}
+use Rattle.station_line.specs.Rounds.{ServesSo}
+use Rattle.station_line.specs.Opened.{is_old, Loads, StartsFrom}
 use Rattle.line_changes.specs.Changes.{changes_between}
 use Rattle.book_model.specs.Opening.{words_in}
 use Rattle.station_plan.specs.declared.plan.Planned.{Planned}

@@ -18,7 +18,7 @@ use site_shadow::ShadowSite;
 use station_alone::{OpenFault, Recovered, recover};
 use station_files::{Fault, Store};
 use station_json::{Form, write_cells, write_change_rows};
-use station_session::{Session, load_session, of_open};
+use station_line::{Session, load_session, of_open};
 use std::alloc::{AllocError, Global};
 use std::io;
 use std::io::Write;

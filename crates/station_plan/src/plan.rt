@@ -1,9 +1,9 @@
 //! The subcommand `plan`.
 ghost use Rattle.std.specs.Prelude.{◌≡◌, IfOk, IsTrue, Ok};
 ghost use Rattle.esc_rom.specs.Owned.{OwnsAll};
-ghost use Rattle.script_session.specs.Rounds.{ServesSo};
+ghost use Rattle.station_line.specs.Rounds.{ServesSo};
 ghost use Rattle.station_files.specs.declared.faults.Fault.{Fault};
-ghost use Rattle.station_session.specs.Session.{is_old};
+ghost use Rattle.station_line.specs.Opened.{is_old};
 ghost use Rattle.station_plan.specs.Plan.{IsComparison, IsPlanOf, IsServedStation, PlansFiles, PlansSite, ServesPlan};
 
 use crate::contents::contents_of;
@@ -12,7 +12,6 @@ use crate::plan_rows::write_plan;
 use crate::tally::Tally;
 use book_core::Core;
 use line_changes::{ChangedWord, Resize, changed_words, resizes};
-use script_session::serve_commands;
 use sii_edit::Command;
 use sii_words::Plant;
 use site_core::Site;
@@ -21,7 +20,7 @@ use site_shadow::ShadowSite;
 use station_alone::Alone;
 use station_files::{ExitStatus, Fault, Store};
 use station_json::{Form, write_answers};
-use station_session::{Given, Session, load, of_open, open_station};
+use station_line::{Given, Session, load, of_open, open_station, serve_commands};
 use std::alloc::{AllocError, Global};
 use std::io::Write;
 

@@ -1,11 +1,7 @@
 -- What the files of a line hold after a run or a recovery.
-use Rattle.std.proofs.Common.{◌≡◌, ℕ, Bool, true, false, List, [], length, refl, sym, ◌∙◌, ap, subst, inl, inr, Result, Ok, Err}
-use Rattle.std.specs.Prelude.{◌⊎◌, IsTrue, OnErr, OnOk, Option, string_bytes}
-use Rattle.std.proofs.lemmas.List.{length-map}
-use Rattle.site_core.specs.Disk.{Disk, synced}
-use Rattle.site_shadow.specs.Unsynced.{of_bytes}
+use Rattle.std.proofs.Common.{◌≡◌, ℕ, Bool, true, false, List, [], refl, sym, ◌∙◌, subst, inl, inr, Result, Ok, Err}
+use Rattle.std.specs.Prelude.{◌⊎◌, IsTrue, OnErr, OnOk, Option}
 use Rattle.sii_edit.specs.declared.command.Command.{Command}
-use Rattle.site_core.specs.Line.{Line}
 use Rattle.site_core.specs.State.{State, Seen}
 use Rattle.site_core.specs.Times.{Follows}
 use Rattle.site_shadow.specs.Site.{SiteValue}
@@ -14,51 +10,23 @@ use Rattle.kept_files.specs.KeptFiles.{FilesOf, BecomeOnly, HasContents, KeepsFi
 use Rattle.kept_files.proofs.OnFiles.{cut_leaves_kept, recovery_leaves_contents}
 use Rattle.kept_files.proofs.Extending.{first_stays}
 use Rattle.station_alone.specs.Keeping.{KeepsThroughout}
-use Rattle.book_model.specs.Book.{Book}
 use Rattle.station_alone.specs.Station.{Station}
 use Rattle.station_alone.specs.Recovery.{HasRecovered, BeginsRecovered}
 use Rattle.station_text.specs.declared.line_file.LineFile.{LineFile}
 use Rattle.station_files.specs.Faults.{IsFaultless}
-use Rattle.station_files.specs.Files.{Known, HasBytes, ChangesAmong}
-use Rattle.station_files.specs.LineFiles.{SpellsLine, SpellsSlaves}
+use Rattle.station_files.specs.Files.{Known, ChangesAmong}
 use Rattle.station_files.specs.FileNames.{IsLineApart}
 use Rattle.station_files.specs.Locations.{Leads}
 use Rattle.station_files.specs.ScriptFiles.{SpellsCommands}
 use Rattle.station_files.specs.declared.faults.Fault.{Fault}
 use Rattle.station_files.specs.declared.faults.ExitStatus.{ExitStatus}
 use Rattle.station_files.specs.declared.faults.ExitStatus.TheVariants.{Done}
-use Rattle.station_session.specs.Judging.{HasJournal, IsRunApart}
-use Rattle.station_session.specs.Site.{IsSiteOf, files_of, HoldsSite}
-use Rattle.script_session.specs.Rounds.{ServesSo}
-use Rattle.station_session.specs.Session.{is_old, BeginsCapture, EndsCaptured, EndsRecovery, EndsRun, EndsStation, IsFresh, IsOpened, Loads, RecoversFiles, RunsFiles, SavesRecovered, SavesRun, SavesServed, StartsFrom}
-
--- ---- what was read
-
-pub loads : (files first second : Known) (name : List ℕ) (line : LineFile) (plant : List (List ℕ)) (bytes : List ℕ) (site : SiteValue) → SpellsLine files name line → first ≡ files → SpellsSlaves first line plant → second ≡ first
-    → HasBytes second (string_bytes line.journal) bytes → IsSiteOf plant bytes site → length plant ≡ length line.images.items → Loads files name line site
-loads files first second name line plant bytes site described same slaves still journal made count = record {
-  plant = plant;
-  bytes = bytes;
-  given = record {
-    described = described;
-    slaves = subst (λ (f : Known). SpellsSlaves f line plant) same slaves;
-    journal = subst (λ (f : Known). HasBytes f (string_bytes line.journal) bytes) (still ∙ same) journal;
-  };
-  made = made;
-  count = ap length made.sizes ∙ length-map plant length ∙ count;
-}
-
-pub is_fresh : (files : Known) (name : List ℕ) (line : LineFile) (site : SiteValue) → Loads files name line site → IsFresh line site
-is_fresh files name line site loaded =
-    record { has_disk = loaded.made.has_disk; owned = loaded.made.owned; new = ap (λ (seen : Seen). seen.past) loaded.made.seen; count = loaded.count }
-
--- ---- the same line
-
-pub has-disk : (old new : Line) → new ≡ old → IsTrue old.has_disk → IsTrue new.has_disk
-has-disk old new same disk = subst (λ (l : Line). IsTrue l.has_disk) (sym same) disk
-
-pub as-many : (old new : Line) (count : ℕ) → new ≡ old → length old.sizes ≡ count → length new.sizes ≡ count
-as-many old new count same is = ap (λ (l : Line). length l.sizes) same ∙ is
+use Rattle.station_line.specs.Judging.{HasJournal, IsRunApart}
+use Rattle.station_line.specs.Site.{files_of, HoldsSite}
+use Rattle.station_line.specs.Rounds.{ServesSo}
+use Rattle.station_line.specs.Opened.{is_old, Loads, StartsFrom}
+use Rattle.station_session.specs.Session.{BeginsCapture, EndsCaptured, EndsRecovery, EndsRun, EndsStation, RecoversFiles, RunsFiles, SavesRecovered}
+use Rattle.script_session.specs.Saving.{SavesRun, SavesServed}
 
 -- ---- a station that was opened
 
@@ -113,19 +81,6 @@ pub ends-opened-as : (is_cut : Bool) (old new : Known) (line : LineFile) (site o
     → StartsFrom was_old other opened → EndsStation is_cut old new line opened commands status → EndsRun is_cut old new line site commands status
 ends-opened-as is_cut old new line site other was_old opened commands status same by_version starts ends =
     ends-opened is_cut old new line site was_old opened commands status by_version (subst (λ (s : SiteValue). StartsFrom was_old s opened) same starts) ends
-
--- the station was opened after a recovery
-pub starts-behind : (was_old : Bool) (site : SiteValue) (its : Line) (left : Seen) (r s : Station) → was_old ≡ true → HasRecovered r → BeginsRecovered site.seen r → its ≡ r.line → left ≡ r.seen → IsOpened its left s → StartsFrom was_old site s
-starts-behind was_old site its left r s old is_recovered begins same is opens = subst (λ (b : Bool). StartsFrom b site s) (sym old) (record {
-  r = r;
-  recovered = is_recovered;
-  begins = begins;
-  opened = subst (λ (seen : Seen). IsOpened r.line seen s) is (subst (λ (l : Line). IsOpened l left s) same opens);
-})
-
--- of which version the journal is
-pub old-by : (slaves : List (List ℕ)) (bytes : List ℕ) (site : SiteValue) (was_old : Bool) → IsSiteOf slaves bytes site → was_old ≡ is_old bytes → was_old ≡ is_old site.seen.state.disk.bytes
-old-by slaves bytes site was_old made is = is ∙ ap (λ (seen : Seen). is_old seen.state.disk.bytes) (sym made.seen)
 
 -- ---- on files that were opened
 
@@ -225,16 +180,3 @@ pub recovers : (leads : Leads) (old loaded new : Known) (name : List ℕ) (line 
 recovers leads old loaded new name line site status given apart journal same ends =
     let P : Known → Type 0 = λ files. EndsRecovery files new line site.seen status in
     record { line = line; site = site; loaded = given; apart = apart; journal = journal; ends = subst P same ends }
-
--- no command is accepted yet
-pub starts-none : (was_old : Bool) (site : SiteValue) (s : Station) → StartsFrom was_old site s → s.book.accepted ≡ []
-starts-none true site s starts = ap (λ (b : Book). b.accepted) starts.opened.opens.1.book
-starts-none false site s starts = ap (λ (b : Book). b.accepted) starts.opens.1.book
-
--- the disk is synced
-synced-as : (disk old : Disk) → disk ≡ synced old → disk ≡ of_bytes disk.bytes
-synced-as disk old is = is ∙ ap of_bytes (sym (ap (λ (d : Disk). d.bytes) is))
-
-pub starts-synced : (was_old : Bool) (site : SiteValue) (s : Station) → StartsFrom was_old site s → s.seen.state.disk ≡ of_bytes s.seen.state.disk.bytes
-starts-synced true site s starts = synced-as s.seen.state.disk starts.r.seen.state.disk starts.opened.opens.1.disk
-starts-synced false site s starts = synced-as s.seen.state.disk site.seen.state.disk starts.opens.1.disk

@@ -1,8 +1,3 @@
-pub mod Formatted
-pub mod Judged
-pub mod Refused
-pub mod Saved
-pub mod SwitchedOn
 pub mod Ending
 pub mod ThreadsEnd
 mod OnFiles

@@ -1,15 +1,11 @@
 -- What a power cut leaves in the files of a run.
 use Rattle.std.proofs.Common.{◌≡◌, ◌∙◌, ℕ, ◌+◌, zero, suc, eq-eqb, Bool, true, false, List, [], ◌∷◌, Some, slice_get, IsTrue, Result, Ok, Err, refl, sym, ap, subst, inl, inr, arith}
-use Rattle.std.specs.Prelude.{◌⊎◌, IfOk, IfErr, IsErrAnd, MatchResult, OnOk}
+use Rattle.std.specs.Prelude.{◌⊎◌, OnOk}
 use Rattle.std.specs.List.{AllByRecursion}
 use Rattle.sii_edit.specs.declared.command.Command.{Command}
 use Rattle.esc_model.specs.SlaveHalf.{SlaveHalf}
 use Rattle.site_core.specs.Disk.{Disk}
-use Rattle.site_core.specs.Line.{Line}
-use Rattle.site_core.specs.Passes.{LeavesOnly}
 use Rattle.site_core.specs.State.{State, Seen, Pair}
-use Rattle.site_core.proofs.Runs.{Passes-stays, Passes-then}
-use Rattle.site_core.proofs.Times.{Follows-then}
 use Rattle.site_shadow.specs.Site.{SiteValue}
 use Rattle.site_shadow.specs.Unsynced.{of_bytes}
 use Rattle.site_file.specs.declared.asking.LineFile.{LineFile as FileName}
@@ -23,10 +19,6 @@ use Rattle.book_model.specs.Book.{Book}
 use Rattle.book_model.specs.Machine.{Machine}
 use Rattle.desk_book.specs.declared.call.Call.{Call}
 use Rattle.desk_book.specs.Calls.{AreAnswered, replayed}
-use Rattle.station_alone.specs.declared.fault.OpenFault.{OpenFault}
-use Rattle.station_alone.specs.Keeping.{KeepsThroughout, KeptFor}
-use Rattle.station_alone.specs.Opening.{Opens, FailsToOpen}
-use Rattle.station_alone.specs.Recovery.{RecoversBySteps, FailsToRecover}
 use Rattle.station_alone.specs.Station.{Station}
 use Rattle.station_jobs.specs.declared.log.SlaveLog.{SlaveLog}
 use Rattle.station_jobs.specs.Ends.{Stay}
@@ -34,7 +26,7 @@ use Rattle.kept_files.specs.KeptFiles.{KeepsOn, has_file}
 use Rattle.kept_files.specs.Cuts.{IsKeptPair}
 use Rattle.kept_files.specs.DeskFiles.{DeskOnFiles, PartOnFiles}
 use Rattle.kept_files.proofs.OnFiles.{site_keeps_on}
-use Rattle.kept_files.proofs.Extending.{first_stays, recovers_on, fails_on}
+use Rattle.kept_files.proofs.Extending.{first_stays}
 use Rattle.kept_files.proofs.AtDeskOnFiles.{part_has_its_file, device_of_part, flushed_follows, worked_follows, cut_leaves_kept_parts}
 use Rattle.station_threads.specs.Parts.{IsEndOfSlave}
 use Rattle.station_text.specs.declared.line_file.LineFile.{LineFile}
@@ -48,48 +40,8 @@ use Rattle.script_session.specs.AtDesk.{EndsFollowed, ServesParts, seen_of}
 use Rattle.script_session.specs.Parts.{AreFollowed, BeginsWith, EndsWith, IsWorkFollowed, Soundly}
 use Rattle.script_session.proofs.LeftLaws.{first, opened-on, placed-back}
 use Rattle.script_session.proofs.SlaveLaws.{placed-at}
-use Rattle.station_session.specs.RunFiles.{BeginsPart, DeskFollowed, DeskGoes, GoesBehind, GoesFollowed, GoesKept, HoldTogether, IsLeftBy, KeepsAtDesk, RunsFollowed, KeepsRunFiles, RunKeepsFiles, unserved, served, unopened, opened}
-use Rattle.station_session.specs.Session.{Loads}
-
--- ---- one thread
-
-goes_then : (a b c : Seen) → GoesKept a b → GoesKept b c → GoesKept a c
-goes_then a b c one two = record {
-  goes_on = Follows-then a b c one.goes_on two.goes_on;
-  keeps = λ machine kept.
-      let before = one.keeps machine kept in
-      let behind = two.keeps machine before.passes.now in
-      Passes-stays (KeptFor machine) a c (Passes-then (LeavesOnly (KeptFor machine)) a b c before.passes behind.passes);
-}
-
--- what an open or a recovery ends with
-abbrev pub Went : Type 0
-Went = Result Station (SiteValue × OpenFault)
-
-abbrev pub WentSo : Seen → Went → Type 0
-WentSo before result = MatchResult result (λ s. GoesKept before s.seen) (λ back. GoesKept before back.0.seen)
-
-pub open_goes : (line : Line) (before : Seen) (result : Went) → IfOk result (λ s. Opens line before s) → IfOk result (λ s. KeepsThroughout before s.seen)
-    → IfErr result (λ back. FailsToOpen line before back.1 back.0.line back.0.seen) → IfErr result (λ back. KeepsThroughout before back.0.seen) → WentSo before result
-open_goes line before (Ok s) opens keeps fails back = record { goes_on = opens.1.quiet.follows; keeps = keeps }
-open_goes line before (Err e) opens keeps fails back = record { goes_on = fails.quiet.follows; keeps = back }
-
-pub recovery_goes : (line : Line) (before : Seen) (r : Station) → RecoversBySteps line before r → KeepsThroughout before r.seen → GoesKept before r.seen
-recovery_goes line before r by keeps = record { goes_on = recovers_on line before r by; keeps = keeps }
-
-pub failure_goes : (line : Line) (before : Seen) (fault : OpenFault) (later : Line) (now : Seen) → FailsToRecover line before fault later now → KeepsThroughout before now
-    → GoesKept before now
-failure_goes line before fault later now fails keeps = record { goes_on = fails_on line before fault later now fails; keeps = keeps }
-
--- a failure is handed on
-pub failed_goes : (before : Seen) (result : Went) (e : SiteValue × OpenFault) → IsErrAnd result (λ back. back ≡ e) → GoesKept before e.0.seen → WentSo before result
-failed_goes before (Ok s) e gave goes = absurd gave
-failed_goes before (Err back) e gave goes = subst (λ (b : SiteValue × OpenFault). GoesKept before b.0.seen) (sym gave) goes
-
--- the station was opened behind a recovery
-pub goes_behind : (before : Seen) (r : Station) (left : Seen) (result : Went) → GoesKept before r.seen → left ≡ r.seen → WentSo left result → WentSo before result
-goes_behind before r left (Ok s) one same two = goes_then before r.seen s.seen one (subst (λ (x : Seen). GoesKept x s.seen) same two)
-goes_behind before r left (Err e) one same two = goes_then before r.seen e.0.seen one (subst (λ (x : Seen). GoesKept x e.0.seen) same two)
+use Rattle.station_session.specs.RunFiles.{BeginsPart, DeskFollowed, DeskGoes, GoesBehind, GoesFollowed, HoldTogether, IsLeftBy, KeepsAtDesk, RunsFollowed, KeepsRunFiles, RunKeepsFiles, unserved, served, unopened, opened}
+use Rattle.station_line.specs.Opened.{Loads}
 
 -- ---- on files
 

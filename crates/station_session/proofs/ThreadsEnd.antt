@@ -1,8 +1,7 @@
 -- What the files of a line hold after a run by threads.
-use Rattle.std.proofs.Common.{◌≡◌, ℕ, Bool, true, false, List, refl, sym, ◌∙◌, subst, Result, Ok, Err}
+use Rattle.std.proofs.Common.{◌≡◌, Bool, true, false, List, refl, sym, ◌∙◌, subst, Result, Ok, Err}
 use Rattle.std.specs.Prelude.{OnErr, OnOk}
 use Rattle.sii_edit.specs.declared.command.Command.{Command}
-use Rattle.site_core.specs.Line.{Line}
 use Rattle.site_core.specs.State.{State, Seen}
 use Rattle.site_shadow.specs.Site.{SiteValue}
 use Rattle.station_alone.specs.Station.{Station}
@@ -13,31 +12,18 @@ use Rattle.station_files.specs.Files.{Known, ChangesAmong}
 use Rattle.station_files.specs.declared.faults.Fault.{Fault}
 use Rattle.station_files.specs.declared.faults.ExitStatus.{ExitStatus}
 use Rattle.station_files.specs.declared.faults.ExitStatus.TheVariants.{Done}
-use Rattle.station_session.specs.Site.{files_of, HoldsSite}
+use Rattle.station_line.specs.Site.{files_of, HoldsSite}
 use Rattle.script_session.specs.declared.threads.Left.{Left}
 use Rattle.script_session.specs.AtDesk.{LeavesSo}
 use Rattle.script_session.proofs.DeskLaws.{served-told}
-use Rattle.script_session.specs.Parts.{IsLineOf}
-use Rattle.station_session.specs.Session.{EndsStation, HoldsBehind, SavesBehind, SavesLeft, SavesServed}
+use Rattle.station_session.specs.Session.{EndsStation}
+use Rattle.script_session.specs.Saving.{HoldsBehind, SavesBehind, SavesLeft, SavesServed}
+use Rattle.script_session.proofs.SavingLaws.{behind-unserved}
 use Rattle.station_session.proofs.Ending.{saved-still}
-
-pub line-of : (line : Line) (slaves count : ℕ) → slaves ≡ count → IsLineOf slaves line → IsLineOf count line
-line-of line slaves count same is = subst (λ (n : ℕ). IsLineOf n line) same is
 
 -- nothing was served, and nothing is saved
 pub ends-unserved : (is_cut : Bool) (files : Known) (line : LineFile) (opened : Station) (commands : List Command) (status : ExitStatus) → ¬ IsFaultless status → EndsStation is_cut files files line opened commands status
 ends-unserved is_cut files line opened commands status bad = record { others = λ other out. refl; saved = λ good. absurd (bad good) }
-
-holds-unserved : (is_driven : Bool) (files : Known) (line : LineFile) (r : Station) (unserved commands : List Command) (status : ExitStatus) → (is_driven ≡ false → unserved ≡ commands)
-    → HoldsBehind is_driven files line r unserved status → HoldsBehind is_driven files line r commands status
-holds-unserved true files line r unserved commands status same holds = holds
-holds-unserved false files line r unserved commands status same holds = subst (λ (l : List Command). SavesServed files line r l status) (same refl) holds
-
--- what wasn't submitted are all commands, or they don't matter
-pub behind-unserved : (is_driven : Bool) (files : Known) (line : LineFile) (before : Seen) (unserved commands : List Command) (status : ExitStatus) → (is_driven ≡ false → unserved ≡ commands)
-    → SavesBehind files line before is_driven unserved status → SavesBehind files line before is_driven commands status
-behind-unserved is_driven files line before unserved commands status same saves =
-    record { r = saves.r; recovered = saves.recovered; begins = saves.begins; holds = holds-unserved is_driven files line saves.r unserved commands status same saves.holds }
 
 pub ends-left : (old new : Known) (line : LineFile) (opened : Station) (commands : List Command) (left : Left SiteValue) (status : ExitStatus) → LeavesSo opened commands left.ending left.site
     → (left.ending.is_driven ≡ false → left.unserved.items ≡ commands) → ChangesAmong old new (files_of line)

@@ -3,7 +3,6 @@
 use Rattle.std.specs.Prelude.{◌≡◌, ℕ, Bool, List, ◌++◌, Result, Ok, Err, OnOk, Some, slice_get, IsTrue}
 use Rattle.sii_edit.specs.declared.command.Command.{Command}
 use Rattle.site_core.specs.State.{Pair, Seen}
-use Rattle.site_core.specs.Times.{Follows}
 use Rattle.site_shadow.specs.Site.{SiteValue}
 use Rattle.site_shadow.specs.Unsynced.{of_bytes}
 use Rattle.site_file.specs.declared.asking.LineFile.{LineFile as FileName}
@@ -16,7 +15,6 @@ use Rattle.station_jobs.specs.declared.log.SlaveLog.{SlaveLog}
 use Rattle.station_jobs.specs.Ends.{Stay}
 use Rattle.desk_book.specs.declared.call.Call.{Call}
 use Rattle.desk_book.specs.Calls.{AreAnswered, replayed}
-use Rattle.station_alone.specs.Keeping.{KeepsThroughout}
 use Rattle.station_alone.specs.Station.{Station}
 use Rattle.kept_files.specs.KeptFiles.{KeepsOn, has_file}
 use Rattle.kept_files.specs.Cuts.{IsKeptPair}
@@ -28,17 +26,13 @@ use Rattle.station_files.specs.Files.{Known}
 use Rattle.station_files.specs.ScriptFiles.{SpellsCommands}
 use Rattle.station_files.specs.declared.faults.ExitStatus.{ExitStatus}
 use Rattle.station_files.specs.declared.faults.Fault.{Fault}
+use Rattle.station_line.specs.Opened.{GoesKept}
 use Rattle.script_session.specs.declared.closing.Ending.{Ending}
 use Rattle.script_session.specs.AtDesk.{BeginsAs, EndsFollowed, ServesParts, seen_of}
-use Rattle.script_session.specs.Parts.{IsFollowed}
-use Rattle.station_session.specs.Session.{Loads}
+use Rattle.station_line.specs.Site.{IsFollowed}
+use Rattle.station_line.specs.Opened.{Loads}
 
 -- ---- how far a run comes
-
--- Calls alone led the site from one state to the other, and what was kept for a machine stays so at each moment of them.
-pub record GoesKept (before now : Seen) : Type 0 where
-  pub goes_on : Follows before now
-  pub keeps : KeepsThroughout before now
 
 -- A recovery went behind a closed desk; or the parts didn't end soundly, and a fault is told.
 abbrev pub GoesBehind : (Stage : Seen → Seen → Type 0) → (sound : Result (Unit {0}) Fault) → (left : Seen) → ExitStatus → Type 0

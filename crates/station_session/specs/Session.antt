@@ -1,83 +1,34 @@
 -- `run` and `recover`: what is read from the files of a line, how the station starts, and what the files hold in the end.
-use Rattle.std.specs.Prelude.{◌≡◌, Ok, ◌==◌, ◌&&◌, Bool, true, false, not, nat_le, List, [], Option, None, Some, length, slice_index, string_bytes, ℕ, IsTrue, ⊤}
+use Rattle.std.specs.Prelude.{◌≡◌, Bool, List, Option, None, Some, ℕ, ⊤}
 use Rattle.sii_edit.specs.declared.command.Command.{Command}
-use Rattle.site_core.specs.Line.{Line}
 use Rattle.site_core.specs.State.{Seen}
 use Rattle.site_shadow.specs.Site.{SiteValue}
 use Rattle.site_file.specs.Calls.{Asked}
-use Rattle.esc_rom.specs.Owned.{OwnsAll}
 use Rattle.kept_files.specs.KeptFiles.{BecomeOnly, HasContents, KeepsFiles}
 use Rattle.site_journal.specs.declared.fault.ReadFault.TheVariants as read
 use Rattle.station_alone.specs.declared.fault.OpenFault.{OpenFault}
 use Rattle.station_alone.specs.declared.fault.OpenFault.TheVariants as why
 use Rattle.station_alone.specs.Station.{Station}
-use Rattle.station_alone.specs.Opening.{Opens, BeginsSession}
 use Rattle.station_alone.specs.Recovery.{HasRecovered, BeginsRecovered}
 use Rattle.station_text.specs.declared.line_file.LineFile.{LineFile}
 use Rattle.station_files.specs.Faults.{IsFaultless}
-use Rattle.station_files.specs.Files.{Known, HasBytes, ChangesOnly, ChangesAmong}
-use Rattle.station_files.specs.LineFiles.{SpellsLine, SpellsSlaves}
+use Rattle.station_files.specs.Files.{Known, ChangesOnly, ChangesAmong}
 use Rattle.station_files.specs.FileNames.{IsLineApart}
 use Rattle.station_files.specs.Locations.{Leads}
 use Rattle.station_files.specs.ScriptFiles.{SpellsCommands}
 use Rattle.station_files.specs.declared.faults.ExitStatus.{ExitStatus}
 use Rattle.station_files.specs.declared.faults.ExitStatus.TheVariants.{Done}
-use Rattle.station_session.specs.Judging.{HasJournal, IsRunApart}
-use Rattle.station_session.specs.Site.{IsSiteOf, files_of, HoldsSite}
-use Rattle.script_session.specs.Rounds.{AreAmong, Goes, IsServed}
-use Rattle.script_session.specs.declared.threads.Left.{Left}
-use Rattle.script_session.specs.AtDesk.{IsServedAtDesk}
+use Rattle.station_line.specs.Opened.{Loads}
+use Rattle.script_session.specs.Saving.{SavesRun, Serves}
+use Rattle.station_line.specs.Judging.{HasJournal, IsRunApart}
+use Rattle.station_line.specs.Site.{files_of, HoldsSite}
 
 -- ---- what is read
-
--- the files spell this line, the words of its slaves and the bytes of its journal
-pub record IsLine (files : Known) (name : List ℕ) (line : LineFile) (plant : List (List ℕ)) (bytes : List ℕ) : Type 0 where
-  pub described : SpellsLine files name line
-  pub slaves : SpellsSlaves files line plant
-  pub journal : HasBytes files (string_bytes line.journal) bytes
-
--- this site is the line in memory that is made of what the files spell
-pub record Loads (files : Known) (name : List ℕ) (line : LineFile) (site : SiteValue) : Type 0 where
-  pub plant : List (List ℕ)
-  pub bytes : List ℕ
-  pub given : IsLine files name line plant bytes
-  pub made : IsSiteOf plant bytes site
-  pub count : length site.line.sizes ≡ length line.images.items
-
--- A line that was read and just switched on: no call was seen yet, and it has a slave for each image of the line file.
-pub record IsFresh (line : LineFile) (site : SiteValue) : Type 0 where
-  pub has_disk : IsTrue site.line.has_disk
-  pub owned : OwnsAll site.line
-  pub new : site.seen.past ≡ []
-  pub count : length site.line.sizes ≡ length line.images.items
 
 -- the journal was read, and its content was refused
 abbrev pub IsRefusal : OpenFault → Type 0
 IsRefusal (why.Journal (read.Journal fault)) = ⊤
 IsRefusal fault = ⊥
-
--- ---- how a station starts
-
--- the journal's file has a version byte other than 2
-abbrev pub is_old : List ℕ → Bool
-is_old bytes = nat_le 2 (length bytes) && not (slice_index bytes 1 == 2)
-
--- The station was opened on this site, and its session begins there.
-pub record IsOpened (line : Line) (before : Seen) (s : Station) : Type 0 where
-  pub opens : Opens line before s
-  pub begins : BeginsSession before s
-
--- The station was opened on this site after a recovery.
-pub record IsOpenedRecovered (before : Seen) (s : Station) : Type 0 where
-  pub r : Station
-  pub recovered : HasRecovered r
-  pub begins : BeginsRecovered before r
-  pub opened : IsOpened r.line r.seen s
-
--- A line whose journal isn't of version 2 is recovered before the station is opened.
-abbrev pub StartsFrom : (was_old : Bool) → SiteValue → Station → Type 0
-StartsFrom true site s = IsOpenedRecovered site.seen s
-StartsFrom false site s = IsOpened site.line site.seen s
 
 -- ---- what the files hold in the end
 
@@ -106,63 +57,11 @@ pub record RecoversFiles (leads : Leads) (old new : Known) (name : List ℕ) (st
   pub journal : HasJournal site.line.sizes site.seen.state.disk.bytes
   pub ends : EndsRecovery old new line site.seen status
 
--- The files hold the state of this station after some of the commands were accepted and served: all of them if the status is `Done`.
-pub record SavesServed (files : Known) (line : LineFile) (opened : Station) (commands : List Command) (status : ExitStatus) : Type 0 where
-  pub s : Station
-  pub accepted : List Command
-  pub goes : Goes accepted opened s
-  pub among : AreAmong accepted commands
-  pub all : status ≡ Done → accepted ≡ commands
-  pub served : IsServed s.book
-  pub held : HoldsSite files line s.seen.state
-
--- The files hold the state of this recovered station. If no command had been submitted at the desk, the commands are served on it first.
-abbrev pub HoldsBehind : (is_driven : Bool) → Known → LineFile → Station → List Command → ExitStatus → Type 0
-HoldsBehind true files line r commands status = HoldsSite files line r.seen.state
-HoldsBehind false files line r commands status = SavesServed files line r commands status
-
--- The site was recovered after the desk was closed, and the files hold its result.
-pub record SavesBehind (files : Known) (line : LineFile) (before : Seen) (is_driven : Bool) (commands : List Command)
-    (status : ExitStatus) : Type 0 where
-  pub r : Station
-  pub recovered : HasRecovered r
-  pub begins : BeginsRecovered before r
-  pub holds : HoldsBehind is_driven files line r commands status
-
--- No fault was told of the work at the desk, which was closed, and the files hold the line after it, with the commands that were not
--- submitted there.
-pub record SavesLeft (files : Known) (line : LineFile) (left : Left SiteValue) (status : ExitStatus) : Type 0 where
-  pub worst : status ≡ Done → left.ending.status ≡ Done
-  pub told : left.ending.told ≡ Ok tt
-  pub behind : SavesBehind files line left.site.seen left.ending.is_driven left.unserved.items status
-
--- The line of this station was taken apart, served by threads at a desk, put together again and recovered, and the files hold the result.
--- The desk was closed with some of the commands accepted: all of them if the status is `Done`.
-pub record SavesAtDesk (files : Known) (line : LineFile) (opened : Station) (commands : List Command) (status : ExitStatus) : Type 0 where
-  pub is_driven : Bool
-  pub answers : ExitStatus
-  pub worst : status ≡ Done → answers ≡ Done
-  pub site : SiteValue
-  pub served : IsServedAtDesk opened commands is_driven answers (Ok tt) site
-  pub behind : SavesBehind files line site.seen is_driven commands status
-
--- A run with a planned power cut is served on one thread, any other by threads.
-abbrev pub Serves : (is_cut : Bool) → Known → LineFile → Station → List Command → ExitStatus → Type 0
-Serves true files line opened commands status = SavesServed files line opened commands status
-Serves false files line opened commands status = SavesAtDesk files line opened commands status
-
 -- No other files than the line's changed. If no fault ended the work, they hold the state of the served station.
 pub record EndsStation (is_cut : Bool) (old new : Known) (line : LineFile) (opened : Station) (commands : List Command)
     (status : ExitStatus) : Type 0 where
   pub others : ChangesAmong old new (files_of line)
   pub saved : IsFaultless status → Serves is_cut new line opened commands status
-
--- The station was opened on this site, after a recovery if the journal wasn't of version 2, and the files hold its state once served.
-pub record SavesRun (is_cut : Bool) (files : Known) (line : LineFile) (site : SiteValue) (commands : List Command)
-    (status : ExitStatus) : Type 0 where
-  pub opened : Station
-  pub starts : StartsFrom (is_old site.seen.state.disk.bytes) site opened
-  pub serves : Serves is_cut files line opened commands status
 
 -- No other files than the line's changed. If no fault ended the run, they hold the state that it reached on this site.
 pub record EndsRun (is_cut : Bool) (old new : Known) (line : LineFile) (site : SiteValue) (commands : List Command)

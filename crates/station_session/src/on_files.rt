@@ -3,14 +3,14 @@ ghost use Rattle.std.specs.Prelude.{◌≡◌, Bool, is_some, length, IfSome, Is
 ghost use Rattle.kept_files.specs.KeptFiles.{FilesOf};
 ghost use Rattle.site_shadow.specs.Line.{halves_of};
 ghost use Rattle.station_files.specs.Files.{ChangesAmong};
-ghost use Rattle.station_session.specs.Site.{files_of, HoldsSite};
+ghost use Rattle.station_line.specs.Site.{files_of, HoldsSite};
 
-use crate::site::save_parts;
 use line_watch::Watched;
 use site_core::Site;
 use site_file::{FileDevice, RandomAccessFile};
 use site_shadow::{Parts, ShadowSite};
 use station_files::{Fault, Store};
+use station_line::save_parts;
 use station_text::LineFile;
 use std::alloc::Global;
 use std::io::Write;

@@ -1,21 +1,19 @@
 //! The subcommand `recover`.
 ghost use Rattle.std.specs.Prelude.{◌≡◌, IfErr, IfOk, OnErr};
-ghost use Rattle.station_session.specs.Refusals.{RefusesRecovery};
-ghost use Rattle.station_session.specs.Session.{EndsRecovery, IsFresh, RecoversFiles};
+ghost use Rattle.station_line.specs.Refusals.{RefusesRecovery};
+ghost use Rattle.station_session.specs.Session.{EndsRecovery, RecoversFiles};
+ghost use Rattle.station_line.specs.Opened.{IsFresh};
 
-use crate::faults::{of_journal, of_open};
 use crate::on_files::{WatchedSite, save_sound, take_apart};
-use crate::opening::open_files;
-use crate::session::{Session, load_session};
 use crate::streams::Streams;
 use crate::watch::Watch;
 use line_watch::{Cleared, Watched};
 use site_file::FileDevice;
 use station_alone::{Recovered, recover};
 use station_files::{ExitStatus, Fault, Store, report_fault, status_of, worse};
+use station_line::{Session, load_session, of_journal, of_open, open_files, write_recovered};
 use station_text::LineFile;
 use std::alloc::Global;
-use std::io;
 use std::io::Write;
 use std::rt::Clock;
 use std::sync::Wait;
@@ -131,22 +129,4 @@ fn print_recovered<W: Write, E: Write>(
         Ok(()) => ExitStatus::Done,
         Err(error) => report_fault(Fault::from(error), faults),
     }
-}
-
-/// Writes the counts of a recovery as one line: batches and commands that were live, and words that were written.
-///
-/// # Errors
-///
-/// As the output answers.
-pub fn write_recovered<W: Write>(recovered: Recovered, output: &mut W) -> io::Result<()> {
-    let Recovered {
-        batches,
-        commands,
-        words,
-    } = recovered;
-    writeln!(
-        output,
-        "recovered batches {batches} commands {commands} words {words}"
-    )?;
-    output.flush()
 }

@@ -1,48 +1,27 @@
 //! The subcommand `run`.
-ghost use Rattle.std.specs.Prelude.{◌≡◌, length, is_some, option_map, false, true, IfErr, IfOk, IsTrue, MatchResult, OnErr, OnOk};
+ghost use Rattle.std.specs.Prelude.{◌≡◌, is_some, option_map, false, IfErr, IfOk, IsTrue, OnErr};
 ghost use Rattle.station_files.specs.Faults.{IsFaultless};
-ghost use Rattle.esc_rom.specs.Owned.{OwnsAll};
-ghost use Rattle.station_files.specs.ScriptFiles.{SpellsCommands};
-ghost use Rattle.station_files.specs.FileNames.{spelt};
-ghost use Rattle.station_session.specs.Judging.{AreRunApart, HasJournal, IsRunApart};
-ghost use Rattle.station_session.specs.Refusals.{RefusesCommandFiles, RefusesRun};
-ghost use Rattle.station_session.specs.RunFiles.{GoesKept, KeepsRunFiles, RunKeepsFiles, RunsFollowed};
-ghost use Rattle.station_session.specs.Session.{is_old, EndsCaptured, EndsRun, EndsStation, IsFresh, IsOpened, Loads, RunsFiles, StartsFrom};
+ghost use Rattle.station_line.specs.Opened.{is_old, IsFresh};
+ghost use Rattle.station_line.specs.Refusals.{RefusesRun};
+ghost use Rattle.station_session.specs.RunFiles.{KeepsRunFiles, RunKeepsFiles, RunsFollowed};
+ghost use Rattle.station_session.specs.Session.{EndsCaptured, EndsRun, RunsFiles};
 
 use crate::capture::{begin_capture, end_capture};
-use crate::faults::{of_journal, of_open};
-use crate::opening::open_files;
-use crate::session::{Session, give_up, load_session};
-use crate::site::save_site;
+use crate::fused::{Fuse, run_fused};
 use crate::streams::Streams;
 use crate::threads::run_threads;
 use crate::watch::Watch;
 use line_watch::{Capture, Captured, Cleared, Watched};
-use script_session::serve_commands;
 use sii_edit::Command;
 use site_file::{FileDevice, OpenFiles};
-use site_mem::{FaultPlan, Pattern};
 use site_shadow::{Device, ShadowSite};
-use station_alone::{Alone, OpenFault, recover};
-use station_files::{
-    ExitStatus, Fault, FileNames, Store, keep_apart, load_script_files, report_fault, status_of,
-    worse,
-};
+use station_files::{ExitStatus, Fault, Store, report_fault};
+use station_line::{Given, Session, load, of_open, open_files, open_station};
 use station_text::LineFile;
-use std::alloc::Global;
 use std::io::Write;
 use std::rt::Clock;
 use std::sync::Wait;
 use std::thread::Threads;
-
-/// A planned power cut of a run.
-#[derive(Clone, Copy)]
-pub struct Fuse {
-    /// How many writes succeed before the power cut, once the station is open: disk writes, syncs, and words that a slave takes.
-    pub writes: u32,
-    /// The value of a torn word after the power cut. Its low byte is the value of each unsynced byte of the journal.
-    pub left: u16,
-}
 
 /// The names of the files that a run is given.
 #[derive(Clone, Copy)]
@@ -53,15 +32,6 @@ pub struct RunNames<'a> {
     pub script: &'a str,
     /// The capture, if one is written.
     pub capture: Option<&'a str>,
-}
-
-/// What was read for a run.
-#[derive(Drop)]
-pub struct Given<L> {
-    /// The line.
-    pub session: Session<L>,
-    /// The commands of the script, in order.
-    pub commands: Vec<Command>,
 }
 
 /// How far a run came, and its exit status.
@@ -223,40 +193,6 @@ fn run_given<
     }
 }
 
-/// Opens the station on the line in memory, serves the commands up to the power cut, and saves what the line holds.
-fn run_fused<S: Store, W: Write, E: Write, R: Wait + Clock + AllocGlobal>(
-    rt: &R,
-    given: Given<S::Lock>,
-    fuse: Fuse,
-    capture: Option<&Capture<S::File>>,
-    store: &mut S,
-    streams: Streams<'_, W, E>,
-) -> ExitStatus
-    requires fresh { IsFresh given.session.line given.session.site }
-    requires old { given.session.is_old ≡ is_old given.session.site.seen.state.disk.bytes }
-    ensures { EndsRun true (S.files store.old) (S.files store.new) given.session.line given.session.site given.commands.items result }
-{
-    let Given { session, commands } = given;
-    let Session {
-        line,
-        site,
-        is_old,
-        refusal: _,
-        lock: _lock,
-    } = session;
-    let site = site.with_device(Captured::new(FaultPlan::none(), capture, rt));
-    // The sync at the opening of the station counts as a write too.
-    let plan = FaultPlan::fused(u64::from(fuse.writes) + 1, Pattern::Fill(fuse.left));
-    let device = Captured::new(plan, capture, rt);
-    match open_station(rt.alloc(), site, is_old, Some(device)) {
-        Ok(alone) => run_station(rt.alloc(), &line, alone, commands, store, streams),
-        Err((left, fault)) => {
-            drop(commands);
-            give_up(rt.alloc(), &line, left, fault, store, streams.faults)
-        }
-    }
-}
-
 /// Serves the commands by threads on the open files of the line. The line of the progress gives way to what is printed.
 fn run_opened<
     'a,
@@ -345,154 +281,4 @@ fn run_site<
             report_fault(of_open(fault), faults)
         }
     }
-}
-
-/// Reads the files in this order: line file, images of the slaves, journal, script, images that the script names. None of those that a run
-/// writes, its capture among them, may be another one. Then the journal's content is judged.
-///
-/// # Errors
-///
-/// As for `load_session`, then as for `load_script_files` and `keep_apart`; then `NotAJournal`, `BadVersion`, `WrongLine` or `BadJournal`
-/// where the journal is refused.
-pub fn load<S: Store>(
-    alloc: Global,
-    name: &str,
-    script: &str,
-    capture: Option<&str>,
-    store: &mut S,
-) -> Result<Given<S::Lock>, Fault>
-    ensures loaded { IfOk result (λ given. Loads (S.files store.old) name.now given.session.line given.session.site) }
-    ensures old { IfOk result (λ given. given.session.is_old ≡ is_old given.session.site.seen.state.disk.bytes) }
-    ensures journal { IfOk result (λ given. HasJournal given.session.site.line.sizes given.session.site.seen.state.disk.bytes) }
-    ensures spelt { IfOk result (λ given. SpellsCommands (S.files store.old) script.now given.commands.items) }
-    ensures apart { IfOk result (λ given. IsRunApart (S.files store.old) S.leads (option_map (λ given. given.now) capture.entry) given.session.line
-        name.now script.now) }
-    ensures refused { IfErr result (RefusesRun (S.files store.old) S.leads (option_map (λ given. given.now) capture.entry) name.now script.now) }
-    ensures same { S.files store.new ≡ S.files store.old }
-{
-    let session = load_session(alloc, name, store)?;
-    let refusal = session.refusal;
-    let Ok(files) = FileNames::of_line(alloc, &session.line, name, capture) else {
-        drop(session);
-        return Err(Fault::Memory);
-    };
-    match load_commands(alloc, script, files, store) {
-        Ok(commands) => match refusal {
-            None => Ok(Given { session, commands }),
-            Some(fault) => {
-                drop(session);
-                drop(commands);
-                Err(of_journal(fault))
-            }
-        },
-        Err(fault) => {
-            drop(session);
-            Err(fault)
-        }
-    }
-}
-
-/// Reads a script and the images that it names. None of them may be one of these files that the run writes.
-///
-/// # Errors
-///
-/// As for `load_script_files`, then as for `keep_apart`.
-fn load_commands<S: Store>(
-    alloc: Global,
-    script: &str,
-    files: FileNames,
-    store: &mut S,
-) -> Result<Vec<Command>, Fault>
-    ensures spelt { IfOk result (λ commands. SpellsCommands (S.files store.old) script.now commands.items) }
-    ensures apart { OnOk result (AreRunApart (S.files store.old) S.leads files.written (spelt files.names.items) script.now) }
-    ensures refused { IfErr result (RefusesCommandFiles (S.files store.old) S.leads files.has_capture files.written (spelt files.names.items)
-        script.now) }
-    ensures same { S.files store.new ≡ S.files store.old }
-{
-    let loaded = load_script_files(alloc, script, store)?;
-    let all = files.with_script(alloc, script, &loaded.images)?;
-    match keep_apart(alloc, &all, store) {
-        Ok(()) => Ok(loaded.commands),
-        Err(fault) => {
-            drop(loaded);
-            Err(fault)
-        }
-    }
-}
-
-/// Opens the station. A journal that isn't of version 2, as `is_old` says, is recovered and migrated first. Then `device`, if there is
-/// one, replaces the device behind the site.
-///
-/// # Errors
-///
-/// As for `recover` and `Alone::open`, with the site as they hand it back.
-pub fn open_station<D: Device + Drop>(
-    alloc: Global,
-    site: ShadowSite<D>,
-    is_old: bool,
-    device: Option<D>,
-) -> Result<Alone<ShadowSite<D>>, (ShadowSite<D>, OpenFault)>
-    requires disk { IsTrue site.line.has_disk }
-    requires owned { OwnsAll site.line }
-    ensures line { MatchResult result (λ alone. alone.line ≡ site.line) (λ back. back.0.line ≡ site.line) }
-    ensures starts { IfOk result (λ alone. StartsFrom is_old site alone) }
-    ensures goes { MatchResult result (λ alone. GoesKept site.seen alone.seen) (λ back. GoesKept site.seen back.0.seen) }
-{
-    if is_old {
-        let (alone, _recovered) = recover(alloc, site)?;
-        let (core, left) = alone.into_parts();
-        drop(core);
-        return open_upon(alloc, left, device);
-    }
-    open_upon(alloc, site, device)
-}
-
-/// Opens the station, after `device`, if there is one, has replaced the device behind the site.
-fn open_upon<D: Device + Drop>(
-    alloc: Global,
-    site: ShadowSite<D>,
-    device: Option<D>,
-) -> Result<Alone<ShadowSite<D>>, (ShadowSite<D>, OpenFault)>
-    requires disk { IsTrue site.line.has_disk }
-    requires owned { OwnsAll site.line }
-    ensures line { MatchResult result (λ alone. alone.line ≡ site.line) (λ back. back.0.line ≡ site.line) }
-    ensures opened { IfOk result (λ alone. IsOpened site.line site.seen alone) }
-    ensures goes { MatchResult result (λ alone. GoesKept site.seen alone.seen) (λ back. GoesKept site.seen back.0.seen) }
-{
-    let placed = with_other(site, device);
-    Alone::open(alloc, placed)
-}
-
-/// The site, with `device` in place of the device behind it, if there is one.
-fn with_other<D: Device + Drop>(mut site: ShadowSite<D>, device: Option<D>) -> ShadowSite<D>
-    ensures { result ≡ site }
-{
-    if let Some(device) = device {
-        let _before = site.replace_device(device);
-    }
-    site
-}
-
-/// Serves the commands on a station in memory, and saves what its line holds, also after a fault.
-fn run_station<D: Device + Drop, S: Store, W: Write, E: Write>(
-    alloc: Global,
-    line: &LineFile,
-    mut alone: Alone<ShadowSite<D>>,
-    commands: Vec<Command>,
-    store: &mut S,
-    streams: Streams<'_, W, E>,
-) -> ExitStatus
-    requires disk { IsTrue alone.line.has_disk }
-    requires slaves { length alone.line.sizes ≡ length line.now.images.items }
-    ensures { EndsStation true (S.files store.old) (S.files store.new) line.now alone commands.items result }
-{
-    let Streams { output, faults } = streams;
-    let mut status = ExitStatus::Done;
-    let slaves = line.images.len() as u16;
-    let served = serve_commands(&mut alone, slaves, commands, output, &mut status);
-    let (core, site) = alone.into_parts();
-    drop(core);
-    let saved = save_site(alloc, line, site, store);
-    let ended = worse(status_of(served, faults), status_of(saved, faults));
-    worse(status, ended)
 }

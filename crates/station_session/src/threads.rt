@@ -2,19 +2,19 @@
 ghost use Rattle.std.specs.Prelude.{◌≡◌, [], false, true, length, IsTrue, Ok, OnOk};
 ghost use Rattle.station_files.specs.Faults.{IsFaultless};
 ghost use Rattle.station_files.specs.Files.{ChangesAmong};
-ghost use Rattle.station_session.specs.Site.{files_of, HoldsSite};
-ghost use Rattle.script_session.specs.Parts.{IsFollowed, IsLineOf};
+ghost use Rattle.station_line.specs.Site.{files_of, HoldsSite, IsFollowed};
+ghost use Rattle.script_session.specs.Parts.{IsLineOf};
 ghost use Rattle.station_session.specs.RunFiles.{GoesBehind, GoesFollowed, ServesFollowedBy};
-ghost use Rattle.station_session.specs.Session.{EndsStation, SavesBehind, SavesLeft};
+ghost use Rattle.station_session.specs.Session.{EndsStation};
+ghost use Rattle.script_session.specs.Saving.{SavesBehind, SavesLeft};
 
-use crate::faults::of_open;
-use crate::site::save_site;
 use crate::streams::Streams;
-use script_session::{Ending, Left, Work, serve_by_threads, serve_commands};
+use script_session::{Ending, Left, Work, serve_by_threads};
 use sii_edit::Command;
 use site_shadow::{Device, ShadowSite};
 use station_alone::{Alone, recover};
 use station_files::{ExitStatus, Store, report_fault, status_of, worse};
+use station_line::{of_open, save_site, serve_commands};
 use station_text::LineFile;
 use std::alloc::Global;
 use std::io::Write;

@@ -6,7 +6,7 @@ use Rattle.std.proofs.lemmas.Result.{IfOk-weaker}
 use Rattle.station_text.specs.declared.line_file.LineFile.{LineFile}
 use Rattle.station_files.specs.Files.{Known, ChangesAmong, ChangesOnly}
 use Rattle.station_files.specs.LineFiles.{names_of}
-use Rattle.station_session.specs.Site.{files_of}
+use Rattle.station_line.specs.Site.{files_of}
 use Rattle.wire_faults.specs.declared.faults.WireFault.{WireFault}
 use Rattle.wire_faults.specs.Faults.{IsOfStream}
 use Rattle.wire_session.specs.Ending.{Ends, LeavesImages}

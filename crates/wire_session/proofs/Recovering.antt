@@ -9,12 +9,12 @@ use Rattle.station_text.specs.declared.line_file.LineFile.{LineFile}
 use Rattle.station_files.specs.Files.{Known, ChangesAmong, ChangesOnly}
 use Rattle.station_files.specs.FileNames.{IsLineApart}
 use Rattle.station_files.specs.Locations.{Leads}
-use Rattle.station_session.specs.Site.{IsSiteOf, files_of, switched_on, HoldsSite}
+use Rattle.station_line.specs.Site.{IsSiteOf, files_of, switched_on, HoldsSite}
 use Rattle.wire_faults.specs.declared.faults.WireFault.{WireFault}
 use Rattle.wire_faults.specs.declared.faults.WireFault.TheVariants as wire
 use Rattle.wire_faults.specs.Faults.{IsOfStream}
-use Rattle.station_session.specs.Init as bench
-use Rattle.station_session.specs.Init.{Formats}
+use Rattle.station_line.specs.Init as bench
+use Rattle.station_line.specs.Init.{Formats}
 use Rattle.station_files.specs.declared.faults.Fault.TheVariants.{Exists}
 use Rattle.wire_scan.specs.Opening.{IsFound}
 use Rattle.wire_session.specs.Recovery.{BeginsJournal, RefusesInit, EndsRecovery, Recovers, SavesRecovered}

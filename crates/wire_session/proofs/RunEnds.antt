@@ -15,16 +15,17 @@ use Rattle.station_files.specs.ScriptFiles.{NamesImages, SpellsCommands}
 use Rattle.station_files.specs.declared.faults.ExitStatus.{ExitStatus}
 use Rattle.station_files.specs.declared.faults.ExitStatus.TheVariants.{Done}
 use Rattle.station_files.specs.declared.faults.Fault.{Fault}
-use Rattle.script_session.specs.Rounds.{ServesSo}
+use Rattle.station_line.specs.Rounds.{ServesSo}
 use Rattle.script_session.specs.declared.threads.Left.{Left}
 use Rattle.script_session.specs.Parts.{Soundly}
 use Rattle.script_session.specs.AtDesk.{LeavesSo, ServesFollowed}
 use Rattle.script_session.proofs.DeskLaws.{served-told}
 use Rattle.script_session.proofs.SoundLaws.{served_soundly}
-use Rattle.station_session.specs.Site.{IsSiteOf, files_of, HoldsSite}
-use Rattle.station_session.specs.Judging.{IsRunApart}
-use Rattle.station_session.specs.Session.{is_old, HoldsBehind, SavesBehind, SavesLeft, SavesRun, SavesServed, Serves, StartsFrom}
-use Rattle.station_session.proofs.ThreadsEnd.{behind-unserved}
+use Rattle.station_line.specs.Site.{IsSiteOf, files_of, HoldsSite}
+use Rattle.station_line.specs.Judging.{IsRunApart}
+use Rattle.station_line.specs.Opened.{is_old, StartsFrom}
+use Rattle.script_session.specs.Saving.{HoldsBehind, SavesBehind, SavesLeft, SavesRun, SavesServed, Serves}
+use Rattle.script_session.proofs.SavingLaws.{behind-unserved}
 use Rattle.wire_faults.specs.declared.faults.WireFault.{WireFault}
 use Rattle.wire_scan.specs.Opening.{IsFound}
 use Rattle.wire_session.specs.Ending.{Ends, LeavesImages}

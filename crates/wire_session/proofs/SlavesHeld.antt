@@ -25,10 +25,10 @@ use Rattle.station_alone.specs.Recovery.{HasRecovered}
 use Rattle.station_jobs.specs.declared.log.SlaveLog.{SlaveLog}
 use Rattle.station_jobs.specs.Ends.{Stay}
 use Rattle.station_threads.specs.Parts.{IsEndOfSlave}
-use Rattle.script_session.specs.Parts.{BeginsWith, EndsWith, IsFollowed, IsWorkFollowed, Soundly}
+use Rattle.script_session.specs.Parts.{BeginsWith, EndsWith, IsWorkFollowed, Soundly}
+use Rattle.station_line.specs.Site.{IsFollowed, powered_up_from, switched_on}
 use Rattle.script_session.specs.AtDesk.{IsServedFollowed}
 use Rattle.script_session.proofs.SlaveLaws.{placed-at}
-use Rattle.station_session.specs.Site.{powered_up_from, switched_on}
 use Rattle.wire_session.specs.Slaves.{EndsFollowed, WasSent, SlavesHold}
 
 -- PLACES

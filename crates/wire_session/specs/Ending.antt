@@ -2,7 +2,7 @@
 use Rattle.std.specs.Prelude.{Result, string_bytes, IfErr, IfOk}
 use Rattle.station_text.specs.declared.line_file.LineFile.{LineFile}
 use Rattle.station_files.specs.Files.{Known, ChangesAmong, ChangesOnly}
-use Rattle.station_session.specs.Site.{files_of}
+use Rattle.station_line.specs.Site.{files_of}
 use Rattle.wire_faults.specs.Faults.{IsOfStream}
 use Rattle.wire_faults.specs.declared.faults.WireFault.{WireFault}
 

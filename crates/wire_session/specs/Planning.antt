@@ -7,8 +7,8 @@ use Rattle.station_files.specs.Files.{Known}
 use Rattle.station_files.specs.Locations.{Leads}
 use Rattle.station_files.specs.ScriptFiles.{SpellsCommands}
 use Rattle.station_files.specs.declared.faults.ExitStatus.{ExitStatus}
-use Rattle.station_session.specs.Judging.{IsRunApart}
-use Rattle.station_session.specs.Site.{IsSiteOf}
+use Rattle.station_line.specs.Judging.{IsRunApart}
+use Rattle.station_line.specs.Site.{IsSiteOf}
 use Rattle.station_plan.specs.Plan.{PlansSite}
 use Rattle.wire_scan.specs.Opening.{IsFound}
 

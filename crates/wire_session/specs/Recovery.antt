@@ -8,8 +8,8 @@ use Rattle.station_files.specs.Locations.{Leads}
 use Rattle.station_files.specs.declared.faults.Fault.TheVariants.{Exists}
 use Rattle.station_alone.specs.Station.{Station}
 use Rattle.station_alone.specs.Recovery.{HasRecovered, BeginsRecovered}
-use Rattle.station_session.specs.Init as bench
-use Rattle.station_session.specs.Site.{switched_on, HoldsSite}
+use Rattle.station_line.specs.Init as bench
+use Rattle.station_line.specs.Site.{switched_on, HoldsSite}
 use Rattle.wire_faults.specs.declared.faults.WireFault.{WireFault}
 use Rattle.wire_faults.specs.declared.faults.WireFault.TheVariants as wire
 use Rattle.wire_scan.specs.Opening.{IsFound}

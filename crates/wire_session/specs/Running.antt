@@ -9,9 +9,9 @@ use Rattle.station_files.specs.ScriptFiles.{SpellsCommands}
 use Rattle.station_files.specs.declared.faults.ExitStatus.{ExitStatus}
 use Rattle.station_alone.specs.Station.{Station}
 use Rattle.station_files.specs.Locations.{Leads}
-use Rattle.station_session.specs.Judging.{IsRunApart}
-use Rattle.station_session.specs.Site.{IsSiteOf}
-use Rattle.station_session.specs.Session.{SavesRun, SavesServed, Serves}
+use Rattle.station_line.specs.Judging.{IsRunApart}
+use Rattle.station_line.specs.Site.{IsSiteOf}
+use Rattle.script_session.specs.Saving.{SavesRun, SavesServed, Serves}
 use Rattle.wire_faults.specs.declared.faults.WireFault.{WireFault}
 use Rattle.wire_scan.specs.Opening.{IsFound}
 use Rattle.wire_session.specs.Ending.{Ends}

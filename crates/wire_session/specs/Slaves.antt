@@ -13,9 +13,8 @@ use Rattle.station_alone.specs.Station.{Station}
 use Rattle.station_alone.specs.Recovery.{HasRecovered}
 use Rattle.station_text.specs.declared.line_file.LineFile.{LineFile}
 use Rattle.station_files.specs.Files.{Known}
-use Rattle.script_session.specs.Parts.{IsFollowed}
+use Rattle.station_line.specs.Site.{IsFollowed, HoldsSite}
 use Rattle.script_session.specs.AtDesk.{IsServedFollowed}
-use Rattle.station_session.specs.Site.{HoldsSite}
 
 -- THE DEVICES
 

@@ -1,10 +1,10 @@
 //! The subcommand `init`.
 ghost use Rattle.std.specs.Prelude.{◌≡◌, IfErr, OnOk, ⊤};
-ghost use Rattle.station_session.specs.Init.{Formats};
+ghost use Rattle.station_line.specs.Init.{Formats};
 ghost use Rattle.wire_session.specs.Recovery.{BeginsJournal, RefusesInit};
 
 use station_files::{Fault, Store, load_line};
-use station_session::init_line;
+use station_line::init_line;
 use std::alloc::Global;
 use std::io::Write;
 use std::rt::Clock;
@@ -20,7 +20,7 @@ use wire_scan::{Asked, judge_slaves, sizes_of_images};
 /// # Errors
 ///
 /// As for `load_line` and `sizes_of_images`; as for `bring_up` and `judge_slaves`. Nothing is written up to there.
-/// Then as for `station_session::init_line`.
+/// Then as for `station_line::init_line`.
 #[tactic(auto, using(crate::proofs::Recovering::formats_behind, crate::proofs::Recovering::refuses_behind, crate::proofs::Recovering::refuses_early))]
 pub fn init_on_wire<R: Clock + AllocGlobal, W: Wire, S: Store, O: Write>(
     rt: &R,
@@ -44,7 +44,7 @@ pub fn init_on_wire<R: Clock + AllocGlobal, W: Wire, S: Store, O: Write>(
 ///
 /// # Errors
 ///
-/// As for `station_session::init_line`, but for `Exists`.
+/// As for `station_line::init_line`, but for `Exists`.
 #[tactic(auto, using(crate::proofs::Recovering::begun_before))]
 pub fn begin_journal<S: Store, O: Write>(
     alloc: Global,

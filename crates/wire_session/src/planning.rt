@@ -9,7 +9,7 @@ use site_mem::FaultPlan;
 use station_files::{ExitStatus, Store};
 use station_json::Form;
 use station_plan::plan_line;
-use station_session::{is_old, site_of};
+use station_line::{is_old, site_of};
 use std::alloc::Global;
 use std::io::Write;
 use std::rt::Clock;

@@ -2,7 +2,7 @@
 ghost use Rattle.std.specs.Prelude.{◌≡◌, ◌≤◌, length, IfErr, IsTrue, OnOk};
 ghost use Rattle.esc_rom.specs.Owned.{OwnsAll};
 ghost use Rattle.station_files.specs.Files.{ChangesAmong};
-ghost use Rattle.station_session.specs.Site.{files_of, switched_on, HoldsSite};
+ghost use Rattle.station_line.specs.Site.{files_of, switched_on, HoldsSite};
 ghost use Rattle.wire_faults.specs.Faults.{IsOfStream};
 ghost use Rattle.script_session.specs.Parts.{Soundly};
 ghost use Rattle.wire_session.specs.Recovery.{EndsRecovery, Recovers};
@@ -19,7 +19,7 @@ use site_shadow::{Device, ShadowSite};
 use site_wire::{LiveLine, LockedLine, WireDevice};
 use station_alone::Recovered;
 use station_files::{Fault, Store};
-use station_session::{save_site, site_of, write_recovered};
+use station_line::{save_site, site_of, write_recovered};
 use station_text::LineFile;
 use std::alloc::Global;
 use std::io::Write;

@@ -2,10 +2,9 @@
 ghost use Rattle.std.specs.Prelude.{◌≡◌, ◌+◌, IfOk, IsTrue};
 ghost use Rattle.esc_rom.specs.Owned.{OwnsAll};
 ghost use Rattle.station_alone.specs.Recovery.{BeginsRecovered, HasRecovered};
-ghost use Rattle.script_session.specs.Parts.{IsLineOf};
+ghost use Rattle.script_session.specs.Parts.{IsLineOf, Soundly};
 ghost use Rattle.script_session.specs.Redoing.{IsOpenedHere};
 ghost use Rattle.site_core.specs.Times.{Follows};
-ghost use Rattle.script_session.specs.Parts.{Soundly};
 ghost use Rattle.wire_session.specs.Slaves.{LedBehindDesk, LedThroughout};
 ghost use Rattle.wire_session.specs.Redoing.{BeginsAgain, CountsAll, RecoversBehind, RecoversByThreads, RedoesOpened};
 
@@ -13,7 +12,7 @@ use script_session::{Redone, redo_by_threads};
 use site_shadow::{Device, ShadowSite};
 use station_alone::{Alone, Found, Recovered, recover};
 use station_files::Fault;
-use station_session::of_open;
+use station_line::of_open;
 use std::alloc::Global;
 use std::sync::Wait;
 use std::thread::Threads;

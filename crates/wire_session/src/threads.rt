@@ -2,19 +2,19 @@
 ghost use Rattle.std.specs.Prelude.{◌≡◌, [], length, IfOk, IsTrue, Ok, OnOk};
 ghost use Rattle.station_files.specs.Files.{ChangesAmong};
 ghost use Rattle.station_files.specs.declared.faults.ExitStatus.TheVariants.{Done};
-ghost use Rattle.script_session.specs.Parts.{IsFollowed, IsLineOf, Soundly};
-ghost use Rattle.station_session.specs.Session.{HoldsBehind, SavesBehind, SavesLeft};
-ghost use Rattle.station_session.specs.Site.{files_of, HoldsSite};
+ghost use Rattle.station_line.specs.Site.{IsFollowed, files_of, HoldsSite};
+ghost use Rattle.script_session.specs.Parts.{IsLineOf, Soundly};
+ghost use Rattle.script_session.specs.Saving.{HoldsBehind, SavesBehind, SavesLeft};
 ghost use Rattle.wire_session.specs.Ending.{Ends, LeavesImages};
 ghost use Rattle.wire_session.specs.Running.{EndsAlone, SavesDesk};
 ghost use Rattle.wire_session.specs.Slaves.{IsFollowedLine, LedAtDesk, LedOn, SavesFollowed};
 
-use script_session::{Ending, Left, Work, is_sound, serve_by_threads, serve_commands};
+use script_session::{Ending, Left, Work, is_sound, serve_by_threads};
 use sii_edit::Command;
 use site_shadow::{Device, ShadowSite};
 use station_alone::{Alone, recover};
 use station_files::{ExitStatus, Fault, Store, worse};
-use station_session::{of_open, save_site};
+use station_line::{of_open, save_site, serve_commands};
 use station_text::LineFile;
 use std::alloc::Global;
 use std::io::Write;

@@ -2,7 +2,7 @@ use Rattle.std.proofs.Common.{◌∙◌, ap, arith, length, refl, subst, sym}
 use Rattle.site_core.specs.Line.{Line}
 use Rattle.site_core.specs.State.{Seen}
 use Rattle.book_model.specs.Book.{Book}
-use Rattle.script_session.specs.Parts.{IsFollowed}
+use Rattle.station_line.specs.Site.{IsFollowed}
 use Rattle.script_session.proofs.DeskLaws.{served-at-desk, serves-parts}
 use Rattle.script_session.proofs.SoundLaws.{followed_ends, on_ok}
 use Rattle.script_session.proofs.threads.serve_by_threads.Goals as goal

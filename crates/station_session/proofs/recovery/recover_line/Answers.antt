@@ -1,8 +1,9 @@
 use Rattle.std.proofs.Common.{inl, inr}
 use Rattle.station_files.proofs.Loaded.{handed_on}
-use Rattle.station_session.specs.Refusals.{RefusesRecovery}
-use Rattle.station_session.proofs.Ending.{is_fresh, recovers}
-use Rattle.station_session.proofs.Judged.{has_journal, journal_refused}
+use Rattle.station_line.specs.Refusals.{RefusesRecovery}
+use Rattle.station_line.proofs.Opened.{is_fresh}
+use Rattle.station_session.proofs.Ending.{recovers}
+use Rattle.station_line.proofs.Judged.{has_journal, journal_refused}
 use Rattle.station_session.proofs.recovery.recover_line.Goals as goal
 
 pub recover_session-requires-clause-fresh : goal.recover_session-requires-clause-fresh

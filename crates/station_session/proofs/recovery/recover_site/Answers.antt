@@ -1,5 +1,5 @@
 use Rattle.std.proofs.Common.{refl}
-use Rattle.kept_files.proofs.Extending.{recovers_on, fails_on}
+use Rattle.station_line.proofs.Extending.{recovers_on, fails_on}
 use Rattle.station_session.proofs.Ending.{keeps-files, ends-recovered, ends-unrecovered}
 use Rattle.station_session.proofs.recovery.recover_site.Goals as goal
 

@@ -3,7 +3,8 @@ use Rattle.site_shadow.specs.Site.{SiteValue}
 use denote.Param.Send.{sendable}
 use Rattle.site_file.proofs.Sent.{device-send}
 use Rattle.line_watch.proofs.Sent.{captured-send, watched-send}
-use Rattle.station_session.specs.Session.{EndsRun, IsFresh}
+use Rattle.station_session.specs.Session.{EndsRun}
+use Rattle.station_line.specs.Opened.{IsFresh}
 use Rattle.station_session.proofs.RunFiles.{kept_as, run_on_files}
 use Rattle.station_session.proofs.run.run_opened.Goals as goal
 

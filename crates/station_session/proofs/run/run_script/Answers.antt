@@ -1,6 +1,7 @@
 use Rattle.std.proofs.Common.{Bor, List, ℕ}
 use Rattle.std.specs.Prelude.{is_some, option_map}
-use Rattle.station_session.proofs.Ending.{is_fresh, runs}
+use Rattle.station_line.proofs.Opened.{is_fresh}
+use Rattle.station_session.proofs.Ending.{runs}
 use Rattle.station_session.proofs.RunFiles.{runs_kept}
 use Rattle.station_session.proofs.run.run_script.Goals as goal
 

@@ -1,5 +1,6 @@
 use Rattle.std.proofs.Common.{false, refl}
-use Rattle.station_session.proofs.Ending.{ends-opened, ends-unopened, starts-none, starts-synced}
+use Rattle.station_session.proofs.Ending.{ends-opened, ends-unopened}
+use Rattle.station_line.proofs.Opened.{starts-none, starts-synced}
 use Rattle.station_session.specs.RunFiles.{opened, unopened}
 use Rattle.station_session.proofs.run.run_site.Goals as goal
 

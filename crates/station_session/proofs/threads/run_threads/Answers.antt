@@ -1,5 +1,6 @@
 use Rattle.std.proofs.Common.{false, length, arith}
-use Rattle.station_session.proofs.ThreadsEnd.{ends-left, ends-unserved, line-of}
+use Rattle.station_session.proofs.ThreadsEnd.{ends-left, ends-unserved}
+use Rattle.script_session.proofs.SavingLaws.{line-of}
 use Rattle.station_session.specs.RunFiles.{served, unserved}
 use Rattle.station_session.proofs.threads.run_threads.Goals as goal
 

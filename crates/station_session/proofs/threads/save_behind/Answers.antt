@@ -1,6 +1,7 @@
 use Rattle.station_session.specs.RunFiles.{GoesFollowed}
 use Rattle.station_session.proofs.ThreadsEnd.{holds-driven, holds-undriven, saves_behind}
-use Rattle.station_session.proofs.RunFiles.{behind_goes, recovery_goes, failure_goes}
+use Rattle.station_session.proofs.RunFiles.{behind_goes}
+use Rattle.station_line.proofs.Going.{recovery_goes, failure_goes}
 use Rattle.station_session.proofs.threads.save_behind.Goals as goal
 
 pub returns-then-is_driven-clause-saved : goal.returns-then-is_driven-clause-saved

@@ -1,6 +1,6 @@
 use Rattle.std.proofs.Common.{ap, subst}
 use Rattle.site_core.specs.State.{Seen}
-use Rattle.script_session.specs.Parts.{IsFollowed}
+use Rattle.station_line.specs.Site.{IsFollowed}
 use Rattle.station_session.proofs.ThreadsEnd.{saves-station}
 use Rattle.station_session.proofs.threads.save_station.Goals as goal
 

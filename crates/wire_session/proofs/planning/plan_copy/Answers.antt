@@ -1,4 +1,4 @@
-use Rattle.station_session.proofs.Ending.{old-by}
+use Rattle.station_line.proofs.Opened.{old-by}
 use Rattle.wire_session.proofs.planning.plan_copy.Goals as goal
 
 pub plan_line-requires-clause-old : goal.plan_line-requires-clause-old

@@ -1,6 +1,6 @@
 use Rattle.wire_session.specs.Slaves.{SlavesHold}
 use Rattle.station_files.specs.Files.{Known}
-use Rattle.station_session.specs.Site.{switched_on}
+use Rattle.station_line.specs.Site.{switched_on}
 use Rattle.wire_session.specs.Recovery.{SavesRecovered}
 use Rattle.wire_session.proofs.Endings.{ends_told}
 use Rattle.wire_session.proofs.recovery.recover_found.Goals as goal

@@ -4,7 +4,7 @@ use Rattle.script_session.specs.Parts.{Soundly}
 use Rattle.site_wire.specs.Following.{WireFollows}
 use Rattle.wire_session.specs.Slaves.{EndsFollowed, SlavesHold}
 use Rattle.wire_session.proofs.SlavesHeld.{slaves_hold}
-use Rattle.station_session.specs.Site.{switched_on}
+use Rattle.station_line.specs.Site.{switched_on}
 use Rattle.wire_session.specs.Recovery.{SavesRecovered}
 use Rattle.wire_session.proofs.Endings.{ends_unmade}
 use Rattle.wire_session.proofs.Recovering.{recovers_opened}

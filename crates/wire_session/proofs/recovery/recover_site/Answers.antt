@@ -1,8 +1,9 @@
 use Rattle.std.proofs.Common.{◌≡◌, ◌∙◌, ap, sym, subst, length, arith}
 use Rattle.site_core.specs.Line.{Line}
 use Rattle.site_core.specs.State.{Seen}
-use Rattle.script_session.specs.Parts.{IsFollowed, Soundly}
-use Rattle.station_session.proofs.Ending.{as-many, has-disk}
+use Rattle.station_line.specs.Site.{IsFollowed}
+use Rattle.script_session.specs.Parts.{Soundly}
+use Rattle.station_line.proofs.Opened.{as-many, has-disk}
 use Rattle.wire_session.specs.Slaves.{EndsFollowed}
 use Rattle.wire_session.proofs.Recovering.{ends_recovered}
 use Rattle.wire_session.proofs.recovery.recover_site.Goals as goal

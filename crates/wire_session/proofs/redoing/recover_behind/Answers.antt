@@ -1,4 +1,4 @@
-use Rattle.kept_files.proofs.Extending.{recovers_on}
+use Rattle.station_line.proofs.Extending.{recovers_on}
 use Rattle.wire_session.proofs.redoing.recover_behind.Goals as goal
 
 pub returns-in-Ok-clause-follows : goal.returns-in-Ok-clause-follows

@@ -1,7 +1,6 @@
 use Rattle.script_session.specs.Parts.{Soundly}
-use Rattle.wire_session.proofs.BehindDesk.{followed-opened}
+use Rattle.wire_session.proofs.BehindDesk.{followed-opened, begins-opened, counts-opened}
 use Rattle.script_session.proofs.RedoLaws.{opened-here}
-use Rattle.wire_session.proofs.BehindDesk.{begins-opened, counts-opened}
 use Rattle.wire_session.proofs.redoing.recover_by_threads.Goals as goal
 
 pub redo_opened-requires-clause-opened : goal.redo_opened-requires-clause-opened

@@ -1,6 +1,5 @@
 use Rattle.script_session.specs.Parts.{Soundly}
-use Rattle.wire_session.proofs.BehindDesk.{followed-behind}
-use Rattle.wire_session.proofs.BehindDesk.{again-behind, counts-behind, line-behind}
+use Rattle.wire_session.proofs.BehindDesk.{followed-behind, again-behind, counts-behind, line-behind}
 use Rattle.wire_session.proofs.redoing.redo_opened.Goals as goal
 
 pub returns-clause-line : goal.returns-clause-line

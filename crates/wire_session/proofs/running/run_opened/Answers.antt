@@ -3,7 +3,7 @@ use Rattle.site_core.specs.State.{Seen}
 use Rattle.script_session.specs.Parts.{Soundly}
 use Rattle.site_wire.specs.Following.{WireFollows}
 use Rattle.station_files.specs.declared.faults.ExitStatus.{ExitStatus}
-use Rattle.station_session.proofs.Ending.{old-by}
+use Rattle.station_line.proofs.Opened.{old-by}
 use Rattle.wire_session.specs.Running.{SavesFound}
 use Rattle.wire_session.specs.Slaves.{EndsFollowed}
 use Rattle.wire_session.proofs.SlavesHeld.{slaves_hold}

@@ -1,6 +1,6 @@
 use Rattle.std.proofs.Common.{length}
 use Rattle.script_session.specs.Parts.{Soundly}
-use Rattle.station_session.proofs.Ending.{starts-none}
+use Rattle.station_line.proofs.Opened.{starts-none}
 use Rattle.wire_session.proofs.RunEnds.{ends_opened}
 use Rattle.wire_session.proofs.running.run_site.Goals as goal
 

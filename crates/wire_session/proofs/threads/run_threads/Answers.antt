@@ -1,5 +1,5 @@
 use Rattle.std.proofs.Common.{length, arith}
-use Rattle.station_session.proofs.ThreadsEnd.{line-of}
+use Rattle.script_session.proofs.SavingLaws.{line-of}
 use Rattle.wire_session.proofs.RunEnds.{ends_at_desk}
 use Rattle.wire_session.proofs.threads.run_threads.Goals as goal
 

@@ -1,6 +1,6 @@
 use Rattle.std.proofs.Common.{length}
 use Rattle.script_session.specs.Parts.{Soundly}
-use Rattle.kept_files.proofs.Extending.{recovers_on}
+use Rattle.station_line.proofs.Extending.{recovers_on}
 use Rattle.wire_session.proofs.RunEnds.{ends_behind, saves_led}
 use Rattle.wire_session.proofs.threads.save_behind.Goals as goal
 

@@ -1,9 +1,9 @@
 use Rattle.std.proofs.Common.{ap, subst, true}
 use Rattle.site_core.specs.State.{Seen}
 use Rattle.station_files.specs.declared.faults.ExitStatus.{ExitStatus}
-use Rattle.station_session.specs.Session.{SavesServed}
+use Rattle.script_session.specs.Saving.{SavesServed}
 use Rattle.script_session.proofs.SoundLaws.{on_ok}
-use Rattle.station_session.specs.Site.{HoldsSite}
+use Rattle.station_line.specs.Site.{HoldsSite}
 use Rattle.wire_session.proofs.RunEnds.{Behind, ends_driven, ends_failed, ends_undriven}
 use Rattle.wire_session.proofs.threads.save_recovered.Goals as goal
 

@@ -1,6 +1,0 @@
-use Rattle.script_session.proofs.RoundServing.{closes-on}
-use Rattle.script_session.proofs.commands.serve_in_rounds.Goals as goal
-
-pub returns : goal.returns
-returns g c =
-    closes-on c.args.commands.items c.serve_all.result c.args.status.now c.submit_all.new.status c.args.alone.now c.submit_all.new.alone c.serve_all.new.alone c.in_ok-submit_all.ensures c.serve_all.ensures.goes c.serve_all.ensures.served

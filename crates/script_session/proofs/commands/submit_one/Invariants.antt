@@ -1,9 +1,0 @@
-use Rattle.std.proofs.Common.{◌≡◌, []}
-use Rattle.script_session.specs.Rounds.{Goes}
-use Rattle.script_session.proofs.commands.submit_one.Given as goal
-
-abbrev pub invariant-loop-round : goal.invariant-loop-round
-invariant-loop-round g l = record {
-  goes : Goes [] l.fn.alone l.alone;
-  same : l.status ≡ l.fn.status;
-}

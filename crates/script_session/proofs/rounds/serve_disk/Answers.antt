@@ -1,8 +1,0 @@
-use Rattle.std.proofs.Common.{[]}
-use Rattle.script_session.proofs.RoundLaws.{goes-by}
-use Rattle.script_session.proofs.rounds.serve_disk.Goals as goal
-
-pub returns : goal.returns
-returns g c =
-    let step = c.act-answer in
-    goes-by [] 1 c.args.alone.now step.new.self step.ensures.goes_on step.ensures.keeps

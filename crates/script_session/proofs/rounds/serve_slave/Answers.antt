@@ -1,8 +1,0 @@
-use Rattle.std.proofs.Common.{[]}
-use Rattle.script_session.proofs.RoundLaws.{goes-by}
-use Rattle.script_session.proofs.rounds.serve_slave.Goals as goal
-
-pub returns : goal.returns
-returns g c =
-    let step = c.serve-next in
-    goes-by [] 10001 c.args.alone.now step.new.self step.ensures.goes_on step.ensures.keeps

@@ -1,0 +1,68 @@
+-- What the files of a line hold once its commands were served.
+use Rattle.std.specs.Prelude.{◌≡◌, Ok, Bool, true, false, List}
+use Rattle.sii_edit.specs.declared.command.Command.{Command}
+use Rattle.site_core.specs.State.{Seen}
+use Rattle.site_shadow.specs.Site.{SiteValue}
+use Rattle.station_alone.specs.Station.{Station}
+use Rattle.station_alone.specs.Recovery.{HasRecovered, BeginsRecovered}
+use Rattle.station_text.specs.declared.line_file.LineFile.{LineFile}
+use Rattle.station_files.specs.Files.{Known}
+use Rattle.station_files.specs.declared.faults.ExitStatus.{ExitStatus}
+use Rattle.station_files.specs.declared.faults.ExitStatus.TheVariants.{Done}
+use Rattle.station_line.specs.Site.{HoldsSite}
+use Rattle.station_line.specs.Opened.{is_old, StartsFrom}
+use Rattle.station_line.specs.Rounds.{AreAmong, Goes, IsServed}
+use Rattle.script_session.specs.declared.threads.Left.{Left}
+use Rattle.script_session.specs.AtDesk.{IsServedAtDesk}
+
+-- The files hold the state of this station after some of the commands were accepted and served: all of them if the status is `Done`.
+pub record SavesServed (files : Known) (line : LineFile) (opened : Station) (commands : List Command) (status : ExitStatus) : Type 0 where
+  pub s : Station
+  pub accepted : List Command
+  pub goes : Goes accepted opened s
+  pub among : AreAmong accepted commands
+  pub all : status ≡ Done → accepted ≡ commands
+  pub served : IsServed s.book
+  pub held : HoldsSite files line s.seen.state
+
+-- The files hold the state of this recovered station. If no command had been submitted at the desk, the commands are served on it first.
+abbrev pub HoldsBehind : (is_driven : Bool) → Known → LineFile → Station → List Command → ExitStatus → Type 0
+HoldsBehind true files line r commands status = HoldsSite files line r.seen.state
+HoldsBehind false files line r commands status = SavesServed files line r commands status
+
+-- The site was recovered after the desk was closed, and the files hold its result.
+pub record SavesBehind (files : Known) (line : LineFile) (before : Seen) (is_driven : Bool) (commands : List Command)
+    (status : ExitStatus) : Type 0 where
+  pub r : Station
+  pub recovered : HasRecovered r
+  pub begins : BeginsRecovered before r
+  pub holds : HoldsBehind is_driven files line r commands status
+
+-- No fault was told of the work at the desk, which was closed, and the files hold the line after it, with the commands that were not
+-- submitted there.
+pub record SavesLeft (files : Known) (line : LineFile) (left : Left SiteValue) (status : ExitStatus) : Type 0 where
+  pub worst : status ≡ Done → left.ending.status ≡ Done
+  pub told : left.ending.told ≡ Ok tt
+  pub behind : SavesBehind files line left.site.seen left.ending.is_driven left.unserved.items status
+
+-- The line of this station was taken apart, served by threads at a desk, put together again and recovered, and the files hold the result.
+-- The desk was closed with some of the commands accepted: all of them if the status is `Done`.
+pub record SavesAtDesk (files : Known) (line : LineFile) (opened : Station) (commands : List Command) (status : ExitStatus) : Type 0 where
+  pub is_driven : Bool
+  pub answers : ExitStatus
+  pub worst : status ≡ Done → answers ≡ Done
+  pub site : SiteValue
+  pub served : IsServedAtDesk opened commands is_driven answers (Ok tt) site
+  pub behind : SavesBehind files line site.seen is_driven commands status
+
+-- A run with a planned power cut is served on one thread, any other by threads.
+abbrev pub Serves : (is_cut : Bool) → Known → LineFile → Station → List Command → ExitStatus → Type 0
+Serves true files line opened commands status = SavesServed files line opened commands status
+Serves false files line opened commands status = SavesAtDesk files line opened commands status
+
+-- The station was opened on this site, after a recovery if the journal wasn't of version 2, and the files hold its state once served.
+pub record SavesRun (is_cut : Bool) (files : Known) (line : LineFile) (site : SiteValue) (commands : List Command)
+    (status : ExitStatus) : Type 0 where
+  pub opened : Station
+  pub starts : StartsFrom (is_old site.seen.state.disk.bytes) site opened
+  pub serves : Serves is_cut files line opened commands status

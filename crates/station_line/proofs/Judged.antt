@@ -1,0 +1,85 @@
+-- What was judged of a line's journal and of its files.
+use Rattle.std.proofs.Common.{◌≡◌, ℕ, Bool, List, ◌∷◌, ◌++◌, Option, Some, None, length, map, refl, sym, subst, inl, inr}
+use Rattle.std.specs.Prelude.{MatchOption, is_some, option_map}
+use Rattle.site_core.specs.State.{Seen}
+use Rattle.site_shadow.specs.Site.{SiteValue}
+use Rattle.jrn_format.specs.declared.fault.JournalFault.{JournalFault}
+use Rattle.jrn_format.specs.Fault.{IsFaultOf}
+use Rattle.station_text.specs.declared.line_file.LineFile.{LineFile}
+use Rattle.station_files.specs.Files.{Known}
+use Rattle.station_files.specs.FileNames.{files_with, written_of, RefusesNames}
+use Rattle.station_files.specs.Locations.{AreApart, Leads}
+use Rattle.station_files.specs.ScriptFiles.{NamesImages}
+use Rattle.station_files.specs.declared.faults.Fault.{Fault}
+use Rattle.station_line.specs.Faults.{of_journal}
+use Rattle.station_line.specs.Judging.{AreRunApart, HasJournal, IsJudged, IsRunApart}
+use Rattle.station_line.specs.Refusals.{RefusesApart, RefusesCommandFiles, RefusesJournal, RefusesRun}
+use Rattle.station_line.specs.Opened.{Loads}
+use Rattle.station_line.specs.Site.{IsSiteOf}
+
+-- the bytes that were judged are those of the site
+pub judged_by : (slaves : List (List ℕ)) (bytes : List ℕ) (site : SiteValue) (refusal : Option JournalFault) → IsSiteOf slaves bytes site
+    → MatchOption refusal (HasJournal (map length slaves) bytes) (IsFaultOf bytes (map length slaves)) → IsJudged site refusal
+judged_by slaves bytes site refusal made judged =
+    let P : List ℕ → Type 0 = λ sizes. MatchOption refusal (HasJournal sizes bytes) (IsFaultOf bytes sizes) in
+    let Q : Seen → Type 0 = λ seen. MatchOption refusal (HasJournal site.line.sizes seen.state.disk.bytes) (IsFaultOf seen.state.disk.bytes site.line.sizes) in
+    subst Q (sym made.seen) (subst P (sym made.sizes) judged)
+
+pub has_journal : (site : SiteValue) (refusal : Option JournalFault) → IsJudged site refusal → refusal ≡ None → HasJournal site.line.sizes site.seen.state.disk.bytes
+has_journal site refusal judged none = subst (λ (found : Option JournalFault). IsJudged site found) none judged
+
+pub journal_refused : (files : Known) (name : List ℕ) (line : LineFile) (site : SiteValue) (refusal : Option JournalFault) (why : JournalFault) (fault : Fault) → Loads files name line site → IsJudged site refusal → refusal ≡ Some why → fault ≡ of_journal why
+    → RefusesJournal files name fault
+journal_refused files name line site refusal why fault given judged some is =
+    let P : List ℕ → Type 0 = λ sizes. IsFaultOf site.seen.state.disk.bytes sizes why in
+    let Q : Seen → Type 0 = λ seen. IsFaultOf seen.state.disk.bytes (map length given.plant) why in
+    record {
+      line = line;
+      plant = given.plant;
+      bytes = given.bytes;
+      given = given.given;
+      why = why;
+      refused = subst Q given.made.seen (subst P given.made.sizes (subst (λ (found : Option JournalFault). IsJudged site found) some judged));
+      is = is;
+    }
+
+-- ---- the files of a run
+
+-- the script and its images were listed behind the others
+pub joined_apart : (files : Known) (leads : Leads) (count counted : ℕ) (names all : List (List ℕ)) (script : List ℕ) (images : List (List ℕ)) → NamesImages files script images → counted ≡ count → all ≡ names ++ script ∷ images → AreApart leads counted all
+    → AreRunApart files leads count names script
+joined_apart files leads count counted names all script images named same listed apart =
+    let P : ℕ → Type 0 = λ n. AreApart leads n (names ++ script ∷ images) in
+    let Q : List (List ℕ) → Type 0 = λ l. AreApart leads counted l in
+    record { images = images; named = named; apart = subst P same (subst Q listed apart) }
+
+pub joined_refused : (files : Known) (leads : Leads) (captures has_capture : Bool) (count counted : ℕ) (names all : List (List ℕ)) (script : List ℕ) (images : List (List ℕ)) (fault : Fault) → NamesImages files script images → has_capture ≡ captures → counted ≡ count
+    → all ≡ names ++ script ∷ images → RefusesNames leads has_capture counted all fault → RefusesApart files leads captures count names script fault
+joined_refused files leads captures has_capture count counted names all script images fault named kept same listed refused =
+    let P : ℕ → Type 0 = λ n. RefusesNames leads captures n (names ++ script ∷ images) fault in
+    let Q : List (List ℕ) → Type 0 = λ l. RefusesNames leads captures counted l fault in
+    let R : Bool → Type 0 = λ b. RefusesNames leads b counted all fault in
+    record { images = images; named = named; refused = subst P same (subst Q listed (subst R kept refused)) }
+
+-- a name that is there is there as bytes
+pub some_mapped : {A B : Type 0} (f : A → B) (given : Option A) → is_some (option_map f given) ≡ is_some given
+some_mapped f (Some x) = refl
+some_mapped f None = refl
+
+-- the names that were listed are those of the line
+pub run_apart : (old new : Known) (leads : Leads) (capture : Option (List ℕ)) (line : LineFile) (name script : List ℕ) (count : ℕ) (names : List (List ℕ)) → new ≡ old → count ≡ length (written_of capture line) → names ≡ files_with capture line name
+    → AreRunApart new leads count names script → IsRunApart old leads capture line name script
+run_apart old new leads capture line name script count names same counted listed apart =
+    let P : Known → Type 0 = λ files. AreRunApart files leads (length (written_of capture line)) (files_with capture line name) script in
+    let Q : ℕ → Type 0 = λ n. AreRunApart new leads n (files_with capture line name) script in
+    let R : List (List ℕ) → Type 0 = λ l. AreRunApart new leads count l script in
+    subst P same (subst Q counted (subst R listed apart))
+
+pub script_refused : (old new : Known) (leads : Leads) (capture : Option (List ℕ)) (line : LineFile) (name script : List ℕ) (site : SiteValue) (has_capture : Bool) (count : ℕ) (names : List (List ℕ)) (fault : Fault) → Loads old name line site → new ≡ old → has_capture ≡ is_some capture
+    → count ≡ length (written_of capture line) → names ≡ files_with capture line name → RefusesCommandFiles new leads has_capture count names script fault → RefusesRun old leads capture name script fault
+script_refused old new leads capture line name script site has_capture count names fault given same captures counted listed refused =
+    let P : Known → Type 0 = λ files. RefusesCommandFiles files leads (is_some capture) (length (written_of capture line)) (files_with capture line name) script fault in
+    let Q : ℕ → Type 0 = λ n. RefusesCommandFiles new leads (is_some capture) n (files_with capture line name) script fault in
+    let R : List (List ℕ) → Type 0 = λ l. RefusesCommandFiles new leads (is_some capture) count l script fault in
+    let S : Bool → Type 0 = λ b. RefusesCommandFiles new leads b count names script fault in
+    inr (inl (record { line = line; described = given.given.described; refused = subst P same (subst Q counted (subst R listed (subst S captures refused))) }))

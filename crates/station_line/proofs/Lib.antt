@@ -1,0 +1,11 @@
+pub mod Formatted
+pub mod Judged
+pub mod Refused
+pub mod Saved
+pub mod SwitchedOn
+pub mod Opened
+pub mod Extending
+pub mod Going
+pub mod RoundLaws
+pub mod RoundServing
+pub mod RoundSubmitting

@@ -1,0 +1,158 @@
+-- Commands that are submitted one by one, of which some are accepted.
+use Rattle.std.proofs.Common.{◌≡◌, ℕ, List, [], ◌∷◌, ◌++◌, refl, sym, ◌∙◌, ap, subst, inl, inr, Result, Ok, Err}
+use Rattle.std.specs.Prelude.{IsErrAnd, OnOk}
+use Rattle.std.proofs.lemmas.List.{append-nil}
+use Rattle.sii_edit.specs.declared.command.Command.{Command}
+use Rattle.sii_edit.specs.declared.refusal.Cause.{Cause}
+use Rattle.sii_edit.specs.declared.refusal.Cause.TheVariants as causes
+use Rattle.book_model.specs.declared.refusal.SubmitRefusal.{SubmitRefusal}
+use Rattle.book_model.specs.declared.refusal.SubmitRefusal.TheVariants as refusals
+use Rattle.station_alone.specs.declared.choice.Choice.TheVariants.{Submit}
+use Rattle.station_alone.specs.declared.choice.Answer.{Answer}
+use Rattle.station_alone.specs.declared.choice.Answer.TheVariants.{Accepted, Refused, Did, Idle, Ended, Failed, NoMemory}
+use Rattle.station_alone.specs.Station.{Station}
+use Rattle.station_alone.specs.Steps.{told_number, told_refusal}
+use Rattle.station_alone.specs.Keeping.{Went, accepted_by}
+use Rattle.station_files.specs.declared.faults.Fault.{Fault}
+use Rattle.station_files.specs.declared.faults.ExitStatus.{ExitStatus}
+use Rattle.station_files.specs.declared.faults.ExitStatus.TheVariants.{Done}
+use Rattle.station_line.specs.Rounds.{AnswersCommand, AreAmong, Goes, IsAccepted, SubmitsSo}
+use Rattle.station_line.proofs.RoundLaws.{goes-by, goes-none, goes-then}
+
+-- ---- some of the commands
+
+pub among-none : (commands : List Command) → AreAmong [] commands
+among-none [] = refl
+among-none (command ∷ commands) = inr (among-none commands)
+
+pub among-then : (some more first second : List Command) → AreAmong some first → AreAmong more second → AreAmong (some ++ more) (first ++ second)
+among-then some more [] second one two = subst (λ (s : List Command). AreAmong (s ++ more) second) (sym one) two
+among-then some more (command ∷ first) second (inl (rest, is, one)) two =
+    inl (rest ++ more, ap (λ (s : List Command). s ++ more) is, among-then rest more first second one two)
+among-then some more (command ∷ first) second (inr one) two = inr (among-then some more first second one two)
+
+among-more : (some first second : List Command) → AreAmong some first → AreAmong some (first ++ second)
+among-more some first second one = subst (λ (s : List Command). AreAmong s (first ++ second)) (append-nil some) (among-then some [] first second one (among-none second))
+
+-- ---- one command
+
+pub all-by : (command : Command) (answer : Answer) → IsAccepted answer → accepted_by (Submit command) answer ≡ command ∷ []
+all-by command (Accepted number) is = refl
+all-by command (Refused refusal) is = absurd is
+all-by command Did is = absurd is
+all-by command Idle is = absurd is
+all-by command Ended is = absurd is
+all-by command (Failed fault) is = absurd is
+all-by command NoMemory is = absurd is
+
+none-by : (command : Command) (answer : Answer) → (IsAccepted answer → ⊥) → accepted_by (Submit command) answer ≡ []
+none-by command (Accepted number) not = absurd (not tt)
+none-by command (Refused refusal) not = refl
+none-by command Did not = refl
+none-by command Idle not = refl
+none-by command Ended not = refl
+none-by command (Failed fault) not = refl
+none-by command NoMemory not = refl
+
+among-by : (command : Command) (answer : Answer) → AreAmong (accepted_by (Submit command) answer) (command ∷ [])
+among-by command (Accepted number) = inl ([], refl, refl)
+among-by command (Refused refusal) = inr refl
+among-by command Did = inr refl
+among-by command Idle = inr refl
+among-by command Ended = inr refl
+among-by command (Failed fault) = inr refl
+among-by command NoMemory = inr refl
+
+-- the answer to a command that was submitted
+told-cause : (refusal : SubmitRefusal) (cause : Cause) → AnswersCommand (told_refusal refusal cause)
+told-cause refusal (causes.BadCategory kind) = tt
+told-cause refusal causes.NoRoom = tt
+told-cause refusal causes.NoSlave = tt
+told-cause refusal causes.SameSlave = tt
+told-cause refusal causes.EmptyGroup = tt
+told-cause refusal causes.GroupTooLong = tt
+told-cause refusal causes.ImageTooLong = tt
+told-cause refusal causes.BadCheck = tt
+told-cause refusal causes.NoSuchCategory = tt
+told-cause refusal causes.SeveralCategories = tt
+told-cause refusal causes.BadChain = tt
+told-cause refusal causes.ImageOverLimit = tt
+told-cause refusal causes.Memory = tt
+told-cause refusal causes.WrongIdentity = tt
+
+told-number : (result : Result ℕ SubmitRefusal) → AnswersCommand (told_number result)
+told-number (Ok number) = tt
+told-number (Err (refusals.Command refusal)) = told-cause (refusals.Command refusal) refusal.cause
+told-number (Err refusals.TooLarge) = tt
+told-number (Err refusals.Full) = tt
+told-number (Err refusals.Closed) = tt
+told-number (Err refusals.OldJournal) = tt
+
+pub answers-command : (command : Command) (answer : Answer) (old new : Station) → Went (Submit command) old answer new → AnswersCommand answer
+answers-command command answer old new went = subst AnswersCommand (sym went.steps.answered) (told-number went.steps.result)
+
+pub goes-went : (command : Command) (answer : Answer) (old new : Station) → Went (Submit command) old answer new → Goes (accepted_by (Submit command) answer) old new
+goes-went command answer old new went = goes-by (accepted_by (Submit command) answer) 0 old new went.goes_on went.keeps
+
+-- a command that has to wait isn't accepted
+pub goes-refused : (command : Command) (answer : Answer) (old new : Station) → (IsAccepted answer → ⊥) → Went (Submit command) old answer new → Goes [] old new
+goes-refused command answer old new not went = subst (λ (l : List Command). Goes l old new) (none-by command answer not) (goes-went command answer old new went)
+
+-- ---- several commands
+
+module _ {E : Type 0} where
+  all-on : (commands accepted : List Command) (before after : ExitStatus) (result : Result (Unit {0}) E) → (after ≡ Done → (before ≡ Done) × (accepted ≡ commands)) → OnOk result (after ≡ Done → (before ≡ Done) × (accepted ≡ commands))
+  all-on commands accepted before after (Ok done) all = all
+  all-on commands accepted before after (Err fault) all = tt
+
+  pub submits-none : (status : ExitStatus) (s : Station) → SubmitsSo {E = E} [] (Ok tt) status status s s
+  submits-none status s = record { accepted = []; goes = goes-none s; among = refl; all = λ done. (done, refl) }
+
+  -- a fault came first
+  pub submits-failed : (commands : List Command) (fault : E) (before after : ExitStatus) (old new : Station) → Goes [] old new → SubmitsSo {E = E} commands (Err fault) before after old new
+  submits-failed commands fault before after old new goes = record { accepted = []; goes = goes; among = among-none commands; all = tt }
+
+  -- the command was answered, after some rounds
+  pub submits-one : (command : Command) (answer : Answer) (result : Result (Unit {0}) E) (before status after : ExitStatus) (a b c : Station) → status ≡ before → Goes [] a b → Went (Submit command) b answer c
+      → (after ≡ Done → (status ≡ Done) × IsAccepted answer) → SubmitsSo {E = E} (command ∷ []) result before after a c
+  submits-one command answer result before status after a b c same first went all = record {
+    accepted = accepted_by (Submit command) answer;
+    goes = goes-then [] (accepted_by (Submit command) answer) a b c first (goes-went command answer b c went);
+    among = among-by command answer;
+    all = all-on (command ∷ []) (accepted_by (Submit command) answer) before after result (λ done. let x = all done in (sym same ∙ x.0, all-by command answer x.1));
+  }
+
+  all-then : (first second one two : List Command) (before status after : ExitStatus) (result : Result (Unit {0}) E) → (status ≡ Done → (before ≡ Done) × (one ≡ first)) → OnOk result (after ≡ Done → (status ≡ Done) × (two ≡ second))
+      → OnOk result (after ≡ Done → (before ≡ Done) × (one ++ two ≡ first ++ second))
+  all-then first second one two before status after (Ok done) x y = λ is.
+      let q = y is in
+      let p = x q.0 in
+      (p.0, ap (λ (l : List Command). l ++ two) p.1 ∙ ap (λ (l : List Command). first ++ l) q.1)
+  all-then first second one two before status after (Err fault) x y = tt
+
+  pub submits-then : (first second : List Command) (result : Result (Unit {0}) E) (before status after : ExitStatus) (a b c : Station) → SubmitsSo {E = E} first (Ok tt) before status a b → SubmitsSo {E = E} second result status after b c
+      → SubmitsSo {E = E} (first ++ second) result before after a c
+  submits-then first second result before status after a b c one two = record {
+    accepted = one.accepted ++ two.accepted;
+    goes = goes-then one.accepted two.accepted a b c one.goes two.goes;
+    among = among-then one.accepted two.accepted first second one.among two.among;
+    all = all-then first second one.accepted two.accepted before status after result one.all two.all;
+  }
+
+  -- a fault came between two of the commands
+  pub submits-cut : (first second : List Command) (fault other : E) (before after : ExitStatus) (a b : Station) → SubmitsSo {E = E} first (Err fault) before after a b → SubmitsSo {E = E} (first ++ second) (Err other) before after a b
+  submits-cut first second fault other before after a b one =
+      record { accepted = one.accepted; goes = one.goes; among = among-more one.accepted first second one.among; all = tt }
+
+  -- the next of the commands was submitted, and a fault came
+  pub submits-stopped : (first : List Command) (command : Command) (rest all : List Command) (fault other : E) (before status after : ExitStatus) (a b c : Station) → (first ++ command ∷ []) ++ rest ≡ all
+      → SubmitsSo {E = E} first (Ok tt) before status a b → SubmitsSo {E = E} (command ∷ []) (Err fault) status after b c → SubmitsSo {E = E} all (Err other) before after a c
+  submits-stopped first command rest all fault other before status after a b c is one two =
+      subst (λ (l : List Command). SubmitsSo {E = E} l (Err other) before after a c) is
+      (submits-cut (first ++ command ∷ []) rest fault other before after a c (submits-then first (command ∷ []) (Err fault) before status after a b c one two))
+
+-- ---- a fault that is handed on
+
+pub handed_on : {T : Type 0} (result : Result T Fault) (fault : Fault) → IsErrAnd result (λ (other : Fault). other ≡ fault) → result ≡ Err fault
+handed_on (Ok value) fault is = absurd is
+handed_on (Err other) fault is = ap Err is

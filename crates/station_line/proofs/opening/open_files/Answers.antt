@@ -1,0 +1,14 @@
+use Rattle.std.proofs.Common.{string_bytes}
+use Rattle.station_files.specs.LineFiles.{names_of}
+use Rattle.station_line.proofs.Saved.{changes_line}
+use Rattle.station_line.proofs.opening.open_files.Goals as goal
+
+pub returns-clause-others : goal.returns-clause-others
+returns-clause-others g c =
+    changes_line (g.S.Store.files c.args.store.now) (g.S.Store.files c.open.new.self) (g.S.Store.files c.open_images.new.store) (string_bytes c.args.line.now.journal) (names_of c.args.line.now)
+    (rw c.as_str.ensures.value at c.open.ensures.others) (rw c.deref.ensures.value at c.open_images.ensures.others)
+
+pub returns-in_err-images-clause-others : goal.returns-in_err-images-clause-others
+returns-in_err-images-clause-others g c =
+    changes_line (g.S.Store.files c.args.store.now) (g.S.Store.files c.open.new.self) (g.S.Store.files c.open_images.new.store) (string_bytes c.args.line.now.journal) (names_of c.args.line.now)
+    (rw c.as_str.ensures.value at c.open.ensures.others) (rw c.deref.ensures.value at c.open_images.ensures.others)

@@ -1,0 +1,8 @@
+use Rattle.std.proofs.Common.{[]}
+use Rattle.station_line.proofs.RoundLaws.{goes-by}
+use Rattle.station_line.proofs.rounds.serve_slave.Goals as goal
+
+pub returns : goal.returns
+returns g c =
+    let step = c.serve-next in
+    goes-by [] 10001 c.args.alone.now step.new.self step.ensures.goes_on step.ensures.keeps

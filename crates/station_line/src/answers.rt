@@ -1,0 +1,67 @@
+//! The refusals and faults of a book as the program prints them.
+
+ghost use Rattle.std.specs.Prelude.{◌≡◌, ◌≢◌, IfErr, Some};
+ghost use Rattle.station_files.specs.Faults.{IsOfStream};
+ghost use Rattle.station_line.specs.Faults.{fault_of_book};
+
+use book_model::{Fault as BookFault, SubmitRefusal};
+use station_files::{ExitStatus, Fault, Refused, worse};
+use station_listing::Code;
+use std::io::Write;
+
+/// The refusal of a command, as it is printed.
+pub fn refused_as(refusal: SubmitRefusal) -> Refused {
+    let code = match refusal {
+        SubmitRefusal::Command(refusal) => return Refused::from(refusal),
+        SubmitRefusal::TooLarge => Code::TooLarge,
+        SubmitRefusal::Full => Code::Full,
+        SubmitRefusal::Closed => Code::Closed,
+        SubmitRefusal::OldJournal => Code::OldJournal,
+    };
+    Refused {
+        code,
+        position: None,
+    }
+}
+
+/// The program's fault for the fault that closed a book.
+pub fn fault_of_book(fault: BookFault) -> Fault
+    ensures { result ≡ fault_of_book (Some fault) }
+{
+    match fault {
+        BookFault::Disk => Fault::Disk,
+        BookFault::Stopped => Fault::Stopped,
+        BookFault::SlaveDead { slave } => Fault::SlaveDead { slave },
+    }
+}
+
+/// Prints that the command at this place of the script, counted from 0, is accepted and has this number.
+///
+/// # Errors
+///
+/// `File` or `Memory` where the output can't be written.
+pub fn print_accepted<W: Write>(place: usize, number: u64, output: &mut W) -> Result<(), Fault>
+    ensures { IfErr result IsOfStream }
+{
+    writeln!(output, "command {place} accepted {number}")?;
+    Ok(())
+}
+
+/// Prints why the command at this place of the script, counted from 0, is refused, and raises the status.
+///
+/// # Errors
+///
+/// `File` or `Memory` where the output can't be written.
+pub fn print_refused<W: Write>(
+    place: usize,
+    refused: Refused,
+    output: &mut W,
+    status: &mut ExitStatus,
+) -> Result<(), Fault>
+    ensures status { status.new ≢ ExitStatus.Done }
+    ensures failed { IfErr result IsOfStream }
+{
+    *status = worse(*status, refused.status());
+    writeln!(output, "command {place} {refused}")?;
+    Ok(())
+}

@@ -1,0 +1,28 @@
+//! A line as it is read from its files: made a line in memory, opened as a station, served on one thread, and saved. The subcommand `init`.
+#![tactic(auto)]
+
+mod answers;
+mod commands;
+mod device_faults;
+mod faults;
+mod init;
+mod judging;
+mod loading;
+mod opening;
+mod recovered;
+mod rounds;
+mod session;
+mod site;
+mod starting;
+
+pub use answers::{fault_of_book, print_accepted, print_refused, refused_as};
+pub use commands::serve_commands;
+pub use device_faults::of_device;
+pub use faults::{of_journal, of_open};
+pub use init::init_line;
+pub use loading::{Given, load};
+pub use opening::open_files;
+pub use recovered::write_recovered;
+pub use session::{Session, is_old, load_session};
+pub use site::{save_parts, save_site, site_of};
+pub use starting::open_station;

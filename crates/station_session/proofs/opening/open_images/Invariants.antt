@@ -1,6 +1,0 @@
-use Rattle.std.proofs.Common.{map, string_bytes}
-use Rattle.station_files.specs.Files.{ChangesAmong}
-use Rattle.station_session.proofs.opening.open_images.Given as goal
-
-abbrev pub invariant-loop-slave : goal.invariant-loop-slave
-invariant-loop-slave g l = ChangesAmong (g.S.Store.files l.initial.store) (g.S.Store.files l.store) (map (λ name. string_bytes name) l.names)
