@@ -1,9 +1,10 @@
-ghost use Rattle.std.specs.Prelude.{◌≡◌, ◌<◌, ◌≤◌, ◌+◌, [], ◌++◌, length, vec_len, vec_capacity, IfOk, OnOk, OnErr};
+ghost use Rattle.std.specs.Prelude.{◌≡◌, ◌≢◌, ◌<◌, ◌≤◌, ◌+◌, [], ◌++◌, length, slice_set, vec_len, vec_capacity, Ok, IfOk, IfErr, OnOk, OnErr};
 ghost use Rattle.std.specs.Option.{option_copied};
 ghost use Rattle.sii_words.specs.Plant.{words_of};
 ghost use Rattle.sii_image.specs.NewLayouts.{AreRising};
 ghost use Rattle.sii_edit.specs.Draft.{drafted, named, new_for, over, renewed, renewed_slaves, with_renewal, FitsWords, IsDraftOf, IsStep};
 ghost use Rattle.sii_edit.specs.steps.Draft.{drafted_runs, place_of};
+ghost use Rattle.sii_edit.specs.Refusal.{IsCauseOf};
 ghost use Rattle.sii_words.specs.Run.{runs_between, stretches};
 ghost use Rattle.sii_edit.specs.Command.{edited, swapped};
 
@@ -222,6 +223,29 @@ impl Draft {
         Ok(())
     }
 
+    /// The new aliases of two slaves that exchange theirs.
+    fn exchanged(&self, plant: &Plant, a: u16, b: u16) -> Result<(Name, Name), Cause>
+        ensures there { OnOk result ((a < length plant.now) × (b < length plant.now) × (a ≢ b)) }
+        ensures names { let now = drafted plant.now self.now in IfOk result (λ names. swapped now a b
+            ≡ Ok (slice_set (slice_set now a (named (words_of now a) names.0)) b (named (words_of now b) names.1))) }
+        ensures refused { IfErr result (λ cause. IsCauseOf (swapped (drafted plant.now self.now) a b) cause) }
+    {
+        if usize::from(a) >= plant.len() || usize::from(b) >= plant.len() {
+            return Err(Cause::NoSlave);
+        }
+        if a == b {
+            return Err(Cause::SameSlave);
+        }
+        let of_a = self.words(plant, a);
+        let of_b = self.words(plant, b);
+        if !of_a.check_ok() || !of_b.check_ok() {
+            return Err(Cause::BadCheck);
+        }
+        let new_a = of_a.with_alias(of_b.alias());
+        let new_b = of_b.with_alias(of_a.alias());
+        Ok((new_a, new_b))
+    }
+
     /// Exchanges the aliases of two slaves.
     ///
     /// # Errors
@@ -231,18 +255,7 @@ impl Draft {
         requires { IsDraftOf plant.now self.old }
         ensures { IsStep plant.now (swapped (drafted plant.now self.old) a b) self.old self.new result }
     {
-        if usize::from(a) >= plant.len() || usize::from(b) >= plant.len() {
-            return Err(Cause::NoSlave);
-        }
-        if a == b {
-            return Err(Cause::SameSlave);
-        }
-        let (of_a, of_b) = (self.words(plant, a), self.words(plant, b));
-        if !of_a.check_ok() || !of_b.check_ok() {
-            return Err(Cause::BadCheck);
-        }
-        let new_a = of_a.with_alias(of_b.alias());
-        let new_b = of_b.with_alias(of_a.alias());
+        let (new_a, new_b) = self.exchanged(plant, a, b)?;
         self.renewals.reserve(2)?;
         put(&mut self.renewals, a, NewWords::Renamed(new_a))?;
         put(&mut self.renewals, b, NewWords::Renamed(new_b))?;
