@@ -144,14 +144,17 @@ fn push_name(
 fn push_runs(
     alloc: Global,
     runs: &mut Vec<Run>,
-    slave: u16,
-    old: &Words,
-    new: &NewWords,
+    plant: &Plant,
+    renewal: &Renewal,
 ) -> Result<(), AllocError>
-    requires { FitsWords old.now new.now }
-    ensures { OnOk result (runs.new.items ≡ runs.old.items ++ stretches slave 0 old.now (renewed old.now new.now)) }
+    requires slave { renewal.now.slave < length plant.now }
+    requires fits { FitsWords (words_of plant.now renewal.now.slave) renewal.now.new }
+    ensures { let old = words_of plant.now renewal.now.slave in
+        OnOk result (runs.new.items ≡ runs.old.items ++ stretches renewal.now.slave 0 old (renewed old renewal.now.new)) }
 {
-    match new {
+    let slave = renewal.slave;
+    let old = plant.slave(usize::from(slave));
+    match &renewal.new {
         NewWords::Renamed(name) => push_name(alloc, runs, slave, old, *name),
         NewWords::Rewritten(words) => {
             push_stretches(alloc, runs, slave, old.as_slice(), words.as_slice())
@@ -170,8 +173,7 @@ fn push_all_runs(
     ensures { OnOk result (runs.new.items ≡ runs.old.items ++ drafted_runs plant.now renewals.now) }
 {
     for renewal in renewals {
-        let old = plant.slave(usize::from(renewal.slave));
-        push_runs(alloc, runs, renewal.slave, old, &renewal.new)?;
+        push_runs(alloc, runs, plant, renewal)?;
     }
     Ok(())
 }
