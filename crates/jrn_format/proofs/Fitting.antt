@@ -1,5 +1,5 @@
 -- What fits into its fields, from what holds of each part.
-use Rattle.std.proofs.Common.{◌≡◌, ℕ, ◌+◌, ◌<◌, ◌≤◌, ◌^◌, List, [], ◌∷◌, ◌++◌, length, take, get_or, ap, sym, subst, ◌∙◌}
+use Rattle.std.proofs.Common.{◌≡◌, ℕ, ◌+◌, ◌<◌, ◌≤◌, ◌^◌, List, [], ◌∷◌, ◌++◌, length, take, get_or, ap, sym, subst, ◌∙◌, append_assoc}
 use Rattle.std.specs.Prelude.{All}
 use Rattle.std.specs.List.{AllByRecursion, flat_map}
 use Rattle.std.proofs.lemmas.List.{take_all, take_more, flat_map_more}
@@ -32,3 +32,7 @@ pub spelt_more : {X : Type 0} (spell : X → List ℕ) (front now new : List ℕ
 spelt_more {X = X} spell front now new xs i x d lt is so_far more =
     more ∙ ap (λ (bytes : List ℕ). bytes ++ spell x) so_far ∙ flat_map_more spell front (take i xs) x
     ∙ ap (λ (ys : List X). front ++ flat_map spell ys) (ap (λ (y : X). take i xs ++ y ∷ []) is ∙ sym (take_more xs i d lt))
+
+-- one part behind another
+pub spelt_behind : (old : List ℕ) {mid new : List ℕ} (first second : List ℕ) → mid ≡ old ++ first → new ≡ mid ++ second → new ≡ old ++ (first ++ second)
+spelt_behind old first second so_far more = more ∙ ap (λ (bytes : List ℕ). bytes ++ second) so_far ∙ append_assoc old first second

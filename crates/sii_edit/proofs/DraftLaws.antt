@@ -185,26 +185,35 @@ edited_step plant draft put expect edit slave words new rise fits is there read 
           ∙ ap (λ (s : ℕ). Ok (slice_set (drafted plant draft) s (renewed words new))) (sym is) ∙ ap (λ (p : List (List ℕ)). Ok p) (sym step.is),
     )
 
--- a swap in a draft
-pub swapped_step : (plant : List (List ℕ)) (draft once put : List Renewal) (a b : ℕ) (of_a of_b : List ℕ) (new_a new_b : Name)
-    → AreRising (renewed_slaves draft) → IsDraftOf plant draft → a < length plant → b < length plant → a ≢ b
-    → of_a ≡ words_of (drafted plant draft) a → of_b ≡ words_of (drafted plant draft) b → IsChecked of_a → IsChecked of_b
+-- the aliases of two slaves exchanged
+pub swapped_names : (plant : List (List ℕ)) (a b : ℕ) (of_a of_b : List ℕ) (new_a new_b : Name) → a < length plant → b < length plant → a ≢ b
+    → of_a ≡ words_of plant a → of_b ≡ words_of plant b → IsChecked of_a → IsChecked of_b
     → named of_a new_a ≡ with_alias of_a (alias_of of_b) → named of_b new_b ≡ with_alias of_b (alias_of of_a)
+    → swapped plant a b ≡ Ok (set (set plant a (named (words_of plant a) new_a)) b (named (words_of plant b) new_b))
+swapped_names plant a b of_a of_b new_a new_b a_there b_there apart read_a read_b a_checked b_checked made_a made_b =
+    let all_a = ap (λ (ws : List ℕ). named ws new_a) (sym read_a) ∙ made_a ∙ ap₂ with_alias read_a (ap alias_of read_b) in
+    let all_b = ap (λ (ws : List ℕ). named ws new_b) (sym read_b) ∙ made_b ∙ ap₂ with_alias read_b (ap alias_of read_a) in
+    swapped-ok plant a b a_there b_there apart (rw read_a at a_checked) (rw read_b at b_checked)
+    ∙ ap₂ (λ (x y : List ℕ). Ok (set (set plant a x) b y)) (sym all_a) (sym all_b)
+
+-- a swap in a draft
+pub swapped_step : (plant : List (List ℕ)) (draft once put : List Renewal) (a b : ℕ) (new_a new_b : Name)
+    → AreRising (renewed_slaves draft) → IsDraftOf plant draft → a < length plant → b < length plant → a ≢ b
+    → swapped (drafted plant draft) a b ≡ Ok (set (set (drafted plant draft) a (named (words_of (drafted plant draft) a) new_a)) b (named (words_of (drafted plant draft) b) new_b))
     → once ≡ with_renewal draft a (Renamed new_a) → put ≡ with_renewal once b (Renamed new_b)
     → IsDraftOf plant put × (swapped (drafted plant draft) a b ≡ Ok (drafted plant put))
-swapped_step plant draft once put a b of_a of_b new_a new_b rise fits a_there b_there apart read_a read_b a_checked b_checked made_a made_b put_a put_b =
+swapped_step plant draft once put a b new_a new_b rise fits a_there b_there apart judged put_a put_b =
     let all : List (List ℕ) = drafted plant draft in
-    let size_a : length (named of_a new_a) ≡ length (words_of plant a) = length-named of_a new_a ∙ ap length read_a ∙ size_drafted plant draft a a_there fits in
-    let size_b : length (named of_b new_b) ≡ length (words_of plant b) = length-named of_b new_b ∙ ap length read_b ∙ size_drafted plant draft b b_there fits in
-    let first = put_step plant draft once a of_a (Renamed new_a) rise fits a_there read_a size_a put_a in
+    let of_a : List ℕ = words_of all a in
+    let of_b : List ℕ = words_of all b in
+    let size_a : length (named of_a new_a) ≡ length (words_of plant a) = length-named of_a new_a ∙ size_drafted plant draft a a_there fits in
+    let size_b : length (named of_b new_b) ≡ length (words_of plant b) = length-named of_b new_b ∙ size_drafted plant draft b b_there fits in
+    let first = put_step plant draft once a of_a (Renamed new_a) rise fits a_there refl size_a put_a in
     let still : of_b ≡ words_of (drafted plant once) b =
-    read_b ∙ sym (get_or-set_other all a b (named of_a new_a) [] (λ same. apart (sym same))) ∙ ap (λ (p : List (List ℕ)). words_of p b) (sym first.is) in
+    sym (get_or-set_other all a b (named of_a new_a) [] (λ same. apart (sym same))) ∙ ap (λ (p : List (List ℕ)). words_of p b) (sym first.is) in
     let second = put_step plant once put b of_b (Renamed new_b) first.rising first.fits b_there still size_b put_b in
-    let judged = swapped-ok all a b (omega (arith, length-drafted plant draft)) (omega (arith, length-drafted plant draft)) apart (rw read_a at a_checked) (rw read_b at b_checked) in
-    let made : drafted plant put ≡ set (set all a (with_alias of_a (alias_of of_b))) b (with_alias of_b (alias_of of_a)) =
-    second.is ∙ ap (λ (p : List (List ℕ)). set p b (named of_b new_b)) first.is
-    ∙ ap₂ (λ (x y : List ℕ). set (set all a x) b y) made_a made_b in
-    (second.fits, judged ∙ ap (λ (p : List (List ℕ)). Ok p) (sym (made ∙ ap₂ (λ (x y : List ℕ). set (set all a (with_alias x (alias_of y))) b (with_alias y (alias_of x))) read_a read_b)))
+    let made = second.is ∙ ap (λ (p : List (List ℕ)). set p b (named of_b new_b)) first.is in
+    (second.fits, judged ∙ ap (λ (p : List (List ℕ)). Ok p) (sym made))
 
 -- ---- one renewal
 

@@ -1,5 +1,5 @@
 -- The runs that lead to a draft's plant are those of the slaves that get new words.
-use Rattle.std.proofs.Common.{◌≡◌, ℕ, zero, suc, ◌+◌, ◌<◌, ◌≤◌, List, [], ◌∷◌, ◌++◌, length, set, refl, sym, ap, ◌∙◌, arith}
+use Rattle.std.proofs.Common.{◌≡◌, ℕ, zero, suc, ◌+◌, ◌<◌, ◌≤◌, List, [], ◌∷◌, ◌++◌, length, get_or, set, drop, drop-cons, add-one, append_assoc, refl, sym, ap, ◌∙◌, arith}
 use Rattle.sii_words.specs.Plant.{words_of}
 use Rattle.sii_image.specs.NewLayouts.{RiseFrom}
 use Rattle.sii_words.specs.declared.run.Run.{Run}
@@ -44,3 +44,14 @@ drafted_runs-from least plant (first ∷ others) rise fits =
 pub drafted_runs-are : (plant : List (List ℕ)) (draft : List Renewal) → RiseFrom 0 (renewed_slaves draft) → IsDraftOf plant draft
     → drafted_runs plant draft ≡ runs_between plant (drafted plant draft)
 drafted_runs-are plant draft rise fits = drafted_runs-from 0 plant draft rise fits
+
+-- the runs of one slave more
+pub drafted_runs-more : (plant : List (List ℕ)) (draft : List Renewal) (at : ℕ) (renewal : Renewal) (before : List Run) {now all : List Run}
+    → at < length draft → renewal ≡ get_or draft at renewal
+    → now ≡ before ++ stretches renewal.slave 0 (words_of plant renewal.slave) (renewed (words_of plant renewal.slave) renewal.new)
+    → before ++ drafted_runs plant (drop at draft) ≡ all → now ++ drafted_runs plant (drop (at + 1) draft) ≡ all
+drafted_runs-more plant draft at renewal before there is more so_far =
+    let mine : List Run = stretches renewal.slave 0 (words_of plant renewal.slave) (renewed (words_of plant renewal.slave) renewal.new) in
+    let split : drop at draft ≡ renewal ∷ drop (suc at) draft = drop-cons draft at renewal there ∙ ap (λ (first : Renewal). first ∷ drop (suc at) draft) (sym is) in
+    rw (add-one at, more)
+    (append_assoc before mine (drafted_runs plant (drop (suc at) draft)) ∙ ap (λ (left : List Renewal). before ++ drafted_runs plant left) (sym split) ∙ so_far)

@@ -1,9 +1,10 @@
-ghost use Rattle.std.specs.Prelude.{◌≡◌, ◌<◌, ◌≤◌, ◌+◌, [], ◌++◌, length, vec_len, vec_capacity, IfOk, OnOk, OnErr};
+ghost use Rattle.std.specs.Prelude.{◌≡◌, ◌≢◌, ◌<◌, ◌≤◌, ◌+◌, [], ◌++◌, length, slice_set, vec_len, vec_capacity, Ok, IfOk, IfErr, OnOk, OnErr};
 ghost use Rattle.std.specs.Option.{option_copied};
 ghost use Rattle.sii_words.specs.Plant.{words_of};
 ghost use Rattle.sii_image.specs.NewLayouts.{AreRising};
 ghost use Rattle.sii_edit.specs.Draft.{drafted, named, new_for, over, renewed, renewed_slaves, with_renewal, FitsWords, IsDraftOf, IsStep};
 ghost use Rattle.sii_edit.specs.steps.Draft.{drafted_runs, place_of};
+ghost use Rattle.sii_edit.specs.Refusal.{IsCauseOf};
 ghost use Rattle.sii_words.specs.Run.{runs_between, stretches};
 ghost use Rattle.sii_edit.specs.Command.{edited, swapped};
 
@@ -143,14 +144,17 @@ fn push_name(
 fn push_runs(
     alloc: Global,
     runs: &mut Vec<Run>,
-    slave: u16,
-    old: &Words,
-    new: &NewWords,
+    plant: &Plant,
+    renewal: &Renewal,
 ) -> Result<(), AllocError>
-    requires { FitsWords old.now new.now }
-    ensures { OnOk result (runs.new.items ≡ runs.old.items ++ stretches slave 0 old.now (renewed old.now new.now)) }
+    requires slave { renewal.now.slave < length plant.now }
+    requires fits { FitsWords (words_of plant.now renewal.now.slave) renewal.now.new }
+    ensures { let old = words_of plant.now renewal.now.slave in
+        OnOk result (runs.new.items ≡ runs.old.items ++ stretches renewal.now.slave 0 old (renewed old renewal.now.new)) }
 {
-    match new {
+    let slave = renewal.slave;
+    let old = plant.slave(usize::from(slave));
+    match &renewal.new {
         NewWords::Renamed(name) => push_name(alloc, runs, slave, old, *name),
         NewWords::Rewritten(words) => {
             push_stretches(alloc, runs, slave, old.as_slice(), words.as_slice())
@@ -169,8 +173,7 @@ fn push_all_runs(
     ensures { OnOk result (runs.new.items ≡ runs.old.items ++ drafted_runs plant.now renewals.now) }
 {
     for renewal in renewals {
-        let old = plant.slave(usize::from(renewal.slave));
-        push_runs(alloc, runs, renewal.slave, old, &renewal.new)?;
+        push_runs(alloc, runs, plant, renewal)?;
     }
     Ok(())
 }
@@ -222,6 +225,29 @@ impl Draft {
         Ok(())
     }
 
+    /// The new aliases of two slaves that exchange theirs.
+    fn exchanged(&self, plant: &Plant, a: u16, b: u16) -> Result<(Name, Name), Cause>
+        ensures there { OnOk result ((a < length plant.now) × (b < length plant.now) × (a ≢ b)) }
+        ensures names { let now = drafted plant.now self.now in IfOk result (λ names. swapped now a b
+            ≡ Ok (slice_set (slice_set now a (named (words_of now a) names.0)) b (named (words_of now b) names.1))) }
+        ensures refused { IfErr result (λ cause. IsCauseOf (swapped (drafted plant.now self.now) a b) cause) }
+    {
+        if usize::from(a) >= plant.len() || usize::from(b) >= plant.len() {
+            return Err(Cause::NoSlave);
+        }
+        if a == b {
+            return Err(Cause::SameSlave);
+        }
+        let of_a = self.words(plant, a);
+        let of_b = self.words(plant, b);
+        if !of_a.check_ok() || !of_b.check_ok() {
+            return Err(Cause::BadCheck);
+        }
+        let new_a = of_a.with_alias(of_b.alias());
+        let new_b = of_b.with_alias(of_a.alias());
+        Ok((new_a, new_b))
+    }
+
     /// Exchanges the aliases of two slaves.
     ///
     /// # Errors
@@ -231,18 +257,7 @@ impl Draft {
         requires { IsDraftOf plant.now self.old }
         ensures { IsStep plant.now (swapped (drafted plant.now self.old) a b) self.old self.new result }
     {
-        if usize::from(a) >= plant.len() || usize::from(b) >= plant.len() {
-            return Err(Cause::NoSlave);
-        }
-        if a == b {
-            return Err(Cause::SameSlave);
-        }
-        let (of_a, of_b) = (self.words(plant, a), self.words(plant, b));
-        if !of_a.check_ok() || !of_b.check_ok() {
-            return Err(Cause::BadCheck);
-        }
-        let new_a = of_a.with_alias(of_b.alias());
-        let new_b = of_b.with_alias(of_a.alias());
+        let (new_a, new_b) = self.exchanged(plant, a, b)?;
         self.renewals.reserve(2)?;
         put(&mut self.renewals, a, NewWords::Renamed(new_a))?;
         put(&mut self.renewals, b, NewWords::Renamed(new_b))?;

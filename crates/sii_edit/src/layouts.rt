@@ -1,29 +1,40 @@
-ghost use Rattle.std.specs.Prelude.{◌≡◌, IsTrue, Ok, IfOk, IfErr};
+ghost use Rattle.std.specs.Prelude.{◌≡◌, ◌<◌, IsTrue, length, Ok, IfOk, IfErr};
+ghost use Rattle.sii_words.specs.Plant.{words_of};
 ghost use Rattle.sii_image.specs.NewLayouts.{with_each};
 ghost use Rattle.sii_edit.specs.Draft.{drafted, renewed, IsDraftOf};
 ghost use Rattle.sii_edit.specs.Command.{has_process_image, with_process_image};
 ghost use Rattle.sii_edit.specs.Refusal.{IsRefusalOf};
 
-use crate::draft::{Draft, NewWords};
+use crate::draft::{Draft, NewWords, Renewal};
 use crate::refusal::{Cause, Refusal};
-use sii_image::{Layout, NewLayout, NewLayouts, SlaveLayout};
-use sii_words::{Plant, Words};
+use sii_image::{Layout, NewLayout, NewLayouts};
+use sii_words::Plant;
 use std::alloc::{AllocError, Global};
 
 /// The layout of a slave with its new words. A new alias doesn't touch the categories, so none is read.
 fn new_layout(
     alloc: Global,
-    old: &Words,
-    layout: &SlaveLayout,
-    new: &NewWords,
-) -> Result<SlaveLayout, AllocError>
-    requires { layout.now ≡ old.now }
-    ensures { IfOk result (λ given. given ≡ renewed old.now new.now) }
+    plant: &Plant,
+    layout: &Layout,
+    renewal: &Renewal,
+) -> Result<NewLayout, AllocError>
+    requires slave { renewal.now.slave < length plant.now }
+    requires layout { layout.now ≡ plant.now }
+    ensures { IfOk result (λ new. new ≡ record {
+      slave = renewal.now.slave;
+      layout = renewed (words_of plant.now renewal.now.slave) renewal.now.new;
+    }) }
 {
-    match new {
-        NewWords::Renamed(name) => layout.renamed(alloc, old, name.alias, name.seven),
-        NewWords::Rewritten(words) => layout.changed(alloc, old, words),
-    }
+    let slave = usize::from(renewal.slave);
+    let (old, before) = (plant.slave(slave), layout.slave(slave));
+    let after = match &renewal.new {
+        NewWords::Renamed(name) => before.renamed(alloc, old, name.alias, name.seven)?,
+        NewWords::Rewritten(words) => before.changed(alloc, old, words)?,
+    };
+    Ok(NewLayout {
+        slave: renewal.slave,
+        layout: after,
+    })
 }
 
 /// The layouts of all slaves that get new words.
@@ -40,12 +51,8 @@ fn new_layouts(
     let renewals = draft.renewals();
     let mut layouts = Vec::with_capacity(alloc, renewals.len())?;
     for renewal in renewals {
-        let slave = usize::from(renewal.slave);
-        let new = new_layout(alloc, plant.slave(slave), layout.slave(slave), &renewal.new)?;
-        layouts.push(NewLayout {
-            slave: renewal.slave,
-            layout: new,
-        })?;
+        let new = new_layout(alloc, plant, layout, renewal)?;
+        layouts.push(new)?;
     }
     Ok(NewLayouts::of(layouts))
 }

@@ -62,7 +62,7 @@ found words kind categories i d h named =
     let c : Category = get_or categories i d in
     ap (contents_among words kind) (drop_more categories i d h) ∙ ap (among words kind c (drop (i + 1) categories)) (eq-eqb c.kind kind named)
 
-passed : (words : List ℕ) (kind : ℕ) (categories : List Category) (i : ℕ) (d : Category) → i < length categories → (get_or categories i d).kind ≢ kind
+pub passed : (words : List ℕ) (kind : ℕ) (categories : List Category) (i : ℕ) (d : Category) → i < length categories → (get_or categories i d).kind ≢ kind
     → contents_among words kind (drop i categories) ≡ contents_among words kind (drop (i + 1) categories)
 unfolding among
 passed words kind categories i d h other =
