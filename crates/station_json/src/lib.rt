@@ -19,5 +19,5 @@ pub use changes::write_change_rows;
 pub use diff::diff_as_json;
 pub use image::Check;
 pub use layout::{layout_as_json, write_layout_rows};
-pub use row::{Form, write_cells, write_row};
+pub use row::{Form, put_cells, put_object, write_cells, write_row};
 pub use show::show_as_json;

@@ -27,15 +27,40 @@ impl Described for Cells<'_> {}
 
 impl Serialize for Cells<'_> {
     fn serialize<S: Serializer>(&self, out: &mut S) -> Result<(), S::Error> {
-        out.begin_map(Some(self.cells.len()))?;
-        for (key, cell) in self.cells {
-            if !cell.is_absent() {
-                out.key(key)?;
-                cell.serialize(out)?;
-            }
-        }
-        out.end_map()
+        put_object(self.cells, out)
     }
+}
+
+/// Puts an object with these keys and values. A key whose value is absent is left out.
+///
+/// # Errors
+///
+/// Those of the serializer.
+pub fn put_object<S: Serializer>(
+    cells: &[(&'static str, Cell<'_>)],
+    out: &mut S,
+) -> Result<(), S::Error> {
+    out.begin_map(Some(cells.len()))?;
+    put_cells(cells, out)?;
+    out.end_map()
+}
+
+/// Puts these keys and values into the object that was begun. A key whose value is absent is left out.
+///
+/// # Errors
+///
+/// Those of the serializer.
+pub fn put_cells<S: Serializer>(
+    cells: &[(&'static str, Cell<'_>)],
+    out: &mut S,
+) -> Result<(), S::Error> {
+    for (key, cell) in cells {
+        if !cell.is_absent() {
+            out.key(key)?;
+            cell.serialize(out)?;
+        }
+    }
+    Ok(())
 }
 
 /// Writes a row with these keys and values as JSON, on a line of its own. A key whose value is absent is left out.

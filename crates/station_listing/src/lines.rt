@@ -306,16 +306,12 @@ fn push_manager(
     push_line(alloc, lines, Label::Manager(place), &said)
 }
 
+/// The words for the types of sync managers, from type 0 on.
+const MANAGER_WORDS: &[&str] = &["unused", "mailbox-out", "mailbox-in", "outputs", "inputs"];
+
 /// The word for a type of sync managers, where there is one.
 pub fn manager_word(kind: u8) -> Option<&'static str> {
-    match kind {
-        0 => Some("unused"),
-        1 => Some("mailbox-out"),
-        2 => Some("mailbox-in"),
-        3 => Some("outputs"),
-        4 => Some("inputs"),
-        _ => None,
-    }
+    MANAGER_WORDS.get(usize::from(kind)).copied()
 }
 
 fn push_pdos(

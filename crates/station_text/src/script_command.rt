@@ -118,10 +118,7 @@ fn read_swap(table: &Table) -> Option<(u16, u16)>
 fn read_pair(a: &Value, b: &Value) -> Option<(u16, u16)>
     ensures { Finds (λ pair. IsNumberBelow 65536 (view a.now) pair.0 × IsNumberBelow 65536 (view b.now) pair.1) result }
 {
-    match (read_number(a), read_number(b)) {
-        (Some(a), Some(b)) => Some((a, b)),
-        _ => None,
-    }
+    Some((read_number(a)?, read_number(b)?))
 }
 
 /// Reads `group = [{ alias = { slave = 0, value = 1 } }]`.
@@ -183,18 +180,11 @@ fn read_expect(value: &Value) -> Option<Expect>
     if !has_only(table, &["vendor", "product", "revision"]) {
         return None;
     }
-    match (
-        find_wide_number(table, "vendor"),
-        find_wide_number(table, "product"),
-        find_wide_number(table, "revision"),
-    ) {
-        (Some(vendor), Some(product), Some(revision)) => Some(Expect {
-            vendor,
-            product,
-            revision,
-        }),
-        _ => None,
-    }
+    Some(Expect {
+        vendor: find_wide_number(table, "vendor")?,
+        product: find_wide_number(table, "product")?,
+        revision: find_wide_number(table, "revision")?,
+    })
 }
 
 /// Reads the edit at one of the keys `alias`, `category` and `image`. The only other key may be `expect`.

@@ -3,9 +3,9 @@ use crate::scan_rows::write_slaves;
 use line_changes::check_of;
 use sii_words::Words;
 use station_json::Form;
+use std::io;
 use std::io::Write;
 use std::rt::Clock;
-use std::{fmt, io};
 use wire_bringup::{FoundLine, FoundSlave, Sizes, SlaveState, bring_up, hand_back};
 use wire_faults::WireFault;
 use wire_frames::{LineFault, NumberedWire, Wire};
@@ -120,29 +120,14 @@ fn print_state<O: Write>(state: SlaveState, output: &mut O) -> io::Result<()> {
     Ok(())
 }
 
-/// How large a chip was found to be, as it is printed.
-#[derive(Clone, Copy)]
-struct Found {
-    extent: Extent,
-}
-
-impl fmt::Display for Found {
-    fn fmt<W: fmt::Write>(&self, f: &mut fmt::Formatter<W>) -> fmt::Result {
-        match self.extent {
-            Extent::Repeats(words) | Extent::EndsAt(words) => write!(f, "{words}"),
-            Extent::Open => write!(f, "open"),
-            Extent::Uniform => write!(f, "alike"),
-        }
-    }
-}
-
 /// Prints what word 0x3E says of the size, and what was found.
 fn print_size<O: Write>(size: SizeFound, output: &mut O) -> io::Result<()> {
-    let says = size.says;
-    let found = Found {
-        extent: size.extent,
-    };
-    write!(output, " says {says} found {found}")?;
+    write!(output, " says {} found ", size.says)?;
+    match size.extent {
+        Extent::Repeats(words) | Extent::EndsAt(words) => write!(output, "{words}")?,
+        Extent::Open => write!(output, "open")?,
+        Extent::Uniform => write!(output, "alike")?,
+    }
     if size.is_larger {
         write!(output, " larger")?;
     }

@@ -2,60 +2,22 @@
 
 use crate::scan::name_of_state;
 use line_changes::check_of;
-use serde::Serialize;
+use serde::{Described, Serialize, Serializer};
 use sii_words::Words;
 use station_files::Fault;
-use station_json::{Check, write_row};
+use station_json::{Cell, Check, put_cells, put_object, write_row};
 use std::alloc::Global;
 use std::io::Write;
-use wire_bringup::{FoundLine, FoundSlave};
+use wire_bringup::{FoundLine, FoundSlave, SlaveState};
 use wire_faults::WireFault;
-use wire_frames::LineFault;
+use wire_frames::{LineFault, SlaveFault};
 use wire_words::{Extent, SizeFound};
 
 /// A slave: its words, or the fault for which it can't be worked on; its state; and what was found of its EEPROM's size.
-#[derive(Clone, Copy, Serialize)]
-struct SlaveRow {
-    row: &'static str,
+#[derive(Clone, Copy)]
+struct SlaveRow<'f> {
     slave: u16,
-    #[serde(skip_serializing_if = "Option::is_none")]
-    eeprom: Option<Eeprom>,
-    #[serde(skip_serializing_if = "Option::is_none")]
-    fault: Option<FaultFound>,
-    state: &'static str,
-    error: bool,
-    held: bool,
-    #[serde(skip_serializing_if = "Option::is_none")]
-    size: Option<Size>,
-}
-
-/// What the words of a slave say.
-#[derive(Clone, Copy, Serialize)]
-struct Eeprom {
-    words: usize,
-    alias: u16,
-    check: Check,
-    vendor: u32,
-    product: u32,
-    revision: u32,
-    serial: u32,
-}
-
-/// Why a slave can't be worked on.
-#[derive(Clone, Copy, Serialize)]
-struct FaultFound {
-    code: u8,
-    name: &'static str,
-}
-
-/// What word 0x3E says of the size of an EEPROM, and what was found; `extent` stands where no number of words was.
-#[derive(Clone, Copy, Serialize)]
-struct Size {
-    says: u32,
-    found: Option<u16>,
-    #[serde(skip_serializing_if = "Option::is_none")]
-    extent: Option<&'static str>,
-    larger: bool,
+    found: &'f FoundSlave,
 }
 
 /// Writes a row for each slave of a line.
@@ -70,58 +32,81 @@ pub(crate) fn write_slaves<O: Write>(
 ) -> Result<(), Fault> {
     let mut slave = 0u16;
     for each in &found.slaves {
-        write_row(alloc, &row_of(slave, each), output)?;
+        write_row(alloc, &SlaveRow { slave, found: each }, output)?;
         slave = slave.saturating_add(1);
     }
     output.flush()?;
     Ok(())
 }
 
-fn row_of(slave: u16, found: &FoundSlave) -> SlaveRow {
-    let (eeprom, fault) = match &found.words {
-        Ok(words) => (Some(eeprom_of(words)), None),
-        Err(why) => {
-            let fault = WireFault::Line(LineFault::Slave { slave, why: *why });
-            let (code, name) = fault.code();
-            (None, Some(FaultFound { code, name }))
+impl Described for SlaveRow<'_> {}
+
+impl Serialize for SlaveRow<'_> {
+    fn serialize<S: Serializer>(&self, out: &mut S) -> Result<(), S::Error> {
+        out.begin_map(None)?;
+        put_cells(
+            &[("row", "slave".into()), ("slave", self.slave.into())],
+            out,
+        )?;
+        match &self.found.words {
+            Ok(words) => put_words(words, out)?,
+            Err(why) => put_fault(self.slave, *why, out)?,
         }
-    };
-    let status = found.state.al_status.unwrap_or(0);
-    SlaveRow {
-        row: "slave",
-        slave,
-        eeprom,
-        fault,
-        state: name_of_state(status),
-        error: status / 16 % 2 == 1,
-        held: found.state.is_with_pdi(),
-        size: found.size.map(size_of),
+        put_state(self.found.state, out)?;
+        if let Some(size) = self.found.size {
+            put_size(size, out)?;
+        }
+        out.end_map()
     }
 }
 
-fn eeprom_of(words: &Words) -> Eeprom {
+/// Puts what the words of a slave say.
+fn put_words<S: Serializer>(words: &Words, out: &mut S) -> Result<(), S::Error> {
     let identity = words.identity();
-    Eeprom {
-        words: words.len(),
-        alias: words.alias(),
-        check: Check::of(check_of(words)),
-        vendor: identity.vendor,
-        product: identity.product,
-        revision: identity.revision,
-        serial: identity.serial,
-    }
+    let said = [
+        ("words", words.len().into()),
+        ("alias", words.alias().into()),
+        ("check", Cell::Check(Check::of(check_of(words)))),
+        ("vendor", identity.vendor.into()),
+        ("product", identity.product.into()),
+        ("revision", identity.revision.into()),
+        ("serial", identity.serial.into()),
+    ];
+    out.key("eeprom")?;
+    put_object(&said, out)
 }
 
-fn size_of(size: SizeFound) -> Size {
+/// Puts why a slave can't be worked on.
+fn put_fault<S: Serializer>(slave: u16, why: SlaveFault, out: &mut S) -> Result<(), S::Error> {
+    let (code, name) = WireFault::Line(LineFault::Slave { slave, why }).code();
+    out.key("fault")?;
+    put_object(&[("code", code.into()), ("name", name.into())], out)
+}
+
+/// Puts the state of a slave, whether it tells an error, and whether its PDI has the EEPROM.
+fn put_state<S: Serializer>(state: SlaveState, out: &mut S) -> Result<(), S::Error> {
+    let status = state.al_status.unwrap_or(0);
+    let said = [
+        ("state", name_of_state(status).into()),
+        ("error", (status / 16 % 2 == 1).into()),
+        ("held", state.is_with_pdi().into()),
+    ];
+    put_cells(&said, out)
+}
+
+/// Puts what word 0x3E says of the size of an EEPROM, and what was found; `extent` stands where no number of words was.
+fn put_size<S: Serializer>(size: SizeFound, out: &mut S) -> Result<(), S::Error> {
     let (found, extent) = match size.extent {
-        Extent::Repeats(words) | Extent::EndsAt(words) => (Some(words), None),
-        Extent::Open => (None, Some("open")),
-        Extent::Uniform => (None, Some("alike")),
+        Extent::Repeats(words) | Extent::EndsAt(words) => (words.into(), Cell::Absent),
+        Extent::Open => (Cell::Null, "open".into()),
+        Extent::Uniform => (Cell::Null, "alike".into()),
     };
-    Size {
-        says: size.says,
-        found,
-        extent,
-        larger: size.is_larger,
-    }
+    let said = [
+        ("says", size.says.into()),
+        ("found", found),
+        ("extent", extent),
+        ("larger", size.is_larger.into()),
+    ];
+    out.key("size")?;
+    put_object(&said, out)
 }

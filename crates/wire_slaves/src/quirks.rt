@@ -52,96 +52,37 @@ fn item_of(text: &str) -> Option<Item<'_>> {
 
 /// The quirks with one more that is spelt by its name alone.
 fn with_plain(quirks: Quirks, name: &str) -> Option<Quirks> {
+    let mut with = quirks;
     match name {
-        "blocks" => Some(Quirks {
-            is_blocked_by_errors: true,
-            ..quirks
-        }),
-        "wide" => Some(Quirks {
-            is_wide: true,
-            ..quirks
-        }),
-        "aliasing" => Some(Quirks {
-            has_alias_addressing: true,
-            ..quirks
-        }),
-        "held" => Some(Quirks {
-            is_held: true,
-            ..quirks
-        }),
-        _ => None,
+        "blocks" => with.is_blocked_by_errors = true,
+        "wide" => with.is_wide = true,
+        "aliasing" => with.has_alias_addressing = true,
+        "held" => with.is_held = true,
+        _ => return None,
     }
+    Some(with)
 }
 
-/// The quirks with one more of those that have a time in microseconds.
-fn with_time(quirks: Quirks, name: &str, number: u32) -> Option<Quirks> {
+/// The quirks with one more of those that have a number: a time in microseconds, a count, or a word.
+fn with_number(quirks: Quirks, name: &str, number: u32) -> Option<Quirks> {
     let time = u64::from(number);
+    let mut with = quirks;
     match name {
-        "read" => Some(Quirks {
-            read_time: time,
-            ..quirks
-        }),
-        "write" => Some(Quirks {
-            write_time: time,
-            ..quirks
-        }),
-        "programs" => Some(Quirks {
-            programs_on: time,
-            ..quirks
-        }),
-        _ => with_count(quirks, name, number),
+        "read" => with.read_time = time,
+        "write" => with.write_time = time,
+        "programs" => with.programs_on = time,
+        "busy" => with.delay = number,
+        "missed" => with.first_missed = number,
+        "each" => with.each_missed = number,
+        "restarts" => with.loss = PowerLoss::Behind(number),
+        "cut" => with.loss = PowerLoss::InWord(number),
+        "chip" if number >= 1 && number <= 65_536 => with.chip = Some(number),
+        "state" if number < 32 => with.state = (number % 32) as u8,
+        "station" => with.station = Some(u16::try_from(number).ok()?),
+        "left" => with.left = Pattern::Fill(u16::try_from(number).ok()?),
+        _ => return None,
     }
-}
-
-/// The quirks with one more of those that count.
-fn with_count(quirks: Quirks, name: &str, number: u32) -> Option<Quirks> {
-    match name {
-        "busy" => Some(Quirks {
-            delay: number,
-            ..quirks
-        }),
-        "missed" => Some(Quirks {
-            first_missed: number,
-            ..quirks
-        }),
-        "each" => Some(Quirks {
-            each_missed: number,
-            ..quirks
-        }),
-        "restarts" => Some(Quirks {
-            loss: PowerLoss::Behind(number),
-            ..quirks
-        }),
-        "cut" => Some(Quirks {
-            loss: PowerLoss::InWord(number),
-            ..quirks
-        }),
-        _ => with_word(quirks, name, number),
-    }
-}
-
-/// The quirks with one more of those whose number has a bound.
-fn with_word(quirks: Quirks, name: &str, number: u32) -> Option<Quirks> {
-    let low = (number % 65536) as u16;
-    match name {
-        "chip" if number >= 1 && number <= 65536 => Some(Quirks {
-            chip: Some(number),
-            ..quirks
-        }),
-        "state" if number < 32 => Some(Quirks {
-            state: (number % 32) as u8,
-            ..quirks
-        }),
-        "station" if number < 65536 => Some(Quirks {
-            station: Some(low),
-            ..quirks
-        }),
-        "left" if number < 65536 => Some(Quirks {
-            left: Pattern::Fill(low),
-            ..quirks
-        }),
-        _ => None,
-    }
+    Some(with)
 }
 
 /// The quirks with one more. A pulled cable is no quirk of a slave.
@@ -149,7 +90,7 @@ fn with_item(quirks: Quirks, item: Item<'_>) -> Option<Quirks> {
     match item.number {
         None => with_plain(quirks, item.name),
         Some(_) if item.name == "cable" => item.slave.map(|_| quirks),
-        Some(number) => with_time(quirks, item.name, number),
+        Some(number) => with_number(quirks, item.name, number),
     }
 }
 
