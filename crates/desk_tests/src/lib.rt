@@ -10,8 +10,6 @@ mod meeting;
 #[cfg(test)]
 mod memory;
 #[cfg(test)]
-mod recovery;
-#[cfg(test)]
 mod report;
 #[cfg(test)]
 mod served;

@@ -1,12 +1,12 @@
 //! How a desk was closed, and what its line holds then.
 
 use crate::memory::put;
-use crate::recovery::place_left;
-use crate::session::Scenario;
-use esc_model::{ProcessHalf, RomHalf};
+use esc_model::RomHalf;
+use runner_cases::runs::{Way, kept_by};
+use runner_cases::sites::{aliases_of, recovered_at_last};
 use sii_words::Plant;
 use site_mem::{MemSite, Parts};
-use station_jobs::{CycleLog, CycleNote, End, Leads, SlaveLog};
+use station_jobs::{CycleLog, CycleNote, End, SlaveLog};
 use station_threads::{
     CloseFault, Closed, Desk, Ends, NotClosed, Receipt, Refusals, Served, Share, Tickets, close,
 };
@@ -28,7 +28,7 @@ pub(crate) struct Report {
     pub(crate) byte: Option<u8>,
     /// Whether each slave reads as the book's contents.
     pub(crate) reads: bool,
-    /// The prefix of commands after which a recovery leaves the line, if there is such a prefix and the line is recovered.
+    /// The prefix of the three commands of a run after which a recovery leaves the line, if there is such a prefix.
     pub(crate) place: Option<u64>,
 }
 
@@ -49,19 +49,10 @@ fn left_at(rt: &impl Abort, alloc: Global, site: &MemSite) -> Parts {
     }
 }
 
-/// What a power cut leaves of the site of a thread that has ended.
-fn left_of<L: Leads + Drop>(rt: &impl Abort, alloc: Global, end: End<MemSite, L>) -> Parts {
-    let (site, log) = end.into_parts();
-    drop(log);
-    let left = left_at(rt, alloc, &site);
-    drop(site);
-    left
-}
-
 /// What a power cut leaves of a slave.
-fn half_left(rt: &impl Abort, alloc: Global, end: End<MemSite, SlaveLog>) -> Option<RomHalf> {
+fn half_left(rt: &impl Abort, alloc: Global, end: &End<MemSite, SlaveLog>) -> Option<RomHalf> {
     let slave = usize::from(end.log().slave);
-    let Parts { mut halves, .. } = left_of(rt, alloc, end);
+    let Parts { mut halves, .. } = left_at(rt, alloc, end.site());
     assert!(rt; slave < halves.len());
     halves.swap_remove(slave)
 }
@@ -70,7 +61,7 @@ fn half_left(rt: &impl Abort, alloc: Global, end: End<MemSite, SlaveLog>) -> Opt
 fn halves_left(
     rt: &impl Abort,
     alloc: Global,
-    workers: Vec<End<MemSite, SlaveLog>>,
+    workers: &[End<MemSite, SlaveLog>],
 ) -> Vec<Option<RomHalf>> {
     let mut halves = Vec::new(alloc);
     for end in workers {
@@ -79,35 +70,14 @@ fn halves_left(
     halves
 }
 
-/// What a power cut leaves of the process data, if it is exchanged.
-fn process_left(
-    rt: &impl Abort,
-    alloc: Global,
-    cycle: Option<End<MemSite, CycleLog>>,
-) -> Option<Vec<ProcessHalf>> {
-    match cycle {
-        Some(end) => {
-            let Parts { process, .. } = left_of(rt, alloc, end);
-            process
-        }
-        None => None,
-    }
-}
-
-/// What a power cut leaves of the line, put together from what it leaves of each part.
-fn put_together(rt: &impl Abort, alloc: Global, ends: Ends<MemSite>) -> Parts {
-    let Ends {
-        flusher,
-        workers,
-        cycle,
-    } = ends;
-    let process = process_left(rt, alloc, cycle);
-    let Parts { sizes, disk, .. } = left_of(rt, alloc, flusher);
+/// What a power cut leaves of the line without its process data, put together from what it leaves of each part.
+fn put_together(rt: &impl Abort, alloc: Global, ends: &Ends<MemSite>) -> Parts {
+    let Parts { sizes, disk, .. } = left_at(rt, alloc, ends.flusher.site());
     Parts {
         sizes,
         disk,
-        halves: halves_left(rt, alloc, workers),
-        process,
+        halves: halves_left(rt, alloc, &ends.workers),
+        process: None,
     }
 }
 
@@ -123,6 +93,14 @@ fn last_turn(cycle: &Option<End<MemSite, CycleLog>>) -> Option<CycleNote> {
 fn byte_of(line: &Parts) -> Option<u8> {
     match &line.process {
         Some(halves) => Some(halves.first()?.peek(0x1100)),
+        None => None,
+    }
+}
+
+/// Slave 0's byte at 0x1100 as a power cut leaves it, if process data is exchanged.
+fn byte_left(rt: &impl Abort, alloc: Global, cycle: &Option<End<MemSite, CycleLog>>) -> Option<u8> {
+    match cycle {
+        Some(end) => byte_of(&left_at(rt, alloc, end.site())),
         None => None,
     }
 }
@@ -148,21 +126,43 @@ fn reads_as(line: &Parts, contents: &Plant) -> bool {
     true
 }
 
+/// The prefix of the three commands after which the slaves have these aliases.
+fn place_of(aliases: [u16; 3]) -> Option<u64> {
+    let rows = kept_by(Way::OneByOne, 0);
+    for place in 0..rows.len() {
+        if rows[place] == aliases {
+            return Some(place as u64);
+        }
+    }
+    None
+}
+
+/// The prefix of the three commands after which a recovery leaves the line. None: it isn't recovered, or its aliases fit no prefix.
+fn place_left(alloc: Global, line: Parts) -> Option<u64> {
+    let (left, fault) = recovered_at_last(alloc, line)?;
+    let aliases = aliases_of(&left);
+    drop(left);
+    if fault.is_some() {
+        return None;
+    }
+    place_of(aliases)
+}
+
 /// The report with what the book and the ends add to it.
 fn completed<T: Tickets, R: Refusals>(
     rt: &impl Abort,
     alloc: Global,
-    is_recovered: bool,
     begun: Report,
     book: Served<T, R>,
     ends: Ends<MemSite>,
 ) -> Report {
-    let line = put_together(rt, alloc, ends);
+    let line = put_together(rt, alloc, &ends);
+    let byte = byte_left(rt, alloc, &ends.cycle);
+    drop(ends);
     let accepted = book.accepted().len();
     let reads = reads_as(&line, book.contents());
     drop(book);
-    let byte = byte_of(&line);
-    let place = place_left(rt, alloc, is_recovered, line);
+    let place = place_left(alloc, line);
     Report {
         accepted,
         reads,
@@ -176,7 +176,6 @@ fn completed<T: Tickets, R: Refusals>(
 pub(crate) fn report_of<T: Tickets, R: Refusals>(
     rt: &impl Abort,
     alloc: Global,
-    scenario: &Scenario,
     desk: Desk<T, R>,
     held: (Vec<Share<T, R>>, Vec<Receipt>),
     ends: Ends<MemSite>,
@@ -192,11 +191,10 @@ pub(crate) fn report_of<T: Tickets, R: Refusals>(
         reads: false,
         place: None,
     };
-    let is_recovered = scenario.is_recovered;
     match close(desk, shares, receipts, ends) {
         Ok(closed) => {
             let Closed { book, ends } = closed;
-            completed(rt, alloc, is_recovered, begun, book, ends)
+            completed(rt, alloc, begun, book, ends)
         }
         Err(left) => {
             let NotClosed {
@@ -206,14 +204,7 @@ pub(crate) fn report_of<T: Tickets, R: Refusals>(
                 ..
             } = left;
             let fault = Some(fault);
-            completed(
-                rt,
-                alloc,
-                is_recovered,
-                Report { fault, ..begun },
-                book,
-                ends,
-            )
+            completed(rt, alloc, Report { fault, ..begun }, book, ends)
         }
     }
 }

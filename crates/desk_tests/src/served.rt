@@ -59,7 +59,6 @@ const HUNDRED: Scenario = Scenario {
     way: Way::Threads,
     trouble: Trouble::Nothing,
     left_out: LeftOut::Nothing,
-    is_recovered: false,
 };
 
 /// The scenario `HUNDRED` without process data.

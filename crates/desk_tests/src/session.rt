@@ -25,7 +25,7 @@ use std::thread;
 use std::thread::{Scope, Threads};
 
 /// What isn't handed in when the desk is closed.
-#[derive(Clone, Copy, PartialEq, Eq)]
+#[derive(Clone, Copy)]
 pub(crate) enum LeftOut {
     Nothing,
     /// The end of slave 1.
@@ -35,7 +35,7 @@ pub(crate) enum LeftOut {
 }
 
 /// How a line is served.
-#[derive(Clone, Copy, PartialEq, Eq)]
+#[derive(Clone, Copy)]
 pub(crate) enum Way {
     /// Each part in a thread.
     Threads,
@@ -54,8 +54,6 @@ pub(crate) struct Scenario {
     pub(crate) way: Way,
     pub(crate) trouble: Trouble,
     pub(crate) left_out: LeftOut,
-    /// Whether the line is recovered in the end. It has three slaves then.
-    pub(crate) is_recovered: bool,
 }
 
 /// A desk, the scenario in which it is served, and the hook of its workers.
@@ -64,20 +62,6 @@ struct Service<'a, T: Tickets, R: Refusals, G> {
     desk: &'a Desk<T, R>,
     scenario: &'a Scenario,
     hook: &'a G,
-}
-
-/// A submitter of these commands, which has submitted those that are for the time before serving.
-fn submitter<T: Tickets, R: Refusals, W: Wait + Abort>(
-    rt: &W,
-    alloc: Global,
-    desk: &Desk<T, R>,
-    scenario: &Scenario,
-    asks: &'static [Ask],
-) -> Submitter<T, R> {
-    let share = desk.share(rt).ok().expect(rt, "a share");
-    let mut submitter = Submitter::new(rt, alloc, share, asks, scenario.rounds, scenario.pace);
-    submitter.submit_rounds(rt, desk, false);
-    submitter
 }
 
 /// Serves the line while the driver submits. Hands the sites back if memory was refused.
@@ -172,36 +156,6 @@ fn serve_both<
     )
 }
 
-/// Serves the line in the scenario's way, while both submit.
-fn serve_so<
-    T: Tickets + Send + Sync,
-    R: Refusals + Send + Sync,
-    G: Hook + Sync,
-    W: Wait + Threads + Sync + Abort,
->(
-    rt: &W,
-    alloc: Global,
-    service: Service<T, R, G>,
-    driver: &mut Driver<T, R>,
-    other: Submitter<T, R>,
-) -> (Ends<MemSite>, Submitter<T, R>)
-    requires { service.desk.now.limit ≤ 8 + service.scenario.now.plan.area }
-{
-    match service.scenario.way {
-        Way::Threads => serve_both(rt, alloc, service, driver, other),
-        Way::Alone => (
-            serve_alone(rt, alloc, service.desk, service.scenario),
-            other,
-        ),
-    }
-}
-
-/// How many commands the two submitters submit.
-fn count_of(scenario: &Scenario) -> usize {
-    let asks = scenario.first.len().saturating_add(scenario.second.len());
-    asks.saturating_mul(scenario.rounds)
-}
-
 /// The shares and receipts of the two submitters, except what isn't to be handed in.
 fn held<T: Tickets, R: Refusals>(
     rt: &impl Abort,
@@ -215,7 +169,7 @@ fn held<T: Tickets, R: Refusals>(
     hand_in(rt, &mut receipts, others);
     let mut shares = room(rt, alloc, 2);
     put(rt, &mut shares, one);
-    if left_out == LeftOut::Share {
+    if matches!(left_out, LeftOut::Share) {
         drop(other);
     } else {
         put(rt, &mut shares, other);
@@ -232,7 +186,7 @@ fn hand_in(rt: &impl Abort, receipts: &mut Vec<Receipt>, others: Vec<Receipt>) {
 
 /// The ends, except the one that isn't to be handed in.
 fn ends_but(mut ends: Ends<MemSite>, left_out: LeftOut) -> Ends<MemSite> {
-    if left_out == LeftOut::End && ends.workers.len() > 1 {
+    if matches!(left_out, LeftOut::End) && ends.workers.len() > 1 {
         drop(ends.workers.remove(1));
     }
     ends
@@ -245,12 +199,13 @@ fn both_of<T: Tickets, R: Refusals, W: Wait + Abort>(
     desk: &Desk<T, R>,
     scenario: &Scenario,
 ) -> (Driver<T, R>, Submitter<T, R>) {
-    let first = submitter(rt, alloc, desk, scenario, scenario.first);
-    let other = submitter(rt, alloc, desk, scenario, scenario.second);
+    let first = Submitter::new(rt, alloc, desk, scenario, scenario.first);
+    let other = Submitter::new(rt, alloc, desk, scenario, scenario.second);
     assert!(rt; desk.share(rt).is_err());
+    let asks = scenario.first.len().saturating_add(scenario.second.len());
     let driver = Driver {
         submitter: first,
-        accepted: count_of(scenario) as u64,
+        accepted: asks.saturating_mul(scenario.rounds) as u64,
     };
     (driver, other)
 }
@@ -273,7 +228,10 @@ fn serve_at<
         scenario,
         hook,
     };
-    let (ends, mut other) = serve_so(rt, alloc, service, &mut driver, other);
+    let (ends, mut other) = match scenario.way {
+        Way::Threads => serve_both(rt, alloc, service, &mut driver, other),
+        Way::Alone => (serve_alone(rt, alloc, desk, scenario), other),
+    };
     other.wait_all(rt, desk);
     (
         held(rt, alloc, driver.submitter, other, scenario.left_out),
@@ -306,7 +264,7 @@ fn serve_by<
         return None;
     };
     let (held, ends) = serve_at(rt, alloc, &desk, scenario, hook);
-    Some(report_of(rt, alloc, scenario, desk, held, ends))
+    Some(report_of(rt, alloc, desk, held, ends))
 }
 
 /// Serves the line, and closes its desk. None: memory for the desk was refused.

@@ -16,7 +16,7 @@ use std::alloc::Global;
 use std::process::Abort;
 
 /// A part of a line.
-#[derive(Clone, Copy, PartialEq, Eq)]
+#[derive(Clone, Copy, PartialEq)]
 pub(crate) enum Part {
     Disk,
     Slave(u16),

@@ -5,7 +5,7 @@ use crate::report::Report;
 use crate::session::{LeftOut, Scenario, Way, session};
 use crate::sites::{Part, Trouble};
 use crate::submitter::Pace;
-use runner_cases::asks::Ask;
+use runner_cases::runs::ASKS;
 use runner_cases::sites::PATTERNS;
 use site_mem::Pattern;
 use station_jobs::NoHook;
@@ -24,12 +24,6 @@ const THREE: Plan = Plan {
     has_cycle: false,
 };
 
-const ASKS: &[Ask] = &[
-    Ask::Alias(0, 1),
-    Ask::Swap(0, 1),
-    Ask::Group(&[(2, 7), (0, 9)]),
-];
-
 /// One submitter with three commands.
 const STOPPING: Scenario = Scenario {
     plan: THREE,
@@ -40,7 +34,6 @@ const STOPPING: Scenario = Scenario {
     way: Way::Threads,
     trouble: Trouble::Nothing,
     left_out: LeftOut::Nothing,
-    is_recovered: true,
 };
 
 /// Whether the line was stopped. None if a promise was broken:
@@ -56,7 +49,7 @@ fn judged(pace: Pace, report: &Report) -> Option<bool> {
         Some(CloseFault::Mismatch) => return None,
     };
     let is_whole = report.accepted == 3 && (place == 0 || place == 3);
-    if place < least || (pace == Pace::Queued && !is_whole) {
+    if place < least || (matches!(pace, Pace::Queued) && !is_whole) {
         return None;
     }
     Some(report.fault.is_some())

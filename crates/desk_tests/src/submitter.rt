@@ -3,6 +3,7 @@
 ghost use denote.Param.Send.{IsSync};
 
 use crate::memory::room;
+use crate::session::Scenario;
 use book_model::SubmitRefusal;
 use runner_cases::asks::{Ask, command};
 use sii_edit::Cause;
@@ -13,7 +14,7 @@ use std::sync::Wait;
 use std::thread::{JoinHandle, Scope, Threads};
 
 /// When a submitter waits for its commands.
-#[derive(Clone, Copy, PartialEq, Eq)]
+#[derive(Clone, Copy)]
 pub(crate) enum Pace {
     /// For each command before it submits the next.
     OneByOne,
@@ -59,25 +60,26 @@ fn wait_for<T: Tickets, R: Refusals, W: Wait>(
 }
 
 impl<T: Tickets, R: Refusals> Submitter<T, R> {
-    /// A submitter of these commands, in this many rounds.
-    pub(crate) fn new(
-        rt: &impl Abort,
+    /// A submitter of these commands, which has submitted those that are for the time before serving.
+    pub(crate) fn new<W: Wait + Abort>(
+        rt: &W,
         alloc: Global,
-        share: Share<T, R>,
+        desk: &Desk<T, R>,
+        scenario: &Scenario,
         asks: &'static [Ask],
-        rounds: usize,
-        pace: Pace,
     ) -> Self {
-        let count = asks.len().saturating_mul(rounds);
-        Submitter {
+        let count = asks.len().saturating_mul(scenario.rounds);
+        let mut submitter = Submitter {
             alloc,
-            share,
+            share: desk.share(rt).ok().expect(rt, "a share"),
             asks,
-            rounds,
-            pace,
+            rounds: scenario.rounds,
+            pace: scenario.pace,
             tickets: room(rt, alloc, count),
             receipts: room(rt, alloc, count),
-        }
+        };
+        submitter.submit_rounds(rt, desk, false);
+        submitter
     }
 
     /// Submits the command that is asked for. False, with nothing changed, if memory was refused.
@@ -104,7 +106,7 @@ impl<T: Tickets, R: Refusals> Submitter<T, R> {
             if !self.is_submitted(rt, desk, ask) {
                 self.is_submitted(rt, desk, ask);
             }
-            if self.pace == Pace::OneByOne {
+            if matches!(self.pace, Pace::OneByOne) {
                 self.wait_all(rt, desk);
             }
         }
@@ -112,7 +114,7 @@ impl<T: Tickets, R: Refusals> Submitter<T, R> {
 
     /// Submits the commands that are for the time of serving, or for the time before.
     pub(crate) fn submit_rounds<W: Wait>(&mut self, rt: &W, desk: &Desk<T, R>, is_served: bool) {
-        if is_served == (self.pace == Pace::Queued) {
+        if is_served == matches!(self.pace, Pace::Queued) {
             return;
         }
         for _round in 0..self.rounds {

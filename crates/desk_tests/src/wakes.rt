@@ -53,7 +53,7 @@ enum Sleeper {
 }
 
 /// How a sleep ended.
-#[derive(Clone, Copy, PartialEq, Eq)]
+#[derive(Clone, Copy, PartialEq)]
 enum End {
     /// With a job.
     Work,

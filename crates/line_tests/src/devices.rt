@@ -55,12 +55,18 @@ pub(crate) const NOTHING: Device = Device {
     size: 256,
 };
 
+/// Writes bytes over others, from a place on, if there is room.
+pub(crate) fn put(bytes: &mut [u8], from: usize, new: &[u8]) {
+    if let Some(room) = bytes.get_mut(from..from.saturating_add(new.len())) {
+        room.copy_from_slice(new);
+    }
+}
+
 /// The bytes of a device.
 pub(crate) fn bytes_of(alloc: Global, device: &Device) -> Result<Vec<u8>, AllocError> {
-    let mut bytes = Vec::from_slice(alloc, device.front)?;
-    bytes.resize(128, 0)?;
-    bytes.extend_from_slice(device.categories)?;
-    bytes.resize(device.size, 0)?;
+    let mut bytes = vec![in alloc; 0u8; device.size]?;
+    put(&mut bytes, 0, device.front);
+    put(&mut bytes, 128, device.categories);
     Ok(bytes)
 }
 

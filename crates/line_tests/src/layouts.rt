@@ -2,7 +2,6 @@
 
 use crate::devices::{BOTH, Device, INPUTS, NOTHING, line_of, words_of};
 use sii_image::{Layout, NewLayout, NewLayouts, ProcessImage, Segment, SlaveLayout};
-use sii_words::Words;
 use std::alloc::Global;
 
 const SEGMENTS: &[Segment] = &[
@@ -51,22 +50,25 @@ fn slave_layout(alloc: Global, device: &Device) -> Option<SlaveLayout> {
     SlaveLayout::of(alloc, &words).ok()
 }
 
+/// The line before the change of its slaves.
+const BEFORE: &[Device] = &[BOTH, NOTHING];
+
 /// The layouts of both slaves of the line.
 fn both_layouts(alloc: Global) -> Option<NewLayouts> {
-    let first = NewLayout {
-        slave: 0,
-        layout: slave_layout(alloc, &BOTH)?,
-    };
-    let second = NewLayout {
-        slave: 1,
-        layout: slave_layout(alloc, &INPUTS)?,
-    };
-    Some(NewLayouts::of(Vec::from_array(alloc, [first, second]).ok()?))
+    let mut layouts = Vec::new(alloc);
+    let layout = slave_layout(alloc, &BOTH)?;
+    layouts.push(NewLayout { slave: 0, layout }).ok()?;
+    let layout = slave_layout(alloc, &INPUTS)?;
+    layouts.push(NewLayout { slave: 1, layout }).ok()?;
+    Some(NewLayouts::of(layouts))
 }
 
 /// Changes the first slave of a layout to `INPUTS`. There is no third one, so that nothing else is changed.
-fn change(layout: &mut Layout, inputs: &Words) -> bool {
-    layout.change(0, inputs).is_ok() && layout.change(2, inputs).is_ok()
+fn change(alloc: Global, layout: &mut Layout) -> bool {
+    match words_of(alloc, &INPUTS) {
+        Some(inputs) => layout.change(0, &inputs).is_ok() && layout.change(2, &inputs).is_ok(),
+        None => false,
+    }
 }
 
 /// Whether this layout has the process image of the line once both slaves are changed.
@@ -79,15 +81,10 @@ fn becomes_whole(layout: &mut Layout, new: NewLayouts) -> bool {
     }
 }
 
-/// The line before the change of its slaves.
-const BEFORE: &[Device] = &[BOTH, NOTHING];
-
 fn is_changed(alloc: Global) -> Option<bool> {
     let plant = line_of(alloc, BEFORE)?;
-    let inputs = words_of(alloc, &INPUTS)?;
     let mut layout = Layout::of(alloc, &plant).ok()?;
-    let new = both_layouts(alloc)?;
-    Some(change(&mut layout, &inputs) && becomes_whole(&mut layout, new))
+    Some(change(alloc, &mut layout) && becomes_whole(&mut layout, both_layouts(alloc)?))
 }
 
 #[test]

@@ -15,13 +15,6 @@ use site_core::Site;
 use site_mem::{MemSite, Parts};
 use std::alloc::Global;
 
-// Writes bytes over others, from a place on, if there is room.
-fn put(bytes: &mut [u8], from: usize, new: &[u8]) {
-    if let Some(room) = bytes.get_mut(from..from.saturating_add(new.len())) {
-        room.copy_from_slice(new);
-    }
-}
-
 // The site of these parts, if they fit together.
 fn site_of(alloc: Global, parts: Parts) -> Option<MemSite> {
     if !parts.is_whole() {

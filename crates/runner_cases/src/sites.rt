@@ -1,8 +1,10 @@
 //! Sites in memory: what goes wrong on them, how a station takes them and gives them back, and what they hold.
 
 use esc_model::RomHalf;
-use esc_rom::owns_all;
-use site_core::Site;
+use esc_rom::{RomFault, owns_all};
+use jrn_format::JournalFault;
+use site_core::{DeviceFault, Site};
+use site_journal::ReadFault;
 use site_mem::{MemSite, Parts, Pattern};
 use station_alone::{Alone, OpenFault, recover};
 use std::alloc::Global;
@@ -73,6 +75,34 @@ pub fn recovered<S: Site>(alloc: Global, site: S) -> (S, Result<[u64; 3], OpenFa
             Ok([found.batches, found.commands, found.words]),
         ),
         Err((site, fault)) => (site, Err(fault)),
+    }
+}
+
+/// Whether a station wasn't opened, or a line not recovered, because memory was refused to it or to the disk.
+pub fn is_memory(fault: OpenFault) -> bool {
+    matches!(
+        fault,
+        OpenFault::Memory
+            | OpenFault::Slave(RomFault::Memory)
+            | OpenFault::Journal(
+                ReadFault::Journal(JournalFault::Memory) | ReadFault::Device(DeviceFault::Disk),
+            )
+    )
+}
+
+/// The parts of a line after a recovery, and its fault. None if a part is missing.
+fn recovery(alloc: Global, parts: Parts) -> Option<(Parts, Option<OpenFault>)> {
+    let site = site_of(alloc, parts, &Trouble::Nothing)?;
+    let (site, came) = recovered(alloc, site);
+    Some((site.into_parts(), came.err()))
+}
+
+/// The parts of a line after a recovery, and its fault, at the second try if the first is refused memory. None if a part is missing.
+pub fn recovered_at_last(alloc: Global, parts: Parts) -> Option<(Parts, Option<OpenFault>)> {
+    let (left, fault) = recovery(alloc, parts)?;
+    match fault {
+        Some(fault) if is_memory(fault) => recovery(alloc, left),
+        _ => Some((left, fault)),
     }
 }
 

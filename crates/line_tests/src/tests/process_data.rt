@@ -1,7 +1,7 @@
 //! A line of slaves in memory whose process data is configured and exchanged as their EEPROMs describe it.
 
-use super::{process_halves, process_line, put};
-use crate::devices::{self, BOTH, Device, INPUTS, NAMED, NOTHING, words_of};
+use super::{process_halves, process_line};
+use crate::devices::{self, BOTH, Device, INPUTS, NAMED, NOTHING, put, words_of};
 use cyclic::{CycleFault, configure, reconfigure, turn};
 use ecat_frame::{Command, Frame, fp};
 use esc_model::ProcessHalf;

@@ -1,7 +1,6 @@
 //! The EEPROM half of a slave, datagram by datagram.
 
-use super::put;
-use crate::devices::{Device, ZERO, words_of};
+use crate::devices::{Device, ZERO, put, words_of};
 use ecat_frame::{Command, fp};
 use esc_model::{Rest, RomHalf, WordWrite};
 use std::alloc::Global;
