@@ -1,4 +1,4 @@
-//! Runs of `sii_station` over files in memory as cases say them, each in its way, and whether they go as is expected.
+//! Runs of a program, `sii_station`, over files in memory as cases say them, each in its way, and whether they go as is expected.
 //!
 //! A run is a table of these keys, or the text of its `args` alone:
 //!
@@ -52,6 +52,6 @@ mod tries;
 mod wrong;
 
 pub use calls::{Mishap, try_calls};
+pub use contents::Named;
 pub use run::Run;
 pub use tries::{try_behind, try_inputs, try_once, try_outputs, try_page, try_plan};
-pub use wrong::Wrong;

@@ -10,10 +10,12 @@
 #![tactic(auto)]
 
 mod faults;
+mod station;
 mod trial;
 
 use crate::faults::{try_faults, try_refusals};
 use crate::trial::{Tally, name_of, try_case};
+use case_runs::Named;
 use std::alloc::Global;
 use std::io::Print;
 use std::process::ExitCode;
@@ -60,9 +62,9 @@ fn try_files(
     tables: &[Table],
     tally: &mut Tally,
 ) -> io::Result<()> {
-    if let [named, files @ ..] = tables {
+    if let [table, files @ ..] = tables {
         for file in files {
-            try_cases(rt, alloc, named, file.get("case"), tally)?;
+            try_cases(rt, Named { alloc, table }, file.get("case"), tally)?;
         }
     }
     Ok(())
@@ -71,14 +73,13 @@ fn try_files(
 /// Tries the cases of a file.
 fn try_cases(
     rt: &(impl Print + Wait + Threads + Sync),
-    alloc: Global,
-    named: &Table,
+    named: Named,
     cases: Option<&Value>,
     tally: &mut Tally,
 ) -> io::Result<()> {
     if let Some(Value::Array(cases)) = cases {
         for case in cases.iter() {
-            if let Err(error) = try_case(rt, alloc, named, case, tally) {
+            if let Err(error) = try_case(rt, named, case, tally) {
                 tally.wrong = tally.wrong.saturating_add(1);
                 println!(rt; "WRONG {}: {error}", name_of(case))?;
             }
