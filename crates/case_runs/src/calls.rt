@@ -17,15 +17,14 @@ pub enum Mishap {
     Full,
 }
 
-/// How a try of a call ended.
-#[derive(Drop)]
-enum Ended<'a> {
-    /// There are more calls.
-    GoesOn,
-    /// The run made fewer calls, so all were tried.
-    Last,
-    /// This went wrong.
-    Wrong(&'a str),
+impl Mishap {
+    fn at(self, call: u64) -> Trouble {
+        match self {
+            Mishap::Cut => Trouble::Cut(call),
+            Mishap::Error => Trouble::Error(call),
+            Mishap::Full => Trouble::Full(call),
+        }
+    }
 }
 
 /// A line that is mended: its files, and how many commands are in it then at least.
@@ -62,57 +61,54 @@ pub fn try_calls<'a>(
         behind_cuts: Vec::new(run.named.alloc),
     };
     for call in 0..CALLS {
-        match try_call(bench, run, mishap, call, &mut tried)? {
-            Ended::GoesOn => {}
-            Ended::Last if call == 0 => return Err(io::Error::other("no call")),
-            Ended::Last => return Ok(""),
-            Ended::Wrong(wrong) => return Ok(wrong),
+        let mut shelf = run.shelf()?;
+        let wrong = try_call(bench, run, mishap.at(call), &mut shelf, &mut tried)?;
+        if !wrong.is_empty() {
+            return Ok(wrong);
+        }
+        if !shelf.troubles.has_come() {
+            return if call == 0 {
+                Err(io::Error::other("no call"))
+            } else {
+                Ok("")
+            };
         }
     }
     Err(io::Error::other("calls without an end"))
 }
 
+/// Tries a run with this trouble, and what is run behind it over what a power cut leaves.
 fn try_call<'a>(
     bench: &mut Bench<impl Program>,
     run: &Run<'a>,
-    mishap: Mishap,
-    call: u64,
+    trouble: Trouble,
+    shelf: &mut Shelf,
     tried: &mut Tried,
-) -> io::Result<Ended<'a>> {
-    let mut shelf = run.shelf()?;
-    run.prepare(&mut shelf)?;
-    let trouble = match mishap {
-        Mishap::Cut => Trouble::Cut(call),
-        Mishap::Error => Trouble::Error(call),
-        Mishap::Full => Trouble::Full(call),
-    };
+) -> io::Result<&'a str> {
+    run.prepare(shelf)?;
     shelf.trouble(trouble, run.pattern()?)?;
-    run_line(bench, run, run.args(), &mut shelf)?;
-    let mut wrong = wrong_mishap(run, mishap, &bench.printed, &shelf)?;
-    if wrong.is_empty() {
-        wrong = try_left(bench, run, &shelf, tried)?;
-    }
+    run_line(bench, run, run.args(), shelf)?;
+    let wrong = wrong_mishap(run, trouble, &bench.printed, shelf)?;
     if !wrong.is_empty() {
-        Ok(Ended::Wrong(wrong))
-    } else if shelf.troubles.has_come() {
-        Ok(Ended::GoesOn)
-    } else {
-        Ok(Ended::Last)
+        return Ok(wrong);
     }
+    let durable = durable_of(&bench.printed);
+    try_left(bench, run, &mut shelf.left()?, durable, tried)
 }
 
-/// What isn't as is expected of a run in which a call went wrong. A power cut may leave anything to print; a failure is told.
+/// What isn't as is expected of a run with this trouble. A power cut may leave anything to print; a failure is told.
 fn wrong_mishap<'a>(
     run: &Run<'a>,
-    mishap: Mishap,
+    trouble: Trouble,
     printed: &Printed,
     shelf: &Shelf,
 ) -> io::Result<&'a str> {
     if !shelf.troubles.has_come() {
         return wrong_of(run, printed, shelf);
     }
-    let is_told = (printed.status == 3 || printed.status == 4) && printed.faults.starts_with(b"fault ");
-    if is_told || matches!(mishap, Mishap::Cut) {
+    let is_fault = printed.faults.starts_with(b"fault ");
+    let is_told = is_fault && (printed.status == 3 || printed.status == 4);
+    if is_told || matches!(trouble, Trouble::Cut(_)) {
         Ok("")
     } else {
         Ok("the fault of a failure")
@@ -133,36 +129,28 @@ fn durable_of(printed: &Printed) -> usize {
     0
 }
 
-/// Tries what is run behind the run that the bench printed, over what a power cut leaves; where the run says so, also behind a cut in each
-/// call of a first such try.
+/// Tries what is run behind a run over the files that it left; where the run says so, also behind a cut in each call of a first such try.
 fn try_left<'a>(
     bench: &mut Bench<impl Program>,
     run: &Run<'a>,
-    shelf: &Shelf,
+    left: &mut Shelf,
+    durable: usize,
     tried: &mut Tried,
 ) -> io::Result<&'a str> {
-    let durable = durable_of(&bench.printed);
-    let mut left = shelf.left()?;
     if run.said("again").is_none() {
-        return try_behind(bench, run, &mut left, durable);
+        return try_behind(bench, run, left, durable);
     }
-    if !is_new(run, &left, durable, &mut tried.behind_cuts)? {
+    if !is_new(run, left, durable, &mut tried.behind_cuts)? {
         return Ok("");
     }
-    try_cuts(bench, run, &left, durable, &mut tried.once)
+    try_cuts(bench, run, left, durable, &mut tried.once)
 }
 
 /// Whether the files that a run writes weren't tried so, with so many commands or more. Then they are kept as tried.
-fn is_new(
-    run: &Run,
-    shelf: &Shelf,
-    durable: usize,
-    tried: &mut Vec<Mended>,
-) -> io::Result<bool> {
+fn is_new(run: &Run, shelf: &Shelf, durable: usize, tried: &mut Vec<Mended>) -> io::Result<bool> {
     let files = written(run, shelf)?;
-    let is_tried = tried
-        .iter()
-        .any(|one| one.durable >= durable && one.files.as_slice() == files.as_slice());
+    let is_tried = tried.iter().any(|one| one.durable >= durable
+        && one.files.as_slice() == files.as_slice());
     if is_tried {
         return Ok(false);
     }
@@ -194,16 +182,25 @@ fn try_cuts<'a>(
         let mut cut = shelf.left()?;
         cut.trouble(Trouble::Cut(call), run.pattern()?)?;
         run_line(bench, run, run.text("first"), &mut cut)?;
-        let mut left = cut.left()?;
-        if is_new(run, &left, durable, tried)? {
-            let wrong = try_behind(bench, run, &mut left, durable)?;
-            if !wrong.is_empty() {
-                return Ok(wrong);
-            }
-        }
-        if !cut.troubles.has_come() {
-            return Ok("");
+        let wrong = try_new(bench, run, &mut cut.left()?, durable, tried)?;
+        if !wrong.is_empty() || !cut.troubles.has_come() {
+            return Ok(wrong);
         }
     }
     Err(io::Error::other("calls without an end"))
+}
+
+/// Tries what is run behind a run, unless its line was tried.
+fn try_new<'a>(
+    bench: &mut Bench<impl Program>,
+    run: &Run<'a>,
+    left: &mut Shelf,
+    durable: usize,
+    tried: &mut Vec<Mended>,
+) -> io::Result<&'a str> {
+    if is_new(run, left, durable, tried)? {
+        try_behind(bench, run, left, durable)
+    } else {
+        Ok("")
+    }
 }

@@ -84,15 +84,13 @@ fn patched(alloc: Global, size: usize, table: &Table) -> io::Result<Vec<u8>> {
 fn put_part(alloc: Global, bytes: &mut [u8], key: &str, value: &Value) -> io::Result<()> {
     let at = key.parse::<usize>().unwrap_or(usize::MAX);
     let part = part_bytes(alloc, value)?;
-    match bytes.get_mut(at..) {
-        Some(rest) if part.len() <= rest.len() && !part.is_empty() => {
-            for (byte, value) in rest.iter_mut().zip(&part) {
-                *byte = *value;
-            }
-            Ok(())
-        }
-        _ => Err(io::Error::other("no bytes at an offset")),
+    if part.is_empty() || at.saturating_add(part.len()) > bytes.len() {
+        return Err(io::Error::other("no bytes at an offset"));
     }
+    for (byte, value) in bytes.iter_mut().skip(at).zip(&part) {
+        *byte = *value;
+    }
+    Ok(())
 }
 
 /// The bytes of hexadecimal text, which may be repeated. White space in it means nothing.

@@ -4,7 +4,7 @@ use crate::captures::comes_back;
 use crate::contents::{Named, number_of};
 use std::alloc::{AllocError, Global};
 use std::io;
-use toml::Value;
+use toml::{Table, Value};
 
 /// Whether bytes have what is expected of them.
 ///
@@ -12,11 +12,16 @@ use toml::Value;
 ///
 /// What is expected is malformed, or memory was refused.
 pub fn fits(named: &Named, expected: &Value, bytes: &[u8]) -> io::Result<bool> {
-    let parts = match expected {
-        Value::Boolean(true) => return Ok(!bytes.is_empty()),
-        Value::Table(parts) if parts.get("size").is_none() && parts.get("text").is_none() => parts,
-        contents => return Ok(named.bytes_of(contents)?.as_slice() == bytes),
-    };
+    match expected {
+        Value::Boolean(true) => Ok(!bytes.is_empty()),
+        Value::Table(parts) if parts.get("size").is_none() && parts.get("text").is_none() => {
+            fits_all(named, parts, bytes)
+        }
+        contents => Ok(named.bytes_of(contents)?.as_slice() == bytes),
+    }
+}
+
+fn fits_all(named: &Named, parts: &Table, bytes: &[u8]) -> io::Result<bool> {
     for (key, part) in parts.iter() {
         if !fits_part(named, key.as_str(), part, bytes)? {
             return Ok(false);

@@ -1,4 +1,4 @@
-//! Runs of a program, `sii_station`, over files in memory as cases say them, each in its way, and whether they go as is expected.
+//! Runs of `sii_station` over files in memory as cases say them, each in its way, and whether they go as is expected.
 //!
 //! A run is a table of these keys, or the text of its `args` alone:
 //!

@@ -42,14 +42,14 @@ fn try_with<'a>(
 /// The run is malformed, or memory was refused.
 pub fn try_inputs<'a>(bench: &mut Bench<impl Program>, run: &Run<'a>) -> io::Result<&'a str> {
     let input = run.bytes("input")?;
-    for count in 0..input.len() {
+    for count in 0..=input.len() {
         let part = input.get(..count).unwrap_or(&input);
         let wrong = try_with(bench, run, part, &mut run.shelf()?)?;
         if !wrong.is_empty() {
             return Ok(wrong);
         }
     }
-    try_with(bench, run, &input, &mut run.shelf()?)
+    Ok("")
 }
 
 /// Tries a run with outputs that take each number of bytes but all: it prints just these, and ends in a fault of a file.
@@ -65,7 +65,8 @@ pub fn try_outputs<'a>(
     let whole = run.bytes("output")?;
     for bytes in 0..whole.len() {
         let taken = whole.get(..bytes).unwrap_or(&whole);
-        let wrong = try_output(bench, run, Room { bytes, then }, taken)?;
+        let room = Room { bytes, then };
+        let wrong = try_output(bench, run, room, taken, &mut run.shelf()?)?;
         if !wrong.is_empty() {
             return Ok(wrong);
         }
@@ -78,21 +79,21 @@ fn try_output<'a>(
     run: &Run<'a>,
     room: Room,
     taken: &[u8],
+    shelf: &mut Shelf,
 ) -> io::Result<&'a str> {
-    let mut shelf = run.shelf()?;
-    run.prepare(&mut shelf)?;
+    run.prepare(shelf)?;
     let input = run.bytes("input")?;
     let given = Given {
         room,
         ..run.given(&input)
     };
-    bench.run(&run.words()?, &given, &mut shelf);
+    bench.run(&run.words()?, &given, shelf);
     let printed = &bench.printed;
     let is_told = printed.status == 3 && printed.faults.as_slice() == "fault 90 File\n".as_bytes();
     if !is_told || printed.output.as_slice() != taken {
         return Ok("a cut output");
     }
-    try_behind(bench, run, &mut shelf, 0)
+    try_behind(bench, run, shelf, 0)
 }
 
 /// Tries what is run behind each try of a run, over the files that it left. So many commands were durable.
@@ -171,14 +172,29 @@ pub fn try_plan<'a>(
 ) -> io::Result<&'a str> {
     run.prepare(shelf)?;
     let before = shelf.left()?;
+    try_planned(bench, run, &before, shelf)
+}
+
+/// Tries a plan and then a run, where these files are there before.
+fn try_planned<'a>(
+    bench: &mut Bench<impl Program>,
+    run: &Run<'a>,
+    before: &Shelf,
+    shelf: &mut Shelf,
+) -> io::Result<&'a str> {
     run_line(bench, run, run.text("first"), shelf)?;
-    if shelf.writes != 0 || !changes_of(run, &before, shelf)?.is_empty() {
+    if shelf.writes != 0 || !changes_of(run, before, shelf)?.is_empty() {
         return Ok("what a plan writes");
     }
     let mut second = Bench::new(shelf.alloc, bench.program);
     run_line(&mut second, run, run.args(), shelf)?;
-    let changes = changes_of(run, &before, shelf)?;
-    if is_foreseen(shelf.alloc, &bench.printed, &second.printed, changes.as_str())? {
+    let changes = changes_of(run, before, shelf)?;
+    if is_foreseen(
+        shelf.alloc,
+        &bench.printed,
+        &second.printed,
+        changes.as_str(),
+    )? {
         Ok("")
     } else {
         Ok("the plan")

@@ -47,14 +47,14 @@ fn wrong_print(run: &Run, printed: &Printed) -> io::Result<&'static str> {
 
 /// Whether standard output, or what is left on a terminal, is as expected, and all that was drawn on the terminal.
 fn is_shown(run: &Run, printed: &Printed) -> io::Result<bool> {
-    match run.said("drawn") {
-        Some(drawn) => {
-            let is_drawn = fits(&run.named, drawn, &printed.output)?;
-            let left = left_of(run.named.alloc, &printed.output)?;
-            Ok(is_printed(run, "output", &left)? && is_drawn)
-        }
-        None => is_printed(run, "output", &printed.output),
+    let Some(drawn) = run.said("drawn") else {
+        return is_printed(run, "output", &printed.output);
+    };
+    if !fits(&run.named, drawn, &printed.output)? {
+        return Ok(false);
     }
+    let left = left_of(run.named.alloc, &printed.output)?;
+    is_printed(run, "output", &left)
 }
 
 /// Whether a stream has what is expected of it.

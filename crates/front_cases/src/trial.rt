@@ -1,14 +1,10 @@
 //! Tries the runs of a case, and prints how each went.
 
-use crate::station::Station;
 use case_runs::{
-    Mishap, Named, Run, try_behind, try_calls, try_inputs, try_once, try_outputs, try_page,
-    try_plan,
+    Mishap, Run, try_behind, try_calls, try_inputs, try_once, try_outputs, try_page, try_plan,
 };
 use station_cases::{Bench, Full, Printed, Program, Shelf};
 use std::io::Print;
-use std::sync::Wait;
-use std::thread::Threads;
 use std::{io, slice};
 use toml::Value;
 
@@ -19,26 +15,26 @@ pub struct Tally {
     pub wrong: u64,
 }
 
-/// Tries the runs of a case.
+/// Tries the runs of a case, which is given as a run.
 ///
 /// # Errors
 ///
 /// The case is malformed, memory was refused, or nothing can be printed.
 pub fn try_case(
-    rt: &(impl Print + Wait + Threads + Sync),
-    named: Named,
-    case: &Value,
+    rt: &impl Print,
+    bench: &mut Bench<impl Program>,
+    first: &Run,
     tally: &mut Tally,
 ) -> io::Result<()> {
-    match (case.get("each"), case.get("steps")) {
+    match (first.case.get("each"), first.case.get("steps")) {
         (Some(Value::Array(rows)), None) => {
             for row in rows.iter() {
-                try_row(rt, named, case, runs_of(row), tally)?;
+                try_row(rt, bench, first, runs_of(row), tally)?;
             }
             Ok(())
         }
-        (None, Some(steps)) => try_row(rt, named, case, runs_of(steps), tally),
-        (None, None) => try_row(rt, named, case, slice::from_ref(case), tally),
+        (None, Some(steps)) => try_row(rt, bench, first, runs_of(steps), tally),
+        (None, None) => try_row(rt, bench, first, slice::from_ref(first.case), tally),
         _ => Err(io::Error::other("malformed runs")),
     }
 }
@@ -53,25 +49,21 @@ fn runs_of(row: &Value) -> &[Value] {
 
 /// Tries runs in a row over the files of their case.
 fn try_row(
-    rt: &(impl Print + Wait + Threads + Sync),
-    named: Named,
-    case: &Value,
+    rt: &impl Print,
+    bench: &mut Bench<impl Program>,
+    first: &Run,
     runs: &[Value],
     tally: &mut Tally,
 ) -> io::Result<()> {
-    let durable = 0;
-    let first = Run {
-        own: case,
-        case,
-        named,
-        durable,
-    };
-    let station = Station { rt };
-    let mut bench = Bench::new(named.alloc, &station);
     let mut shelf = first.shelf()?;
     for own in runs {
-        let run = Run { own, ..first };
-        let wrong = try_so(&mut bench, &run, &mut shelf)?;
+        let run = Run {
+            own,
+            case: first.case,
+            named: first.named,
+            durable: 0,
+        };
+        let wrong = try_so(bench, &run, &mut shelf)?;
         note(rt, &run, wrong, &bench.printed, tally)?;
     }
     Ok(())

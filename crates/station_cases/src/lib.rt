@@ -1,4 +1,4 @@
-//! What the tests of a whole program stand on: files in memory that lose power or fail, streams in memory that fail, and runs of the program
+//! What the tests of the whole program stand on: files in memory that lose power or fail, streams in memory that fail, and runs of the program
 //! over them.
 #![tactic(auto)]
 
