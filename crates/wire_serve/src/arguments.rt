@@ -2,13 +2,13 @@
 
 use crate::rows::{rows, wire_program};
 use crate::sizes::sizes_of;
+use crate::slaves::{PowerCut, Practice, QuirkList};
 use command_line::{Given, Unread, read_typed, read_words, refuse};
 use station_json::Form;
 use std::alloc::Global;
 use wire_bringup::Sizes;
 use wire_scan::{Asked, Named};
 use wire_session::RunOrder;
-use wire_slaves::{PowerCut, Practice, QuirkList};
 
 /// A command line: what it asks for, and where its text and its frames go.
 #[derive(Drop)]

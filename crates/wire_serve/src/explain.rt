@@ -38,11 +38,11 @@ fn push_paragraph<C: Display>(
 /// The paragraphs of all codes, separated by empty lines.
 fn all_paragraphs(alloc: Global) -> Result<String, AllocError> {
     let mut text = String::new(alloc);
-    for code in CODES {
-        push_paragraph(alloc, &code, code.entry(), &mut text)?;
+    for code in &CODES {
+        push_paragraph(alloc, code, code.entry(), &mut text)?;
     }
-    for code in WIRE_CODES {
-        push_paragraph(alloc, &code, code.entry(), &mut text)?;
+    for code in &WIRE_CODES {
+        push_paragraph(alloc, code, code.entry(), &mut text)?;
     }
     Ok(text)
 }

@@ -8,8 +8,10 @@ mod rows;
 mod serving;
 mod shared_arguments;
 mod sizes;
+mod slaves;
 
 pub use arguments::{Arguments, Task, Tenure, read_arguments};
 pub use command_line::refuse_words;
 pub use dated::name_at;
 pub use serving::{Connection, Screen, refuse_text, serve};
+pub use slaves::{PowerCut, Practice, QuirkList};

@@ -3,6 +3,7 @@
 use crate::arguments::{Arguments, Task, Tenure};
 use crate::dated::dated_name;
 use crate::explain::explain;
+use crate::slaves::serve_slaves;
 use command_line::{InputScript, Script};
 use line_watch::{Capture, CapturedWire, Cleared, Progress, WatchedWire};
 use station_files::{ExitStatus, Fault, Store, report_fault};
@@ -20,7 +21,6 @@ use wire_faults::WireFault;
 use wire_frames::{EthernetWire, NumberedWire, Wire};
 use wire_scan::{CaptureNames, backup_line, keep_capture_apart, scan_line};
 use wire_session::{begin_journal, init_on_wire, plan_on_wire, recover_line, run_script};
-use wire_slaves::serve_slaves;
 
 /// A connection to a line.
 #[derive(Drop)]

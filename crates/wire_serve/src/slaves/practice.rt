@@ -1,6 +1,6 @@
 //! A line to practise on, whose slaves hold the words of image files.
 
-use crate::quirks::QuirkList;
+use crate::slaves::quirks::QuirkList;
 use ecat_frame::{Frame, MAX_LEN};
 use sii_words::words_of_bytes;
 use site_file::RandomAccessFile;
