@@ -5,6 +5,8 @@ use crate::tries::{run_line, try_behind};
 use crate::wrong::wrong_of;
 use station_cases::{Bench, Printed, Program, Shelf, Trouble};
 use std::io;
+use std::sync::Wait;
+use std::thread::Threads;
 
 /// What goes wrong in a call.
 #[derive(Clone, Copy)]
@@ -52,7 +54,7 @@ const CALLS: u64 = 1000;
 ///
 /// The run is malformed, or memory was refused.
 pub fn try_calls<'a>(
-    bench: &mut Bench<impl Program>,
+    bench: &mut Bench<impl Program, impl Wait + Threads + Sync>,
     run: &Run<'a>,
     mishap: Mishap,
 ) -> io::Result<&'a str> {
@@ -79,7 +81,7 @@ pub fn try_calls<'a>(
 
 /// Tries a run with this trouble, and what is run behind it over what a power cut leaves.
 fn try_call<'a>(
-    bench: &mut Bench<impl Program>,
+    bench: &mut Bench<impl Program, impl Wait + Threads + Sync>,
     run: &Run<'a>,
     trouble: Trouble,
     shelf: &mut Shelf,
@@ -131,7 +133,7 @@ fn durable_of(printed: &Printed) -> usize {
 
 /// Tries what is run behind a run over the files that it left; where the run says so, also behind a cut in each call of a first such try.
 fn try_left<'a>(
-    bench: &mut Bench<impl Program>,
+    bench: &mut Bench<impl Program, impl Wait + Threads + Sync>,
     run: &Run<'a>,
     left: &mut Shelf,
     durable: usize,
@@ -172,7 +174,7 @@ fn written(run: &Run, shelf: &Shelf) -> io::Result<Vec<u8>> {
 
 /// Cuts the power in each call of a recovery, and tries what is run behind, each line once.
 fn try_cuts<'a>(
-    bench: &mut Bench<impl Program>,
+    bench: &mut Bench<impl Program, impl Wait + Threads + Sync>,
     run: &Run<'a>,
     shelf: &Shelf,
     durable: usize,
@@ -192,7 +194,7 @@ fn try_cuts<'a>(
 
 /// Tries what is run behind a run, unless its line was tried.
 fn try_new<'a>(
-    bench: &mut Bench<impl Program>,
+    bench: &mut Bench<impl Program, impl Wait + Threads + Sync>,
     run: &Run<'a>,
     left: &mut Shelf,
     durable: usize,

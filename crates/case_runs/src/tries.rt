@@ -8,6 +8,8 @@ use crate::wrong::wrong_of;
 use station_cases::{Bench, Full, Given, Printed, Program, Room, Shelf};
 use std::alloc::Global;
 use std::io;
+use std::sync::Wait;
+use std::thread::Threads;
 
 /// Tries a run with its input.
 ///
@@ -15,7 +17,7 @@ use std::io;
 ///
 /// The run is malformed, or memory was refused.
 pub fn try_once<'a>(
-    bench: &mut Bench<impl Program>,
+    bench: &mut Bench<impl Program, impl Wait + Threads + Sync>,
     run: &Run<'a>,
     shelf: &mut Shelf,
 ) -> io::Result<&'a str> {
@@ -25,7 +27,7 @@ pub fn try_once<'a>(
 
 /// Tries a run with this input.
 fn try_with<'a>(
-    bench: &mut Bench<impl Program>,
+    bench: &mut Bench<impl Program, impl Wait + Threads + Sync>,
     run: &Run<'a>,
     input: &[u8],
     shelf: &mut Shelf,
@@ -40,7 +42,10 @@ fn try_with<'a>(
 /// # Errors
 ///
 /// The run is malformed, or memory was refused.
-pub fn try_inputs<'a>(bench: &mut Bench<impl Program>, run: &Run<'a>) -> io::Result<&'a str> {
+pub fn try_inputs<'a>(
+    bench: &mut Bench<impl Program, impl Wait + Threads + Sync>,
+    run: &Run<'a>,
+) -> io::Result<&'a str> {
     let input = run.bytes("input")?;
     for count in 0..=input.len() {
         let part = input.get(..count).unwrap_or(&input);
@@ -58,7 +63,7 @@ pub fn try_inputs<'a>(bench: &mut Bench<impl Program>, run: &Run<'a>) -> io::Res
 ///
 /// The run is malformed, or memory was refused.
 pub fn try_outputs<'a>(
-    bench: &mut Bench<impl Program>,
+    bench: &mut Bench<impl Program, impl Wait + Threads + Sync>,
     run: &Run<'a>,
     then: Full,
 ) -> io::Result<&'a str> {
@@ -75,7 +80,7 @@ pub fn try_outputs<'a>(
 }
 
 fn try_output<'a>(
-    bench: &mut Bench<impl Program>,
+    bench: &mut Bench<impl Program, impl Wait + Threads + Sync>,
     run: &Run<'a>,
     room: Room,
     taken: &[u8],
@@ -102,7 +107,7 @@ fn try_output<'a>(
 ///
 /// The run is malformed, or memory was refused.
 pub fn try_behind<'a>(
-    bench: &mut Bench<impl Program>,
+    bench: &mut Bench<impl Program, impl Wait + Threads + Sync>,
     run: &Run<'a>,
     shelf: &mut Shelf,
     durable: usize,
@@ -128,7 +133,7 @@ pub fn try_behind<'a>(
 ///
 /// Memory was refused.
 pub fn run_line(
-    bench: &mut Bench<impl Program>,
+    bench: &mut Bench<impl Program, impl Wait + Threads + Sync>,
     run: &Run,
     line: &str,
     shelf: &mut Shelf,
@@ -143,13 +148,13 @@ pub fn run_line(
 ///
 /// The run is malformed, or memory was refused.
 pub fn try_page<'a>(
-    bench: &mut Bench<impl Program>,
+    bench: &mut Bench<impl Program, impl Wait + Threads + Sync>,
     run: &Run<'a>,
     shelf: &mut Shelf,
 ) -> io::Result<&'a str> {
     let alloc = run.named.alloc;
     run.prepare(shelf)?;
-    let mut first = Bench::new(alloc, bench.program);
+    let mut first = Bench::new(bench.rt, alloc, bench.program);
     run_line(&mut first, run, run.text("first"), shelf)?;
     run_line(bench, run, run.args(), shelf)?;
     let help = &first.printed.output;
@@ -166,7 +171,7 @@ pub fn try_page<'a>(
 ///
 /// The run is malformed, or memory was refused.
 pub fn try_plan<'a>(
-    bench: &mut Bench<impl Program>,
+    bench: &mut Bench<impl Program, impl Wait + Threads + Sync>,
     run: &Run<'a>,
     shelf: &mut Shelf,
 ) -> io::Result<&'a str> {
@@ -177,7 +182,7 @@ pub fn try_plan<'a>(
 
 /// Tries a plan and then a run, where these files are there before.
 fn try_planned<'a>(
-    bench: &mut Bench<impl Program>,
+    bench: &mut Bench<impl Program, impl Wait + Threads + Sync>,
     run: &Run<'a>,
     before: &Shelf,
     shelf: &mut Shelf,
@@ -186,7 +191,7 @@ fn try_planned<'a>(
     if shelf.writes != 0 || !changes_of(run, before, shelf)?.is_empty() {
         return Ok("what a plan writes");
     }
-    let mut second = Bench::new(shelf.alloc, bench.program);
+    let mut second = Bench::new(bench.rt, shelf.alloc, bench.program);
     run_line(&mut second, run, run.args(), shelf)?;
     let changes = changes_of(run, before, shelf)?;
     if is_foreseen(

@@ -21,6 +21,8 @@ use station_cases::{Bench, Program};
 use std::alloc::Global;
 use std::io::Print;
 use std::process::ExitCode;
+use std::sync::Wait;
+use std::thread::Threads;
 use std::{env, fs, io};
 use toml::{Table, Value};
 
@@ -30,8 +32,7 @@ fn main(rt: HostRuntime) -> io::Result<ExitCode> {
     let mut tally = Tally { runs: 0, wrong: 0 };
     try_faults(&rt, alloc, &mut tally)?;
     try_refusals(&rt, alloc, &mut tally)?;
-    let station = Station { rt: &rt };
-    let mut bench = Bench::new(alloc, &station);
+    let mut bench = Bench::new(&rt, alloc, &Station);
     try_files(&rt, alloc, &mut bench, &tables, &mut tally)?;
     println!(rt; "{} runs, {} wrong", tally.runs, tally.wrong)?;
     if tally.wrong == 0 {
@@ -67,7 +68,7 @@ fn read_table(rt: &HostRuntime, alloc: Global, name: &str) -> io::Result<Table> 
 fn try_files(
     rt: &impl Print,
     alloc: Global,
-    bench: &mut Bench<impl Program>,
+    bench: &mut Bench<impl Program, impl Wait + Threads + Sync>,
     tables: &[Table],
     tally: &mut Tally,
 ) -> io::Result<()> {
@@ -82,7 +83,7 @@ fn try_files(
 /// Tries the cases of a file.
 fn try_cases(
     rt: &impl Print,
-    bench: &mut Bench<impl Program>,
+    bench: &mut Bench<impl Program, impl Wait + Threads + Sync>,
     named: Named,
     cases: Option<&Value>,
     tally: &mut Tally,

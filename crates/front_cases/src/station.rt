@@ -11,11 +11,9 @@ use std::sync::atomic::Ordering::SeqCst;
 use std::thread::Threads;
 use std::time::Duration;
 
-/// The program, on this runtime.
-#[derive(Drop)]
-pub struct Station<'r, H> {
-    pub rt: &'r H,
-}
+/// The program.
+#[derive(Clone, Copy)]
+pub struct Station;
 
 /// A handle whose clock goes on by so many milliseconds each time it is read. By the time of day it stands still, at 5 nanoseconds behind second 3.
 #[derive(Drop)]
@@ -48,10 +46,16 @@ impl<H> Clock for Stepping<'_, H> {
     }
 }
 
-impl<H: Wait + Threads + Sync> Program for Station<'_, H> {
-    fn run(&self, args: &[String], shelf: &mut Shelf, streams: Streams<'_, '_>) -> u8 {
+impl Program for Station {
+    fn run<H: Wait + Threads + Sync>(
+        &self,
+        rt: &H,
+        args: &[String],
+        shelf: &mut Shelf,
+        streams: Streams<'_, '_>,
+    ) -> u8 {
         let stepping = Stepping {
-            _handle: self.rt,
+            _handle: rt,
             alloc: shelf.alloc,
             step: streams.step,
             read: AtomicU64::new(0),

@@ -5,6 +5,8 @@ use case_runs::{
 };
 use station_cases::{Bench, Full, Printed, Program, Shelf};
 use std::io::Print;
+use std::sync::Wait;
+use std::thread::Threads;
 use std::{io, slice};
 use toml::Value;
 
@@ -22,7 +24,7 @@ pub struct Tally {
 /// The case is malformed, memory was refused, or nothing can be printed.
 pub fn try_case(
     rt: &impl Print,
-    bench: &mut Bench<impl Program>,
+    bench: &mut Bench<impl Program, impl Wait + Threads + Sync>,
     first: &Run,
     tally: &mut Tally,
 ) -> io::Result<()> {
@@ -50,7 +52,7 @@ fn runs_of(row: &Value) -> &[Value] {
 /// Tries runs in a row over the files of their case.
 fn try_row(
     rt: &impl Print,
-    bench: &mut Bench<impl Program>,
+    bench: &mut Bench<impl Program, impl Wait + Threads + Sync>,
     first: &Run,
     runs: &[Value],
     tally: &mut Tally,
@@ -71,7 +73,7 @@ fn try_row(
 
 /// Tries a run in the way that it says.
 fn try_so<'a>(
-    bench: &mut Bench<impl Program>,
+    bench: &mut Bench<impl Program, impl Wait + Threads + Sync>,
     run: &Run<'a>,
     shelf: &mut Shelf,
 ) -> io::Result<&'a str> {
@@ -91,7 +93,7 @@ fn try_so<'a>(
 
 /// Tries a run once, and what is run behind it.
 fn try_plainly<'a>(
-    bench: &mut Bench<impl Program>,
+    bench: &mut Bench<impl Program, impl Wait + Threads + Sync>,
     run: &Run<'a>,
     shelf: &mut Shelf,
 ) -> io::Result<&'a str> {

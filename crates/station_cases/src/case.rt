@@ -3,11 +3,19 @@
 use crate::shelf::Shelf;
 use crate::streams::{Full, Pen, Room, Screen, Source};
 use std::alloc::Global;
+use std::sync::Wait;
+use std::thread::Threads;
 
 /// A program that tests run.
 pub trait Program {
     /// Carries out a command line, the program's name first, and returns the exit status.
-    fn run(&self, args: &[String], shelf: &mut Shelf, streams: Streams<'_, '_>) -> u8;
+    fn run<H: Wait + Threads + Sync>(
+        &self,
+        rt: &H,
+        args: &[String],
+        shelf: &mut Shelf,
+        streams: Streams<'_, '_>,
+    ) -> u8;
 }
 
 /// What a run is given beside its files.
@@ -41,9 +49,10 @@ pub struct Printed {
     pub faults: Vec<u8>,
 }
 
-/// A program, and what it printed in the last run.
+/// A program, the runtime that it is run on, and what it printed in the last run.
 #[derive(Drop)]
-pub struct Bench<'p, P> {
+pub struct Bench<'p, P, H> {
+    pub rt: &'p H,
     pub program: &'p P,
     pub printed: Printed,
 }
@@ -54,24 +63,27 @@ pub const ALL: Room = Room {
     then: Full::Fails,
 };
 
-impl<'p, P: Program> Bench<'p, P> {
+impl<'p, P: Program, H: Wait + Threads + Sync> Bench<'p, P, H> {
     /// The program before its first run.
-    pub fn new(alloc: Global, program: &'p P) -> Bench<'p, P> {
+    pub fn new(rt: &'p H, alloc: Global, program: &'p P) -> Bench<'p, P, H> {
         let printed = Printed {
             status: 0,
             output: Vec::new(alloc),
             faults: Vec::new(alloc),
         };
-        Bench { program, printed }
+        Bench {
+            rt,
+            program,
+            printed,
+        }
     }
 
     /// Runs the program on these arguments, its name first.
     pub fn run(&mut self, args: &[String], given: &Given, shelf: &mut Shelf) {
         let output = Screen::new(shelf.alloc, given.room);
         let faults = Screen::new(shelf.alloc, ALL);
-        let status = self
-            .program
-            .run(args, shelf, streams_of(given, &output, &faults));
+        let streams = streams_of(given, &output, &faults);
+        let status = self.program.run(self.rt, args, shelf, streams);
         self.printed = Printed {
             status,
             output: output.into_bytes(),
