@@ -1,15 +1,16 @@
 //! Tries a run whose power is cut, or whose disk fails, in each of its calls that write or sync.
 
 use crate::run::Run;
-use crate::tries::{run_line, try_behind};
-use crate::wrong::wrong_of;
-use station_cases::{Bench, Printed, Program, Shelf, Trouble};
+use crate::tries::{print_words, try_behind};
+use crate::wrong::{Wrong, wrong_of};
+use station_cases::{Printed, Shelf, Trouble};
+use std::alloc::Global;
 use std::io;
 use std::sync::Wait;
 use std::thread::Threads;
 
 /// What goes wrong in a call.
-#[derive(Clone, Copy)]
+#[derive(Clone, Copy, PartialEq, Eq)]
 pub enum Mishap {
     /// The power is cut.
     Cut,
@@ -27,6 +28,16 @@ impl Mishap {
             Mishap::Full => Trouble::Full(call),
         }
     }
+}
+
+/// How a try of a call ended.
+#[derive(Drop)]
+enum Ended<'a> {
+    /// There are more calls.
+    GoesOn,
+    /// The run made fewer calls, so all were tried.
+    Last,
+    Wrong(Wrong<'a>),
 }
 
 /// A line that is mended: its files, and how many commands are in it then at least.
@@ -54,67 +65,70 @@ const CALLS: u64 = 1000;
 ///
 /// The run is malformed, or memory was refused.
 pub fn try_calls<'a>(
-    bench: &mut Bench<impl Program, impl Wait + Threads + Sync>,
+    rt: &(impl Wait + Threads + Sync),
+    alloc: Global,
     run: &Run<'a>,
     mishap: Mishap,
-) -> io::Result<&'a str> {
+) -> io::Result<Option<Wrong<'a>>> {
     let mut tried = Tried {
-        once: Vec::new(run.named.alloc),
-        behind_cuts: Vec::new(run.named.alloc),
+        once: Vec::new(alloc),
+        behind_cuts: Vec::new(alloc),
     };
     for call in 0..CALLS {
-        let mut shelf = run.shelf()?;
-        let wrong = try_call(bench, run, mishap.at(call), &mut shelf, &mut tried)?;
-        if !wrong.is_empty() {
-            return Ok(wrong);
-        }
-        if !shelf.troubles.has_come() {
-            return if call == 0 {
-                Err(io::Error::other("no call"))
-            } else {
-                Ok("")
-            };
+        match try_call(rt, alloc, run, mishap, call, &mut tried)? {
+            Ended::GoesOn => {}
+            Ended::Last if call == 0 => return Err(io::Error::other("no call")),
+            Ended::Last => return Ok(None),
+            Ended::Wrong(wrong) => return Ok(Some(wrong)),
         }
     }
     Err(io::Error::other("calls without an end"))
 }
 
-/// Tries a run with this trouble, and what is run behind it over what a power cut leaves.
 fn try_call<'a>(
-    bench: &mut Bench<impl Program, impl Wait + Threads + Sync>,
+    rt: &(impl Wait + Threads + Sync),
+    alloc: Global,
     run: &Run<'a>,
-    trouble: Trouble,
-    shelf: &mut Shelf,
+    mishap: Mishap,
+    call: u64,
     tried: &mut Tried,
-) -> io::Result<&'a str> {
-    run.prepare(shelf)?;
-    shelf.trouble(trouble, run.pattern()?)?;
-    run_line(bench, run, run.args(), shelf)?;
-    let wrong = wrong_mishap(run, trouble, &bench.printed, shelf)?;
+) -> io::Result<Ended<'a>> {
+    let mut shelf = run.shelf(alloc)?;
+    run.prepare(alloc, &mut shelf)?;
+    shelf.trouble(mishap.at(call), run.pattern()?)?;
+    let printed = print_words(rt, alloc, run, run.args(), &mut shelf)?;
+    let wrong = wrong_mishap(alloc, run, mishap, &printed, &shelf)?;
     if !wrong.is_empty() {
-        return Ok(wrong);
+        let what = wrong;
+        return Ok(Ended::Wrong(Wrong { what, printed }));
     }
-    let durable = durable_of(&bench.printed);
-    try_left(bench, run, &mut shelf.left()?, durable, tried)
+    match try_left(rt, alloc, run, &shelf, durable_of(&printed), tried)? {
+        Some(wrong) => Ok(Ended::Wrong(wrong)),
+        None if shelf.troubles.has_come() => Ok(Ended::GoesOn),
+        None => Ok(Ended::Last),
+    }
 }
 
-/// What isn't as is expected of a run with this trouble. A power cut may leave anything to print; a failure is told.
+/// What isn't as is expected of a run in which a call went wrong. A power cut may leave anything to print; a failure is told.
 fn wrong_mishap<'a>(
+    alloc: Global,
     run: &Run<'a>,
-    trouble: Trouble,
+    mishap: Mishap,
     printed: &Printed,
     shelf: &Shelf,
 ) -> io::Result<&'a str> {
     if !shelf.troubles.has_come() {
-        return wrong_of(run, printed, shelf);
-    }
-    let is_fault = printed.faults.starts_with(b"fault ");
-    let is_told = is_fault && (printed.status == 3 || printed.status == 4);
-    if is_told || matches!(trouble, Trouble::Cut(_)) {
+        wrong_of(alloc, run, printed, shelf)
+    } else if mishap == Mishap::Cut || is_told(printed) {
         Ok("")
     } else {
         Ok("the fault of a failure")
     }
+}
+
+/// Whether a run printed a fault of a file or a device.
+fn is_told(printed: &Printed) -> bool {
+    (printed.status == 3 || printed.status == 4) && printed.faults.starts_with(b"fault ")
 }
 
 /// What a run prints if this many commands are durable.
@@ -131,38 +145,29 @@ fn durable_of(printed: &Printed) -> usize {
     0
 }
 
-/// Tries what is run behind a run over the files that it left; where the run says so, also behind a cut in each call of a first such try.
+/// Tries what is run behind a run, over what a power cut leaves; where the run says so, also behind a cut in each call of a first such try.
 fn try_left<'a>(
-    bench: &mut Bench<impl Program, impl Wait + Threads + Sync>,
+    rt: &(impl Wait + Threads + Sync),
+    alloc: Global,
     run: &Run<'a>,
-    left: &mut Shelf,
+    shelf: &Shelf,
     durable: usize,
     tried: &mut Tried,
-) -> io::Result<&'a str> {
+) -> io::Result<Option<Wrong<'a>>> {
+    let mut left = shelf.left()?;
     if run.said("again").is_none() {
-        return try_behind(bench, run, left, durable);
+        return try_behind(rt, alloc, run, &mut left, durable);
     }
-    if !is_new(run, left, durable, &mut tried.behind_cuts)? {
-        return Ok("");
+    let files = written(alloc, run, &left)?;
+    if is_tried(&tried.behind_cuts, &files, durable) {
+        return Ok(None);
     }
-    try_cuts(bench, run, left, durable, &mut tried.once)
-}
-
-/// Whether the files that a run writes weren't tried so, with so many commands or more. Then they are kept as tried.
-fn is_new(run: &Run, shelf: &Shelf, durable: usize, tried: &mut Vec<Mended>) -> io::Result<bool> {
-    let files = written(run, shelf)?;
-    let is_tried = tried.iter().any(|one| one.durable >= durable
-        && one.files.as_slice() == files.as_slice());
-    if is_tried {
-        return Ok(false);
-    }
-    tried.push(Mended { files, durable })?;
-    Ok(true)
+    tried.behind_cuts.push(Mended { files, durable })?;
+    try_cuts(rt, alloc, run, &left, durable, &mut tried.once)
 }
 
 /// The bytes of all files that a run writes.
-fn written(run: &Run, shelf: &Shelf) -> io::Result<Vec<u8>> {
-    let alloc = run.named.alloc;
+fn written(alloc: Global, run: &Run, shelf: &Shelf) -> io::Result<Vec<u8>> {
     let mut files = Vec::new(alloc);
     for name in run.values("again") {
         if let Some(bytes) = shelf.bytes(alloc, name.as_str().unwrap_or(""))? {
@@ -172,37 +177,44 @@ fn written(run: &Run, shelf: &Shelf) -> io::Result<Vec<u8>> {
     Ok(files)
 }
 
-/// Cuts the power in each call of a recovery, and tries what is run behind, each line once.
+fn is_tried(tried: &[Mended], files: &[u8], durable: usize) -> bool {
+    tried.iter().any(|one| one.durable >= durable && one.files.as_slice() == files)
+}
+
+/// Cuts the power in each call of a recovery, and tries what is run behind.
 fn try_cuts<'a>(
-    bench: &mut Bench<impl Program, impl Wait + Threads + Sync>,
+    rt: &(impl Wait + Threads + Sync),
+    alloc: Global,
     run: &Run<'a>,
     shelf: &Shelf,
     durable: usize,
     tried: &mut Vec<Mended>,
-) -> io::Result<&'a str> {
+) -> io::Result<Option<Wrong<'a>>> {
     for call in 0..CALLS {
         let mut cut = shelf.left()?;
         cut.trouble(Trouble::Cut(call), run.pattern()?)?;
-        run_line(bench, run, run.text("first"), &mut cut)?;
-        let wrong = try_new(bench, run, &mut cut.left()?, durable, tried)?;
-        if !wrong.is_empty() || !cut.troubles.has_come() {
+        let _ = print_words(rt, alloc, run, run.text("first"), &mut cut)?;
+        let wrong = try_behind_once(rt, alloc, run, cut.left()?, durable, tried)?;
+        if wrong.is_some() || !cut.troubles.has_come() {
             return Ok(wrong);
         }
     }
     Err(io::Error::other("calls without an end"))
 }
 
-/// Tries what is run behind a run, unless its line was tried.
-fn try_new<'a>(
-    bench: &mut Bench<impl Program, impl Wait + Threads + Sync>,
+/// Tries what is run behind a run, each line once.
+fn try_behind_once<'a>(
+    rt: &(impl Wait + Threads + Sync),
+    alloc: Global,
     run: &Run<'a>,
-    left: &mut Shelf,
+    mut shelf: Shelf,
     durable: usize,
     tried: &mut Vec<Mended>,
-) -> io::Result<&'a str> {
-    if is_new(run, left, durable, tried)? {
-        try_behind(bench, run, left, durable)
-    } else {
-        Ok("")
+) -> io::Result<Option<Wrong<'a>>> {
+    let files = written(alloc, run, &shelf)?;
+    if is_tried(tried, &files, durable) {
+        return Ok(None);
     }
+    tried.push(Mended { files, durable })?;
+    try_behind(rt, alloc, run, &mut shelf, durable)
 }

@@ -16,18 +16,18 @@ const HEADER: usize = 24;
 /// A record: whether its frame comes back, whether it is one for the EEPROM (its first register is one of 0x0500 to 0x05FF), and how many
 /// bytes it has. None where the bytes are no record.
 fn way_of(record: &[u8]) -> Option<(bool, bool, usize)> {
-    if record.len() < 38 {
+    let length = usize::from(*record.get(8)?) + 256 * usize::from(*record.get(9)?);
+    let is_timed = record.get(..8)? == TIME && record.get(8..12)? == record.get(12..16)?;
+    let way = record.get(22..30)?;
+    let has_way = record.get(16..22)? == TO_ALL && (way == OUT || way == BACK);
+    if !is_timed || !has_way || length < 60 {
         return None;
     }
-    let length = usize::from(record[8]) + 256 * usize::from(record[9]);
-    let is_timed = record.starts_with(TIME) && record[8..12] == record[12..16];
-    let comes_back = record[22..].starts_with(BACK);
-    let has_way = record[16..].starts_with(TO_ALL) && (comes_back || record[22..].starts_with(OUT));
-    if is_timed && has_way && length >= 60 {
-        Some((comes_back, record[37] == 5, length.saturating_add(16)))
-    } else {
-        None
-    }
+    Some((
+        way == BACK,
+        *record.get(37)? == 5,
+        length.saturating_add(16),
+    ))
 }
 
 /// How many frames for the EEPROM go out, and how many come back. None where the bytes are no records, or a frame of another kind comes

@@ -9,11 +9,15 @@ fn word_at(bytes: &[u8], at: usize) -> Option<u16> {
     Some(u16::from_le_bytes([low, high]))
 }
 
+fn changes_at(old: &[u8], new: &[u8], at: usize) -> bool {
+    word_at(old, at) != word_at(new, at)
+}
+
 /// How many words from this address on change in a row.
 fn run_at(old: &[u8], new: &[u8], at: usize) -> usize {
     let mut count = 0usize;
     for place in at..old.len() {
-        if word_at(old, place) == word_at(new, place) {
+        if !changes_at(old, new, place) {
             return count;
         }
         count = count.saturating_add(1);
@@ -38,8 +42,8 @@ fn told_run(
     old: &[u8],
     new: &[u8],
     at: usize,
-    count: usize,
 ) -> Result<String, AllocError> {
+    let count = run_at(old, new, at);
     let last = at.saturating_add(count).saturating_sub(1);
     if count > 8 {
         return format!(in alloc; "slave {slave} words 0x{at:04x} to 0x{last:04x} count {count}\n");
@@ -64,12 +68,11 @@ pub fn tell_changes(
     new: &[u8],
     text: &mut String,
 ) -> Result<(), AllocError> {
-    let mut end = 0usize;
     for at in 0..old.len() / 2 {
-        let count = if at < end { 0 } else { run_at(old, new, at) };
-        if count > 0 {
-            end = at.saturating_add(count);
-            text.push_str(told_run(alloc, slave, old, new, at, count)?.as_str())?;
+        let is_first = at == 0 || !changes_at(old, new, at - 1);
+        if is_first && changes_at(old, new, at) {
+            let line = told_run(alloc, slave, old, new, at)?;
+            text.push_str(line.as_str())?;
         }
     }
     Ok(())

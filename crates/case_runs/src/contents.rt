@@ -1,47 +1,41 @@
 //! The contents of files and streams, as cases say them.
 
-use std::alloc::Global;
-use std::{io, slice};
+use std::alloc::{AllocError, Global};
+use std::io;
 use toml::{Table, Value};
 
-/// The contents that cases name.
-#[derive(Clone, Copy)]
-pub struct Named<'a> {
-    pub alloc: Global,
-    pub table: &'a Table,
+/// The bytes of contents.
+///
+/// # Errors
+///
+/// The contents are malformed, or memory was refused.
+pub fn bytes_of(alloc: Global, named: &Table, contents: &Value) -> io::Result<Vec<u8>> {
+    match contents {
+        Value::Array(parts) => join(alloc, named, parts.as_slice()),
+        part => part_of(alloc, named, part),
+    }
 }
 
-impl Named<'_> {
-    /// The bytes of contents.
-    ///
-    /// # Errors
-    ///
-    /// The contents are malformed, or memory was refused.
-    pub fn bytes_of(&self, contents: &Value) -> io::Result<Vec<u8>> {
-        let parts = match contents {
-            Value::Array(parts) => parts.as_slice(),
-            part => slice::from_ref(part),
-        };
-        let mut bytes = Vec::new(self.alloc);
-        for part in parts {
-            bytes.extend_from_slice(&self.part_of(part)?)?;
-        }
-        Ok(bytes)
+fn join(alloc: Global, named: &Table, parts: &[Value]) -> io::Result<Vec<u8>> {
+    let mut bytes = Vec::new(alloc);
+    for part in parts {
+        bytes.extend_from_slice(&part_of(alloc, named, part)?)?;
     }
+    Ok(bytes)
+}
 
-    /// The bytes of contents that aren't joined, which may be named ones.
-    fn part_of(&self, part: &Value) -> io::Result<Vec<u8>> {
-        let name = match part {
-            Value::String(text) => text.as_str().strip_prefix("@"),
-            _ => None,
-        };
-        match name {
-            Some(name) => match self.table.get(name) {
-                Some(contents) => plain(self.alloc, contents),
-                None => Err(io::Error::other("no contents have this name")),
-            },
-            None => plain(self.alloc, part),
-        }
+/// The bytes of contents, which may be named ones.
+fn part_of(alloc: Global, named: &Table, part: &Value) -> io::Result<Vec<u8>> {
+    let name = match part {
+        Value::String(text) => text.as_str().strip_prefix("@"),
+        _ => None,
+    };
+    match name {
+        Some(name) => match named.get(name) {
+            Some(contents) => plain(alloc, contents),
+            None => Err(io::Error::other("no contents have this name")),
+        },
+        None => plain(alloc, part),
     }
 }
 
@@ -84,28 +78,40 @@ fn patched(alloc: Global, size: usize, table: &Table) -> io::Result<Vec<u8>> {
 fn put_part(alloc: Global, bytes: &mut [u8], key: &str, value: &Value) -> io::Result<()> {
     let at = key.parse::<usize>().unwrap_or(usize::MAX);
     let part = part_bytes(alloc, value)?;
-    if part.is_empty() || at.saturating_add(part.len()) > bytes.len() {
-        return Err(io::Error::other("no bytes at an offset"));
+    match at.checked_add(part.len()) {
+        Some(end) if end <= bytes.len() && !part.is_empty() => {
+            patch(bytes, at, &part);
+            Ok(())
+        }
+        _ => Err(io::Error::other("no bytes at an offset")),
     }
-    for (byte, value) in bytes.iter_mut().skip(at).zip(&part) {
-        *byte = *value;
-    }
-    Ok(())
 }
 
-/// The bytes of hexadecimal text, which may be repeated. White space in it means nothing.
+/// Puts bytes in at an offset, as far as there is room.
+fn patch(bytes: &mut [u8], at: usize, part: &[u8]) {
+    for (byte, value) in bytes.iter_mut().skip(at).zip(part) {
+        *byte = *value;
+    }
+}
+
+/// The bytes of hexadecimal text, which may be repeated.
 fn part_bytes(alloc: Global, value: &Value) -> io::Result<Vec<u8>> {
     let text = value.as_str().unwrap_or("");
     let (digits, times) = match text.split_once(" * ") {
         Some((digits, times)) => (digits, times.parse::<usize>().unwrap_or(0)),
         None => (text, 1),
     };
-    let digits: Vec<u8> = digits
-        .bytes()
-        .filter(|byte| !byte.is_ascii_whitespace())
-        .collect(alloc)?;
-    match hex::decode(alloc, &digits) {
+    match hex::decode(alloc, &digits_of(alloc, digits)?) {
         Ok(bytes) => Ok(bytes.repeat(alloc, times)?),
         Err(_) => Err(io::Error::other("malformed hexadecimal text")),
     }
+}
+
+/// The text without its ASCII white space.
+fn digits_of(alloc: Global, text: &str) -> Result<Vec<u8>, AllocError> {
+    text.as_bytes()
+        .iter()
+        .copied()
+        .filter(|byte| !byte.is_ascii_whitespace())
+        .collect(alloc)
 }

@@ -1,7 +1,7 @@
 //! Whether bytes are as a case expects them.
 
 use crate::captures::comes_back;
-use crate::contents::{Named, number_of};
+use crate::contents::{bytes_of, number_of};
 use std::alloc::{AllocError, Global};
 use std::io;
 use toml::{Table, Value};
@@ -11,30 +11,39 @@ use toml::{Table, Value};
 /// # Errors
 ///
 /// What is expected is malformed, or memory was refused.
-pub fn fits(named: &Named, expected: &Value, bytes: &[u8]) -> io::Result<bool> {
+pub fn fits(alloc: Global, named: &Table, expected: &Value, bytes: &[u8]) -> io::Result<bool> {
     match expected {
         Value::Boolean(true) => Ok(!bytes.is_empty()),
-        Value::Table(parts) if parts.get("size").is_none() && parts.get("text").is_none() => {
-            fits_all(named, parts, bytes)
-        }
-        contents => Ok(named.bytes_of(contents)?.as_slice() == bytes),
+        Value::Table(parts) if is_pattern(parts) => fits_all(alloc, named, parts, bytes),
+        contents => Ok(bytes_of(alloc, named, contents)?.as_slice() == bytes),
     }
 }
 
-fn fits_all(named: &Named, parts: &Table, bytes: &[u8]) -> io::Result<bool> {
+/// Whether a table is no contents.
+fn is_pattern(parts: &Table) -> bool {
+    parts.get("size").is_none() && parts.get("text").is_none()
+}
+
+fn fits_all(alloc: Global, named: &Table, parts: &Table, bytes: &[u8]) -> io::Result<bool> {
     for (key, part) in parts.iter() {
-        if !fits_part(named, key.as_str(), part, bytes)? {
+        if !fits_part(alloc, named, key.as_str(), part, bytes)? {
             return Ok(false);
         }
     }
     Ok(true)
 }
 
-fn fits_part(named: &Named, key: &str, part: &Value, bytes: &[u8]) -> io::Result<bool> {
+fn fits_part(
+    alloc: Global,
+    named: &Table,
+    key: &str,
+    part: &Value,
+    bytes: &[u8],
+) -> io::Result<bool> {
     match key {
         "has" => Ok(has_text(bytes, part.as_str().unwrap_or("\0"))),
-        "begins" => Ok(bytes.starts_with(&named.bytes_of(part)?)),
-        "ends" => Ok(bytes.ends_with(&named.bytes_of(part)?)),
+        "begins" => Ok(bytes.starts_with(&bytes_of(alloc, named, part)?)),
+        "ends" => Ok(bytes.ends_with(&bytes_of(alloc, named, part)?)),
         "records" => Ok(comes_back(bytes, number_of(Some(part)))),
         _ => Err(io::Error::other("an unknown expectation")),
     }

@@ -52,6 +52,6 @@ mod tries;
 mod wrong;
 
 pub use calls::{Mishap, try_calls};
-pub use contents::Named;
 pub use run::Run;
 pub use tries::{try_behind, try_inputs, try_once, try_outputs, try_page, try_plan};
+pub use wrong::Wrong;

@@ -1,10 +1,10 @@
 //! A run of a case: what its keys say.
 
-use crate::contents::Named;
-use station_cases::{ALL, Full, Given, Pattern, Room, Shelf, Source, Then, Trouble};
-use std::alloc::AllocError;
+use crate::contents::bytes_of;
+use station_cases::{ALL, Full, Pattern, Room, Shelf, Source, Streams, Then, Trouble};
+use std::alloc::{AllocError, Global};
 use std::io;
-use toml::Value;
+use toml::{Table, Value};
 
 /// The keys of a case.
 const KEYS: &[&str] = &[
@@ -47,7 +47,7 @@ const KEYS: &[&str] = &[
 pub struct Run<'a> {
     pub own: &'a Value,
     pub case: &'a Value,
-    pub named: Named<'a>,
+    pub named: &'a Table,
     /// How many commands an earlier run on its files told as durable.
     pub durable: usize,
 }
@@ -77,6 +77,13 @@ impl<'a> Run<'a> {
         }
     }
 
+    pub fn number(&self, key: &str) -> i64 {
+        match self.said(key) {
+            Some(Value::Integer(number)) => *number,
+            _ => 0,
+        }
+    }
+
     /// The number under this key, if there is one.
     pub fn count(&self, key: &str) -> Option<u64> {
         match self.said(key) {
@@ -97,68 +104,40 @@ impl<'a> Run<'a> {
         }
     }
 
-    /// The arguments of a command line, whose words are separated by spaces, behind the program's name.
-    ///
-    /// # Errors
-    ///
-    /// Memory was refused.
-    pub fn parted(&self, line: &str) -> Result<Vec<String>, AllocError> {
-        let alloc = self.named.alloc;
-        let mut args = Vec::new(alloc);
-        args.push(String::from_str(alloc, "station")?)?;
-        for word in line.split_ascii_whitespace() {
-            args.push(String::from_str(alloc, word)?)?;
-        }
-        Ok(args)
-    }
-
     /// Its arguments, the program's name first.
     ///
     /// # Errors
     ///
     /// Memory was refused.
-    pub fn words(&self) -> Result<Vec<String>, AllocError> {
-        let mut words = self.parted(self.args())?;
+    pub fn words(&self, alloc: Global) -> Result<Vec<String>, AllocError> {
+        let mut words = parted(alloc, self.args())?;
         if let Some(Value::String(typed)) = self.said("typed") {
             words.push(typed.clone()?)?;
         }
         Ok(words)
     }
 
-    /// The bytes that are said under this key; none where nothing is said.
+    /// The bytes of its standard input.
     ///
     /// # Errors
     ///
     /// The contents are malformed, or memory was refused.
-    pub fn bytes(&self, key: &str) -> io::Result<Vec<u8>> {
-        match self.said(key) {
-            Some(contents) => self.named.bytes_of(contents),
-            None => Ok(Vec::new(self.named.alloc)),
+    pub fn input(&self, alloc: Global) -> io::Result<Vec<u8>> {
+        match self.said("input") {
+            Some(contents) => bytes_of(alloc, self.named, contents),
+            None => Ok(Vec::new(alloc)),
         }
     }
 
-    /// What it is given, with this input.
-    pub fn given<'b>(&self, input: &'b [u8]) -> Given<'b> {
-        let then = match self.text("then") {
-            "failure" => Then::Fails(io::ErrorKind::Other),
-            "memory" => Then::Fails(io::ErrorKind::OutOfMemory),
-            "more" => Then::GoesOn,
-            _ => Then::Ends,
-        };
-        let room = match self.count("takes") {
-            Some(bytes) => Room {
-                bytes: bytes as usize,
-                then: Full::Fails,
-            },
-            None => ALL,
-        };
-        Given {
+    /// Its streams, with this input.
+    pub fn streams<'b>(&self, input: &'b [u8]) -> Streams<'b> {
+        Streams {
             input: Source {
                 rest: input,
                 is_interrupted: self.is_said("interrupted"),
-                then,
+                then: then_of(self.text("then")),
             },
-            room,
+            room: room_of(self.count("takes")),
             terminal: self.count("terminal"),
         }
     }
@@ -183,9 +162,9 @@ impl<'a> Run<'a> {
     /// # Errors
     ///
     /// The contents of a file are malformed, or memory was refused.
-    pub fn shelf(&self) -> io::Result<Shelf> {
-        let mut shelf = Shelf::new(self.named.alloc)?;
-        put_files(&self.named, self.case.get("files"), &mut shelf)?;
+    pub fn shelf(&self, alloc: Global) -> io::Result<Shelf> {
+        let mut shelf = Shelf::new(alloc)?;
+        put_files(alloc, self.named, self.case.get("files"), &mut shelf)?;
         Ok(shelf)
     }
 
@@ -194,24 +173,16 @@ impl<'a> Run<'a> {
     /// # Errors
     ///
     /// A key is unknown, the contents of a file are malformed, or memory was refused.
-    pub fn prepare(&self, shelf: &mut Shelf) -> io::Result<()> {
+    pub fn prepare(&self, alloc: Global, shelf: &mut Shelf) -> io::Result<()> {
         if !has_known_keys(self.own) || !has_known_keys(self.case) {
             return Err(io::Error::other("an unknown key"));
         }
         shelf.writes = 0;
         shelf.replaced = 0;
         shelf.is_busy = self.is_said("busy");
-        shelf.broken = match self.text("unsaved") {
-            "full" => Some(io::ErrorKind::StorageFull),
-            "memory" => Some(io::ErrorKind::OutOfMemory),
-            _ => None,
-        };
-        let trouble = match self.count("error_at") {
-            Some(call) => Trouble::Error(call),
-            None => Trouble::Nothing,
-        };
-        shelf.trouble(trouble, self.pattern()?)?;
-        put_files(&self.named, self.own.get("files"), shelf)
+        shelf.broken = broken_of(self.text("unsaved"));
+        shelf.trouble(trouble_of(self.count("error_at")), self.pattern()?)?;
+        put_files(alloc, self.named, self.own.get("files"), shelf)
     }
 }
 
@@ -224,11 +195,64 @@ fn has_known_keys(value: &Value) -> bool {
     }
 }
 
+/// The arguments of a command line, whose words are separated by spaces, behind the program's name.
+pub fn parted(alloc: Global, words: &str) -> Result<Vec<String>, AllocError> {
+    let mut args = Vec::new(alloc);
+    args.push(String::from_str(alloc, "station")?)?;
+    for word in words.split_ascii_whitespace() {
+        args.push(String::from_str(alloc, word)?)?;
+    }
+    Ok(args)
+}
+
+fn then_of(text: &str) -> Then {
+    match text {
+        "failure" => Then::Fails(io::ErrorKind::Other),
+        "memory" => Then::Fails(io::ErrorKind::OutOfMemory),
+        "more" => Then::GoesOn,
+        _ => Then::Ends,
+    }
+}
+
+fn room_of(takes: Option<u64>) -> Room {
+    match takes {
+        Some(bytes) => Room {
+            bytes: bytes as usize,
+            then: Full::Fails,
+        },
+        None => ALL,
+    }
+}
+
+fn broken_of(unsaved: &str) -> Option<io::ErrorKind> {
+    match unsaved {
+        "full" => Some(io::ErrorKind::StorageFull),
+        "memory" => Some(io::ErrorKind::OutOfMemory),
+        _ => None,
+    }
+}
+
+fn trouble_of(error_at: Option<u64>) -> Trouble {
+    match error_at {
+        Some(call) => Trouble::Error(call),
+        None => Trouble::Nothing,
+    }
+}
+
 /// Puts the files of a case or a run into a store.
-fn put_files(named: &Named, files: Option<&Value>, shelf: &mut Shelf) -> io::Result<()> {
+///
+/// # Errors
+///
+/// The contents of a file are malformed, or memory was refused.
+pub fn put_files(
+    alloc: Global,
+    named: &Table,
+    files: Option<&Value>,
+    shelf: &mut Shelf,
+) -> io::Result<()> {
     if let Some(Value::Table(files)) = files {
         for (name, contents) in files.iter() {
-            shelf.put(name.as_str(), &named.bytes_of(contents)?)?;
+            shelf.put(name.as_str(), &bytes_of(alloc, named, contents)?)?;
         }
     }
     Ok(())

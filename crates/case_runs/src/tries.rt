@@ -1,11 +1,11 @@
-//! Tries a run once, or with each input and each output that fails after some bytes. Each try answers what is wrong, and nothing where all
-//! goes as is expected; what the program printed then is left at its bench.
+//! Tries a run once, or with each input and each output that fails after some bytes.
 
 use crate::changes::tell_changes;
+use crate::contents::bytes_of;
 use crate::expected::has_options;
-use crate::run::Run;
-use crate::wrong::wrong_of;
-use station_cases::{Bench, Full, Given, Printed, Program, Room, Shelf};
+use crate::run::{Run, parted};
+use crate::wrong::{Wrong, wrong_of};
+use station_cases::{Full, Printed, Room, Shelf, run_on};
 use std::alloc::Global;
 use std::io;
 use std::sync::Wait;
@@ -17,24 +17,28 @@ use std::thread::Threads;
 ///
 /// The run is malformed, or memory was refused.
 pub fn try_once<'a>(
-    bench: &mut Bench<impl Program, impl Wait + Threads + Sync>,
+    rt: &(impl Wait + Threads + Sync),
+    alloc: Global,
     run: &Run<'a>,
     shelf: &mut Shelf,
-) -> io::Result<&'a str> {
-    let input = run.bytes("input")?;
-    try_with(bench, run, &input, shelf)
+) -> io::Result<Option<Wrong<'a>>> {
+    let input = run.input(alloc)?;
+    try_with(rt, alloc, run, &input, shelf)
 }
 
 /// Tries a run with this input.
 fn try_with<'a>(
-    bench: &mut Bench<impl Program, impl Wait + Threads + Sync>,
+    rt: &(impl Wait + Threads + Sync),
+    alloc: Global,
     run: &Run<'a>,
     input: &[u8],
     shelf: &mut Shelf,
-) -> io::Result<&'a str> {
-    run.prepare(shelf)?;
-    bench.run(&run.words()?, &run.given(input), shelf);
-    wrong_of(run, &bench.printed, shelf)
+) -> io::Result<Option<Wrong<'a>>> {
+    run.prepare(alloc, shelf)?;
+    let words = run.words(alloc)?;
+    let printed = run_on(rt, alloc, &words, &run.streams(input), shelf);
+    let wrong = wrong_of(alloc, run, &printed, shelf)?;
+    Ok(Wrong::judged(wrong, printed))
 }
 
 /// Tries a run with each beginning of its input, all of it among them.
@@ -43,18 +47,19 @@ fn try_with<'a>(
 ///
 /// The run is malformed, or memory was refused.
 pub fn try_inputs<'a>(
-    bench: &mut Bench<impl Program, impl Wait + Threads + Sync>,
+    rt: &(impl Wait + Threads + Sync),
+    alloc: Global,
     run: &Run<'a>,
-) -> io::Result<&'a str> {
-    let input = run.bytes("input")?;
-    for count in 0..=input.len() {
+) -> io::Result<Option<Wrong<'a>>> {
+    let input = run.input(alloc)?;
+    for count in 0..input.len() {
         let part = input.get(..count).unwrap_or(&input);
-        let wrong = try_with(bench, run, part, &mut run.shelf()?)?;
-        if !wrong.is_empty() {
+        let wrong = try_with(rt, alloc, run, part, &mut run.shelf(alloc)?)?;
+        if wrong.is_some() {
             return Ok(wrong);
         }
     }
-    Ok("")
+    try_with(rt, alloc, run, &input, &mut run.shelf(alloc)?)
 }
 
 /// Tries a run with outputs that take each number of bytes but all: it prints just these, and ends in a fault of a file.
@@ -63,42 +68,53 @@ pub fn try_inputs<'a>(
 ///
 /// The run is malformed, or memory was refused.
 pub fn try_outputs<'a>(
-    bench: &mut Bench<impl Program, impl Wait + Threads + Sync>,
+    rt: &(impl Wait + Threads + Sync),
+    alloc: Global,
     run: &Run<'a>,
     then: Full,
-) -> io::Result<&'a str> {
-    let whole = run.bytes("output")?;
+) -> io::Result<Option<Wrong<'a>>> {
+    let whole = match run.said("output") {
+        Some(contents) => bytes_of(alloc, run.named, contents)?,
+        None => Vec::new(alloc),
+    };
     for bytes in 0..whole.len() {
         let taken = whole.get(..bytes).unwrap_or(&whole);
-        let room = Room { bytes, then };
-        let wrong = try_output(bench, run, room, taken, &mut run.shelf()?)?;
-        if !wrong.is_empty() {
+        let wrong = try_output(rt, alloc, run, Room { bytes, then }, taken)?;
+        if wrong.is_some() {
             return Ok(wrong);
         }
     }
-    Ok("")
+    Ok(None)
 }
 
 fn try_output<'a>(
-    bench: &mut Bench<impl Program, impl Wait + Threads + Sync>,
+    rt: &(impl Wait + Threads + Sync),
+    alloc: Global,
     run: &Run<'a>,
     room: Room,
     taken: &[u8],
-    shelf: &mut Shelf,
-) -> io::Result<&'a str> {
-    run.prepare(shelf)?;
-    let input = run.bytes("input")?;
-    let given = Given {
-        room,
-        ..run.given(&input)
-    };
-    bench.run(&run.words()?, &given, shelf);
-    let printed = &bench.printed;
+) -> io::Result<Option<Wrong<'a>>> {
+    let mut shelf = run.shelf(alloc)?;
+    let printed = print_into(rt, alloc, run, room, &mut shelf)?;
     let is_told = printed.status == 3 && printed.faults.as_slice() == "fault 90 File\n".as_bytes();
     if !is_told || printed.output.as_slice() != taken {
-        return Ok("a cut output");
+        return Ok(Wrong::judged("a cut output", printed));
     }
-    try_behind(bench, run, shelf, 0)
+    try_behind(rt, alloc, run, &mut shelf, 0)
+}
+
+fn print_into(
+    rt: &(impl Wait + Threads + Sync),
+    alloc: Global,
+    run: &Run,
+    room: Room,
+    shelf: &mut Shelf,
+) -> io::Result<Printed> {
+    run.prepare(alloc, shelf)?;
+    let input = run.input(alloc)?;
+    let mut streams = run.streams(&input);
+    streams.room = room;
+    Ok(run_on(rt, alloc, &run.words(alloc)?, &streams, shelf))
 }
 
 /// Tries what is run behind each try of a run, over the files that it left. So many commands were durable.
@@ -107,11 +123,12 @@ fn try_output<'a>(
 ///
 /// The run is malformed, or memory was refused.
 pub fn try_behind<'a>(
-    bench: &mut Bench<impl Program, impl Wait + Threads + Sync>,
+    rt: &(impl Wait + Threads + Sync),
+    alloc: Global,
     run: &Run<'a>,
     shelf: &mut Shelf,
     durable: usize,
-) -> io::Result<&'a str> {
+) -> io::Result<Option<Wrong<'a>>> {
     for step in run.values("behind") {
         let next = Run {
             own: step,
@@ -119,27 +136,28 @@ pub fn try_behind<'a>(
             named: run.named,
             durable,
         };
-        let wrong = try_once(bench, &next, shelf)?;
-        if !wrong.is_empty() {
+        let wrong = try_once(rt, alloc, &next, shelf)?;
+        if wrong.is_some() {
             return Ok(wrong);
         }
     }
-    Ok("")
+    Ok(None)
 }
 
-/// Runs a command line without input.
+/// What a command line prints, without input.
 ///
 /// # Errors
 ///
-/// Memory was refused.
-pub fn run_line(
-    bench: &mut Bench<impl Program, impl Wait + Threads + Sync>,
+/// The run is malformed, or memory was refused.
+pub fn print_words(
+    rt: &(impl Wait + Threads + Sync),
+    alloc: Global,
     run: &Run,
-    line: &str,
+    words: &str,
     shelf: &mut Shelf,
-) -> io::Result<()> {
-    bench.run(&run.parted(line)?, &run.given(&[]), shelf);
-    Ok(())
+) -> io::Result<Printed> {
+    let args = parted(alloc, words)?;
+    Ok(run_on(rt, alloc, &args, &run.streams(&[]), shelf))
 }
 
 /// Tries a run that prints a page, which has each option of this help.
@@ -148,62 +166,44 @@ pub fn run_line(
 ///
 /// The run is malformed, or memory was refused.
 pub fn try_page<'a>(
-    bench: &mut Bench<impl Program, impl Wait + Threads + Sync>,
+    rt: &(impl Wait + Threads + Sync),
+    alloc: Global,
     run: &Run<'a>,
     shelf: &mut Shelf,
-) -> io::Result<&'a str> {
-    let alloc = run.named.alloc;
-    run.prepare(shelf)?;
-    let mut first = Bench::new(bench.rt, alloc, bench.program);
-    run_line(&mut first, run, run.text("first"), shelf)?;
-    run_line(bench, run, run.args(), shelf)?;
-    let help = &first.printed.output;
-    if help.is_empty() || !has_options(alloc, &bench.printed.output, help, run.text("option"))? {
-        return Ok("an option of the help");
+) -> io::Result<Option<Wrong<'a>>> {
+    run.prepare(alloc, shelf)?;
+    let help = print_words(rt, alloc, run, run.text("first"), shelf)?;
+    let printed = print_words(rt, alloc, run, run.args(), shelf)?;
+    if help.output.is_empty()
+        || !has_options(alloc, &printed.output, &help.output, run.text("option"))?
+    {
+        return Ok(Wrong::judged("an option of the help", printed));
     }
-    wrong_of(run, &bench.printed, shelf)
+    let wrong = wrong_of(alloc, run, &printed, shelf)?;
+    Ok(Wrong::judged(wrong, printed))
 }
 
-/// Tries a plan and then a run: the plan says what the run prints, and the words that it changes, and writes nothing. What the plan printed
-/// is left at the bench.
+/// Tries a plan and then a run: the plan says what the run prints, and the words that it changes, and writes nothing.
 ///
 /// # Errors
 ///
 /// The run is malformed, or memory was refused.
 pub fn try_plan<'a>(
-    bench: &mut Bench<impl Program, impl Wait + Threads + Sync>,
+    rt: &(impl Wait + Threads + Sync),
+    alloc: Global,
     run: &Run<'a>,
     shelf: &mut Shelf,
-) -> io::Result<&'a str> {
-    run.prepare(shelf)?;
+) -> io::Result<Option<Wrong<'a>>> {
+    run.prepare(alloc, shelf)?;
     let before = shelf.left()?;
-    try_planned(bench, run, &before, shelf)
-}
-
-/// Tries a plan and then a run, where these files are there before.
-fn try_planned<'a>(
-    bench: &mut Bench<impl Program, impl Wait + Threads + Sync>,
-    run: &Run<'a>,
-    before: &Shelf,
-    shelf: &mut Shelf,
-) -> io::Result<&'a str> {
-    run_line(bench, run, run.text("first"), shelf)?;
-    if shelf.writes != 0 || !changes_of(run, before, shelf)?.is_empty() {
-        return Ok("what a plan writes");
+    let plan = print_words(rt, alloc, run, run.text("first"), shelf)?;
+    if shelf.writes != 0 || !changes_of(alloc, run, &before, shelf)?.is_empty() {
+        return Ok(Wrong::judged("what a plan writes", plan));
     }
-    let mut second = Bench::new(bench.rt, shelf.alloc, bench.program);
-    run_line(&mut second, run, run.args(), shelf)?;
-    let changes = changes_of(run, before, shelf)?;
-    if is_foreseen(
-        shelf.alloc,
-        &bench.printed,
-        &second.printed,
-        changes.as_str(),
-    )? {
-        Ok("")
-    } else {
-        Ok("the plan")
-    }
+    let printed = print_words(rt, alloc, run, run.args(), shelf)?;
+    let changes = changes_of(alloc, run, &before, shelf)?;
+    let is_told = is_foreseen(alloc, &plan, &printed, changes.as_str())?;
+    Ok(Wrong::judged(if is_told { "" } else { "the plan" }, plan))
 }
 
 /// Whether a plan says what a run printed, and then these words that it changed.
@@ -221,8 +221,7 @@ fn is_foreseen(
 }
 
 /// The lines for the words of all slaves that are others on the second shelf.
-fn changes_of(run: &Run, before: &Shelf, after: &Shelf) -> io::Result<String> {
-    let alloc = run.named.alloc;
+fn changes_of(alloc: Global, run: &Run, before: &Shelf, after: &Shelf) -> io::Result<String> {
     let mut text = String::new(alloc);
     for (slave, image) in run.values("images").iter().enumerate() {
         let name = image.as_str().unwrap_or("");

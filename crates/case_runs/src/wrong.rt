@@ -5,40 +5,65 @@ use crate::expected::fits;
 use crate::run::Run;
 use crate::terminals::left_of;
 use station_cases::{Printed, Shelf};
+use std::alloc::Global;
 use std::io;
 use toml::Value;
+
+/// What is wrong with a run, and what it printed.
+#[derive(Drop)]
+pub struct Wrong<'a> {
+    pub what: &'a str,
+    pub printed: Printed,
+}
+
+impl<'a> Wrong<'a> {
+    /// What is wrong, if something is.
+    pub fn judged(what: &'a str, printed: Printed) -> Option<Wrong<'a>> {
+        if what.is_empty() {
+            None
+        } else {
+            Some(Wrong { what, printed })
+        }
+    }
+}
 
 /// What isn't as is expected behind a run; empty where all is.
 ///
 /// # Errors
 ///
 /// Contents are malformed, or memory was refused.
-pub fn wrong_of<'a>(run: &Run<'a>, printed: &Printed, shelf: &Shelf) -> io::Result<&'a str> {
-    let fault = run.text("unless");
-    let is_excused = !fault.is_empty() && printed.faults.as_slice() == fault.as_bytes();
-    if run.is_said("any") || is_excused {
+pub fn wrong_of<'a>(
+    alloc: Global,
+    run: &Run<'a>,
+    printed: &Printed,
+    shelf: &Shelf,
+) -> io::Result<&'a str> {
+    if run.is_said("any") || is_excused(run, printed) {
         return Ok("");
     }
-    let mut wrong = wrong_print(run, printed)?;
-    if wrong.is_empty() {
-        wrong = wrong_count(run, printed, shelf);
+    let wrong = wrong_print(alloc, run, printed)?;
+    if !wrong.is_empty() {
+        return Ok(wrong);
     }
-    if wrong.is_empty() {
-        wrong = wrong_files(run, shelf)?;
+    let wrong = wrong_count(run, printed, shelf);
+    if !wrong.is_empty() {
+        return Ok(wrong);
     }
-    Ok(wrong)
+    wrong_files(alloc, run, shelf)
 }
 
-fn wrong_print(run: &Run, printed: &Printed) -> io::Result<&'static str> {
-    let status = match run.said("status") {
-        Some(Value::Integer(number)) => *number,
-        _ => 0,
-    };
-    if i64::from(printed.status) != status {
+/// Whether a run printed the fault that may come in place of all that is expected.
+fn is_excused(run: &Run, printed: &Printed) -> bool {
+    let fault = run.text("unless");
+    !fault.is_empty() && printed.faults.as_slice() == fault.as_bytes()
+}
+
+fn wrong_print<'a>(alloc: Global, run: &Run<'a>, printed: &Printed) -> io::Result<&'a str> {
+    if i64::from(printed.status) != run.number("status") {
         Ok("the status")
-    } else if !is_shown(run, printed)? {
+    } else if !is_shown(alloc, run, printed)? {
         Ok("the output")
-    } else if !is_printed(run, "faults", &printed.faults)? {
+    } else if !is_printed(alloc, run, "faults", &printed.faults)? {
         Ok("the faults")
     } else {
         Ok("")
@@ -46,21 +71,21 @@ fn wrong_print(run: &Run, printed: &Printed) -> io::Result<&'static str> {
 }
 
 /// Whether standard output, or what is left on a terminal, is as expected, and all that was drawn on the terminal.
-fn is_shown(run: &Run, printed: &Printed) -> io::Result<bool> {
-    let Some(drawn) = run.said("drawn") else {
-        return is_printed(run, "output", &printed.output);
-    };
-    if !fits(&run.named, drawn, &printed.output)? {
-        return Ok(false);
+fn is_shown(alloc: Global, run: &Run, printed: &Printed) -> io::Result<bool> {
+    match run.said("drawn") {
+        Some(drawn) => {
+            let is_drawn = fits(alloc, run.named, drawn, &printed.output)?;
+            let left = left_of(alloc, &printed.output)?;
+            Ok(is_printed(alloc, run, "output", &left)? && is_drawn)
+        }
+        None => is_printed(alloc, run, "output", &printed.output),
     }
-    let left = left_of(run.named.alloc, &printed.output)?;
-    is_printed(run, "output", &left)
 }
 
 /// Whether a stream has what is expected of it.
-fn is_printed(run: &Run, key: &str, printed: &[u8]) -> io::Result<bool> {
+pub fn is_printed(alloc: Global, run: &Run, key: &str, printed: &[u8]) -> io::Result<bool> {
     match run.said(key) {
-        Some(expected) => fits(&run.named, expected, printed),
+        Some(expected) => fits(alloc, run.named, expected, printed),
         None => Ok(printed.is_empty()),
     }
 }
@@ -88,28 +113,33 @@ fn is_count(expected: Option<&Value>, absent: bool, count: usize) -> bool {
 }
 
 /// The first file that isn't left as is expected; empty where all are.
-fn wrong_files<'a>(run: &Run<'a>, shelf: &Shelf) -> io::Result<&'a str> {
+fn wrong_files<'a>(alloc: Global, run: &Run<'a>, shelf: &Shelf) -> io::Result<&'a str> {
     if run.is_said("unchanged") {
-        let wrong = wrong_file(run, run.case.get("files"), shelf)?;
+        let wrong = wrong_file(alloc, run, run.case.get("files"), shelf)?;
         if !wrong.is_empty() {
             return Ok(wrong);
         }
     }
-    if !is_mended(run, shelf)? {
+    if !is_mended(alloc, run, shelf)? {
         return Ok("that is no state behind some of the commands");
     }
-    wrong_file(run, run.said("left"), shelf)
+    wrong_file(alloc, run, run.said("left"), shelf)
 }
 
 /// The first of these files that isn't left so; empty where all are.
-fn wrong_file<'a>(run: &Run, files: Option<&'a Value>, shelf: &Shelf) -> io::Result<&'a str> {
+fn wrong_file<'a>(
+    alloc: Global,
+    run: &Run<'a>,
+    files: Option<&'a Value>,
+    shelf: &Shelf,
+) -> io::Result<&'a str> {
     let files = match files {
         Some(Value::Table(files)) => files,
         Some(_) => return Ok("no table of files"),
         None => return Ok(""),
     };
     for (name, contents) in files.iter() {
-        if !is_left(run, name.as_str(), contents, shelf)? {
+        if !is_left(alloc, run, name.as_str(), contents, shelf)? {
             return Ok(name.as_str());
         }
     }
@@ -117,21 +147,27 @@ fn wrong_file<'a>(run: &Run, files: Option<&'a Value>, shelf: &Shelf) -> io::Res
 }
 
 /// Whether a file is left so, or isn't there where `false` is expected.
-fn is_left(run: &Run, name: &str, contents: &Value, shelf: &Shelf) -> io::Result<bool> {
+fn is_left(
+    alloc: Global,
+    run: &Run,
+    name: &str,
+    contents: &Value,
+    shelf: &Shelf,
+) -> io::Result<bool> {
     let is_absent = matches!(contents, Value::Boolean(false));
-    match shelf.bytes(run.named.alloc, name)? {
-        Some(bytes) if !is_absent => fits(&run.named, contents, &bytes),
+    match shelf.bytes(alloc, name)? {
+        Some(bytes) if !is_absent => fits(alloc, run.named, contents, &bytes),
         Some(_) => Ok(false),
         None => Ok(is_absent),
     }
 }
 
 /// Whether the files are as behind so many commands as were durable, or more.
-fn is_mended(run: &Run, shelf: &Shelf) -> io::Result<bool> {
+fn is_mended(alloc: Global, run: &Run, shelf: &Shelf) -> io::Result<bool> {
     let states = run.values("mended");
     for state in states {
         let files = state.get("files").unwrap_or(state);
-        if wrong_file(run, Some(files), shelf)?.is_empty() {
+        if wrong_file(alloc, run, Some(files), shelf)?.is_empty() {
             return Ok(number_of(state.get("commands")) >= run.durable);
         }
     }

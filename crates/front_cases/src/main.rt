@@ -10,14 +10,10 @@
 #![tactic(auto)]
 
 mod faults;
-mod station;
 mod trial;
 
 use crate::faults::{try_faults, try_refusals};
-use crate::station::Station;
 use crate::trial::{Tally, name_of, try_case};
-use case_runs::{Named, Run};
-use station_cases::{Bench, Program};
 use std::alloc::Global;
 use std::io::Print;
 use std::process::ExitCode;
@@ -28,28 +24,21 @@ use toml::{Table, Value};
 
 fn main(rt: HostRuntime) -> io::Result<ExitCode> {
     let alloc = rt.alloc();
-    let tables = read_tables(&rt, alloc)?;
+    let names: Vec<String> = env::args(&rt)?.collect(alloc)?;
+    let mut tables = Vec::new(alloc);
+    for name in names.iter().skip(1) {
+        tables.push(read_table(&rt, alloc, name.as_str())?)?;
+    }
     let mut tally = Tally { runs: 0, wrong: 0 };
     try_faults(&rt, alloc, &mut tally)?;
     try_refusals(&rt, alloc, &mut tally)?;
-    let mut bench = Bench::new(&rt, alloc, &Station);
-    try_files(&rt, alloc, &mut bench, &tables, &mut tally)?;
+    try_files(&rt, alloc, &tables, &mut tally)?;
     println!(rt; "{} runs, {} wrong", tally.runs, tally.wrong)?;
     if tally.wrong == 0 {
         Ok(ExitCode::SUCCESS)
     } else {
         Ok(ExitCode::FAILURE)
     }
-}
-
-/// Reads the files that the arguments name.
-fn read_tables(rt: &HostRuntime, alloc: Global) -> io::Result<Vec<Table>> {
-    let names: Vec<String> = env::args(rt)?.collect(alloc)?;
-    let mut tables = Vec::new(alloc);
-    for name in names.iter().skip(1) {
-        tables.push(read_table(rt, alloc, name.as_str())?)?;
-    }
-    Ok(tables)
 }
 
 /// Reads a file of TOML.
@@ -66,15 +55,14 @@ fn read_table(rt: &HostRuntime, alloc: Global, name: &str) -> io::Result<Table> 
 
 /// Tries the cases of the files behind the first, whose contents they name.
 fn try_files(
-    rt: &impl Print,
+    rt: &(impl Print + Wait + Threads + Sync),
     alloc: Global,
-    bench: &mut Bench<impl Program, impl Wait + Threads + Sync>,
     tables: &[Table],
     tally: &mut Tally,
 ) -> io::Result<()> {
-    if let [table, files @ ..] = tables {
+    if let [named, files @ ..] = tables {
         for file in files {
-            try_cases(rt, bench, Named { alloc, table }, file.get("case"), tally)?;
+            try_cases(rt, alloc, named, file.get("case"), tally)?;
         }
     }
     Ok(())
@@ -82,21 +70,15 @@ fn try_files(
 
 /// Tries the cases of a file.
 fn try_cases(
-    rt: &impl Print,
-    bench: &mut Bench<impl Program, impl Wait + Threads + Sync>,
-    named: Named,
+    rt: &(impl Print + Wait + Threads + Sync),
+    alloc: Global,
+    named: &Table,
     cases: Option<&Value>,
     tally: &mut Tally,
 ) -> io::Result<()> {
     if let Some(Value::Array(cases)) = cases {
         for case in cases.iter() {
-            let first = Run {
-                own: case,
-                case,
-                named,
-                durable: 0,
-            };
-            if let Err(error) = try_case(rt, bench, &first, tally) {
+            if let Err(error) = try_case(rt, alloc, named, case, tally) {
                 tally.wrong = tally.wrong.saturating_add(1);
                 println!(rt; "WRONG {}: {error}", name_of(case))?;
             }

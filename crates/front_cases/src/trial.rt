@@ -1,14 +1,16 @@
 //! Tries the runs of a case, and prints how each went.
 
 use case_runs::{
-    Mishap, Run, try_behind, try_calls, try_inputs, try_once, try_outputs, try_page, try_plan,
+    Mishap, Run, Wrong, try_behind, try_calls, try_inputs, try_once, try_outputs, try_page,
+    try_plan,
 };
-use station_cases::{Bench, Full, Printed, Program, Shelf};
+use station_cases::{Full, Shelf};
+use std::alloc::Global;
 use std::io::Print;
 use std::sync::Wait;
 use std::thread::Threads;
 use std::{io, slice};
-use toml::Value;
+use toml::{Table, Value};
 
 /// How many runs were tried, and how many didn't go as expected.
 #[derive(Drop)]
@@ -17,26 +19,27 @@ pub struct Tally {
     pub wrong: u64,
 }
 
-/// Tries the runs of a case, which is given as a run.
+/// Tries the runs of a case.
 ///
 /// # Errors
 ///
 /// The case is malformed, memory was refused, or nothing can be printed.
 pub fn try_case(
-    rt: &impl Print,
-    bench: &mut Bench<impl Program, impl Wait + Threads + Sync>,
-    first: &Run,
+    rt: &(impl Print + Wait + Threads + Sync),
+    alloc: Global,
+    named: &Table,
+    case: &Value,
     tally: &mut Tally,
 ) -> io::Result<()> {
-    match (first.case.get("each"), first.case.get("steps")) {
+    match (case.get("each"), case.get("steps")) {
         (Some(Value::Array(rows)), None) => {
             for row in rows.iter() {
-                try_row(rt, bench, first, runs_of(row), tally)?;
+                try_row(rt, alloc, named, case, runs_of(row), tally)?;
             }
             Ok(())
         }
-        (None, Some(steps)) => try_row(rt, bench, first, runs_of(steps), tally),
-        (None, None) => try_row(rt, bench, first, slice::from_ref(first.case), tally),
+        (None, Some(steps)) => try_row(rt, alloc, named, case, runs_of(steps), tally),
+        (None, None) => try_row(rt, alloc, named, case, slice::from_ref(case), tally),
         _ => Err(io::Error::other("malformed runs")),
     }
 }
@@ -51,57 +54,78 @@ fn runs_of(row: &Value) -> &[Value] {
 
 /// Tries runs in a row over the files of their case.
 fn try_row(
-    rt: &impl Print,
-    bench: &mut Bench<impl Program, impl Wait + Threads + Sync>,
-    first: &Run,
+    rt: &(impl Print + Wait + Threads + Sync),
+    alloc: Global,
+    named: &Table,
+    case: &Value,
     runs: &[Value],
     tally: &mut Tally,
 ) -> io::Result<()> {
-    let mut shelf = first.shelf()?;
+    let durable = 0;
+    let first = Run {
+        own: case,
+        case,
+        named,
+        durable,
+    };
+    let mut shelf = first.shelf(alloc)?;
     for own in runs {
-        let run = Run {
-            own,
-            case: first.case,
-            named: first.named,
-            durable: 0,
-        };
-        let wrong = try_so(bench, &run, &mut shelf)?;
-        note(rt, &run, wrong, &bench.printed, tally)?;
+        let run = Run { own, ..first };
+        try_run(rt, alloc, &run, &mut shelf, tally)?;
     }
     Ok(())
 }
 
+/// Tries a run over the files of a store.
+fn try_run(
+    rt: &(impl Print + Wait + Threads + Sync),
+    alloc: Global,
+    run: &Run,
+    shelf: &mut Shelf,
+    tally: &mut Tally,
+) -> io::Result<()> {
+    let wrong = try_so(rt, alloc, run, shelf)?;
+    tally.runs = tally.runs.saturating_add(1);
+    match wrong {
+        None => println!(rt; "ok {}: {}", name_of(run.case), run.args()),
+        Some(wrong) => {
+            tally.wrong = tally.wrong.saturating_add(1);
+            tell(rt, run, &wrong)
+        }
+    }
+}
+
 /// Tries a run in the way that it says.
 fn try_so<'a>(
-    bench: &mut Bench<impl Program, impl Wait + Threads + Sync>,
+    rt: &(impl Wait + Threads + Sync),
+    alloc: Global,
     run: &Run<'a>,
     shelf: &mut Shelf,
-) -> io::Result<&'a str> {
+) -> io::Result<Option<Wrong<'a>>> {
     match run.text("way") {
-        "" => try_plainly(bench, run, shelf),
-        "inputs" => try_inputs(bench, run),
-        "outputs that fail" => try_outputs(bench, run, Full::Fails),
-        "outputs that take none" => try_outputs(bench, run, Full::TakesNone),
-        "power cuts" => try_calls(bench, run, Mishap::Cut),
-        "calls that fail" => try_calls(bench, run, Mishap::Error),
-        "full disks" => try_calls(bench, run, Mishap::Full),
-        "page" => try_page(bench, run, shelf),
-        "plan" => try_plan(bench, run, shelf),
+        "" => try_plainly(rt, alloc, run, shelf),
+        "inputs" => try_inputs(rt, alloc, run),
+        "outputs that fail" => try_outputs(rt, alloc, run, Full::Fails),
+        "outputs that take none" => try_outputs(rt, alloc, run, Full::TakesNone),
+        "power cuts" => try_calls(rt, alloc, run, Mishap::Cut),
+        "calls that fail" => try_calls(rt, alloc, run, Mishap::Error),
+        "full disks" => try_calls(rt, alloc, run, Mishap::Full),
+        "page" => try_page(rt, alloc, run, shelf),
+        "plan" => try_plan(rt, alloc, run, shelf),
         _ => Err(io::Error::other("an unknown way")),
     }
 }
 
 /// Tries a run once, and what is run behind it.
 fn try_plainly<'a>(
-    bench: &mut Bench<impl Program, impl Wait + Threads + Sync>,
+    rt: &(impl Wait + Threads + Sync),
+    alloc: Global,
     run: &Run<'a>,
     shelf: &mut Shelf,
-) -> io::Result<&'a str> {
-    let wrong = try_once(bench, run, shelf)?;
-    if wrong.is_empty() {
-        try_behind(bench, run, shelf, 0)
-    } else {
-        Ok(wrong)
+) -> io::Result<Option<Wrong<'a>>> {
+    match try_once(rt, alloc, run, shelf)? {
+        None => try_behind(rt, alloc, run, shelf, 0),
+        wrong => Ok(wrong),
     }
 }
 
@@ -113,23 +137,21 @@ pub fn name_of(case: &Value) -> &str {
     }
 }
 
-/// Counts a run, and prints how it went: what is wrong with it, if something is, and what it printed.
-fn note(
-    rt: &impl Print,
-    run: &Run,
-    wrong: &str,
-    printed: &Printed,
-    tally: &mut Tally,
-) -> io::Result<()> {
-    tally.runs = tally.runs.saturating_add(1);
-    if wrong.is_empty() {
-        return println!(rt; "ok {}: {}", name_of(run.case), run.args());
-    }
-    tally.wrong = tally.wrong.saturating_add(1);
-    println!(rt; "WRONG {}: {}: {wrong}", name_of(run.case), run.args())?;
-    println!(rt; "status {}", printed.status)?;
-    let output = str::from_utf8(&printed.output).unwrap_or("no UTF-8");
-    let faults = str::from_utf8(&printed.faults).unwrap_or("no UTF-8");
-    println!(rt; "output:\n{output}")?;
-    println!(rt; "faults:\n{faults}")
+/// Prints what is wrong with a run, and what it printed.
+fn tell(rt: &impl Print, run: &Run, wrong: &Wrong) -> io::Result<()> {
+    println!(rt;
+        "WRONG {}: {}: {}",
+        name_of(run.case),
+        run.args(),
+        wrong.what
+    )?;
+    println!(rt; "status {}", wrong.printed.status)?;
+    println!(rt;
+        "output:\n{}",
+        str::from_utf8(&wrong.printed.output).unwrap_or("no UTF-8")
+    )?;
+    println!(rt;
+        "faults:\n{}",
+        str::from_utf8(&wrong.printed.faults).unwrap_or("no UTF-8")
+    )
 }

@@ -1,42 +1,24 @@
-//! Runs of a program over files and streams in memory.
+//! Runs of the program over files and streams in memory.
 
 use crate::shelf::Shelf;
 use crate::streams::{Full, Pen, Room, Screen, Source};
+use station_serve::serve;
 use std::alloc::Global;
+use std::io;
+use std::rt::Clock;
 use std::sync::Wait;
+use std::sync::atomic::AtomicU64;
+use std::sync::atomic::Ordering::SeqCst;
 use std::thread::Threads;
+use std::time::Duration;
 
-/// A program that tests run.
-pub trait Program {
-    /// Carries out a command line, the program's name first, and returns the exit status.
-    fn run<H: Wait + Threads + Sync>(
-        &self,
-        rt: &H,
-        args: &[String],
-        shelf: &mut Shelf,
-        streams: Streams<'_, '_>,
-    ) -> u8;
-}
-
-/// What a run is given beside its files.
+/// The streams of a run.
 #[derive(Clone, Copy)]
-pub struct Given<'a> {
+pub struct Streams<'a> {
     pub input: Source<'a>,
     pub room: Room,
     /// On a terminal, on which output and faults stand too, by how many milliseconds the clock goes on each time it is read.
     pub terminal: Option<u64>,
-}
-
-/// The streams of a run.
-#[derive(Clone, Copy)]
-pub struct Streams<'i, 's> {
-    pub input: Source<'i>,
-    pub output: Pen<'s>,
-    pub faults: Pen<'s>,
-    /// The terminal on which output and faults stand too, if they do.
-    pub terminal: Option<Pen<'s>>,
-    /// By how many milliseconds the clock goes on each time it is read.
-    pub step: u64,
 }
 
 /// The exit status of a run, and what it printed.
@@ -49,12 +31,53 @@ pub struct Printed {
     pub faults: Vec<u8>,
 }
 
-/// A program, the runtime that it is run on, and what it printed in the last run.
+/// A handle whose clock goes on by so many milliseconds each time it is read. By the time of day it stands still, at 5 nanoseconds behind second 3.
 #[derive(Drop)]
-pub struct Bench<'p, P, H> {
-    pub rt: &'p H,
-    pub program: &'p P,
-    pub printed: Printed,
+struct Stepping<'r, H> {
+    _handle: &'r H,
+    alloc: Global,
+    step: u64,
+    read: AtomicU64,
+}
+
+impl<H: Wait> Wait for Stepping<'_, H> {}
+
+impl<H: Threads> Threads for Stepping<'_, H> {}
+
+impl<H> Alloc for Stepping<'_, H> {
+    type A = Global;
+
+    fn alloc(&self) -> Global {
+        self.alloc
+    }
+}
+
+impl<H> Clock for Stepping<'_, H> {
+    fn monotonic(&self) -> io::Result<Duration> {
+        Ok(Duration::from_millis(self.read.fetch_add(self.step, SeqCst)))
+    }
+
+    fn since_1970(&self) -> io::Result<Duration> {
+        Ok(Duration::new(3, 5))
+    }
+}
+
+/// Runs the program on these arguments, its name first.
+pub fn run_on(
+    rt: &(impl Wait + Threads + Sync),
+    alloc: Global,
+    args: &[String],
+    streams: &Streams,
+    shelf: &mut Shelf,
+) -> Printed {
+    let output = Screen::new(alloc, streams.room);
+    let faults = Screen::new(alloc, ALL);
+    let status = served(rt, alloc, args, streams, shelf, &output, &faults);
+    Printed {
+        status,
+        output: output.into_bytes(),
+        faults: faults.into_bytes(),
+    }
 }
 
 /// Room for all that is printed.
@@ -63,51 +86,31 @@ pub const ALL: Room = Room {
     then: Full::Fails,
 };
 
-impl<'p, P: Program, H: Wait + Threads + Sync> Bench<'p, P, H> {
-    /// The program before its first run.
-    pub fn new(rt: &'p H, alloc: Global, program: &'p P) -> Bench<'p, P, H> {
-        let printed = Printed {
-            status: 0,
-            output: Vec::new(alloc),
-            faults: Vec::new(alloc),
-        };
-        Bench {
-            rt,
-            program,
-            printed,
-        }
-    }
-
-    /// Runs the program on these arguments, its name first.
-    pub fn run(&mut self, args: &[String], given: &Given, shelf: &mut Shelf) {
-        let output = Screen::new(shelf.alloc, given.room);
-        let faults = Screen::new(shelf.alloc, ALL);
-        let streams = streams_of(given, &output, &faults);
-        let status = self.program.run(self.rt, args, shelf, streams);
-        self.printed = Printed {
-            status,
-            output: output.into_bytes(),
-            faults: faults.into_bytes(),
-        };
-    }
-}
-
-/// The streams of a run that writes to these screens: on a terminal all to the first.
-fn streams_of<'i, 's>(
-    given: &Given<'i>,
-    output: &'s Screen,
-    faults: &'s Screen,
-) -> Streams<'i, 's> {
-    let pen = Pen { screen: output };
-    let (faults, terminal) = match given.terminal {
+/// The exit status of a run that writes to these screens.
+fn served(
+    rt: &(impl Wait + Threads + Sync),
+    alloc: Global,
+    args: &[String],
+    streams: &Streams,
+    shelf: &mut Shelf,
+    output: &Screen,
+    faults: &Screen,
+) -> u8 {
+    let stepping = Stepping {
+        _handle: rt,
+        alloc,
+        step: streams.terminal.unwrap_or(0),
+        read: AtomicU64::new(0),
+    };
+    let mut input = streams.input;
+    let mut pen = Pen { screen: output };
+    let (mut other, terminal) = match streams.terminal {
         Some(_) => (pen, Some(pen)),
         None => (Pen { screen: faults }, None),
     };
-    Streams {
-        input: given.input,
-        output: pen,
-        faults,
-        terminal,
-        step: given.terminal.unwrap_or(0),
-    }
+    let streams = station_serve::Streams {
+        output: &mut pen,
+        faults: &mut other,
+    };
+    serve(&stepping, args, &mut input, shelf, streams, terminal)
 }

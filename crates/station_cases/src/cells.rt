@@ -9,7 +9,7 @@ use std::sync::atomic::Ordering::SeqCst;
 use std::sync::atomic::{AtomicBool, AtomicU8, AtomicU64};
 
 /// What a power cut leaves of bytes that were written and not synced.
-#[derive(Clone, Copy)]
+#[derive(Clone, Copy, PartialEq, Eq)]
 pub enum Pattern {
     /// The old bytes.
     Old,
@@ -167,7 +167,7 @@ impl RandomAccessFile for OpenFile {
 
     fn write_all_at(&self, bytes: &[u8], at: u64) -> io::Result<()> {
         let passing = self.troubles.write();
-        if !matches!(passing, Passing::Fails) {
+        if passing != Passing::Fails {
             self.cells.write(bytes, at);
         }
         passing.ended()
@@ -175,7 +175,7 @@ impl RandomAccessFile for OpenFile {
 
     fn set_len(&self, length: u64) -> io::Result<()> {
         let passing = self.troubles.write();
-        if !matches!(passing, Passing::Fails) {
+        if passing != Passing::Fails {
             self.cells.set_len(length);
         }
         passing.ended()
@@ -183,7 +183,7 @@ impl RandomAccessFile for OpenFile {
 
     fn sync_data(&self) -> io::Result<()> {
         let passing = self.troubles.write();
-        if matches!(passing, Passing::Passes) {
+        if passing == Passing::Passes {
             self.cells.sync();
         }
         passing.ended()

@@ -8,8 +8,8 @@ mod shelf;
 mod streams;
 mod troubles;
 
-pub use case::{ALL, Bench, Given, Printed, Program, Streams};
+pub use case::{ALL, Printed, Streams, run_on};
 pub use cells::{OpenFile, Pattern};
 pub use shelf::{Shelf, ShelfLock};
-pub use streams::{Full, Pen, Room, Source, Then};
+pub use streams::{Full, Room, Source, Then};
 pub use troubles::{Trouble, Troubles};

@@ -4,7 +4,8 @@ ghost use Rattle.station_cases.specs.Shelf.{held_at, known_at, whole};
 
 use crate::cells::{Cells, OpenFile, Pattern};
 use crate::troubles::{Passing, Trouble, Troubles};
-use station_files::{Location, LockFault, Store};
+use station_files::Location;
+use station_serve::{LockFault, Store};
 use std::alloc::{AllocError, Global};
 use std::io;
 use std::sync::Arc;
@@ -91,13 +92,13 @@ impl Shelf {
             writes: 0,
             replaced: 0,
             pattern: Pattern::Old,
-            troubles: Troubles::planned(alloc, Trouble::Nothing)?,
+            troubles: troubles_of(alloc, Trouble::Nothing)?,
         })
     }
 
     /// Plans what goes wrong from now on, and what a power cut leaves.
     pub fn trouble(&mut self, trouble: Trouble, pattern: Pattern) -> Result<(), AllocError> {
-        self.troubles = Troubles::planned(self.alloc, trouble)?;
+        self.troubles = troubles_of(self.alloc, trouble)?;
         self.pattern = pattern;
         Ok(())
     }
@@ -190,11 +191,15 @@ impl Shelf {
     fn torn(&mut self, name: &str, bytes: &[u8]) -> io::Error
         ensures others { (other : List ℕ) → other ≢ name.now → known_at self.new.files.items other ≡ known_at self.old.files.items other }
     {
-        if matches!(self.pattern, Pattern::New) {
+        if self.pattern == Pattern::New {
             let _ = self.put(name, bytes);
         }
         io::Error::other("the power is cut")
     }
+}
+
+fn troubles_of(alloc: Global, trouble: Trouble) -> Result<Arc<Troubles>, AllocError> {
+    Ok(Arc::new(alloc, Troubles::new(trouble))?)
 }
 
 impl Store for Shelf {
@@ -255,9 +260,6 @@ impl Store for Shelf {
         if self.is_busy {
             return Err(LockFault::Busy);
         }
-        match self.find(name) {
-            Some(_) => Ok(Some(ShelfLock {})),
-            None => Ok(None),
-        }
+        Ok(self.find(name).map(|_| ShelfLock {}))
     }
 }

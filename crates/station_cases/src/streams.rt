@@ -46,7 +46,7 @@ impl Read for Source<'_> {
 }
 
 /// How an output answers once it has taken all that it takes.
-#[derive(Clone, Copy)]
+#[derive(Clone, Copy, PartialEq, Eq)]
 pub enum Full {
     /// With an error, as a closed pipe or a full disk.
     Fails,
@@ -87,7 +87,7 @@ fn take(written: &mut Vec<u8>, room: Room, buf: &[u8]) -> io::Result<usize>
     ensures { WritesAtMost result buf.now }
 {
     let count = buf.len().min(room.bytes.saturating_sub(written.len()));
-    if count == 0 && !buf.is_empty() && matches!(room.then, Full::Fails) {
+    if count == 0 && !buf.is_empty() && room.then == Full::Fails {
         return Err(io::Error::from(io::ErrorKind::BrokenPipe));
     }
     written.extend_from_slice(&buf[..count])?;

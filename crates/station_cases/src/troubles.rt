@@ -1,13 +1,11 @@
 //! Planned failures of the files in memory.
 
-use std::alloc::{AllocError, Global};
 use std::io;
-use std::sync::Arc;
 use std::sync::atomic::AtomicU64;
 use std::sync::atomic::Ordering::SeqCst;
 
 /// A planned failure. Calls that write or sync are counted from 0, in their order.
-#[derive(Clone, Copy)]
+#[derive(Clone, Copy, PartialEq, Eq)]
 pub enum Trouble {
     Nothing,
     /// The power is cut in this call. All further calls fail.
@@ -19,7 +17,7 @@ pub enum Trouble {
 }
 
 /// How a call goes.
-#[derive(Clone, Copy)]
+#[derive(Clone, Copy, PartialEq, Eq)]
 pub enum Passing {
     Passes,
     /// The power is cut during the call: what it wrote isn't synced.
@@ -46,10 +44,11 @@ impl Passing {
 }
 
 impl Troubles {
-    /// The planned failure of files that made no calls so far.
-    pub fn planned(alloc: Global, trouble: Trouble) -> Result<Arc<Troubles>, AllocError> {
-        let calls = AtomicU64::new(0);
-        Ok(Arc::new(alloc, Troubles { trouble, calls })?)
+    pub fn new(trouble: Trouble) -> Troubles {
+        Troubles {
+            trouble,
+            calls: AtomicU64::new(0),
+        }
     }
 
     /// How the next call that writes or syncs goes.
