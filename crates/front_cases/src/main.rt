@@ -1,7 +1,7 @@
 //! Runs `sii_station` over files in memory as case files say it, and compares what each run prints and leaves with what they expect.
 //!
 //! The arguments name TOML files. The first one holds contents that cases name. Each other one holds an array of tables `case`, with a `name`
-//! that says what the case shows. A case is a run of `case_runs`, or has several:
+//! that says what the case shows. A case is a run as `station_cases` says, or has several:
 //!
 //! - `each`: several runs, each over the case's `files` anew, or, where an array stands in place of a run, the runs of that in a row.
 //! - `steps`: several runs in a row over the same files.
@@ -9,9 +9,13 @@
 //! What such a run doesn't say, its case says for all of its runs. Its `files` are put in before it.
 #![tactic(auto)]
 
+mod bench;
+mod calls;
 mod faults;
 mod trial;
+mod tries;
 
+use crate::bench::Bench;
 use crate::faults::{try_faults, try_refusals};
 use crate::trial::{Tally, name_of, try_case};
 use std::alloc::Global;
@@ -32,7 +36,7 @@ fn main(rt: HostRuntime) -> io::Result<ExitCode> {
     let mut tally = Tally { runs: 0, wrong: 0 };
     try_faults(&rt, alloc, &mut tally)?;
     try_refusals(&rt, alloc, &mut tally)?;
-    try_files(&rt, alloc, &tables, &mut tally)?;
+    try_files(&rt, &mut Bench::new(alloc), &tables, &mut tally)?;
     println!(rt; "{} runs, {} wrong", tally.runs, tally.wrong)?;
     if tally.wrong == 0 {
         Ok(ExitCode::SUCCESS)
@@ -56,13 +60,13 @@ fn read_table(rt: &HostRuntime, alloc: Global, name: &str) -> io::Result<Table> 
 /// Tries the cases of the files behind the first, whose contents they name.
 fn try_files(
     rt: &(impl Print + Wait + Threads + Sync),
-    alloc: Global,
+    bench: &mut Bench,
     tables: &[Table],
     tally: &mut Tally,
 ) -> io::Result<()> {
     if let [named, files @ ..] = tables {
         for file in files {
-            try_cases(rt, alloc, named, file.get("case"), tally)?;
+            try_cases(rt, bench, named, file.get("case"), tally)?;
         }
     }
     Ok(())
@@ -71,14 +75,14 @@ fn try_files(
 /// Tries the cases of a file.
 fn try_cases(
     rt: &(impl Print + Wait + Threads + Sync),
-    alloc: Global,
+    bench: &mut Bench,
     named: &Table,
     cases: Option<&Value>,
     tally: &mut Tally,
 ) -> io::Result<()> {
     if let Some(Value::Array(cases)) = cases {
         for case in cases.iter() {
-            if let Err(error) = try_case(rt, alloc, named, case, tally) {
+            if let Err(error) = try_case(rt, bench, named, case, tally) {
                 tally.wrong = tally.wrong.saturating_add(1);
                 println!(rt; "WRONG {}: {error}", name_of(case))?;
             }

@@ -1,11 +1,9 @@
 //! Tries the runs of a case, and prints how each went.
 
-use case_runs::{
-    Mishap, Run, Wrong, try_behind, try_calls, try_inputs, try_once, try_outputs, try_page,
-    try_plan,
-};
-use station_cases::{Full, Shelf};
-use std::alloc::Global;
+use crate::bench::Bench;
+use crate::calls::{Mishap, try_calls};
+use crate::tries::{try_behind, try_inputs, try_once, try_outputs, try_page, try_plan};
+use station_cases::{Full, Run, Shelf};
 use std::io::Print;
 use std::sync::Wait;
 use std::thread::Threads;
@@ -26,7 +24,7 @@ pub struct Tally {
 /// The case is malformed, memory was refused, or nothing can be printed.
 pub fn try_case(
     rt: &(impl Print + Wait + Threads + Sync),
-    alloc: Global,
+    bench: &mut Bench,
     named: &Table,
     case: &Value,
     tally: &mut Tally,
@@ -34,12 +32,12 @@ pub fn try_case(
     match (case.get("each"), case.get("steps")) {
         (Some(Value::Array(rows)), None) => {
             for row in rows.iter() {
-                try_row(rt, alloc, named, case, runs_of(row), tally)?;
+                try_row(rt, bench, named, case, runs_of(row), tally)?;
             }
             Ok(())
         }
-        (None, Some(steps)) => try_row(rt, alloc, named, case, runs_of(steps), tally),
-        (None, None) => try_row(rt, alloc, named, case, slice::from_ref(case), tally),
+        (None, Some(steps)) => try_row(rt, bench, named, case, runs_of(steps), tally),
+        (None, None) => try_row(rt, bench, named, case, slice::from_ref(case), tally),
         _ => Err(io::Error::other("malformed runs")),
     }
 }
@@ -55,7 +53,7 @@ fn runs_of(row: &Value) -> &[Value] {
 /// Tries runs in a row over the files of their case.
 fn try_row(
     rt: &(impl Print + Wait + Threads + Sync),
-    alloc: Global,
+    bench: &mut Bench,
     named: &Table,
     case: &Value,
     runs: &[Value],
@@ -68,10 +66,10 @@ fn try_row(
         named,
         durable,
     };
-    let mut shelf = first.shelf(alloc)?;
+    let mut shelf = first.shelf(bench.alloc)?;
     for own in runs {
         let run = Run { own, ..first };
-        try_run(rt, alloc, &run, &mut shelf, tally)?;
+        try_run(rt, bench, &run, &mut shelf, tally)?;
     }
     Ok(())
 }
@@ -79,39 +77,37 @@ fn try_row(
 /// Tries a run over the files of a store.
 fn try_run(
     rt: &(impl Print + Wait + Threads + Sync),
-    alloc: Global,
+    bench: &mut Bench,
     run: &Run,
     shelf: &mut Shelf,
     tally: &mut Tally,
 ) -> io::Result<()> {
-    let wrong = try_so(rt, alloc, run, shelf)?;
+    let wrong = try_so(rt, bench, run, shelf)?;
     tally.runs = tally.runs.saturating_add(1);
-    match wrong {
-        None => println!(rt; "ok {}: {}", name_of(run.case), run.args()),
-        Some(wrong) => {
-            tally.wrong = tally.wrong.saturating_add(1);
-            tell(rt, run, &wrong)
-        }
+    if wrong.is_empty() {
+        return println!(rt; "ok {}: {}", name_of(run.case), run.args());
     }
+    tally.wrong = tally.wrong.saturating_add(1);
+    tell(rt, bench, run, wrong)
 }
 
 /// Tries a run in the way that it says.
 fn try_so<'a>(
     rt: &(impl Wait + Threads + Sync),
-    alloc: Global,
+    bench: &mut Bench,
     run: &Run<'a>,
     shelf: &mut Shelf,
-) -> io::Result<Option<Wrong<'a>>> {
+) -> io::Result<&'a str> {
     match run.text("way") {
-        "" => try_plainly(rt, alloc, run, shelf),
-        "inputs" => try_inputs(rt, alloc, run),
-        "outputs that fail" => try_outputs(rt, alloc, run, Full::Fails),
-        "outputs that take none" => try_outputs(rt, alloc, run, Full::TakesNone),
-        "power cuts" => try_calls(rt, alloc, run, Mishap::Cut),
-        "calls that fail" => try_calls(rt, alloc, run, Mishap::Error),
-        "full disks" => try_calls(rt, alloc, run, Mishap::Full),
-        "page" => try_page(rt, alloc, run, shelf),
-        "plan" => try_plan(rt, alloc, run, shelf),
+        "" => try_plainly(rt, bench, run, shelf),
+        "inputs" => try_inputs(rt, bench, run),
+        "outputs that fail" => try_outputs(rt, bench, run, Full::Fails),
+        "outputs that take none" => try_outputs(rt, bench, run, Full::TakesNone),
+        "power cuts" => try_calls(rt, bench, run, Mishap::Cut),
+        "calls that fail" => try_calls(rt, bench, run, Mishap::Error),
+        "full disks" => try_calls(rt, bench, run, Mishap::Full),
+        "page" => try_page(rt, bench, run, shelf),
+        "plan" => try_plan(rt, bench, run, shelf),
         _ => Err(io::Error::other("an unknown way")),
     }
 }
@@ -119,12 +115,12 @@ fn try_so<'a>(
 /// Tries a run once, and what is run behind it.
 fn try_plainly<'a>(
     rt: &(impl Wait + Threads + Sync),
-    alloc: Global,
+    bench: &mut Bench,
     run: &Run<'a>,
     shelf: &mut Shelf,
-) -> io::Result<Option<Wrong<'a>>> {
-    match try_once(rt, alloc, run, shelf)? {
-        None => try_behind(rt, alloc, run, shelf, 0),
+) -> io::Result<&'a str> {
+    match try_once(rt, bench, run, shelf)? {
+        "" => try_behind(rt, bench, run, shelf, 0),
         wrong => Ok(wrong),
     }
 }
@@ -138,20 +134,16 @@ pub fn name_of(case: &Value) -> &str {
 }
 
 /// Prints what is wrong with a run, and what it printed.
-fn tell(rt: &impl Print, run: &Run, wrong: &Wrong) -> io::Result<()> {
-    println!(rt;
-        "WRONG {}: {}: {}",
-        name_of(run.case),
-        run.args(),
-        wrong.what
-    )?;
-    println!(rt; "status {}", wrong.printed.status)?;
+fn tell(rt: &impl Print, bench: &Bench, run: &Run, wrong: &str) -> io::Result<()> {
+    let printed = &bench.printed;
+    println!(rt; "WRONG {}: {}: {wrong}", name_of(run.case), run.args())?;
+    println!(rt; "status {}", printed.status)?;
     println!(rt;
         "output:\n{}",
-        str::from_utf8(&wrong.printed.output).unwrap_or("no UTF-8")
+        str::from_utf8(&printed.output).unwrap_or("no UTF-8")
     )?;
     println!(rt;
         "faults:\n{}",
-        str::from_utf8(&wrong.printed.faults).unwrap_or("no UTF-8")
+        str::from_utf8(&printed.faults).unwrap_or("no UTF-8")
     )
 }

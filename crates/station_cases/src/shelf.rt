@@ -4,8 +4,7 @@ ghost use Rattle.station_cases.specs.Shelf.{held_at, known_at, whole};
 
 use crate::cells::{Cells, OpenFile, Pattern};
 use crate::troubles::{Passing, Trouble, Troubles};
-use station_files::Location;
-use station_serve::{LockFault, Store};
+use station_files::{Location, LockFault, Store};
 use std::alloc::{AllocError, Global};
 use std::io;
 use std::sync::Arc;

@@ -61,6 +61,31 @@ pub struct Room {
     pub then: Full,
 }
 
+/// Room for all that is printed.
+pub(crate) const ALL: Room = Room {
+    bytes: usize::MAX,
+    then: Full::Fails,
+};
+
+/// The streams of a run.
+#[derive(Clone, Copy)]
+pub struct Streams<'a> {
+    pub input: Source<'a>,
+    pub room: Room,
+    /// On a terminal, on which output and faults stand too, by how many milliseconds the clock goes on each time it is read.
+    pub terminal: Option<u64>,
+}
+
+/// The exit status of a run, and what it printed.
+#[derive(Drop)]
+pub struct Printed {
+    pub status: u8,
+    /// What was written to standard output; on a terminal all that was written to it.
+    pub output: Vec<u8>,
+    /// What was written to standard error.
+    pub faults: Vec<u8>,
+}
+
 /// What was written to an output or a terminal.
 #[derive(Drop)]
 pub struct Screen {
@@ -69,6 +94,7 @@ pub struct Screen {
 }
 
 impl Screen {
+    /// A screen on which there is so much room.
     pub fn new(alloc: Global, room: Room) -> Screen {
         Screen {
             written: Mutex::new(Vec::new(alloc)),
@@ -76,6 +102,12 @@ impl Screen {
         }
     }
 
+    /// A screen on which there is room for all that is printed.
+    pub fn all(alloc: Global) -> Screen {
+        Screen::new(alloc, ALL)
+    }
+
+    /// What was written to it.
     pub fn into_bytes(self) -> Vec<u8> {
         let Screen { written, room: _ } = self;
         written.into_inner()

@@ -3,29 +3,12 @@
 use crate::contents::number_of;
 use crate::expected::fits;
 use crate::run::Run;
+use crate::shelf::Shelf;
+use crate::streams::Printed;
 use crate::terminals::left_of;
-use station_cases::{Printed, Shelf};
 use std::alloc::Global;
 use std::io;
 use toml::Value;
-
-/// What is wrong with a run, and what it printed.
-#[derive(Drop)]
-pub struct Wrong<'a> {
-    pub what: &'a str,
-    pub printed: Printed,
-}
-
-impl<'a> Wrong<'a> {
-    /// What is wrong, if something is.
-    pub fn judged(what: &'a str, printed: Printed) -> Option<Wrong<'a>> {
-        if what.is_empty() {
-            None
-        } else {
-            Some(Wrong { what, printed })
-        }
-    }
-}
 
 /// What isn't as is expected behind a run; empty where all is.
 ///
@@ -60,13 +43,14 @@ fn is_excused(run: &Run, printed: &Printed) -> bool {
 
 fn wrong_print<'a>(alloc: Global, run: &Run<'a>, printed: &Printed) -> io::Result<&'a str> {
     if i64::from(printed.status) != run.number("status") {
-        Ok("the status")
-    } else if !is_shown(alloc, run, printed)? {
-        Ok("the output")
-    } else if !is_printed(alloc, run, "faults", &printed.faults)? {
-        Ok("the faults")
-    } else {
-        Ok("")
+        return Ok("the status");
+    }
+    if !is_shown(alloc, run, printed)? {
+        return Ok("the output");
+    }
+    match is_printed(alloc, run, "faults", &printed.faults)? {
+        true => Ok(""),
+        false => Ok("the faults"),
     }
 }
 
@@ -83,7 +67,7 @@ fn is_shown(alloc: Global, run: &Run, printed: &Printed) -> io::Result<bool> {
 }
 
 /// Whether a stream has what is expected of it.
-pub fn is_printed(alloc: Global, run: &Run, key: &str, printed: &[u8]) -> io::Result<bool> {
+fn is_printed(alloc: Global, run: &Run, key: &str, printed: &[u8]) -> io::Result<bool> {
     match run.said(key) {
         Some(expected) => fits(alloc, run.named, expected, printed),
         None => Ok(printed.is_empty()),

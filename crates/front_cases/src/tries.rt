@@ -1,15 +1,13 @@
-//! Tries a run once, or with each input and each output that fails after some bytes.
+//! Tries a run once, or with each input and each output that fails after some bytes. A try answers what isn't as is expected, and nothing where all is.
 
-use crate::changes::tell_changes;
-use crate::contents::bytes_of;
-use crate::expected::has_options;
-use crate::run::{Run, parted};
-use crate::wrong::{Wrong, wrong_of};
-use station_cases::{Full, Printed, Room, Shelf, run_on};
+use crate::bench::{Bench, run_on};
+use station_cases::{
+    Full, Printed, Room, Run, Shelf, bytes_of, has_options, parted, tell_changes, wrong_of,
+};
 use std::alloc::Global;
-use std::io;
 use std::sync::Wait;
 use std::thread::Threads;
+use std::{io, mem};
 
 /// Tries a run with its input.
 ///
@@ -18,27 +16,26 @@ use std::thread::Threads;
 /// The run is malformed, or memory was refused.
 pub fn try_once<'a>(
     rt: &(impl Wait + Threads + Sync),
-    alloc: Global,
+    bench: &mut Bench,
     run: &Run<'a>,
     shelf: &mut Shelf,
-) -> io::Result<Option<Wrong<'a>>> {
-    let input = run.input(alloc)?;
-    try_with(rt, alloc, run, &input, shelf)
+) -> io::Result<&'a str> {
+    let input = run.input(bench.alloc)?;
+    try_with(rt, bench, run, &input, shelf)
 }
 
 /// Tries a run with this input.
 fn try_with<'a>(
     rt: &(impl Wait + Threads + Sync),
-    alloc: Global,
+    bench: &mut Bench,
     run: &Run<'a>,
     input: &[u8],
     shelf: &mut Shelf,
-) -> io::Result<Option<Wrong<'a>>> {
-    run.prepare(alloc, shelf)?;
-    let words = run.words(alloc)?;
-    let printed = run_on(rt, alloc, &words, &run.streams(input), shelf);
-    let wrong = wrong_of(alloc, run, &printed, shelf)?;
-    Ok(Wrong::judged(wrong, printed))
+) -> io::Result<&'a str> {
+    run.prepare(bench.alloc, shelf)?;
+    let words = run.words(bench.alloc)?;
+    run_on(rt, bench, &words, &run.streams(input), shelf);
+    wrong_of(bench.alloc, run, &bench.printed, shelf)
 }
 
 /// Tries a run with each beginning of its input, all of it among them.
@@ -48,18 +45,18 @@ fn try_with<'a>(
 /// The run is malformed, or memory was refused.
 pub fn try_inputs<'a>(
     rt: &(impl Wait + Threads + Sync),
-    alloc: Global,
+    bench: &mut Bench,
     run: &Run<'a>,
-) -> io::Result<Option<Wrong<'a>>> {
-    let input = run.input(alloc)?;
-    for count in 0..input.len() {
+) -> io::Result<&'a str> {
+    let input = run.input(bench.alloc)?;
+    for count in 0..=input.len() {
         let part = input.get(..count).unwrap_or(&input);
-        let wrong = try_with(rt, alloc, run, part, &mut run.shelf(alloc)?)?;
-        if wrong.is_some() {
+        let wrong = try_with(rt, bench, run, part, &mut run.shelf(bench.alloc)?)?;
+        if !wrong.is_empty() {
             return Ok(wrong);
         }
     }
-    try_with(rt, alloc, run, &input, &mut run.shelf(alloc)?)
+    Ok("")
 }
 
 /// Tries a run with outputs that take each number of bytes but all: it prints just these, and ends in a fault of a file.
@@ -69,52 +66,55 @@ pub fn try_inputs<'a>(
 /// The run is malformed, or memory was refused.
 pub fn try_outputs<'a>(
     rt: &(impl Wait + Threads + Sync),
-    alloc: Global,
+    bench: &mut Bench,
     run: &Run<'a>,
     then: Full,
-) -> io::Result<Option<Wrong<'a>>> {
+) -> io::Result<&'a str> {
     let whole = match run.said("output") {
-        Some(contents) => bytes_of(alloc, run.named, contents)?,
-        None => Vec::new(alloc),
+        Some(contents) => bytes_of(bench.alloc, run.named, contents)?,
+        None => Vec::new(bench.alloc),
     };
     for bytes in 0..whole.len() {
         let taken = whole.get(..bytes).unwrap_or(&whole);
-        let wrong = try_output(rt, alloc, run, Room { bytes, then }, taken)?;
-        if wrong.is_some() {
+        let wrong = try_output(rt, bench, run, Room { bytes, then }, taken)?;
+        if !wrong.is_empty() {
             return Ok(wrong);
         }
     }
-    Ok(None)
+    Ok("")
 }
 
 fn try_output<'a>(
     rt: &(impl Wait + Threads + Sync),
-    alloc: Global,
+    bench: &mut Bench,
     run: &Run<'a>,
     room: Room,
     taken: &[u8],
-) -> io::Result<Option<Wrong<'a>>> {
-    let mut shelf = run.shelf(alloc)?;
-    let printed = print_into(rt, alloc, run, room, &mut shelf)?;
+) -> io::Result<&'a str> {
+    let mut shelf = run.shelf(bench.alloc)?;
+    print_into(rt, bench, run, room, &mut shelf)?;
+    let printed = &bench.printed;
     let is_told = printed.status == 3 && printed.faults.as_slice() == "fault 90 File\n".as_bytes();
     if !is_told || printed.output.as_slice() != taken {
-        return Ok(Wrong::judged("a cut output", printed));
+        return Ok("a cut output");
     }
-    try_behind(rt, alloc, run, &mut shelf, 0)
+    try_behind(rt, bench, run, &mut shelf, 0)
 }
 
 fn print_into(
     rt: &(impl Wait + Threads + Sync),
-    alloc: Global,
+    bench: &mut Bench,
     run: &Run,
     room: Room,
     shelf: &mut Shelf,
-) -> io::Result<Printed> {
-    run.prepare(alloc, shelf)?;
-    let input = run.input(alloc)?;
+) -> io::Result<()> {
+    run.prepare(bench.alloc, shelf)?;
+    let input = run.input(bench.alloc)?;
+    let words = run.words(bench.alloc)?;
     let mut streams = run.streams(&input);
     streams.room = room;
-    Ok(run_on(rt, alloc, &run.words(alloc)?, &streams, shelf))
+    run_on(rt, bench, &words, &streams, shelf);
+    Ok(())
 }
 
 /// Tries what is run behind each try of a run, over the files that it left. So many commands were durable.
@@ -124,11 +124,11 @@ fn print_into(
 /// The run is malformed, or memory was refused.
 pub fn try_behind<'a>(
     rt: &(impl Wait + Threads + Sync),
-    alloc: Global,
+    bench: &mut Bench,
     run: &Run<'a>,
     shelf: &mut Shelf,
     durable: usize,
-) -> io::Result<Option<Wrong<'a>>> {
+) -> io::Result<&'a str> {
     for step in run.values("behind") {
         let next = Run {
             own: step,
@@ -136,28 +136,29 @@ pub fn try_behind<'a>(
             named: run.named,
             durable,
         };
-        let wrong = try_once(rt, alloc, &next, shelf)?;
-        if wrong.is_some() {
+        let wrong = try_once(rt, bench, &next, shelf)?;
+        if !wrong.is_empty() {
             return Ok(wrong);
         }
     }
-    Ok(None)
+    Ok("")
 }
 
-/// What a command line prints, without input.
+/// Runs a command line without input.
 ///
 /// # Errors
 ///
-/// The run is malformed, or memory was refused.
+/// Memory was refused.
 pub fn print_words(
     rt: &(impl Wait + Threads + Sync),
-    alloc: Global,
+    bench: &mut Bench,
     run: &Run,
     words: &str,
     shelf: &mut Shelf,
-) -> io::Result<Printed> {
-    let args = parted(alloc, words)?;
-    Ok(run_on(rt, alloc, &args, &run.streams(&[]), shelf))
+) -> io::Result<()> {
+    let args = parted(bench.alloc, words)?;
+    run_on(rt, bench, &args, &run.streams(&[]), shelf);
+    Ok(())
 }
 
 /// Tries a run that prints a page, which has each option of this help.
@@ -167,20 +168,19 @@ pub fn print_words(
 /// The run is malformed, or memory was refused.
 pub fn try_page<'a>(
     rt: &(impl Wait + Threads + Sync),
-    alloc: Global,
+    bench: &mut Bench,
     run: &Run<'a>,
     shelf: &mut Shelf,
-) -> io::Result<Option<Wrong<'a>>> {
-    run.prepare(alloc, shelf)?;
-    let help = print_words(rt, alloc, run, run.text("first"), shelf)?;
-    let printed = print_words(rt, alloc, run, run.args(), shelf)?;
-    if help.output.is_empty()
-        || !has_options(alloc, &printed.output, &help.output, run.text("option"))?
-    {
-        return Ok(Wrong::judged("an option of the help", printed));
+) -> io::Result<&'a str> {
+    run.prepare(bench.alloc, shelf)?;
+    print_words(rt, bench, run, run.text("first"), shelf)?;
+    let help = mem::replace(&mut bench.printed.output, Vec::new(bench.alloc));
+    print_words(rt, bench, run, run.args(), shelf)?;
+    let page = &bench.printed.output;
+    if help.is_empty() || !has_options(bench.alloc, page, &help, run.text("option"))? {
+        return Ok("an option of the help");
     }
-    let wrong = wrong_of(alloc, run, &printed, shelf)?;
-    Ok(Wrong::judged(wrong, printed))
+    wrong_of(bench.alloc, run, &bench.printed, shelf)
 }
 
 /// Tries a plan and then a run: the plan says what the run prints, and the words that it changes, and writes nothing.
@@ -190,31 +190,29 @@ pub fn try_page<'a>(
 /// The run is malformed, or memory was refused.
 pub fn try_plan<'a>(
     rt: &(impl Wait + Threads + Sync),
-    alloc: Global,
+    bench: &mut Bench,
     run: &Run<'a>,
     shelf: &mut Shelf,
-) -> io::Result<Option<Wrong<'a>>> {
-    run.prepare(alloc, shelf)?;
+) -> io::Result<&'a str> {
+    run.prepare(bench.alloc, shelf)?;
     let before = shelf.left()?;
-    let plan = print_words(rt, alloc, run, run.text("first"), shelf)?;
-    if shelf.writes != 0 || !changes_of(alloc, run, &before, shelf)?.is_empty() {
-        return Ok(Wrong::judged("what a plan writes", plan));
+    print_words(rt, bench, run, run.text("first"), shelf)?;
+    if shelf.writes != 0 || !changes_of(bench.alloc, run, &before, shelf)?.is_empty() {
+        return Ok("what a plan writes");
     }
-    let printed = print_words(rt, alloc, run, run.args(), shelf)?;
-    let changes = changes_of(alloc, run, &before, shelf)?;
-    let is_told = is_foreseen(alloc, &plan, &printed, changes.as_str())?;
-    Ok(Wrong::judged(if is_told { "" } else { "the plan" }, plan))
+    let plan = mem::replace(&mut bench.printed, Bench::new(bench.alloc).printed);
+    print_words(rt, bench, run, run.args(), shelf)?;
+    let changes = changes_of(bench.alloc, run, &before, shelf)?;
+    let is_told = is_foreseen(&plan, bench, changes.as_str())?;
+    bench.printed = plan;
+    Ok(if is_told { "" } else { "the plan" })
 }
 
-/// Whether a plan says what a run printed, and then these words that it changed.
-fn is_foreseen(
-    alloc: Global,
-    plan: &Printed,
-    printed: &Printed,
-    changes: &str,
-) -> io::Result<bool> {
+/// Whether a plan says what the last run printed, and then these words that it changed.
+fn is_foreseen(plan: &Printed, bench: &Bench, changes: &str) -> io::Result<bool> {
+    let printed = &bench.printed;
     let output = str::from_utf8(&printed.output).unwrap_or("");
-    let expected = format!(in alloc; "{output}{changes}writes words ")?;
+    let expected = format!(in bench.alloc; "{output}{changes}writes words ")?;
     let is_same = plan.status == printed.status
         && plan.faults.as_slice() == printed.faults.as_slice();
     Ok(is_same && plan.output.starts_with(expected.as_bytes()))

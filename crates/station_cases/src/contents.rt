@@ -109,9 +109,11 @@ fn part_bytes(alloc: Global, value: &Value) -> io::Result<Vec<u8>> {
 
 /// The text without its ASCII white space.
 fn digits_of(alloc: Global, text: &str) -> Result<Vec<u8>, AllocError> {
-    text.as_bytes()
-        .iter()
-        .copied()
-        .filter(|byte| !byte.is_ascii_whitespace())
-        .collect(alloc)
+    let mut digits = Vec::new(alloc);
+    for byte in text.as_bytes() {
+        if !byte.is_ascii_whitespace() {
+            digits.push(*byte)?;
+        }
+    }
+    Ok(digits)
 }

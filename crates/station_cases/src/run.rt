@@ -1,7 +1,10 @@
 //! A run of a case: what its keys say.
 
+use crate::cells::Pattern;
 use crate::contents::bytes_of;
-use station_cases::{ALL, Full, Pattern, Room, Shelf, Source, Streams, Then, Trouble};
+use crate::shelf::Shelf;
+use crate::streams::{ALL, Full, Room, Source, Streams, Then};
+use crate::troubles::Trouble;
 use std::alloc::{AllocError, Global};
 use std::io;
 use toml::{Table, Value};

@@ -1,9 +1,18 @@
 //! The lines that a plan has for words that change.
 
 use std::alloc::{AllocError, Global};
+use std::fmt;
+
+/// The values of this many words from an address on, each behind a space.
+#[derive(Clone, Copy)]
+struct Values<'a> {
+    bytes: &'a [u8],
+    at: usize,
+    count: usize,
+}
 
 /// The word at this address; `None` behind the end.
-fn word_at(bytes: &[u8], at: usize) -> Option<u16> {
+pub fn word_at(bytes: &[u8], at: usize) -> Option<u16> {
     let low = *bytes.get(at.saturating_mul(2))?;
     let high = *bytes.get(at.saturating_mul(2).saturating_add(1))?;
     Some(u16::from_le_bytes([low, high]))
@@ -25,14 +34,13 @@ fn run_at(old: &[u8], new: &[u8], at: usize) -> usize {
     count
 }
 
-/// The values of this many words, each behind a space.
-fn values(alloc: Global, bytes: &[u8], at: usize, count: usize) -> Result<String, AllocError> {
-    let mut text = String::new(alloc);
-    for place in at..at.saturating_add(count) {
-        let value = format!(in alloc; " 0x{:04x}", word_at(bytes, place).unwrap_or(0))?;
-        text.push_str(value.as_str())?;
+impl fmt::Display for Values<'_> {
+    fn fmt<W: fmt::Write>(&self, f: &mut fmt::Formatter<W>) -> fmt::Result {
+        for place in self.at..self.at.saturating_add(self.count) {
+            write!(f, " 0x{:04x}", word_at(self.bytes, place).unwrap_or(0))?;
+        }
+        Ok(())
     }
-    Ok(text)
 }
 
 /// The line for a run of words that change.
@@ -45,15 +53,24 @@ fn told_run(
 ) -> Result<String, AllocError> {
     let count = run_at(old, new, at);
     let last = at.saturating_add(count).saturating_sub(1);
-    if count > 8 {
-        return format!(in alloc; "slave {slave} words 0x{at:04x} to 0x{last:04x} count {count}\n");
+    let before = Values {
+        bytes: old,
+        at,
+        count,
+    };
+    let after = Values {
+        bytes: new,
+        ..before
+    };
+    match count {
+        1 => format!(in alloc; "slave {slave} word 0x{at:04x} old{before} new{after}\n"),
+        2..=8 => {
+            format!(in alloc;
+                "slave {slave} words 0x{at:04x} to 0x{last:04x} old{before} new{after}\n"
+            )
+        }
+        _ => { format!(in alloc; "slave {slave} words 0x{at:04x} to 0x{last:04x} count {count}\n") }
     }
-    let before = values(alloc, old, at, count)?;
-    let after = values(alloc, new, at, count)?;
-    if count == 1 {
-        return format!(in alloc; "slave {slave} word 0x{at:04x} old{before} new{after}\n");
-    }
-    format!(in alloc; "slave {slave} words 0x{at:04x} to 0x{last:04x} old{before} new{after}\n")
 }
 
 /// Writes the lines for the words of a slave that change.

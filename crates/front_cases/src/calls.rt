@@ -1,9 +1,8 @@
 //! Tries a run whose power is cut, or whose disk fails, in each of its calls that write or sync.
 
-use crate::run::Run;
+use crate::bench::Bench;
 use crate::tries::{print_words, try_behind};
-use crate::wrong::{Wrong, wrong_of};
-use station_cases::{Printed, Shelf, Trouble};
+use station_cases::{Printed, Run, Shelf, Trouble, wrong_of};
 use std::alloc::Global;
 use std::io;
 use std::sync::Wait;
@@ -31,13 +30,14 @@ impl Mishap {
 }
 
 /// How a try of a call ended.
-#[derive(Drop)]
+#[derive(Clone, Copy)]
 enum Ended<'a> {
     /// There are more calls.
     GoesOn,
     /// The run made fewer calls, so all were tried.
     Last,
-    Wrong(Wrong<'a>),
+    /// This isn't as is expected.
+    Wrong(&'a str),
 }
 
 /// A line that is mended: its files, and how many commands are in it then at least.
@@ -66,60 +66,59 @@ const CALLS: u64 = 1000;
 /// The run is malformed, or memory was refused.
 pub fn try_calls<'a>(
     rt: &(impl Wait + Threads + Sync),
-    alloc: Global,
+    bench: &mut Bench,
     run: &Run<'a>,
     mishap: Mishap,
-) -> io::Result<Option<Wrong<'a>>> {
+) -> io::Result<&'a str> {
     let mut tried = Tried {
-        once: Vec::new(alloc),
-        behind_cuts: Vec::new(alloc),
+        once: Vec::new(bench.alloc),
+        behind_cuts: Vec::new(bench.alloc),
     };
     for call in 0..CALLS {
-        match try_call(rt, alloc, run, mishap, call, &mut tried)? {
+        match try_call(rt, bench, run, mishap.at(call), &mut tried)? {
             Ended::GoesOn => {}
             Ended::Last if call == 0 => return Err(io::Error::other("no call")),
-            Ended::Last => return Ok(None),
-            Ended::Wrong(wrong) => return Ok(Some(wrong)),
+            Ended::Last => return Ok(""),
+            Ended::Wrong(wrong) => return Ok(wrong),
         }
     }
     Err(io::Error::other("calls without an end"))
 }
 
+/// Tries a run in which this goes wrong, and what is run behind it.
 fn try_call<'a>(
     rt: &(impl Wait + Threads + Sync),
-    alloc: Global,
+    bench: &mut Bench,
     run: &Run<'a>,
-    mishap: Mishap,
-    call: u64,
+    trouble: Trouble,
     tried: &mut Tried,
 ) -> io::Result<Ended<'a>> {
-    let mut shelf = run.shelf(alloc)?;
-    run.prepare(alloc, &mut shelf)?;
-    shelf.trouble(mishap.at(call), run.pattern()?)?;
-    let printed = print_words(rt, alloc, run, run.args(), &mut shelf)?;
-    let wrong = wrong_mishap(alloc, run, mishap, &printed, &shelf)?;
+    let mut shelf = run.shelf(bench.alloc)?;
+    run.prepare(bench.alloc, &mut shelf)?;
+    shelf.trouble(trouble, run.pattern()?)?;
+    print_words(rt, bench, run, run.args(), &mut shelf)?;
+    let wrong = wrong_mishap(bench, run, trouble, &shelf)?;
     if !wrong.is_empty() {
-        let what = wrong;
-        return Ok(Ended::Wrong(Wrong { what, printed }));
+        return Ok(Ended::Wrong(wrong));
     }
-    match try_left(rt, alloc, run, &shelf, durable_of(&printed), tried)? {
-        Some(wrong) => Ok(Ended::Wrong(wrong)),
-        None if shelf.troubles.has_come() => Ok(Ended::GoesOn),
-        None => Ok(Ended::Last),
+    let durable = durable_of(&bench.printed);
+    match try_left(rt, bench, run, &shelf, durable, tried)? {
+        "" if shelf.troubles.has_come() => Ok(Ended::GoesOn),
+        "" => Ok(Ended::Last),
+        wrong => Ok(Ended::Wrong(wrong)),
     }
 }
 
 /// What isn't as is expected of a run in which a call went wrong. A power cut may leave anything to print; a failure is told.
 fn wrong_mishap<'a>(
-    alloc: Global,
+    bench: &Bench,
     run: &Run<'a>,
-    mishap: Mishap,
-    printed: &Printed,
+    trouble: Trouble,
     shelf: &Shelf,
 ) -> io::Result<&'a str> {
     if !shelf.troubles.has_come() {
-        wrong_of(alloc, run, printed, shelf)
-    } else if mishap == Mishap::Cut || is_told(printed) {
+        wrong_of(bench.alloc, run, &bench.printed, shelf)
+    } else if matches!(trouble, Trouble::Cut(_)) || is_told(&bench.printed) {
         Ok("")
     } else {
         Ok("the fault of a failure")
@@ -148,22 +147,20 @@ fn durable_of(printed: &Printed) -> usize {
 /// Tries what is run behind a run, over what a power cut leaves; where the run says so, also behind a cut in each call of a first such try.
 fn try_left<'a>(
     rt: &(impl Wait + Threads + Sync),
-    alloc: Global,
+    bench: &mut Bench,
     run: &Run<'a>,
     shelf: &Shelf,
     durable: usize,
     tried: &mut Tried,
-) -> io::Result<Option<Wrong<'a>>> {
+) -> io::Result<&'a str> {
     let mut left = shelf.left()?;
     if run.said("again").is_none() {
-        return try_behind(rt, alloc, run, &mut left, durable);
+        return try_behind(rt, bench, run, &mut left, durable);
     }
-    let files = written(alloc, run, &left)?;
-    if is_tried(&tried.behind_cuts, &files, durable) {
-        return Ok(None);
+    if !is_new(bench.alloc, run, &left, durable, &mut tried.behind_cuts)? {
+        return Ok("");
     }
-    tried.behind_cuts.push(Mended { files, durable })?;
-    try_cuts(rt, alloc, run, &left, durable, &mut tried.once)
+    try_cuts(rt, bench, run, &left, durable, &mut tried.once)
 }
 
 /// The bytes of all files that a run writes.
@@ -177,44 +174,54 @@ fn written(alloc: Global, run: &Run, shelf: &Shelf) -> io::Result<Vec<u8>> {
     Ok(files)
 }
 
-fn is_tried(tried: &[Mended], files: &[u8], durable: usize) -> bool {
-    tried.iter().any(|one| one.durable >= durable && one.files.as_slice() == files)
+/// Whether a line was not tried yet, with so many commands or more. From now on it was.
+fn is_new(
+    alloc: Global,
+    run: &Run,
+    shelf: &Shelf,
+    durable: usize,
+    tried: &mut Vec<Mended>,
+) -> io::Result<bool> {
+    let files = written(alloc, run, shelf)?;
+    if tried.iter().any(|one| one.durable >= durable && one.files.as_slice() == files.as_slice()) {
+        return Ok(false);
+    }
+    tried.push(Mended { files, durable })?;
+    Ok(true)
 }
 
-/// Cuts the power in each call of a recovery, and tries what is run behind.
+/// Cuts the power in each call of a recovery, and tries what is run behind, each line once.
 fn try_cuts<'a>(
     rt: &(impl Wait + Threads + Sync),
-    alloc: Global,
+    bench: &mut Bench,
     run: &Run<'a>,
     shelf: &Shelf,
     durable: usize,
     tried: &mut Vec<Mended>,
-) -> io::Result<Option<Wrong<'a>>> {
+) -> io::Result<&'a str> {
     for call in 0..CALLS {
         let mut cut = shelf.left()?;
         cut.trouble(Trouble::Cut(call), run.pattern()?)?;
-        let _ = print_words(rt, alloc, run, run.text("first"), &mut cut)?;
-        let wrong = try_behind_once(rt, alloc, run, cut.left()?, durable, tried)?;
-        if wrong.is_some() || !cut.troubles.has_come() {
+        print_words(rt, bench, run, run.text("first"), &mut cut)?;
+        let wrong = try_mended(rt, bench, run, &mut cut.left()?, durable, tried)?;
+        if !wrong.is_empty() || !cut.troubles.has_come() {
             return Ok(wrong);
         }
     }
     Err(io::Error::other("calls without an end"))
 }
 
-/// Tries what is run behind a run, each line once.
-fn try_behind_once<'a>(
+/// Tries what is run behind a run, unless that was tried on this line.
+fn try_mended<'a>(
     rt: &(impl Wait + Threads + Sync),
-    alloc: Global,
+    bench: &mut Bench,
     run: &Run<'a>,
-    mut shelf: Shelf,
+    left: &mut Shelf,
     durable: usize,
     tried: &mut Vec<Mended>,
-) -> io::Result<Option<Wrong<'a>>> {
-    let files = written(alloc, run, &shelf)?;
-    if is_tried(tried, &files, durable) {
-        return Ok(None);
+) -> io::Result<&'a str> {
+    if !is_new(bench.alloc, run, left, durable, tried)? {
+        return Ok("");
     }
-    tried.push(Mended { files, durable })?;
-    try_behind(rt, alloc, run, &mut shelf, durable)
+    try_behind(rt, bench, run, left, durable)
 }

@@ -1,5 +1,7 @@
 //! The frames that a capture holds.
 
+use crate::changes::word_at;
+
 const TO_ALL: &[u8] = &[0xff; 6];
 
 /// What stands before an EtherCAT frame, behind the destination: as it goes out, and as it comes back.
@@ -16,18 +18,20 @@ const HEADER: usize = 24;
 /// A record: whether its frame comes back, whether it is one for the EEPROM (its first register is one of 0x0500 to 0x05FF), and how many
 /// bytes it has. None where the bytes are no record.
 fn way_of(record: &[u8]) -> Option<(bool, bool, usize)> {
-    let length = usize::from(*record.get(8)?) + 256 * usize::from(*record.get(9)?);
-    let is_timed = record.get(..8)? == TIME && record.get(8..12)? == record.get(12..16)?;
-    let way = record.get(22..30)?;
-    let has_way = record.get(16..22)? == TO_ALL && (way == OUT || way == BACK);
-    if !is_timed || !has_way || length < 60 {
+    let length = usize::from(word_at(record, 4)?);
+    let is_whole = word_at(record, 4) == word_at(record, 6)
+        && word_at(record, 5) == word_at(record, 7);
+    if !is_whole || length < 60 {
         return None;
     }
-    Some((
-        way == BACK,
-        *record.get(37)? == 5,
-        length.saturating_add(16),
-    ))
+    let frame = record.strip_prefix(TIME)?.get(8..)?;
+    let way = frame.strip_prefix(TO_ALL)?;
+    let comes_back = way.starts_with(BACK);
+    if !comes_back && !way.starts_with(OUT) {
+        return None;
+    }
+    let is_for_rom = *frame.get(21)? == 5;
+    Some((comes_back, is_for_rom, length.saturating_add(16)))
 }
 
 /// How many frames for the EEPROM go out, and how many come back. None where the bytes are no records, or a frame of another kind comes

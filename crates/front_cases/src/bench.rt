@@ -1,7 +1,6 @@
 //! Runs of the program over files and streams in memory.
 
-use crate::shelf::Shelf;
-use crate::streams::{Full, Pen, Room, Screen, Source};
+use station_cases::{Pen, Printed, Screen, Shelf, Streams};
 use station_serve::serve;
 use std::alloc::Global;
 use std::io;
@@ -12,23 +11,11 @@ use std::sync::atomic::Ordering::SeqCst;
 use std::thread::Threads;
 use std::time::Duration;
 
-/// The streams of a run.
-#[derive(Clone, Copy)]
-pub struct Streams<'a> {
-    pub input: Source<'a>,
-    pub room: Room,
-    /// On a terminal, on which output and faults stand too, by how many milliseconds the clock goes on each time it is read.
-    pub terminal: Option<u64>,
-}
-
-/// The exit status of a run, and what it printed.
+/// What runs are tried with, and what the last one printed.
 #[derive(Drop)]
-pub struct Printed {
-    pub status: u8,
-    /// What was written to standard output; on a terminal all that was written to it.
-    pub output: Vec<u8>,
-    /// What was written to standard error.
-    pub faults: Vec<u8>,
+pub struct Bench {
+    pub alloc: Global,
+    pub printed: Printed,
 }
 
 /// A handle whose clock goes on by so many milliseconds each time it is read. By the time of day it stands still, at 5 nanoseconds behind second 3.
@@ -62,46 +49,51 @@ impl<H> Clock for Stepping<'_, H> {
     }
 }
 
-/// Runs the program on these arguments, its name first.
-pub fn run_on(
-    rt: &(impl Wait + Threads + Sync),
-    alloc: Global,
-    args: &[String],
-    streams: &Streams,
-    shelf: &mut Shelf,
-) -> Printed {
-    let output = Screen::new(alloc, streams.room);
-    let faults = Screen::new(alloc, ALL);
-    let status = served(rt, alloc, args, streams, shelf, &output, &faults);
-    Printed {
-        status,
-        output: output.into_bytes(),
-        faults: faults.into_bytes(),
+impl Bench {
+    /// A bench on which nothing was run.
+    pub fn new(alloc: Global) -> Bench {
+        let printed = Printed {
+            status: 0,
+            output: Vec::new(alloc),
+            faults: Vec::new(alloc),
+        };
+        Bench { alloc, printed }
     }
 }
 
-/// Room for all that is printed.
-pub const ALL: Room = Room {
-    bytes: usize::MAX,
-    then: Full::Fails,
-};
+/// Runs the program on these arguments, its name first.
+pub fn run_on(
+    rt: &(impl Wait + Threads + Sync),
+    bench: &mut Bench,
+    args: &[String],
+    streams: &Streams,
+    shelf: &mut Shelf,
+) {
+    let output = Screen::new(bench.alloc, streams.room);
+    let faults = Screen::all(bench.alloc);
+    let stepping = Stepping {
+        _handle: rt,
+        alloc: bench.alloc,
+        step: streams.terminal.unwrap_or(0),
+        read: AtomicU64::new(0),
+    };
+    let status = served(&stepping, args, streams, shelf, &output, &faults);
+    bench.printed = Printed {
+        status,
+        output: output.into_bytes(),
+        faults: faults.into_bytes(),
+    };
+}
 
 /// The exit status of a run that writes to these screens.
-fn served(
-    rt: &(impl Wait + Threads + Sync),
-    alloc: Global,
+fn served<H: Wait + Threads + Sync>(
+    rt: &Stepping<'_, H>,
     args: &[String],
     streams: &Streams,
     shelf: &mut Shelf,
     output: &Screen,
     faults: &Screen,
 ) -> u8 {
-    let stepping = Stepping {
-        _handle: rt,
-        alloc,
-        step: streams.terminal.unwrap_or(0),
-        read: AtomicU64::new(0),
-    };
     let mut input = streams.input;
     let mut pen = Pen { screen: output };
     let (mut other, terminal) = match streams.terminal {
@@ -112,5 +104,5 @@ fn served(
         output: &mut pen,
         faults: &mut other,
     };
-    serve(&stepping, args, &mut input, shelf, streams, terminal)
+    serve(rt, args, &mut input, shelf, streams, terminal)
 }
