@@ -50,7 +50,7 @@ const NO_HEX: &str = "not pairs of hexadecimal digits alone";
 
 /// Judges the bytes of an image file.
 pub(crate) fn judge_image(
-    search: Search,
+    search: &mut Search,
     name: &str,
     image: Image,
     bytes: &[u8],
@@ -63,7 +63,7 @@ pub(crate) fn judge_image(
 }
 
 /// Judges the hexadecimal text of an image.
-fn judge_text(search: Search, name: &str, bytes: &[u8]) -> Result<(), End> {
+fn judge_text(search: &mut Search, name: &str, bytes: &[u8]) -> Result<(), End> {
     let Ok(text) = str::from_utf8(bytes) else {
         return Err(search.end(Code::BadHex, name, &NO_HEX));
     };
@@ -75,7 +75,7 @@ fn judge_text(search: Search, name: &str, bytes: &[u8]) -> Result<(), End> {
 }
 
 /// Judges the number of an image's bytes, and its check byte.
-fn judge_check(search: Search, name: &str, bytes: &[u8]) -> Result<(), End> {
+fn judge_check(search: &mut Search, name: &str, bytes: &[u8]) -> Result<(), End> {
     judge_size(search, name, Image::Checked, bytes.len())?;
     match ImageFile::from_bytes(search.alloc, bytes) {
         Ok(image) if image.check_ok() => Ok(()),
@@ -88,7 +88,7 @@ fn judge_check(search: Search, name: &str, bytes: &[u8]) -> Result<(), End> {
 }
 
 /// Judges the number of an image's bytes.
-fn judge_size(search: Search, name: &str, image: Image, bytes: usize) -> Result<(), End> {
+fn judge_size(search: &mut Search, name: &str, image: Image, bytes: usize) -> Result<(), End> {
     if bytes % 2 != 0 {
         return Err(search.end(Code::OddLength, name, &BadImage::OddLength(bytes)));
     }
@@ -113,7 +113,7 @@ fn broken_rule(words: usize, image: Image) -> Option<&'static str> {
 
 /// Judges the bytes of a journal, on a line of slaves with these words.
 pub(crate) fn judge_journal(
-    search: Search,
+    search: &mut Search,
     name: &str,
     journal: &[u8],
     slaves: &[Words],

@@ -76,23 +76,26 @@ pub fn look_again<S: Store>(
 ) -> Option<String>
     ensures same { S.files store.new ≡ S.files store.old }
 {
-    let search = Search { alloc, code };
+    let mut search = Search {
+        alloc,
+        code,
+        found: None,
+    };
     let looked = match files {
-        Files::Nothing => look_at_output(search),
-        Files::Input => look_at_input(search),
-        Files::Image { name, hex } => look_at_image(search, name, hex, store),
-        Files::Pair { old, new, hex } => look_at_pair(search, old, new, hex, store),
-        Files::Line(names) => look_at_line(search, names, store),
+        Files::Nothing => look_at_output(&mut search),
+        Files::Input => look_at_input(&mut search),
+        Files::Image { name, hex } => look_at_image(&mut search, name, hex, store),
+        Files::Pair { old, new, hex } => look_at_pair(&mut search, old, new, hex, store),
+        Files::Line(names) => look_at_line(&mut search, names, store),
     };
     match looked {
-        Err(End::Told(text)) => Some(text),
         Ok(()) if search.is_for(Code::File) => String::from_str(alloc, WRITING).ok(),
-        _ => None,
+        _ => search.found,
     }
 }
 
 /// What a fault of a subcommand that only prints is about.
-fn look_at_output(search: Search) -> Result<(), End> {
+fn look_at_output(search: &mut Search) -> Result<(), End> {
     if search.is_for(Code::File) {
         return Err(search.say("standard output can't be written"));
     }
@@ -100,7 +103,7 @@ fn look_at_output(search: Search) -> Result<(), End> {
 }
 
 /// What a fault of an image on standard input is about.
-fn look_at_input(search: Search) -> Result<(), End> {
+fn look_at_input(search: &mut Search) -> Result<(), End> {
     let what = match search.code {
         Code::OddLength => "standard input has an odd number of bytes, and a word has two",
         Code::BadSize => "standard input has not the 64 to 4096 words of an image",
@@ -114,7 +117,12 @@ fn look_at_input(search: Search) -> Result<(), End> {
 }
 
 /// Looks at an image file with a check byte, or its hexadecimal text.
-fn look_at_image<S: Store>(search: Search, name: &str, hex: bool, store: &mut S) -> Result<(), End>
+fn look_at_image<S: Store>(
+    search: &mut Search,
+    name: &str,
+    hex: bool,
+    store: &mut S,
+) -> Result<(), End>
     ensures same { S.files store.new ≡ S.files store.old }
 {
     let image = if hex { Image::Spelt } else { Image::Checked };
@@ -123,7 +131,7 @@ fn look_at_image<S: Store>(search: Search, name: &str, hex: bool, store: &mut S)
 
 /// Looks at those of two images that are files, and says of standard input what it can be about where none of these gives the fault.
 fn look_at_pair<S: Store>(
-    search: Search,
+    search: &mut Search,
     old: Option<&str>,
     new: Option<&str>,
     hex: bool,
@@ -144,7 +152,11 @@ fn look_at_pair<S: Store>(
 }
 
 /// Looks at the line file, and at the files that are read behind it.
-fn look_at_line<S: Store>(search: Search, names: LineNames<'_>, store: &mut S) -> Result<(), End>
+fn look_at_line<S: Store>(
+    search: &mut Search,
+    names: LineNames<'_>,
+    store: &mut S,
+) -> Result<(), End>
     ensures same { S.files store.new ≡ S.files store.old }
 {
     match line_again(search, names.line, store) {
@@ -155,7 +167,7 @@ fn look_at_line<S: Store>(search: Search, names: LineNames<'_>, store: &mut S) -
 
 /// Looks at the files that are read behind the line file, or where the fault may be about two that are one, for these.
 fn look_behind_line<S: Store>(
-    search: Search,
+    search: &mut Search,
     names: LineNames<'_>,
     line: &LineFile,
     store: &mut S,
@@ -176,7 +188,7 @@ fn look_behind_line<S: Store>(
 }
 
 /// Looks at a script, and at the images that it names.
-fn look_at_script<S: Store>(search: Search, name: &str, store: &mut S) -> Result<(), End>
+fn look_at_script<S: Store>(search: &mut Search, name: &str, store: &mut S) -> Result<(), End>
     ensures same { S.files store.new ≡ S.files store.old }
 {
     let images = images_of(search, name, store)?;
@@ -184,7 +196,7 @@ fn look_at_script<S: Store>(search: Search, name: &str, store: &mut S) -> Result
 }
 
 /// The names of the images of a script.
-fn images_of<S: Store>(search: Search, name: &str, store: &mut S) -> Result<Vec<String>, End>
+fn images_of<S: Store>(search: &mut Search, name: &str, store: &mut S) -> Result<Vec<String>, End>
     ensures same { S.files store.new ≡ S.files store.old }
 {
     let commands = script_again(search, name, store)?;
@@ -192,7 +204,7 @@ fn images_of<S: Store>(search: Search, name: &str, store: &mut S) -> Result<Vec<
 }
 
 /// Reads a file that must be there.
-fn read_again<S: Store>(search: Search, name: &str, store: &mut S) -> Result<Vec<u8>, End>
+fn read_again<S: Store>(search: &mut Search, name: &str, store: &mut S) -> Result<Vec<u8>, End>
     ensures same { S.files store.new ≡ S.files store.old }
 {
     match store.read(search.alloc, name) {
@@ -203,14 +215,14 @@ fn read_again<S: Store>(search: Search, name: &str, store: &mut S) -> Result<Vec
 }
 
 /// The end at an error of the system.
-fn unread(search: Search, name: &str, error: &io::Error) -> End {
+fn unread(search: &mut Search, name: &str, error: &io::Error) -> End {
     if error.kind() == io::ErrorKind::OutOfMemory {
         return End::Memory;
     }
     search.end(Code::File, name, error)
 }
 
-fn line_again<S: Store>(search: Search, name: &str, store: &mut S) -> Result<LineFile, End>
+fn line_again<S: Store>(search: &mut Search, name: &str, store: &mut S) -> Result<LineFile, End>
     ensures same { S.files store.new ≡ S.files store.old }
 {
     let bytes = read_again(search, name, store)?;
@@ -219,7 +231,7 @@ fn line_again<S: Store>(search: Search, name: &str, store: &mut S) -> Result<Lin
 
 /// Reads the commands of a script.
 pub(crate) fn script_again<S: Store>(
-    search: Search,
+    search: &mut Search,
     name: &str,
     store: &mut S,
 ) -> Result<Vec<ScriptCommand>, End>
@@ -231,7 +243,7 @@ pub(crate) fn script_again<S: Store>(
 
 /// Locks a journal that is kept, and unlocks it.
 fn look_at_lock<S: Store>(
-    search: Search,
+    search: &mut Search,
     journal: Journal,
     line: &LineFile,
     store: &mut S,
@@ -251,7 +263,7 @@ fn look_at_lock<S: Store>(
 
 /// Looks at these image files, up to the first that gives the fault.
 fn images_again<S: Store>(
-    search: Search,
+    search: &mut Search,
     names: &[String],
     image: Image,
     store: &mut S,
@@ -265,7 +277,12 @@ fn images_again<S: Store>(
 }
 
 /// Looks at an image file.
-fn image_again<S: Store>(search: Search, name: &str, image: Image, store: &mut S) -> Result<(), End>
+fn image_again<S: Store>(
+    search: &mut Search,
+    name: &str,
+    image: Image,
+    store: &mut S,
+) -> Result<(), End>
     ensures same { S.files store.new ≡ S.files store.old }
 {
     but_others(match read_again(search, name, store) {
@@ -276,7 +293,7 @@ fn image_again<S: Store>(search: Search, name: &str, image: Image, store: &mut S
 
 /// Looks at the journal's file as a subcommand does.
 fn look_at_journal<S: Store>(
-    search: Search,
+    search: &mut Search,
     journal: Journal,
     line: &LineFile,
     store: &mut S,
@@ -290,7 +307,7 @@ fn look_at_journal<S: Store>(
     }
 }
 
-fn new_journal<S: Store>(search: Search, name: &str, store: &mut S) -> Result<(), End>
+fn new_journal<S: Store>(search: &mut Search, name: &str, store: &mut S) -> Result<(), End>
     ensures same { S.files store.new ≡ S.files store.old }
 {
     match store.read(search.alloc, name) {
@@ -300,7 +317,7 @@ fn new_journal<S: Store>(search: Search, name: &str, store: &mut S) -> Result<()
     }
 }
 
-fn kept_journal<S: Store>(search: Search, line: &LineFile, store: &mut S) -> Result<(), End>
+fn kept_journal<S: Store>(search: &mut Search, line: &LineFile, store: &mut S) -> Result<(), End>
     ensures same { S.files store.new ≡ S.files store.old }
 {
     let name = line.journal.as_str();

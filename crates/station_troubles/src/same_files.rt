@@ -43,7 +43,7 @@ struct Told<'a> {
 
 /// Says which two files of a subcommand on this line are one, or that the capture's is there already.
 pub(crate) fn look_at_names<S: Store>(
-    search: Search,
+    search: &mut Search,
     names: LineNames<'_>,
     line: &LineFile,
     store: &mut S,
@@ -61,7 +61,7 @@ pub(crate) fn look_at_names<S: Store>(
 
 /// Reads the commands of a script, if one is read.
 fn commands_again<S: Store>(
-    search: Search,
+    search: &mut Search,
     script: Option<&str>,
     store: &mut S,
 ) -> Result<Vec<ScriptCommand>, End>
@@ -75,12 +75,16 @@ fn commands_again<S: Store>(
 
 /// Finds the first two of these files of which one would be lost where the other is written. Else the capture's file is there, and is none of
 /// the others.
-fn look_at_files<S: Store>(search: Search, files: FilesOfLine<'_>, store: &mut S) -> Result<(), End>
+fn look_at_files<S: Store>(
+    search: &mut Search,
+    files: FilesOfLine<'_>,
+    store: &mut S,
+) -> Result<(), End>
     ensures same { S.files store.new ≡ S.files store.old }
 {
     let names = files.names(search.alloc)?;
     match (find_clash(search.alloc, &names, store), files.names.capture) {
-        (Ok(Some(clash)), _) => Err(meeting_of(search.alloc, files, &names, clash, store)),
+        (Ok(Some(clash)), _) => Err(meeting_of(search, files, &names, clash, store)),
         (Ok(None), Some(name)) => Err(search.end(Code::Exists, name, &TAKEN)),
         (Ok(None), None) => Ok(()),
         (Err(_), _) => Err(End::Memory),
@@ -89,7 +93,7 @@ fn look_at_files<S: Store>(search: Search, files: FilesOfLine<'_>, store: &mut S
 
 /// Says how the two files of a clash among these names meet.
 fn meeting_of<S: Store>(
-    alloc: Global,
+    search: &mut Search,
     files: FilesOfLine<'_>,
     names: &FileNames,
     clash: Clash,
@@ -97,6 +101,7 @@ fn meeting_of<S: Store>(
 ) -> End
     ensures same { S.files store.new ≡ S.files store.old }
 {
+    let alloc = search.alloc;
     let one = files.told(alloc, names, clash.one);
     let other = files.told(alloc, names, clash.other);
     let (Ok(one), Ok(other)) = (one, other) else {
@@ -107,7 +112,7 @@ fn meeting_of<S: Store>(
     } else {
         ": one has the name that the other takes while it is replaced"
     };
-    End::of_text(format!(in alloc; "{one} and {other}{how}"))
+    search.find(format!(in alloc; "{one} and {other}{how}"))
 }
 
 /// Whether both names lead to the same file.

@@ -6,17 +6,19 @@ use std::alloc::{AllocError, Global};
 use std::fmt;
 
 /// A search for what gives the fault of a code.
-#[derive(Clone, Copy)]
+#[derive(Drop)]
 pub(crate) struct Search {
     pub alloc: Global,
     pub code: Code,
+    /// What gives it, in words, once it is found.
+    pub found: Option<String>,
 }
 
 /// Why a search goes no further.
-#[derive(Drop)]
+#[derive(Clone, Copy)]
 pub(crate) enum End {
-    /// This gives the fault, in words.
-    Told(String),
+    /// What gives the fault is found.
+    Found,
     /// This gives another fault.
     Other,
     /// Memory was refused.
@@ -40,18 +42,18 @@ struct Place<'a> {
 
 impl Search {
     /// Whether the fault has this code.
-    pub(crate) fn is_for(self, code: Code) -> bool {
+    pub(crate) fn is_for(&self, code: Code) -> bool {
         self.code.number() == code.number()
     }
 
     /// The end where this is wrong with a file, and gives a fault of this code.
-    pub(crate) fn end<T: fmt::Display>(self, code: Code, name: &str, what: &T) -> End {
+    pub(crate) fn end<T: fmt::Display>(&mut self, code: Code, name: &str, what: &T) -> End {
         self.end_at(code, name, None, what)
     }
 
     /// The end where this is wrong in a line of a file, and gives a fault of this code.
     pub(crate) fn end_at<T: fmt::Display>(
-        self,
+        &mut self,
         code: Code,
         name: &str,
         line: Option<usize>,
@@ -62,20 +64,21 @@ impl Search {
         }
         let file = Shown { name };
         let place = Place { file, line };
-        End::of_text(format!(in self.alloc; "{place}: {what}"))
+        self.find(format!(in self.alloc; "{place}: {what}"))
     }
 
     /// The end with these words.
-    pub(crate) fn say(self, words: &str) -> End {
-        End::of_text(String::from_str(self.alloc, words))
+    pub(crate) fn say(&mut self, words: &str) -> End {
+        self.find(String::from_str(self.alloc, words))
     }
-}
 
-impl End {
     /// The end with this text, if there was memory for it.
-    pub(crate) fn of_text(text: Result<String, AllocError>) -> End {
+    pub(crate) fn find(&mut self, text: Result<String, AllocError>) -> End {
         match text {
-            Ok(text) => End::Told(text),
+            Ok(text) => {
+                self.found = Some(text);
+                End::Found
+            }
             Err(_) => End::Memory,
         }
     }

@@ -9,7 +9,7 @@ use station_listing::Code;
 use station_text::{LineFile, ScriptCommand, read_line, read_script};
 
 /// The line file with these bytes.
-pub(crate) fn line_of(search: Search, name: &str, bytes: &[u8]) -> Result<LineFile, End> {
+pub(crate) fn line_of(search: &mut Search, name: &str, bytes: &[u8]) -> Result<LineFile, End> {
     let text = text_of(search, Code::BadLine, name, bytes)?;
     if let Some(trouble) = line_trouble(search.alloc, text)? {
         return Err(end_in(search, Code::BadLine, name, &trouble));
@@ -22,7 +22,7 @@ pub(crate) fn line_of(search: Search, name: &str, bytes: &[u8]) -> Result<LineFi
 
 /// The commands of the script with these bytes.
 pub(crate) fn script_of(
-    search: Search,
+    search: &mut Search,
     name: &str,
     bytes: &[u8],
 ) -> Result<Vec<ScriptCommand>, End> {
@@ -37,7 +37,12 @@ pub(crate) fn script_of(
 }
 
 /// The text of a file with these bytes, which has to be UTF-8.
-fn text_of<'a>(search: Search, code: Code, name: &str, bytes: &'a [u8]) -> Result<&'a str, End> {
+fn text_of<'a>(
+    search: &mut Search,
+    code: Code,
+    name: &str,
+    bytes: &'a [u8],
+) -> Result<&'a str, End> {
     match str::from_utf8(bytes) {
         Ok(text) => Ok(text),
         Err(error) => {
@@ -48,6 +53,6 @@ fn text_of<'a>(search: Search, code: Code, name: &str, bytes: &'a [u8]) -> Resul
 }
 
 /// The end where this is wrong in the text of a file.
-fn end_in(search: Search, code: Code, name: &str, trouble: &TextTrouble) -> End {
+fn end_in(search: &mut Search, code: Code, name: &str, trouble: &TextTrouble) -> End {
     search.end_at(code, name, trouble.line, &trouble.what)
 }
