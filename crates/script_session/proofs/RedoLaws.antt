@@ -1,6 +1,6 @@
 -- What a desk to which no command is submitted leaves, and the session that begins behind it.
-use Rattle.std.proofs.Common.{◌≡◌, ℕ, ◌≤◌, true, List, [], ◌∷◌, ◌++◌, length, take, refl, sym, ◌∙◌, ap, subst, arith, Ok, Err}
-use Rattle.std.specs.Prelude.{cond, count_by}
+use Rattle.std.proofs.Common.{◌≡◌, ℕ, ◌≤◌, true, List, [], ◌∷◌, ◌++◌, length, take, refl, sym, ◌∙◌, ap, subst, arith, Result, Ok, Err, inl}
+use Rattle.std.specs.Prelude.{cond, count_by, IfErr, IfOk, MatchResult, OnOk}
 use Rattle.std.specs.List.{AllByRecursion}
 use Rattle.std.proofs.Math.Seq.{take-nil}
 use Rattle.std.proofs.lemmas.List.{append-nil, length-append}
@@ -40,11 +40,14 @@ use Rattle.desk_book.specs.Numbered.{Numbered}
 use Rattle.desk_book.specs.Serving.{ShareCounts}
 use Rattle.station_threads.specs.Closing.{IsHandedIn}
 use Rattle.station_threads.specs.declared.closing.Ends.{Ends}
+use Rattle.station_threads.specs.declared.closing.CloseFault.{CloseFault}
+use Rattle.station_files.specs.Faults.{IsOfStream}
+use Rattle.station_files.specs.declared.faults.Fault.{Fault}
 use Rattle.station_files.specs.declared.faults.ExitStatus.TheVariants.{Done}
 use Rattle.script_session.specs.Asking.{no_counts}
-use Rattle.script_session.specs.AtDesk.{seen_of, AllLeftSo, BeginsAs, Closes, ClosesWith}
+use Rattle.script_session.specs.AtDesk.{seen_of, AllLeftSo, BeginsAs, Closes, ClosesWith, IsStopped, TellsWhy}
 use Rattle.script_session.specs.Parts.{Sites, IsApart, AreEndsOfParts, IsTogether}
-use Rattle.script_session.specs.Redoing.{IsCount, IsOpenedHere, IsRedone, KeepsLine, issues_of}
+use Rattle.script_session.specs.Redoing.{IsCount, IsOpenedHere, IsRedone, KeepsLine, StopsRedoing, issues_of}
 use Rattle.script_session.proofs.DeskLaws.{none-of}
 use Rattle.script_session.proofs.IssueLaws.{issued-by, opened-many}
 use Rattle.script_session.proofs.LeftLaws.{left-together}
@@ -140,21 +143,40 @@ module _ (opened : Station) (here : IsOpenedHere opened) (stands : Stands opened
 
 -- ---- the desk is closed
 
--- the shares and ends of a desk that was closed without receipts
-pub closes-plain : (opened : Book) (calls : List Call) (shares : List ShareCounts) (receipts : List Numbered) (ends left : Ends SiteValue)
-    → AreAnswered opened calls → is_served (replayed opened calls) ≡ true → receipts ≡ [] → IsHandedIn opened calls shares receipts ends
-    → (IsJustOpened opened → AllReadAsContents opened (replayed opened calls) seen_of left.workers.items)
-    → AllEndSo IsLeft opened calls seen_of left.flusher left.workers.items → left ≡ ends → Closes opened shares [] ends
-closes-plain opened calls shares receipts ends left answered served none handed_in contents leaves same = record {
-  calls = calls;
-  closed = record {
-    answered = answered;
-    served = served;
-    handed_in = subst (λ (l : List Numbered). IsHandedIn opened calls shares l ends) none handed_in;
-    contents = λ just. subst (λ (e : Ends SiteValue). AllReadAsContents opened (replayed opened calls) seen_of e.workers.items) same (contents just);
-    left = subst (λ (e : Ends SiteValue). AllEndSo IsLeft opened calls seen_of e.flusher e.workers.items) same leaves;
-  };
-}
+module _ (opened : Book) (shares : List ShareCounts) (receipts : List Numbered) (ends : Ends SiteValue) where
+  -- how a desk was closed, or that it wasn't
+  abbrev ClosesOrNot : Result (Unit {0}) CloseFault → Result (Unit {0}) Fault → Type 0
+  ClosesOrNot closed told = MatchResult closed (λ done. Closes opened shares receipts ends) (λ why. IsStopped opened why told ends)
+
+  -- if no fault is told, it was closed
+  pub closes-quietly : (closed : Result (Unit {0}) CloseFault) (told : Result (Unit {0}) Fault) → ClosesOrNot closed told → OnOk told (closed ≡ Ok tt) → told ≡ Ok tt
+      → Closes opened shares receipts ends
+  closes-quietly (Ok done) told closes good is = closes
+  closes-quietly (Err why) (Ok done) closes good is = absurd cc
+  closes-quietly (Err why) (Err fault) closes good is = absurd cc
+
+  -- otherwise the fault is that of a stream, or of the book
+  pub stops-redoing : (closed : Result (Unit {0}) CloseFault) (told : Result (Unit {0}) Fault) (fault : Fault) → ClosesOrNot closed told → OnOk closed (IfErr told IsOfStream)
+      → told ≡ Err fault → StopsRedoing opened fault
+  stops-redoing closed (Ok done) fault closes printed is = absurd cc
+  stops-redoing (Ok done) (Err why) fault closes printed is =
+      let same : why ≡ fault = cc in
+      (closes.calls, closes.closed.answered, inl (subst IsOfStream same printed))
+  stops-redoing (Err stopped) (Err why) fault closes printed is =
+      let same : why ≡ fault = cc in
+      (closes.calls, closes.answered, subst (λ (f : Fault). TellsWhy (replayed opened closes.calls) f) same closes.tells)
+
+-- the ends are those of the sites, and the desk was closed with them
+pub ends-same : (result : Result (Ends SiteValue) Fault) (ends : Ends SiteValue) (sites : Sites) → IfOk result (λ same. same ≡ ends) → AreEndsOfParts sites ends
+    → IfOk result (λ same. AreEndsOfParts sites same)
+ends-same (Ok same) ends sites is of_sites = subst (λ (e : Ends SiteValue). AreEndsOfParts sites e) (sym is) of_sites
+ends-same (Err fault) ends sites is of_sites = tt
+
+pub closes-same : (opened : Book) (result : Result (Ends SiteValue) Fault) (shares : List ShareCounts) (ends : Ends SiteValue) → IfOk result (λ same. same ≡ ends)
+    → IfOk result (λ same. Closes opened shares [] ends) → shares ≡ no_counts ∷ [] → IfOk result (λ same. Closes opened (no_counts ∷ []) [] same)
+closes-same opened (Ok same) shares ends is closes one =
+    subst (λ (e : Ends SiteValue). Closes opened (no_counts ∷ []) [] e) (sym is) (subst (λ (l : List ShareCounts). Closes opened l [] ends) one closes)
+closes-same opened (Err fault) shares ends is closes one = tt
 
 module _ (opened : Station) (sites : Sites) (ends : Ends SiteValue) (site : SiteValue) (words : ℕ) (here : IsOpenedHere opened) (stands : Stands opened) where
   redone-here : IsApart opened.seen.state sites → AreEndsOfParts sites ends → Closes opened.book (no_counts ∷ []) [] ends → IsTogether ends site

@@ -56,6 +56,7 @@ pub(crate) fn site_of<D: Device + Copy>(
     ensures new { IfOk result (λ site. site.seen.past ≡ []) }
 {
     if !parts.is_whole() {
+        drop(parts);
         return Err(Fault::Unserved);
     }
     Ok(ShadowSite::of_parts(alloc, parts, device))
@@ -81,8 +82,13 @@ fn slave_site<D: Device + Copy>(
 ) -> Result<ShadowSite<D>, Fault>
     ensures { IfOk result (λ site. BeginsWith slave (half_of half) site) }
 {
-    let parts = nothing(alloc, sizes)?;
+    let Ok(parts) = nothing(alloc, sizes) else {
+        drop(half);
+        return Err(Fault::Memory);
+    };
     if slave >= parts.halves.len() {
+        drop(parts);
+        drop(half);
         return Err(Fault::Unserved);
     }
     let parts = with_half(parts, slave, half);
@@ -199,8 +205,9 @@ fn sites_of<D: Device + Copy>(
         sizes,
         disk,
         halves,
-        ..
+        process,
     } = line;
+    drop(process);
     let (disk, cycle) = disk_and_cycle(alloc, device, &sizes, disk, &halves)?;
     match slave_sites(alloc, device, &sizes, halves) {
         Ok(slaves) => Ok(PerDevice {

@@ -124,14 +124,14 @@ fn first_of(fault: Fault, ended: Result<(), Fault>) -> Fault
 }
 
 /// What closing a desk returns: the ends, why the desk isn't closed, and the fault that the user is told of.
-type Told<D> = (
+pub(crate) type Told<D> = (
     Ends<ShadowSite<D>>,
     Result<(), CloseFault>,
     Result<(), Fault>,
 );
 
 /// Closes the desk, and prints the totals if `has_totals`.
-fn close_desk<T: Tickets, R: Refusals, O: Write, D: Device + Copy>(
+pub(crate) fn close_desk<T: Tickets, R: Refusals, O: Write, D: Device + Copy>(
     desk: Desk<T, R>,
     shares: Vec<Share<T, R>>,
     receipts: Vec<Receipt>,
@@ -192,7 +192,7 @@ fn tell_open<T: Tickets, R: Refusals, O: Write, D: Device + Copy>(
 }
 
 /// Why a desk isn't closed: the fault of the book; if it has none, `Memory` where its jobs stopped for want of it, or `Unserved`.
-pub(crate) fn why_open<T: Tickets, R: Refusals>(book: &Served<T, R>) -> Fault
+fn why_open<T: Tickets, R: Refusals>(book: &Served<T, R>) -> Fault
     ensures { TellsWhy (replayed T.opened book.now.calls) result }
 {
     match book.fault() {

@@ -1,9 +1,8 @@
 //! Redoes by threads what is live in a journal: has a desk serve the line, to which no command is submitted.
 
 ghost use Rattle.std.specs.Prelude.{◌≡◌, ◌≤◌, ◌+◌, ◌∷◌, [], vec_capacity, IfErr, IfOk};
-ghost use Rattle.desk_book.specs.Calls.{replayed, AreAnswered};
 ghost use Rattle.script_session.specs.Asking.{no_counts};
-ghost use Rattle.script_session.specs.AtDesk.{Closes, IsServedFollowed, OpensDesk, TellsWhy};
+ghost use Rattle.script_session.specs.AtDesk.{Closes, IsServedFollowed, OpensDesk};
 ghost use Rattle.script_session.specs.Parts.{AreEndsOfParts, IsLineOf, OwnUpTo, Soundly};
 ghost use Rattle.script_session.specs.Redoing.{
   IsCount,
@@ -15,7 +14,7 @@ ghost use Rattle.script_session.specs.Redoing.{
   issues_of,
 };
 
-use crate::closing::why_open;
+use crate::closing::close_desk;
 use crate::soundness::{is_sound, judge_ends};
 use crate::threads::{Opened, Opening, open_desk, prepare, serve_sites};
 use crate::together::put_together;
@@ -25,10 +24,9 @@ use site_shadow::{Device, ShadowSite};
 use station_alone::Alone;
 use station_files::Fault;
 use station_jobs::{End, NoHook, RomEntry, SlaveLog};
-use station_threads::{
-    Client, Closed, Desk, Ends, NotClosed, Refusals, Share, Sites, Tickets, close,
-};
+use station_threads::{Client, Desk, Ends, Refusals, Share, Sites, Tickets};
 use std::alloc::{AllocError, Global};
+use std::io::sink;
 use std::marker::Brand;
 use std::sync::Wait;
 use std::thread::Threads;
@@ -167,42 +165,22 @@ fn close_redone<T: Tickets, R: Refusals, D: Device + Copy>(
     ensures closes { IfOk result (λ same. Closes T.opened shares.items [] ends) }
     ensures stopped { IfErr result (StopsRedoing T.opened) }
 {
-    match close(desk, shares, Vec::new(alloc), ends) {
-        Ok(closed) => Ok(ends_of(closed)),
-        Err(left) => Err(fault_of(left)),
-    }
-}
-
-/// The ends that a closed desk hands back.
-fn ends_of<T: Tickets, R: Refusals, S: Site>(closed: Closed<T, R, S>) -> Ends<S>
-    ensures ends { result ≡ closed.ends }
-    ensures answered { AreAnswered T.opened closed.book.calls }
-{
-    let Closed { book, ends } = closed;
-    let _count = book.accepted().len();
-    drop(book);
-    ends
-}
-
-/// Why this desk isn't closed.
-fn fault_of<T: Tickets, R: Refusals, S: Site + Drop>(left: NotClosed<T, R, S>) -> Fault
-    ensures tells { TellsWhy (replayed T.opened left.book.calls) result }
-    ensures answered { AreAnswered T.opened left.book.calls }
-{
-    let NotClosed {
-        fault: _,
-        book,
+    let mut nowhere = sink();
+    let (ends, _closed, told) = close_desk(
+        desk,
         shares,
-        receipts,
+        Vec::new(alloc),
         ends,
-    } = left;
-    let _count = book.accepted().len();
-    let why = why_open(&book);
-    drop(book);
-    drop(shares);
-    drop(receipts);
-    drop(ends);
-    why
+        false,
+        &mut nowhere,
+    );
+    match told {
+        Ok(()) => Ok(ends),
+        Err(fault) => {
+            drop(ends);
+            Err(fault)
+        }
+    }
 }
 
 /// Whether the job is the issue of a word.

@@ -59,7 +59,6 @@ fn ended_soundly<D: Device + Copy>(end: &End<ShadowSite<D>, SlaveLog>) -> bool
 }
 
 /// Whether all workers did.
-#[tactic(auto, using(crate::proofs::PartLaws::followed_next))]
 fn are_sound<D: Device + Copy>(workers: &[End<ShadowSite<D>, SlaveLog>]) -> bool
     ensures { IsTrue result → AllByRecursion (IsWorkFollowed (Soundly D.follows D.well)) workers.now }
 {

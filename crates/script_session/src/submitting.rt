@@ -85,10 +85,13 @@ fn ask_one<T: Tickets, R: Refusals, O: Write, W: Wait>(
     ensures failed { IfErr result IsOfStream }
 {
     match ask(rt, desk, share, command) {
-        Ok(ticket) => {
-            print_accepted(place, ticket.number(), output)?;
-            Ok(Some(ticket))
-        }
+        Ok(ticket) => match print_accepted(place, ticket.number(), output) {
+            Ok(()) => Ok(Some(ticket)),
+            Err(fault) => {
+                drop(ticket);
+                Err(fault)
+            }
+        },
         Err(refusal) => {
             print_refused(place, refused_as(refusal), output, status)?;
             Ok(None)
@@ -144,10 +147,15 @@ fn receive<T: Tickets, R: Refusals, W: Wait>(
     ensures number { IfOk result (λ receipt. receipt.number ≡ number) }
     ensures failed { IfErr result GivesUp }
 {
-    let Ok(receipt) = desk.wait(rt, ticket) else {
-        return Err(Fault::Unserved);
+    let receipt = match desk.wait(rt, ticket) {
+        Ok(receipt) => receipt,
+        Err(refused) => {
+            drop(refused);
+            return Err(Fault::Unserved);
+        }
     };
     if receipt.number() != number {
+        drop(receipt);
         return Err(Fault::Unserved);
     }
     Ok(receipt)

@@ -101,7 +101,14 @@ fn line_of<D: Device + Copy>(
     ensures disk { IfOk result (λ site. HasDiskOf line.disk site) }
     ensures halves { IfOk result (λ site. site.seen.state.halves ≡ halves_of halves.items) }
 {
-    let Parts { sizes, disk, .. } = line;
+    let Parts {
+        sizes,
+        disk,
+        halves: left,
+        process,
+    } = line;
+    drop(left);
+    drop(process);
     let parts = Parts {
         sizes,
         disk,
@@ -140,7 +147,13 @@ pub(crate) fn put_together<D: Device + Copy>(
     ensures followed { OnOk result (AreFollowed D.follows ends) }
 {
     let ((line, device), workers) = split(ends);
-    let halves = halves_at(room, workers)?;
+    let halves = match halves_at(room, workers) {
+        Ok(halves) => halves,
+        Err(fault) => {
+            drop(line);
+            return Err(fault);
+        }
+    };
     let site = line_of(alloc, line, device, halves)?;
     whole_line(site, slaves)
 }

@@ -1,5 +1,5 @@
 -- The parts that a desk serves: the jobs that may be handed out to them, and their ends.
-use Rattle.std.proofs.Common.{◌≡◌, ◌≤◌, ◌+◌, ◌∙◌, ℕ, true, List, [], ◌∷◌, ◌++◌, length, arith}
+use Rattle.std.proofs.Common.{◌≡◌, ◌≤◌, ◌+◌, ◌∙◌, ℕ, true, List, [], ◌∷◌, ◌++◌, length, Option, Some, None, arith}
 use Rattle.std.proofs.lemmas.Bool.{false≢true}
 use Rattle.std.proofs.lemmas.Bool.Decides.{nat_tests}
 use Rattle.site_core.specs.Disk.{Disk}
@@ -11,10 +11,10 @@ use Rattle.station_jobs.specs.Flushing.{CanBegin}
 use Rattle.station_jobs.specs.Working.{IsCall}
 use Rattle.station_jobs.specs.declared.log.SlaveLog.{SlaveLog}
 use Rattle.station_jobs.specs.Ends.{Stay}
-use Rattle.station_threads.specs.Parts.{PartOf, IsEndOfSlave, AreSlaveEndsOf}
+use Rattle.station_threads.specs.Parts.{Part, PartOf, IsEndOfCycle, IsEndOfSlave, AreSlaveEndsOf}
 use Rattle.station_threads.specs.Sides.{begins_below, RomHands}
 use Rattle.desk_book.specs.Asking.{is_rom_job}
-use Rattle.station_threads.specs.Sites.{IsPartOf, ArePartsOf, AreEndsOfSites}
+use Rattle.station_threads.specs.Sites.{IsPartOf, ArePartsOf, IsPartOfTurns, AreEndsOfSites, IsEndOfTurns}
 use Rattle.station_threads.proofs.PlaceLaws.{placed-through, placed-long, placed-more}
 
 module _ {S : Type 0} where
@@ -23,6 +23,15 @@ module _ {S : Type 0} where
 
   pub ends-of-sites : (sites : List S) (parts : List (PartOf S RomHands)) (ends : List (Stay S SlaveLog)) → ArePartsOf sites parts → AreSlaveEndsOf parts ends → AreEndsOfSites sites ends
   ends-of-sites sites parts ends are end = placed-through _ _ _ ends-here 0 sites parts ends are end
+
+-- the end of the process data, by way of its part
+pub end-of-turns : {S D L : Type 0} (site : Option S) (part : Option (Part S D)) (end : Option (Stay S L)) → IsPartOfTurns site part → IsEndOfCycle part end → IsEndOfTurns site end
+end-of-turns None None None is ends = tt
+end-of-turns None None (Some end) is ends = absurd ends
+end-of-turns None (Some part) end is ends = absurd is
+end-of-turns (Some site) None end is ends = absurd is
+end-of-turns (Some site) (Some part) None is ends = absurd ends
+end-of-turns (Some site) (Some part) (Some end) is ends = ends ∙ is
 
 -- each action that the dispatch may hand out can begin, if the disk reaches at least to this byte
 pub can-begin : (limit : ℕ) (action : DiskNext) (disk : Disk) → limit ≤ length disk.bytes → begins_below limit action ≡ true → CanBegin action disk

@@ -182,10 +182,8 @@ pub fn close<T: Tickets, R: Refusals, S: Site>(
     ensures turns_kept { IfErr result (λ left. left.fault ≡ CloseFault.Unserved
         → IfSome left.ends.cycle (λ end. AreTurnsOf T.opened left.book.calls end.log)) }
 {
-    let Desk { served, .. } = desk;
-    let mut book = served.into_inner();
-    let judged = judge(&mut book, shares.as_mut_slice(), receipts.as_slice(), &ends);
-    match judged {
+    let mut book = desk.into_book();
+    match judge(&mut book, shares.as_mut_slice(), receipts.as_slice(), &ends) {
         Ok(()) => Ok(Closed { book, ends }),
         Err(fault) => Err(NotClosed {
             fault,

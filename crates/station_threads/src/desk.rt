@@ -1,21 +1,26 @@
 //! The desk: a book under one lock, shared by the threads that submit and the threads that do its jobs.
 
-ghost use Rattle.std.specs.Prelude.{◌≡◌, ◌+◌, ◌<◌, [], false, length, IfOk, IfErr};
+ghost use Rattle.std.specs.Prelude.{◌≡◌, ◌+◌, ◌<◌, [], true, false, length, IfOk, IfErr};
 ghost use Rattle.book_core.specs.Appending.{AppendsNext};
+ghost use Rattle.station_jobs.specs.Dispatch.{IfWork};
+ghost use Rattle.desk_book.specs.Asking.{is_rom_job};
 ghost use Rattle.desk_book.specs.Closing.{IsReceiptOf};
 ghost use Rattle.desk_book.specs.Submitting.{CountsRefusal};
 
+use crate::patience::Patience;
 use crate::sides::{CycleSide, DiskSide, RomSide};
 use crate::waking::{Sleepers, Wakes, disk_told, slave_told};
 use book_core::Core;
-use book_model::{RomOutcome, Status};
+use book_model::{DiskNext, RomNext, RomOutcome, Status};
 use desk_book::{
-    BlankLedger, Receipt, Refusals, Refused, Served, Share, ShareFault, Ticket, Tickets,
+    BlankLedger, Heard, Receipt, Refusals, Refused, Served, Share, ShareFault, Ticket, Tickets,
     Unacknowledged,
 };
 use jrn_format::AREA_START;
 use sii_edit::Command;
+use sii_image::Plan;
 use site_core::DeviceFault;
+use station_jobs::{Notes, Turn};
 use std::alloc::{AllocError, Global};
 use std::marker::Model;
 use std::sync::{Mutex, Wait};
@@ -43,32 +48,36 @@ impl<T: Tickets, R: Refusals> Model for Desk<T, R> {
     ghost invariant = { λ _. AppendsNext T.opened };
 }
 
-/// What the book is appending are the accepted commands right behind the durable ones.
-fn appends_next(core: &Core)
-    ensures { AppendsNext core.now }
-{
-    let _commands = core.accepted();
-}
-
-/// The book under a desk's lock, with nothing given out, and those who will wait at the desk.
+/// The book under a desk's lock, with nothing given out, those who will wait at the desk, and the byte of the file at which the journal's
+/// area ends.
 fn open_book<T: Tickets, R: Refusals>(
     alloc: Global,
     core: Core,
     tickets: BlankLedger,
     refusals: BlankLedger,
-) -> Result<(Served<T, R>, Sleepers), AllocError>
+) -> Result<(Served<T, R>, Sleepers, usize), AllocError>
     requires core { core ≡ T.opened }
     requires none { core.accepted ≡ [] }
     requires tickets { (tickets.name ≡ T.name) × (tickets.count ≡ T.parts) }
     requires refusals { (refusals.name ≡ R.name) × (refusals.count ≡ R.parts) }
-    ensures { IfOk result (λ both. both.0.pool ≡ record { tickets = tickets.count; refusals = refusals.count; given = 0 }) }
+    ensures pool { IfOk result (λ opened. opened.0.pool ≡ record { tickets = tickets.count; refusals = refusals.count; given = 0 }) }
+    ensures limit { IfOk result (λ opened. opened.2 ≡ 8 + core.capacity) }
+    ensures next { AppendsNext T.opened }
 {
+    // Its contract says that what the book is appending are the accepted commands right behind the durable ones.
+    let _commands = core.accepted();
+    let limit = AREA_START + core.capacity() as usize;
     let Ok(sleepers) = Sleepers::new(alloc, core.contents().len()) else {
         drop(core);
         return Err(AllocError);
     };
-    let served = Served::of(alloc, core, tickets, refusals)?;
-    Ok((served, sleepers))
+    match Served::of(alloc, core, tickets, refusals) {
+        Ok(served) => Ok((served, sleepers, limit)),
+        Err(AllocError) => {
+            drop(sleepers);
+            Err(AllocError)
+        }
+    }
 }
 
 impl<T: Tickets, R: Refusals> Desk<T, R> {
@@ -91,9 +100,7 @@ impl<T: Tickets, R: Refusals> Desk<T, R> {
         requires refusals { (refusals.name ≡ R.name) × (refusals.count ≡ R.parts) }
         ensures { IfOk result (λ desk. desk.limit ≡ 8 + core.capacity) }
     {
-        appends_next(&core);
-        let limit = AREA_START + core.capacity() as usize;
-        let (served, sleepers) = open_book(alloc, core, tickets, refusals)?;
+        let (served, sleepers, limit) = open_book(alloc, core, tickets, refusals)?;
         Ok(Desk {
             served: Mutex::new(served),
             sleepers,
@@ -123,9 +130,7 @@ impl<T: Tickets, R: Refusals> Desk<T, R> {
         ensures limit { IfOk result (λ made. made.0.limit ≡ 8 + core.capacity) }
         ensures share { IfOk result (λ made. made.1 ≡ record { tickets = 0; refusals = 0 }) }
     {
-        appends_next(&core);
-        let limit = AREA_START + core.capacity() as usize;
-        let (mut served, sleepers) = open_book(alloc, core, tickets, refusals)?;
+        let (mut served, sleepers, limit) = open_book(alloc, core, tickets, refusals)?;
         let Some(share) = served.share() else {
             unreachable!()
         };
@@ -231,10 +236,90 @@ impl<T: Tickets, R: Refusals> Desk<T, R> {
         self.served.lock(rt).is_out_of_memory()
     }
 
-    /// Stops the jobs for want of memory, and wakes all who wait at the desk.
-    pub(crate) fn stop_for_memory<W: Wait>(&self, rt: &W) {
+    /// Whether memory was refused to a dispatch too often. If so, stops the jobs, and wakes all who wait at the desk.
+    pub(crate) fn stops_for_memory<W: Wait>(&self, rt: &W, patience: &Patience) -> bool {
+        if !patience.has_ended(rt) {
+            return false;
+        }
         self.served.lock(rt).stop_for_memory();
         self.sleepers.wake(Wakes::EVERYBODY);
+        true
+    }
+
+    /// Asks the book for the disk's next action, which it answers twice. If there is none now, it sleeps until it is woken.
+    pub(crate) fn ask_disk<W: Wait>(
+        &self,
+        rt: &W,
+        patience: &mut Patience,
+    ) -> Turn<(DiskNext, DiskNext)>
+        ensures { IfWork result (λ jobs. jobs.1 ≡ jobs.0) }
+    {
+        let mut served = self.served.lock(rt);
+        match served.disk_next() {
+            Heard::Work(jobs) => {
+                patience.granted();
+                Turn::Work(jobs)
+            }
+            Heard::Nothing => {
+                patience.granted();
+                self.sleepers.disk.wait(rt, served);
+                Turn::Again
+            }
+            Heard::NoMemory => {
+                patience.refused();
+                Turn::Again
+            }
+            Heard::Stop => Turn::Stop,
+        }
+    }
+
+    /// Asks the book for the next job of this slave. If there is none now, it sleeps until it is woken.
+    pub(crate) fn ask_slave<W: Wait>(
+        &self,
+        rt: &W,
+        slave: u16,
+        patience: &mut Patience,
+    ) -> Turn<RomNext>
+        ensures { IfWork result (λ job. is_rom_job job ≡ true) }
+    {
+        let mut served = self.served.lock(rt);
+        match served.slave_next(slave) {
+            Heard::Work(job) => {
+                patience.granted();
+                Turn::Work(job)
+            }
+            Heard::Nothing => {
+                patience.granted();
+                self.sleepers.sleep_as_slave(rt, slave, served);
+                Turn::Again
+            }
+            Heard::NoMemory => {
+                patience.refused();
+                Turn::Again
+            }
+            Heard::Stop => Turn::Stop,
+        }
+    }
+
+    /// Asks the book for the plan of the next process data cycle. If there is none now, it sleeps until it is woken.
+    pub(crate) fn ask_cycle<W: Wait>(&self, rt: &W, patience: &mut Patience) -> Turn<Plan> {
+        let mut served = self.served.lock(rt);
+        match served.cycle_next() {
+            Heard::Work(plan) => {
+                patience.granted();
+                Turn::Work(plan)
+            }
+            Heard::Nothing => {
+                patience.granted();
+                self.sleepers.cycle.wait(rt, served);
+                Turn::Again
+            }
+            Heard::NoMemory => {
+                patience.refused();
+                Turn::Again
+            }
+            Heard::Stop => Turn::Stop,
+        }
     }
 
     /// Reports the outcome of the disk's action, and wakes those to whom it gives work.
@@ -263,12 +348,31 @@ impl<T: Tickets, R: Refusals> Desk<T, R> {
         served.status()
     }
 
+    /// The book, taken out of its lock.
+    pub(crate) fn into_book(self) -> Served<T, R>
+        ensures { AppendsNext T.opened }
+    {
+        let Desk {
+            served,
+            sleepers,
+            ..
+        } = self;
+        drop(sleepers);
+        served.into_inner()
+    }
+
     /// The dispatch of the disk's jobs. It hands out no write that begins behind the journal's area.
     pub fn disk_side(&self) -> DiskSide<'_, T, R>
         ensures limit { result.limit ≡ self.now.limit }
         ensures fresh { (result.log ≡ []) × (result.has_job ≡ false) }
     {
-        DiskSide::new(self)
+        DiskSide {
+            desk: self,
+            notes: Notes::new(self.alloc),
+            has_job: false,
+            limit: self.limit,
+            patience: Patience::new(),
+        }
     }
 
     /// The dispatch of one slave's jobs. Slaves are numbered from 0; for one that the line doesn't have, it answers `Stop`.
@@ -276,13 +380,24 @@ impl<T: Tickets, R: Refusals> Desk<T, R> {
         ensures slave { result.slave ≡ slave }
         ensures fresh { (result.log ≡ []) × (result.has_job ≡ false) }
     {
-        RomSide::new(self, slave)
+        RomSide {
+            desk: self,
+            slave,
+            notes: Notes::new(self.alloc),
+            has_job: false,
+            patience: Patience::new(),
+        }
     }
 
     /// The dispatch of process data cycles. All their outputs are zero.
     pub fn cycle_side(&self) -> CycleSide<'_, T, R>
         ensures { result ≡ record { log = []; has_job = false } }
     {
-        CycleSide::new(self)
+        CycleSide {
+            desk: self,
+            turns: Vec::new(self.alloc),
+            has_job: false,
+            patience: Patience::new(),
+        }
     }
 }

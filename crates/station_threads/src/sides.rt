@@ -1,12 +1,12 @@
 //! The dispatches of a desk: for the disk, for each slave, and for the process data.
 
-ghost use Rattle.std.specs.Prelude.{◌≡◌, [], false};
+ghost use Rattle.std.specs.Prelude.{◌≡◌};
 ghost use Rattle.station_threads.specs.Sides.{IsBlank, begins_below};
 
 use crate::desk::Desk;
 use crate::patience::Patience;
 use book_model::{DiskNext, RomNext, RomOutcome};
-use desk_book::{Heard, Refusals, Tickets, note_of};
+use desk_book::{Refusals, Tickets, note_of};
 use sii_image::Plan;
 use sii_words::ItemList;
 use site_core::DeviceFault;
@@ -19,11 +19,11 @@ use std::sync::Wait;
 /// Hands out the disk's jobs: writes, gates to open or close, and syncs.
 #[derive(Drop)]
 pub struct DiskSide<'a, T: Tickets, R: Refusals> {
-    desk: &'a Desk<T, R>,
-    notes: Notes<DiskNext, Result<(), DeviceFault>>,
-    has_job: bool,
-    limit: usize,
-    patience: Patience,
+    pub(crate) desk: &'a Desk<T, R>,
+    pub(crate) notes: Notes<DiskNext, Result<(), DeviceFault>>,
+    pub(crate) has_job: bool,
+    pub(crate) limit: usize,
+    pub(crate) patience: Patience,
 }
 
 impl<'a, T: Tickets, R: Refusals> Model for DiskSide<'a, T, R> {
@@ -37,11 +37,11 @@ impl<'a, T: Tickets, R: Refusals> Model for DiskSide<'a, T, R> {
 /// Hands out one slave's jobs: words of its EEPROM to issue and to settle.
 #[derive(Drop)]
 pub struct RomSide<'a, T: Tickets, R: Refusals> {
-    desk: &'a Desk<T, R>,
-    slave: u16,
-    notes: Notes<RomNext, RomOutcome>,
-    has_job: bool,
-    patience: Patience,
+    pub(crate) desk: &'a Desk<T, R>,
+    pub(crate) slave: u16,
+    pub(crate) notes: Notes<RomNext, RomOutcome>,
+    pub(crate) has_job: bool,
+    pub(crate) patience: Patience,
 }
 
 impl<'a, T: Tickets, R: Refusals> Model for RomSide<'a, T, R> {
@@ -55,10 +55,10 @@ impl<'a, T: Tickets, R: Refusals> Model for RomSide<'a, T, R> {
 /// Hands out process data cycles.
 #[derive(Drop)]
 pub struct CycleSide<'a, T: Tickets, R: Refusals> {
-    desk: &'a Desk<T, R>,
-    turns: Vec<CycleNote>,
-    has_job: bool,
-    patience: Patience,
+    pub(crate) desk: &'a Desk<T, R>,
+    pub(crate) turns: Vec<CycleNote>,
+    pub(crate) has_job: bool,
+    pub(crate) patience: Patience,
 }
 
 impl<'a, T: Tickets, R: Refusals> Model for CycleSide<'a, T, R> {
@@ -67,49 +67,6 @@ impl<'a, T: Tickets, R: Refusals> Model for CycleSide<'a, T, R> {
     ghost Value = { CycleHands };
 
     ghost view = { λ side. record { log = side.turns.items; has_job = side.has_job } };
-}
-
-impl<'a, T: Tickets, R: Refusals> DiskSide<'a, T, R> {
-    pub(crate) fn new(desk: &'a Desk<T, R>) -> Self
-        ensures limit { result.limit ≡ desk.now.limit }
-        ensures fresh { (result.log ≡ []) × (result.has_job ≡ false) }
-    {
-        DiskSide {
-            desk,
-            notes: Notes::new(desk.alloc),
-            has_job: false,
-            limit: desk.limit,
-            patience: Patience::new(),
-        }
-    }
-}
-
-impl<'a, T: Tickets, R: Refusals> RomSide<'a, T, R> {
-    pub(crate) fn new(desk: &'a Desk<T, R>, slave: u16) -> Self
-        ensures slave { result.slave ≡ slave }
-        ensures fresh { (result.log ≡ []) × (result.has_job ≡ false) }
-    {
-        RomSide {
-            desk,
-            slave,
-            notes: Notes::new(desk.alloc),
-            has_job: false,
-            patience: Patience::new(),
-        }
-    }
-}
-
-impl<'a, T: Tickets, R: Refusals> CycleSide<'a, T, R> {
-    pub(crate) fn new(desk: &'a Desk<T, R>) -> Self
-        ensures { result ≡ record { log = []; has_job = false } }
-    {
-        CycleSide {
-            desk,
-            turns: Vec::new(desk.alloc),
-            has_job: false,
-            patience: Patience::new(),
-        }
-    }
 }
 
 /// Whether this is an action, and not a write that begins behind byte `limit` of the file.
@@ -141,36 +98,27 @@ impl<'a, T: Tickets, R: Refusals> Dispatch<DiskLog> for DiskSide<'a, T, R> {
     /// The answer is `Stop` in place of a write that begins behind the journal's area. It is `Stop` too once memory stayed refused.
     fn next<W: Wait>(&mut self, rt: &W) -> Turn<DiskNext> {
         let desk = self.desk;
-        if self.patience.has_ended(rt) {
-            desk.stop_for_memory(rt);
+        if desk.stops_for_memory(rt, &self.patience) {
             return Turn::Stop;
         }
         let Ok(()) = self.notes.reserve() else {
             self.patience.refused();
             return Turn::Again;
         };
-        let mut served = desk.served.lock(rt);
-        match served.disk_next() {
-            Heard::Work((job, copy)) => {
+        match desk.ask_disk(rt, &mut self.patience) {
+            Turn::Work((job, copy)) => {
                 if begins_below(&job, self.limit) {
                     self.notes.hand_out(copy);
                     self.has_job = true;
-                    self.patience.granted();
                     Turn::Work(job)
                 } else {
+                    drop(job);
+                    drop(copy);
                     Turn::Stop
                 }
             }
-            Heard::Nothing => {
-                self.patience.granted();
-                desk.sleepers.disk.wait(rt, served);
-                Turn::Again
-            }
-            Heard::NoMemory => {
-                self.patience.refused();
-                Turn::Again
-            }
-            Heard::Stop => Turn::Stop,
+            Turn::Again => Turn::Again,
+            Turn::Stop => Turn::Stop,
         }
     }
 
@@ -202,32 +150,21 @@ impl<'a, T: Tickets, R: Refusals> Dispatch<RomLog> for RomSide<'a, T, R> {
 
     fn next<W: Wait>(&mut self, rt: &W) -> Turn<RomNext> {
         let desk = self.desk;
-        if self.patience.has_ended(rt) {
-            desk.stop_for_memory(rt);
+        if desk.stops_for_memory(rt, &self.patience) {
             return Turn::Stop;
         }
         let Ok(()) = self.notes.reserve() else {
             self.patience.refused();
             return Turn::Again;
         };
-        let mut served = desk.served.lock(rt);
-        match served.slave_next(self.slave) {
-            Heard::Work(job) => {
+        match desk.ask_slave(rt, self.slave, &mut self.patience) {
+            Turn::Work(job) => {
                 self.notes.hand_out(job);
                 self.has_job = true;
-                self.patience.granted();
                 Turn::Work(job)
             }
-            Heard::Nothing => {
-                self.patience.granted();
-                desk.sleepers.sleep_as_slave(rt, self.slave, served);
-                Turn::Again
-            }
-            Heard::NoMemory => {
-                self.patience.refused();
-                Turn::Again
-            }
-            Heard::Stop => Turn::Stop,
+            Turn::Again => Turn::Again,
+            Turn::Stop => Turn::Stop,
         }
     }
 
@@ -267,32 +204,21 @@ impl<'a, T: Tickets, R: Refusals> Dispatch<CycleLog> for CycleSide<'a, T, R> {
 
     fn next<W: Wait>(&mut self, rt: &W) -> Turn<CycleJob> {
         let desk = self.desk;
-        if self.patience.has_ended(rt) {
-            desk.stop_for_memory(rt);
+        if desk.stops_for_memory(rt, &self.patience) {
             return Turn::Stop;
         }
         let Ok(()) = self.turns.reserve(1) else {
             self.patience.refused();
             return Turn::Again;
         };
-        let mut served = desk.served.lock(rt);
-        match served.cycle_next() {
-            Heard::Work(plan) => {
+        match desk.ask_cycle(rt, &mut self.patience) {
+            Turn::Work(plan) => {
                 self.turns.push_reserved(note_of(&plan));
                 self.has_job = true;
-                self.patience.granted();
                 Turn::Work(blank_turn(plan))
             }
-            Heard::Nothing => {
-                self.patience.granted();
-                desk.sleepers.cycle.wait(rt, served);
-                Turn::Again
-            }
-            Heard::NoMemory => {
-                self.patience.refused();
-                Turn::Again
-            }
-            Heard::Stop => Turn::Stop,
+            Turn::Again => Turn::Again,
+            Turn::Stop => Turn::Stop,
         }
     }
 

@@ -9,6 +9,6 @@ loop-half-preserved g c =
     let at = c.loop-half in
     let half = c.in-Some.half in
     let steps : into_iter_items at.half-iterator ≡ half ∷ into_iter_items c.next.new.self = c.in-Some.ensures.steps.0 in (
-      gone-over at.yielded half _ _ _ steps at.invariant.0,
+      gone-over at.yielded half (into_iter_items at.half-iterator) (into_iter_items c.next.new.self) (into_iter_items c.into_iter-half-iterator.result) steps at.invariant.0,
       rw c.in_ok-push.ensures.items (sites-more at.yielded at.sites.items half c.in_ok-site.site c.len-slave.result at.invariant.1 (omega (arith, at.sites.ok.0, c.len-slave.ensures)) c.in_ok-site.ensures),
     )

@@ -12,7 +12,7 @@ loop-command-preserved g c =
     let at = c.loop-command in
     let command = c.in-Some.command in
     let steps : into_iter_items at.command-iterator ≡ command ∷ into_iter_items c.next.new.self = c.in-Some.ensures.steps.0 in (
-      gone-over at.yielded command _ _ _ steps at.invariant.0,
+      gone-over at.yielded command (into_iter_items at.command-iterator) (into_iter_items c.next.new.self) (into_iter_items c.into_iter-command-iterator.result) steps at.invariant.0,
       asks-next at.yielded command c.args.status.now at.status c.ask_one.new.status c.args.share.now at.share c.ask_one.new.share at.tickets.items c.keep.new.tickets.items c.in_ok-asked.asked
           at.invariant.1 c.in_ok-asked.ensures.asked c.in_ok-keep.ensures.kept,
     )

@@ -9,7 +9,7 @@ loop-end-preserved g c =
     let at = c.loop-end in
     let end = c.in-Some.end in
     let steps : into_iter_items at.end-iterator ≡ end ∷ into_iter_items c.next.new.self = c.in-Some.ensures.steps.0 in (
-      gone-over at.yielded end _ _ _ steps at.invariant.0,
+      gone-over at.yielded end (into_iter_items at.end-iterator) (into_iter_items c.next.new.self) (into_iter_items c.into_iter-end-iterator.result) steps at.invariant.0,
       rw c.in_ok-push.ensures.items (halves-more at.yielded at.halves.items end c.in_ok-half.half c.len-slave.result at.invariant.1 (omega (arith, at.halves.ok.0, c.len-slave.ensures)) c.in_ok-half.ensures.half),
       followed_more g.D.Device.follows at.yielded end at.invariant.2 c.in_ok-half.ensures.followed,
     )

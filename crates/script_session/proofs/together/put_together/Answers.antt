@@ -6,9 +6,9 @@ pub returns-clause-together : goal.returns-clause-together
 returns-clause-together g c =
     let parted = c.split-line in
     let site = c.in_ok-site in
-    puts-together c.whole_line.result c.args.slaves site.site parted.result.0.0.disk c.in_ok-halves.halves.items parted.result.1.items c.args.ends c.whole_line.ensures site.ensures.new site.ensures.disk parted.ensures.disk site.ensures.halves (ap (λ w. w.items) parted.ensures.workers) c.in_ok-halves.ensures.halves
+    puts-together c.whole_line.result c.args.slaves site.site parted.result.0.0.disk c.in-Ok.halves.items parted.result.1.items c.args.ends c.whole_line.ensures site.ensures.new site.ensures.disk parted.ensures.disk site.ensures.halves (ap (λ w. w.items) parted.ensures.workers) c.in-Ok.ensures.halves
 
 pub returns-clause-followed : goal.returns-clause-followed
 returns-clause-followed g c =
     let parted = c.split-line in
-    followed_together g.D.Device.follows c.whole_line.result c.args.ends parted.result.1.items parted.ensures.flushed parted.ensures.followed (ap (λ w. w.items) parted.ensures.workers) c.in_ok-halves.ensures.followed
+    followed_together g.D.Device.follows c.whole_line.result c.args.ends parted.result.1.items parted.ensures.flushed parted.ensures.followed (ap (λ w. w.items) parted.ensures.workers) c.in-Ok.ensures.followed

@@ -1,6 +1,6 @@
-use Rattle.std.proofs.Common.{refl, arith}
+use Rattle.std.proofs.Common.{◌∙◌, refl, arith}
 use denote.Param.Send.{sendable}
-use Rattle.station_threads.proofs.EndLaws.{parts-long, ends-of-sites}
+use Rattle.station_threads.proofs.EndLaws.{parts-long, ends-of-sites, end-of-turns}
 use Rattle.station_threads.proofs.Sent.{disk-send, rom-send, cycle-send}
 use Rattle.station_threads.proofs.line_serving.serve_line.Goals as goal
 
@@ -18,6 +18,12 @@ serve-disk-requires-after_bounds g c κs lives =
     let line = c.parts_of-line.result in
     let long = parts-long c.args.sites.slaves.items line.slaves.items c.parts_of-line.ensures.slaves in
     omega (arith, long, line.slaves.ok.0, c.args.sites.slaves.ok.0, c.len.ensures, c.in-Ok.ensures)
+
+pub returns-clause-flusher : goal.returns-clause-flusher
+returns-clause-flusher g c = c.serve-disk.ensures.disk ∙ c.parts_of-line.ensures.disk
+
+pub returns-clause-cycle : goal.returns-clause-cycle
+returns-clause-cycle g c = end-of-turns c.args.sites.cycle c.parts_of-line.result.cycle c.serve-disk.result.cycle c.parts_of-line.ensures.cycle c.serve-disk.ensures.cycle
 
 pub returns-clause-workers : goal.returns-clause-workers
 returns-clause-workers g c = ends-of-sites c.args.sites.slaves.items c.parts_of-line.result.slaves.items c.serve-disk.result.slaves.items c.parts_of-line.ensures.slaves c.serve-disk.ensures.slaves

@@ -15,7 +15,7 @@ loop-worker-preserved g c =
     let room = at.invariant.2 in
     let pushed = c.push_reserved.ensures.len in
     let kept = c.push_reserved.ensures.capacity in (
-      gone-over at.yielded worker _ _ _ steps at.invariant.0,
+      gone-over at.yielded worker (into_iter_items at.worker-iterator) (into_iter_items c.next.new.self) (into_iter_items c.into_iter-worker-iterator.result) steps at.invariant.0,
       omega arith,
       omega arith,
       rw c.push_reserved.ensures.items (ends-more at.yielded at.ends.items worker c.join.result at.invariant.3 c.join.ensures),

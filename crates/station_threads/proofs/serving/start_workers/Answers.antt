@@ -16,7 +16,7 @@ loop-part-preserved g c =
     let room = at.invariant.2 in
     let pushed = c.push_reserved.ensures.len in
     let kept = c.push_reserved.ensures.capacity in (
-      gone-over at.yielded part _ _ _ steps at.invariant.0,
+      gone-over at.yielded part (into_iter_items at.part-iterator) (into_iter_items c.next.new.self) (into_iter_items c.into_iter-part-iterator.result) steps at.invariant.0,
       omega arith,
       omega arith,
       rw c.push_reserved.ensures.items (workers-more at.yielded at.workers.items part worker at.invariant.3 c.start_worker-worker.ensures),

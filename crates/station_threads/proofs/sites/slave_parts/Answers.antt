@@ -46,7 +46,7 @@ loop-site-preserved g c =
     let here : c.len-slave.result ≡ length at.yielded = omega (arith, at.parts.ok.0, c.len-slave.ensures) in
     let pushed = c.push_reserved.ensures.len in
     let kept = c.push_reserved.ensures.capacity in (
-      gone-over at.yielded site _ _ _ steps at.invariant.0,
+      gone-over at.yielded site (into_iter_items at.site-iterator) (into_iter_items c.next.new.self) (into_iter_items c.into_iter-site-iterator.result) steps at.invariant.0,
       omega arith,
       omega arith,
       rw c.push_reserved.ensures.items (rw c.new.ensures (parts-more at.yielded at.parts.items site _ at.invariant.3 here refl (c.rom_side.ensures.slave ∙ here))),
