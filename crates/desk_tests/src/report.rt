@@ -52,9 +52,9 @@ fn left_at(rt: &impl Abort, alloc: Global, site: &MemSite) -> Parts {
 /// What a power cut leaves of a slave.
 fn half_left(rt: &impl Abort, alloc: Global, end: &End<MemSite, SlaveLog>) -> Option<RomHalf> {
     let slave = usize::from(end.log().slave);
-    let Parts { mut halves, .. } = left_at(rt, alloc, end.site());
-    assert!(rt; slave < halves.len());
-    halves.swap_remove(slave)
+    let mut left = left_at(rt, alloc, end.site());
+    assert!(rt; slave < left.halves.len());
+    left.halves.swap_remove(slave)
 }
 
 /// What a power cut leaves of the slaves.

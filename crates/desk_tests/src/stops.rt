@@ -65,6 +65,15 @@ fn is_stopped<W: Wait + Threads + Sync + Abort>(
     judged(scenario.pace, &report)
 }
 
+/// The scenario `STOPPING` with this pace and this trouble.
+fn stopping(pace: Pace, trouble: Trouble) -> Scenario {
+    Scenario {
+        pace,
+        trouble,
+        ..STOPPING
+    }
+}
+
 /// Whether the line is stopped with some pattern, if this part stops after `writes` writes. None: a promise was broken.
 fn stops_by<W: Wait + Threads + Sync + Abort>(
     rt: &W,
@@ -75,11 +84,7 @@ fn stops_by<W: Wait + Threads + Sync + Abort>(
 ) -> Option<bool> {
     let mut is_any = false;
     for pattern in PATTERNS.as_slice() {
-        let scenario = Scenario {
-            pace,
-            trouble: Trouble::Stops(part, writes, *pattern),
-            ..STOPPING
-        };
+        let scenario = stopping(pace, Trouble::Stops(part, writes, *pattern));
         is_any |= is_stopped(rt, alloc, &scenario)?;
     }
     Some(is_any)

@@ -46,19 +46,6 @@ fn is_out_of_memory(refused: Refused) -> bool {
     }
 }
 
-/// Waits for a command, and keeps its receipt, if it is acknowledged.
-fn wait_for<T: Tickets, R: Refusals, W: Wait>(
-    rt: &W,
-    desk: &Desk<T, R>,
-    ticket: Ticket,
-    receipts: &mut Vec<Receipt>,
-) {
-    match desk.wait(rt, ticket) {
-        Ok(receipt) => drop(receipts.push(receipt)),
-        Err(left) => drop(left),
-    }
-}
-
 impl<T: Tickets, R: Refusals> Submitter<T, R> {
     /// A submitter of these commands, which has submitted those that are for the time before serving.
     pub(crate) fn new<W: Wait + Abort>(
@@ -96,7 +83,9 @@ impl<T: Tickets, R: Refusals> Submitter<T, R> {
     /// Waits for all submitted commands, and keeps the receipts of those that are acknowledged.
     pub(crate) fn wait_all<W: Wait>(&mut self, rt: &W, desk: &Desk<T, R>) {
         while let Some(ticket) = self.tickets.pop() {
-            wait_for(rt, desk, ticket, &mut self.receipts);
+            if let Some(receipt) = desk.wait(rt, ticket).ok() {
+                drop(self.receipts.push(receipt));
+            }
         }
     }
 
@@ -113,7 +102,7 @@ impl<T: Tickets, R: Refusals> Submitter<T, R> {
     }
 
     /// Submits the commands that are for the time of serving, or for the time before.
-    pub(crate) fn submit_rounds<W: Wait>(&mut self, rt: &W, desk: &Desk<T, R>, is_served: bool) {
+    fn submit_rounds<W: Wait>(&mut self, rt: &W, desk: &Desk<T, R>, is_served: bool) {
         if is_served == matches!(self.pace, Pace::Queued) {
             return;
         }
@@ -131,16 +120,6 @@ impl<T: Tickets, R: Refusals> Submitter<T, R> {
         } = self;
         (share, receipts)
     }
-}
-
-/// Lets the submitter submit its commands, and gives it back.
-fn submitted<T: Tickets, R: Refusals, W: Wait>(
-    rt: &W,
-    desk: &Desk<T, R>,
-    mut submitter: Submitter<T, R>,
-) -> Submitter<T, R> {
-    submitter.submit_rounds(rt, desk, true);
-    submitter
 }
 
 /// A submitter on its thread. If that couldn't be created, one that has submitted already.
@@ -161,7 +140,11 @@ pub(crate) fn start_submitting<
 ) -> Started<T, R> {
     let submits = move || -> Submitter<T, R>
         requires { IsSync W.row }
-    { submitted(rt, desk, submitter) };
+    {
+        let mut own = submitter;
+        own.submit_rounds(rt, desk, true);
+        own
+    };
     match scope.spawn(submits) {
         Ok(handle) => Ok(handle),
         Err(refused) => Err((refused.value)()),

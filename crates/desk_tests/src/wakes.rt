@@ -195,13 +195,8 @@ impl<T: Tickets, R: Refusals> Submitter<T, R> {
     /// Submits the command. It has to be accepted.
     fn submit<W: Wait + Abort>(&mut self, rt: &W, alloc: Global, desk: &Desk<T, R>, ask: &Ask) {
         let asked = command(alloc, ask).expect(rt, "memory");
-        match desk.submit(rt, &mut self.share, asked) {
-            Ok(ticket) => self.last = Some(ticket),
-            Err(refused) => {
-                drop(refused);
-                assert!(rt; false);
-            }
-        }
+        let answer = desk.submit(rt, &mut self.share, asked);
+        self.last = Some(answer.ok().expect(rt, "a ticket"));
     }
 }
 
@@ -212,15 +207,19 @@ fn act<T: Tickets + Send + Sync, R: Refusals + Send + Sync, W: Wait + Abort>(
     outcome: Result<(), DeviceFault>,
 ) {
     let mut side = desk.disk_side();
-    let is_out = match side.next(rt) {
-        Turn::Work(action) => {
-            drop(action);
-            side.done(rt, outcome);
-            true
-        }
-        Turn::Again | Turn::Stop => false,
-    };
-    assert!(rt; is_out);
+    match side.next(rt) {
+        Turn::Work(_action) => side.done(rt, outcome),
+        Turn::Again | Turn::Stop => assert!(rt; false),
+    }
+}
+
+/// The outcome of a job: an issue is taken, and a settle ends so.
+fn outcome_of(job: RomNext, settled: Settled) -> RomOutcome {
+    if matches!(job, RomNext::Settle { .. }) {
+        RomOutcome::Settled(settled)
+    } else {
+        RomOutcome::Issued(Issued::Taken)
+    }
 }
 
 /// Does the slave's next job. An issue is taken, and a settle ends so.
@@ -231,34 +230,19 @@ fn work<T: Tickets + Send + Sync, R: Refusals + Send + Sync, W: Wait + Abort>(
     settled: Settled,
 ) {
     let mut side = desk.rom_side(slave);
-    let is_out = match side.next(rt) {
-        Turn::Work(job) => {
-            let outcome = match job {
-                RomNext::Settle { .. } => RomOutcome::Settled(settled),
-                _ => RomOutcome::Issued(Issued::Taken),
-            };
-            side.done(rt, outcome);
-            true
-        }
-        Turn::Again | Turn::Stop => false,
-    };
-    assert!(rt; is_out);
+    match side.next(rt) {
+        Turn::Work(job) => side.done(rt, outcome_of(job, settled)),
+        Turn::Again | Turn::Stop => assert!(rt; false),
+    }
 }
 
-/// Takes the next process data cycle.
-fn turn<T: Tickets + Send + Sync, R: Refusals + Send + Sync, W: Wait + Abort>(
-    rt: &W,
-    desk: &Desk<T, R>,
-) {
-    let mut side = desk.cycle_side();
-    let is_out = match side.next(rt) {
-        Turn::Work(job) => {
-            drop(job);
-            true
-        }
-        Turn::Again | Turn::Stop => false,
-    };
-    assert!(rt; is_out);
+/// How the answer to who asks for a job ends its sleep. None: it is asked for again.
+fn end_by<J: Drop>(answer: Turn<J>) -> Option<End> {
+    match answer {
+        Turn::Work(_job) => Some(End::Work),
+        Turn::Again => None,
+        Turn::Stop => Some(End::Stop),
+    }
 }
 
 /// Does a step.
@@ -283,67 +267,12 @@ fn make<T: Tickets + Send + Sync, R: Refusals + Send + Sync, W: Wait + Abort>(
             }
         }
         Step::SlaveDies(slave) => work(rt, desk, slave, Settled::Dead),
-        Step::Cycle => turn(rt, desk),
+        Step::Cycle => assert!(rt; end_by(desk.cycle_side().next(rt)) == Some(End::Work)),
         Step::Finish => desk.finish(rt),
     }
 }
 
 // ---- who sleeps
-
-/// Sleeps until the disk has something to do.
-fn sleep_as_disk<T: Tickets + Send + Sync, R: Refusals + Send + Sync, W: Wait>(
-    rt: &W,
-    desk: &Desk<T, R>,
-) -> End {
-    let mut side = desk.disk_side();
-    for _ in rt.forever() {
-        match side.next(rt) {
-            Turn::Again => {}
-            Turn::Stop => return End::Stop,
-            Turn::Work(action) => {
-                drop(action);
-                return End::Work;
-            }
-        }
-    }
-    End::Other
-}
-
-/// Sleeps until the slave has something to do.
-fn sleep_as_slave<T: Tickets + Send + Sync, R: Refusals + Send + Sync, W: Wait>(
-    rt: &W,
-    desk: &Desk<T, R>,
-    slave: u16,
-) -> End {
-    let mut side = desk.rom_side(slave);
-    for _ in rt.forever() {
-        match side.next(rt) {
-            Turn::Again => {}
-            Turn::Stop => return End::Stop,
-            Turn::Work(_job) => return End::Work,
-        }
-    }
-    End::Other
-}
-
-/// Sleeps until there is a process data cycle to do.
-fn sleep_as_cycle<T: Tickets + Send + Sync, R: Refusals + Send + Sync, W: Wait>(
-    rt: &W,
-    desk: &Desk<T, R>,
-) -> End {
-    let mut side = desk.cycle_side();
-    for _ in rt.forever() {
-        match side.next(rt) {
-            Turn::Again => {}
-            Turn::Stop => return End::Stop,
-            Turn::Work(job) => {
-                drop(job);
-                return End::Work;
-            }
-        }
-    }
-    End::Other
-}
 
 /// Sleeps until the ticket's command is durable, or can't be any more.
 fn sleep_for_receipt<T: Tickets, R: Refusals, W: Wait>(
@@ -354,15 +283,10 @@ fn sleep_for_receipt<T: Tickets, R: Refusals, W: Wait>(
     let Some(ticket) = ticket else {
         return End::Other;
     };
-    match desk.wait(rt, ticket) {
-        Ok(receipt) => {
-            drop(receipt);
-            End::Receipt
-        }
-        Err(left) => {
-            drop(left);
-            End::NoReceipt
-        }
+    if desk.wait(rt, ticket).is_ok() {
+        End::Receipt
+    } else {
+        End::NoReceipt
     }
 }
 
@@ -374,27 +298,36 @@ struct Tired {
     ticket: Option<Ticket>,
 }
 
-/// Sleeps until it is woken.
+/// Sleeps until it is woken. How this ends the sleep. None: it sleeps again.
+fn woken<T: Tickets + Send + Sync, R: Refusals + Send + Sync, W: Wait>(
+    rt: &W,
+    desk: &Desk<T, R>,
+    tired: &mut Tired,
+) -> Option<End> {
+    match tired.sleeper {
+        Sleeper::Disk => end_by(desk.disk_side().next(rt)),
+        Sleeper::Slave(slave) => end_by(desk.rom_side(slave).next(rt)),
+        Sleeper::Cycle => end_by(desk.cycle_side().next(rt)),
+        Sleeper::Receipt => Some(sleep_for_receipt(rt, desk, tired.ticket.take())),
+        Sleeper::Watcher => {
+            desk.changed(rt, &tired.seen);
+            Some(End::Changed)
+        }
+    }
+}
+
+/// Sleeps until something ends the sleep.
 fn slept<T: Tickets + Send + Sync, R: Refusals + Send + Sync, W: Wait>(
     rt: &W,
     desk: &Desk<T, R>,
-    tired: Tired,
+    mut tired: Tired,
 ) -> End {
-    let Tired {
-        sleeper,
-        seen,
-        ticket,
-    } = tired;
-    match sleeper {
-        Sleeper::Disk => sleep_as_disk(rt, desk),
-        Sleeper::Slave(slave) => sleep_as_slave(rt, desk, slave),
-        Sleeper::Cycle => sleep_as_cycle(rt, desk),
-        Sleeper::Receipt => sleep_for_receipt(rt, desk, ticket),
-        Sleeper::Watcher => {
-            desk.changed(rt, &seen);
-            End::Changed
+    for _ in rt.forever() {
+        if let Some(end) = woken(rt, desk, &mut tired) {
+            return end;
         }
     }
+    End::Other
 }
 
 // ---- trials
