@@ -4,6 +4,7 @@ use crate::contents::{contents_in, held, zero_slaves};
 use book_model::RomOutcome;
 use sii_edit::{Command, Edit};
 use sii_words::Words;
+use site_core::{Issued, Settled};
 use std::alloc::Global;
 use world_run::{DiskEnd, Event, Left, LeftByte, LeftWord, WordEnd, World, step};
 
@@ -16,12 +17,12 @@ pub(crate) enum Act {
     Migrate,
     /// The next action of the disk begins.
     Begin,
-    /// The action of the disk succeeds.
-    Done,
+    /// The next action of the disk begins and succeeds.
+    Action,
     /// The next action for the slave begins. An idle slave takes the datagram of an issue.
     Rom,
-    /// The action for the slave ends with this outcome.
-    Back(RomOutcome),
+    /// A word of the slave is issued and written.
+    Word,
     Rest(WordEnd),
     Stop(&'static [LeftByte], &'static [LeftWord]),
     Sees(Seen),
@@ -56,23 +57,19 @@ pub(crate) enum Start {
     Bytes(&'static [u8]),
 }
 
-/// A world of 1 to 64 slaves.
-fn world_of(alloc: Global, slaves: Vec<Words>, bytes: Vec<u8>) -> Option<World> {
+/// A world of `count` zero slaves, 1 to 64, whose disk begins with these bytes and goes on with zeros.
+pub(crate) fn world_on(alloc: Global, count: usize, front: &[u8]) -> Option<World> {
+    let bytes = disk_on(alloc, front)?;
+    let slaves = zero_slaves(alloc, count)?;
     if slaves.len() < 1 || slaves.len() > 64 {
         return None;
     }
     World::with_disk(alloc, slaves, bytes).ok()
 }
 
-/// A world of `count` zero slaves, whose disk begins with these bytes and goes on with zeros.
-pub(crate) fn world_on(alloc: Global, count: usize, front: &[u8]) -> Option<World> {
-    let slaves = zero_slaves(alloc, count)?;
-    let bytes = disk_on(alloc, front)?;
-    world_of(alloc, slaves, bytes)
-}
-
-/// A world of 1 to 64 slaves, with a journal that was just formatted.
-fn formatted_of(alloc: Global, slaves: Vec<Words>) -> Option<World> {
+/// A world of one zero slave, with a journal that was just formatted.
+fn formatted_world(alloc: Global) -> Option<World> {
+    let slaves = zero_slaves(alloc, 1)?;
     if slaves.len() < 1 || slaves.len() > 64 {
         return None;
     }
@@ -82,7 +79,7 @@ fn formatted_of(alloc: Global, slaves: Vec<Words>) -> Option<World> {
 /// A world of one zero slave that begins so.
 fn world_from(alloc: Global, start: Start) -> Option<World> {
     match start {
-        Start::Formatted => formatted_of(alloc, zero_slaves(alloc, 1)?),
+        Start::Formatted => formatted_world(alloc),
         Start::Bytes(front) => world_on(alloc, 1, front),
     }
 }
@@ -92,11 +89,24 @@ pub(crate) fn happens(world: &mut World, event: Event) -> bool {
     step(world, event).is_ok()
 }
 
-/// A power cut that leaves these bytes and words.
-fn stop_of(alloc: Global, bytes: &[LeftByte], words: &[LeftWord]) -> Option<Event> {
-    let bytes = bytes.to_vec(alloc).ok()?;
-    let words = words.to_vec(alloc).ok()?;
-    Some(Event::Stop(Left { bytes, words }))
+/// An action of the disk begins and succeeds.
+pub(crate) fn is_acted(world: &mut World) -> bool {
+    happens(world, Event::DiskBegin) && happens(world, Event::DiskDone(DiskEnd::Done))
+}
+
+/// The next action for a slave begins and ends with this outcome. An idle slave takes the datagram of an issue.
+fn calls(world: &mut World, slave: u16, outcome: RomOutcome) -> bool {
+    let takes = true;
+    happens(world, Event::RomIssue { slave, takes })
+        && happens(world, Event::RomDone { slave, outcome })
+}
+
+/// A word of a slave is issued and written.
+pub(crate) fn writes(world: &mut World, slave: u16) -> bool {
+    let end = WordEnd::Well;
+    calls(world, slave, RomOutcome::Issued(Issued::Taken))
+        && happens(world, Event::RomResolve { slave, end })
+        && calls(world, slave, RomOutcome::Settled(Settled::Written))
 }
 
 /// The power is cut, and these bytes and words are left. False if memory was refused.
@@ -106,9 +116,12 @@ pub(crate) fn stops(
     bytes: &[LeftByte],
     words: &[LeftWord],
 ) -> bool {
-    match stop_of(alloc, bytes, words) {
-        Some(event) => return happens(world, event),
-        None => return false,
+    let Ok(bytes) = bytes.to_vec(alloc) else {
+        return false;
+    };
+    match words.to_vec(alloc) {
+        Ok(words) => happens(world, Event::Stop(Left { bytes, words })),
+        Err(_refused) => false,
     }
 }
 
@@ -128,17 +141,25 @@ fn slave_is(world: &World, alias: u16, check: u16) -> bool {
     contents[0][4] == alias && contents[0][7] == check
 }
 
+/// Whether this byte of the disk is this one.
+fn byte_is(world: &World, at: usize, byte: u8) -> bool {
+    match world.disk().get(at) {
+        Some(held) => *held == byte,
+        None => false,
+    }
+}
+
 /// Whether this is seen.
 fn sees(world: &World, seen: Seen) -> bool {
     match seen {
         Seen::Down => return world.core().is_none(),
         Seen::Book(alias, live) => return book_is(world, alias, live),
         Seen::Slave(alias, check) => return slave_is(world, alias, check),
-        Seen::Byte(at, byte) => return world.disk().get(at) == Some(&byte),
+        Seen::Byte(at, byte) => return byte_is(world, at, byte),
     }
 }
 
-/// The event of an act other than a power cut.
+/// The event of an act that is one event, and no power cut.
 fn event_of(act: Act) -> Option<Event> {
     let slave = 0;
     match act {
@@ -146,11 +167,9 @@ fn event_of(act: Act) -> Option<Event> {
         Act::Alias(value) => return Some(Event::Submit(Command::One(Edit::Alias { slave, value }))),
         Act::Migrate => return Some(Event::Migrate),
         Act::Begin => return Some(Event::DiskBegin),
-        Act::Done => return Some(Event::DiskDone(DiskEnd::Done)),
         Act::Rom => return Some(Event::RomIssue { slave, takes: true }),
-        Act::Back(outcome) => return Some(Event::RomDone { slave, outcome }),
         Act::Rest(end) => return Some(Event::RomResolve { slave, end }),
-        Act::Stop(..) | Act::Sees(..) => return None,
+        Act::Action | Act::Word | Act::Stop(..) | Act::Sees(..) => return None,
     }
 }
 
@@ -159,6 +178,8 @@ fn comes(alloc: Global, world: &mut World, act: Act) -> bool {
     match act {
         Act::Stop(bytes, words) => return stops(alloc, world, bytes, words),
         Act::Sees(seen) => return sees(world, seen),
+        Act::Action => return is_acted(world),
+        Act::Word => return writes(world, 0),
         _ => {}
     }
     match event_of(act) {
@@ -177,37 +198,18 @@ fn told(alloc: Global, world: &mut World, acts: &[Act]) -> bool {
     true
 }
 
-/// Whether all acts of all parts succeed.
-fn parts_told(alloc: Global, world: &mut World, parts: &[&[Act]]) -> bool {
-    for acts in parts {
-        if !told(alloc, world, acts) {
-            return false;
-        }
-    }
-    true
-}
-
-/// What a world begins on, and the acts in this world, part by part.
-pub(crate) type Case = (Start, &'static [&'static [Act]]);
+/// What a world begins on, and the acts in this world: its own, and then those that other cases share.
+pub(crate) type Case = (Start, &'static [Act], &'static [Act]);
 
 /// Whether all acts of a case succeed.
-fn is_told(alloc: Global, start: Start, parts: &[&[Act]]) -> bool {
-    match world_from(alloc, start) {
+pub(crate) fn is_told(alloc: Global, case: &Case) -> bool {
+    let (start, acts, then) = case;
+    match world_from(alloc, *start) {
         Some(mut world) => {
-            let is_told = parts_told(alloc, &mut world, parts);
+            let is_told = told(alloc, &mut world, acts) && told(alloc, &mut world, then);
             drop(world);
             is_told
         }
         None => false,
     }
-}
-
-/// Whether all cases succeed.
-pub(crate) fn are_told(alloc: Global, cases: &[Case]) -> bool {
-    for (start, parts) in cases {
-        if !is_told(alloc, *start, parts) {
-            return false;
-        }
-    }
-    true
 }

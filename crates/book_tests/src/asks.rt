@@ -1,5 +1,6 @@
 //! Commands as rows of a table.
 
+use crate::line::patch;
 use book_core::Core;
 use book_model::SubmitRefusal;
 use sii_edit::{Cause, Command, Edit, EditList, WordList};
@@ -33,29 +34,33 @@ fn group(alloc: Global, aliases: &[(u16, u16)]) -> Option<Command> {
     Some(Command::Group(EditList::from_vec(edits)))
 }
 
+/// An image with at most 1,015 words behind word 64.
 fn image(alloc: Global, name: (u8, u8), count: usize, value: u16) -> Option<Command> {
-    let [low, high] = value.to_le_bytes();
-    let mut front = [0u8; 130];
-    front[8] = name.0;
-    front[14] = name.1;
-    front[128] = 0xFF;
-    front[129] = 0xFF;
-    let mut bytes = Vec::from_slice(alloc, &front).ok()?;
-    for _word in 0..count {
-        bytes.extend_from_slice(&[low, high]).ok()?;
+    if count > 1015 {
+        return None;
     }
-    Some(Command::One(Edit::Image {
-        slave: 0,
-        image: ImageFile::from_bytes(alloc, &bytes).ok()?,
-    }))
+    let mut bytes = [0u8; 2160];
+    patch(&mut bytes, 8, &[name.0]);
+    patch(&mut bytes, 14, &[name.1]);
+    patch(&mut bytes, 128, &[0xFF, 0xFF]);
+    for word in 0..count {
+        patch(&mut bytes, 130 + 2 * word, &value.to_le_bytes());
+    }
+    match ImageFile::from_bytes(alloc, &bytes[..130 + 2 * count]) {
+        Ok(image) => Some(Command::One(Edit::Image { slave: 0, image })),
+        Err(_fault) => None,
+    }
 }
 
 fn inputs(alloc: Global, slave: u16, words: &[u16]) -> Option<Command> {
-    Some(Command::One(Edit::Category {
-        slave,
-        kind: 50,
-        words: WordList::from_vec(words.to_vec(alloc).ok()?),
-    }))
+    match words.to_vec(alloc) {
+        Ok(words) => Some(Command::One(Edit::Category {
+            slave,
+            kind: 50,
+            words: WordList::from_vec(words),
+        })),
+        Err(_refused) => None,
+    }
 }
 
 fn command(alloc: Global, ask: &Ask) -> Option<Command> {
@@ -68,10 +73,11 @@ fn command(alloc: Global, ask: &Ask) -> Option<Command> {
     }
 }
 
-fn is_out_of_memory(answer: &Result<u64, SubmitRefusal>) -> bool {
+/// The answer. None: memory was refused.
+fn with_memory(answer: Result<u64, SubmitRefusal>) -> Option<Result<u64, SubmitRefusal>> {
     match answer {
-        Err(SubmitRefusal::Command(refusal)) => refusal.cause == Cause::Memory,
-        _ => false,
+        Err(SubmitRefusal::Command(refusal)) if refusal.cause == Cause::Memory => None,
+        _ => Some(answer),
     }
 }
 
@@ -81,10 +87,8 @@ pub(crate) fn submit(
     core: &mut Core,
     ask: &Ask,
 ) -> Option<Result<u64, SubmitRefusal>> {
-    let command = command(alloc, ask)?;
-    let answer = core.submit(&command);
-    if is_out_of_memory(&answer) {
-        return None;
+    match command(alloc, ask) {
+        Some(command) => with_memory(core.submit(&command)),
+        None => None,
     }
-    Some(answer)
 }

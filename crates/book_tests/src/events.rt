@@ -30,33 +30,29 @@ pub(crate) enum Call {
     Fault(Option<Fault>),
 }
 
-fn is_status(core: &Core, wanted: Status) -> bool {
-    core.status() == wanted
-}
-
 fn is_plan(core: &mut Core, prefix: u64, outputs: usize, inputs: usize) -> Option<bool> {
     let plan = core.plan().ok()?;
     Some(plan.prefix == prefix && plan.image.outputs() == outputs && plan.image.inputs() == inputs)
 }
 
 fn call_comes(core: &mut Core, call: &Call) -> Option<bool> {
-    match *call {
+    match call {
         Call::Finish => {
             core.finish();
             Some(true)
         }
-        Call::Migrate(wanted) => Some(core.migrate() == wanted),
-        Call::Status(accepted, durable, settled, live_bytes) => Some(is_status(
-            core,
-            Status {
-                accepted,
-                durable,
-                settled,
-                live_bytes,
-            },
-        )),
-        Call::Plan(prefix, outputs, inputs) => is_plan(core, prefix, outputs, inputs),
-        Call::Fault(wanted) => Some(core.fault() == wanted),
+        Call::Migrate(wanted) => Some(core.migrate() == *wanted),
+        Call::Status(accepted, durable, settled, live_bytes) => {
+            let wanted = Status {
+                accepted: *accepted,
+                durable: *durable,
+                settled: *settled,
+                live_bytes: *live_bytes,
+            };
+            Some(core.status() == wanted)
+        }
+        Call::Plan(prefix, outputs, inputs) => is_plan(core, *prefix, *outputs, *inputs),
+        Call::Fault(wanted) => Some(core.fault() == *wanted),
     }
 }
 
@@ -82,23 +78,20 @@ fn comes(alloc: Global, core: &mut Core, event: &Event) -> Option<bool> {
 }
 
 /// Whether the call gives what it must, at the second try if the first is refused memory, which must change nothing.
-fn comes_at_last(alloc: Global, core: &mut Core, event: &Event) -> Option<bool> {
+fn comes_at_last(alloc: Global, core: &mut Core, event: &Event) -> bool {
     let before = core.status();
-    if let Some(is_told) = comes(alloc, core, event) {
-        return Some(is_told);
+    match comes(alloc, core, event) {
+        Some(is_told) => is_told,
+        None => core.status() == before && matches!(comes(alloc, core, event), Some(true)),
     }
-    if core.status() != before {
-        return Some(false);
-    }
-    comes(alloc, core, event)
 }
 
-/// How many of the calls give what they must, before the first that doesn't.
-pub(crate) fn told(alloc: Global, core: &mut Core, events: &[Event]) -> Option<usize> {
-    for count in 0..events.len() {
-        if !comes_at_last(alloc, core, &events[count])? {
-            return Some(count);
+/// Whether all calls give what they must.
+pub(crate) fn are_told(alloc: Global, core: &mut Core, events: &[Event]) -> bool {
+    for event in events {
+        if !comes_at_last(alloc, core, event) {
+            return false;
         }
     }
-    Some(events.len())
+    true
 }

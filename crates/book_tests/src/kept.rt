@@ -14,16 +14,15 @@ pub(crate) struct Session {
 }
 
 impl Session {
-    /// A session that began with these contents.
-    pub(crate) fn of(alloc: Global, base: Contents) -> Option<Session> {
-        let contents = [base].to_vec(alloc).ok()?;
-        Some(Session {
-            contents,
+    /// A session that is not begun.
+    pub(crate) fn of(alloc: Global) -> Session {
+        Session {
+            contents: Vec::new(alloc),
             acknowledged: 0,
-        })
+        }
     }
 
-    /// Begins the next session with these contents. False if memory was refused.
+    /// Begins a session with these contents. False if memory was refused.
     pub(crate) fn begin(&mut self, base: Contents) -> bool {
         self.contents.clear();
         self.acknowledged = 0;
@@ -69,19 +68,22 @@ fn redo_journal(contents: &mut Contents, journal: &Journal) {
     }
 }
 
-/// The contents of the slaves after redo of what is live on the disk. None if the disk has no journal, or memory was refused.
-fn redone(alloc: Global, world: &World) -> Option<Contents> {
-    let mut contents = held(world)?;
-    let journal = scan(alloc, world.disk(), &[64, 64]).ok()?;
-    redo_journal(&mut contents, &journal);
-    Some(contents)
+/// Whether redo of what is live on the disk makes of these contents some after a prefix of the session's commands.
+fn is_redone(alloc: Global, disk: &[u8], contents: &mut Contents, session: &Session) -> bool {
+    match scan(alloc, disk, &[64, 64]) {
+        Ok(journal) => {
+            redo_journal(contents, &journal);
+            session.has(contents)
+        }
+        Err(_fault) => false,
+    }
 }
 
 /// Whether what a power cut has left is kept: the disk has a journal, and redo of what is live in it gives contents after a prefix of
 /// the session's commands.
 pub(crate) fn is_kept(alloc: Global, world: &World, session: &Session) -> bool {
-    match redone(alloc, world) {
-        Some(contents) => return session.has(&contents),
-        None => return false,
+    match held(world) {
+        Some(mut contents) => is_redone(alloc, world.disk(), &mut contents, session),
+        None => false,
     }
 }

@@ -8,7 +8,6 @@ use book_model::CoreFault;
 use jrn_format::{JournalFault, capacity, scan};
 use sii_words::Words;
 use std::alloc::{AllocError, Global};
-use std::process::Abort;
 
 /// A slave: its number of bytes, and those that differ from 0, each group with its place. The check byte is 0x30 unless it is given.
 pub(crate) type Slave = (usize, &'static [(usize, &'static [u8])]);
@@ -23,7 +22,8 @@ pub(crate) struct Line {
     pub second: &'static [u8],
 }
 
-fn patch(bytes: &mut [u8], from: usize, new: &[u8]) {
+/// Writes bytes over others, from a place on, as far as there is room.
+pub(crate) fn patch(bytes: &mut [u8], from: usize, new: &[u8]) {
     for place in 0..new.len() {
         let at = from.saturating_add(place);
         if at < bytes.len() {
@@ -32,14 +32,18 @@ fn patch(bytes: &mut [u8], from: usize, new: &[u8]) {
     }
 }
 
+/// A slave of 8,192 bytes at most.
 fn slave(alloc: Global, slave: &Slave) -> Option<Words> {
     let (count, patches) = slave;
-    let mut bytes = vec![in alloc; 0u8; *count].ok()?;
+    let mut bytes = [0u8; 8192];
     patch(&mut bytes, 14, &[0x30]);
     for (from, new) in *patches {
         patch(&mut bytes, *from, new);
     }
-    Words::from_bytes(alloc, &bytes).ok()
+    if *count > 8192 {
+        return None;
+    }
+    Words::from_bytes(alloc, &bytes[..*count]).ok()
 }
 
 fn slaves(alloc: Global, line: &Line) -> Option<Vec<Words>> {
@@ -48,16 +52,6 @@ fn slaves(alloc: Global, line: &Line) -> Option<Vec<Words>> {
         slaves.push(slave(alloc, one)?).ok()?;
     }
     Some(slaves)
-}
-
-/// The journal's file. One byte stands behind the halves.
-fn file(alloc: Global, line: &Line) -> Result<Vec<u8>, AllocError> {
-    let half = usize::from(line.half);
-    let mut file = vec![in alloc; 0u8; 9 + 2 * half]?;
-    patch(&mut file, 0, &line.header);
-    patch(&mut file, 8, line.first);
-    patch(&mut file, 8 + half, line.second);
-    Ok(file)
 }
 
 /// The number of words of each slave.
@@ -71,14 +65,11 @@ fn sizes(alloc: Global, slaves: &[Words]) -> Result<Vec<u16>, AllocError>
     Ok(sizes)
 }
 
-/// A book on a journal of these bytes.
-fn open(
-    rt: &impl Abort,
-    alloc: Global,
-    slaves: Vec<Words>,
-    file: &[u8],
-) -> Result<Core, JournalFault> {
-    assert!(rt; slaves.len() >= 1 && slaves.len() <= 64 && file.len() >= 8);
+/// A book on a journal of these bytes. Without 1 to 64 slaves, or with a file of fewer than 8 bytes, there is none.
+fn open(alloc: Global, slaves: Vec<Words>, file: &[u8]) -> Result<Core, JournalFault> {
+    if slaves.len() < 1 || slaves.len() > 64 || file.len() < 8 {
+        return Err(JournalFault::NotAJournal);
+    }
     let sizes = sizes(alloc, &slaves)?;
     let journal = scan(alloc, file, &sizes)?;
     match Core::open(alloc, slaves, capacity(file), journal) {
@@ -87,16 +78,26 @@ fn open(
     }
 }
 
-/// The book of such a line. None: memory was refused, or the line has no book.
-fn book(rt: &impl Abort, alloc: Global, line: &Line) -> Option<Core> {
-    let file = file(alloc, line).ok()?;
-    open(rt, alloc, slaves(alloc, line)?, &file).ok()
+/// The book of such a line, whose journal has one byte behind its halves. None: memory was refused, or the line has no book.
+fn book(alloc: Global, line: &Line) -> Option<Core> {
+    let mut file = [0u8; 65_545];
+    let half = usize::from(line.half);
+    patch(&mut file, 0, &line.header);
+    patch(&mut file, 8, line.first);
+    patch(&mut file, 8 + half, line.second);
+    if half > 32_768 {
+        return None;
+    }
+    match slaves(alloc, line) {
+        Some(slaves) => open(alloc, slaves, &file[..9 + 2 * half]).ok(),
+        None => None,
+    }
 }
 
 /// The book of such a line, at the second try if the first is refused memory.
-pub(crate) fn book_at_last(rt: &impl Abort, alloc: Global, line: &Line) -> Option<Core> {
-    match book(rt, alloc, line) {
+pub(crate) fn book_at_last(alloc: Global, line: &Line) -> Option<Core> {
+    match book(alloc, line) {
         Some(core) => Some(core),
-        None => book(rt, alloc, line),
+        None => book(alloc, line),
     }
 }

@@ -1,14 +1,13 @@
 //! Pseudorandom events, and what callers know after each.
 
-use crate::acts::{happens, stops, world_on};
+use crate::acts::{happens, is_acted, stops, world_on, writes};
 use crate::contents::{Contents, contents_in, put, zeros};
 use crate::dice::Dice;
 use crate::kept::{Session, is_kept};
-use book_model::RomOutcome;
 use sii_edit::{Command, Edit};
-use site_core::{DeviceFault, Issued, Settled};
+use site_core::DeviceFault;
 use std::alloc::Global;
-use world_run::{DiskEnd, Event, WordEnd, World};
+use world_run::{DiskEnd, Event, World};
 
 /// Headers for two slaves, of version 1 and of version 2.
 const HEADERS: &[[u8; 8]] = &[
@@ -116,11 +115,6 @@ fn of_caller(world: &mut World, session: &mut Session, dice: &mut Dice) -> bool 
     }
 }
 
-/// An action for a slave ends with this outcome.
-fn back(slave: u16, outcome: RomOutcome) -> Event {
-    Event::RomDone { slave, outcome }
-}
-
 fn disk_fails(alloc: Global, world: &mut World, dice: &mut Dice) -> bool {
     let Ok(bytes) = [dice.left_byte()].to_vec(alloc) else {
         return false;
@@ -129,37 +123,13 @@ fn disk_fails(alloc: Global, world: &mut World, dice: &mut Dice) -> bool {
     happens(world, Event::DiskDone(DiskEnd::Failed { fault, bytes }))
 }
 
-/// An action of the disk begins and succeeds.
-fn acts(world: &mut World) -> bool {
-    happens(world, Event::DiskBegin) && happens(world, Event::DiskDone(DiskEnd::Done))
-}
-
 fn of_disk(alloc: Global, world: &mut World, dice: &mut Dice) -> bool {
     match dice.below(128) {
         0 => return disk_fails(alloc, world, dice),
         1..=31 => return happens(world, Event::DiskBegin),
         32..=63 => return happens(world, Event::DiskDone(DiskEnd::Done)),
-        _ => return acts(world),
+        _ => return is_acted(world),
     }
-}
-
-/// The next action for a slave begins and ends with this outcome. An idle slave takes the datagram of an issue.
-fn calls(world: &mut World, slave: u16, outcome: RomOutcome) -> bool {
-    let takes = true;
-    happens(world, Event::RomIssue { slave, takes }) && happens(world, back(slave, outcome))
-}
-
-/// The word in flight is written.
-fn rests(world: &mut World, slave: u16) -> bool {
-    let end = WordEnd::Well;
-    happens(world, Event::RomResolve { slave, end })
-}
-
-/// A word of a slave is issued and written.
-fn writes(world: &mut World, slave: u16) -> bool {
-    calls(world, slave, RomOutcome::Issued(Issued::Taken))
-        && rests(world, slave)
-        && calls(world, slave, RomOutcome::Settled(Settled::Written))
 }
 
 fn of_slave(world: &mut World, dice: &mut Dice) -> bool {
@@ -173,7 +143,10 @@ fn of_slave(world: &mut World, dice: &mut Dice) -> bool {
             let end = dice.word_end();
             return happens(world, Event::RomResolve { slave, end });
         }
-        2..=4 => return happens(world, back(slave, dice.outcome())),
+        2..=4 => {
+            let outcome = dice.outcome();
+            return happens(world, Event::RomDone { slave, outcome });
+        }
         _ => return writes(world, slave),
     }
 }
@@ -212,8 +185,11 @@ fn list_goes_well(
     stops_kept(alloc, world, session, dice)
 }
 
-/// Whether everything is right in a list of events on a disk that begins with these bytes.
-fn world_goes_well(alloc: Global, front: &[u8], session: &mut Session, dice: &mut Dice) -> bool {
+/// Whether everything is right in a list of events on a disk that begins with these bytes, in a new session.
+fn begins_well(alloc: Global, front: &[u8], session: &mut Session, dice: &mut Dice) -> bool {
+    if !session.begin(zeros()) {
+        return false;
+    }
     match world_on(alloc, 2, front) {
         Some(mut world) => {
             let is_well = list_goes_well(alloc, &mut world, session, dice);
@@ -224,19 +200,12 @@ fn world_goes_well(alloc: Global, front: &[u8], session: &mut Session, dice: &mu
     }
 }
 
-/// Like `world_goes_well`, in a new session.
-fn begins_well(alloc: Global, front: &[u8], dice: &mut Dice) -> bool {
-    match Session::of(alloc, zeros()) {
-        Some(mut session) => return world_goes_well(alloc, front, &mut session, dice),
-        None => return false,
-    }
-}
-
 /// Tries `lists` lists of events on disks of both versions. Returns how many are right, before the first that isn't.
 pub(crate) fn count_well(alloc: Global, lists: usize) -> usize {
     let mut dice = Dice::of(1);
+    let mut session = Session::of(alloc);
     for count in 0..lists {
-        if !begins_well(alloc, &HEADERS[count % 2], &mut dice) {
+        if !begins_well(alloc, &HEADERS[count % 2], &mut session, &mut dice) {
             return count;
         }
     }

@@ -9,30 +9,27 @@ use crate::disk::Disk::{Append, Did, Done, Retire, Waits};
 use crate::disk::Step::{Close, Idle, Open, Stop, Sync, Write};
 use crate::events::Call::{Fault, Finish, Migrate, Plan, Status};
 use crate::events::Event::{Call, Disk, Fill, Rom, Submit};
-use crate::events::{Event, told};
+use crate::events::{Event, are_told};
 use crate::line::{Line, Slave, book_at_last};
 use crate::rom::Rom::{Next, Outcome, Serves, Writes};
 use book_model::{Fault as Faults, RomNext, RomOutcome, SubmitRefusal};
 use sii_edit::{Cause, Refusal};
 use site_core::{DeviceFault, Issued, Settled};
 use std::alloc::Global;
-use std::process::Abort;
 
 /// A line, and the calls of its book.
 type Case = (Line, &'static [Event]);
 
-/// How many of the calls give what they must, before the first that doesn't.
-fn told_of(rt: &impl Abort, alloc: Global, line: &Line, events: &[Event]) -> Option<usize> {
-    let mut core = book_at_last(rt, alloc, line)?;
-    let count = told(alloc, &mut core, events);
-    drop(core);
-    count
-}
-
-/// Checks that in each case all calls give what they must.
-fn all_come(rt: &impl Abort, alloc: Global, cases: &[Case]) {
-    for (line, events) in cases {
-        assert!(rt; told_of(rt, alloc, line, events) == Some(events.len()));
+/// Whether all calls of the case give what they must.
+fn is_told(alloc: Global, case: &Case) -> bool {
+    let (line, events) = case;
+    match book_at_last(alloc, line) {
+        Some(mut core) => {
+            let are_told = are_told(alloc, &mut core, events);
+            drop(core);
+            are_told
+        }
+        None => false,
     }
 }
 
@@ -230,7 +227,9 @@ const SERVED: &[Case] = &[
 
 #[test]
 fn commands_are_served(rt: HostRuntime) {
-    all_come(&rt, rt.alloc(), SERVED);
+    for case in SERVED {
+        assert!(rt; is_told(rt.alloc(), case));
+    }
 }
 
 /// The last byte of a half of 2,048 bytes stays free: a batch has an even number of bytes, and a closed gate behind it.
@@ -372,7 +371,9 @@ const HALVES: &[Case] = &[
 
 #[test]
 fn halves_are_filled_and_retired(rt: HostRuntime) {
-    all_come(&rt, rt.alloc(), HALVES);
+    for case in HALVES {
+        assert!(rt; is_told(rt.alloc(), case));
+    }
 }
 
 /// A slave gets alias 1, as a batch of version 1.
@@ -415,31 +416,6 @@ const MIGRATED_ON: &[Event] = &[
     Disk(Did(Sync)),
     Submit(Alias(0, 1), Ok(0)),
 ];
-
-/// Old journals, and the calls of their books.
-const OLD: &[Case] = &[
-    (
-        Line {
-            header: [0xa5, 1, 1, 0, 0, 0x10, 0, 0],
-            first: PLAIN,
-            ..ALONE
-        },
-        MIGRATED,
-    ),
-    (
-        Line {
-            header: [0xa5, 0x77, 1, 0, 0, 0x10, 0, 0],
-            first: MARK,
-            ..ALONE
-        },
-        MIGRATED_ON,
-    ),
-];
-
-#[test]
-fn old_journals_are_migrated(rt: HostRuntime) {
-    all_come(&rt, rt.alloc(), OLD);
-}
 
 /// A slave with managers 2 and 3 for process data, an RxPDO of 8 bits and a TxPDO of 32, and one with a TxPDO of 12 bits.
 const DRIVE: Slave = (
@@ -500,11 +476,32 @@ const CELL: Line = Line {
     ..ALONE
 };
 
-const IMAGES: &[Case] = &[(CELL, PLANNED)];
+/// Old journals and a line with process data, and the calls of their books.
+const OLD: &[Case] = &[
+    (
+        Line {
+            header: [0xa5, 1, 1, 0, 0, 0x10, 0, 0],
+            first: PLAIN,
+            ..ALONE
+        },
+        MIGRATED,
+    ),
+    (
+        Line {
+            header: [0xa5, 0x77, 1, 0, 0, 0x10, 0, 0],
+            first: MARK,
+            ..ALONE
+        },
+        MIGRATED_ON,
+    ),
+    (CELL, PLANNED),
+];
 
 #[test]
-fn the_process_image_follows(rt: HostRuntime) {
-    all_come(&rt, rt.alloc(), IMAGES);
+fn old_journals_are_migrated_and_the_process_image_follows(rt: HostRuntime) {
+    for case in OLD {
+        assert!(rt; is_told(rt.alloc(), case));
+    }
 }
 
 const WIDE: Line = Line {
@@ -527,5 +524,7 @@ const QUEUES: &[Case] = &[(WIDE, QUEUED)];
 
 #[test]
 fn the_queue_holds_1024_commands(rt: HostRuntime) {
-    all_come(&rt, rt.alloc(), QUEUES);
+    for case in QUEUES {
+        assert!(rt; is_told(rt.alloc(), case));
+    }
 }

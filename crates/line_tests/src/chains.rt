@@ -79,17 +79,10 @@ fn is_read(alloc: Global, row: &Chain) -> bool {
     }
 }
 
-#[test]
-fn chains_are_read(rt: HostRuntime) {
-    for row in CHAINS {
-        assert!(rt; is_read(rt.alloc(), row));
-    }
-}
-
-/// Aliases for slaves, and behind them a category that is malformed, or whose type none may have, in one group of edits.
+/// An alias for slave 0, if there is one, and behind it a category that is malformed, or whose type none may have, in one group of edits.
 #[derive(Clone, Copy)]
 struct Case {
-    aliases: &'static [(u16, u16)],
+    alias: Option<u16>,
     slave: u16,
     kind: u16,
     content: &'static [u16],
@@ -108,14 +101,14 @@ const EMPTY_LINE: &[Device] = &[EMPTY, EMPTY, EMPTY];
 const MALFORMED: &[Case] = &[
     // A text that is cut off.
     Case {
-        aliases: &[(0, 5)],
+        alias: Some(5),
         slave: 0,
         kind: STRINGS,
         content: &[0x0202, 0x4C45],
         position: 1,
     },
     Case {
-        aliases: &[],
+        alias: None,
         slave: 2,
         kind: END,
         content: &[1],
@@ -123,67 +116,83 @@ const MALFORMED: &[Case] = &[
     },
 ];
 
-/// These aliases, as edits.
-fn alias_edits(alloc: Global, aliases: &[(u16, u16)]) -> Option<Vec<Edit>> {
+/// The alias, if there is one, as the only edit.
+fn alias_edits(alloc: Global, alias: Option<u16>) -> Option<Vec<Edit>> {
     let mut edits = Vec::new(alloc);
-    for (slave, value) in aliases {
-        let (slave, value) = (*slave, *value);
-        edits.push(Edit::Alias { slave, value }).ok()?;
+    if let Some(value) = alias {
+        edits.push(Edit::Alias { slave: 0, value }).ok()?;
     }
     Some(edits)
 }
 
 /// The category, as an edit.
 fn category_edit(alloc: Global, case: &Case) -> Option<Edit> {
-    Some(Edit::Category {
-        slave: case.slave,
-        kind: case.kind,
-        words: WordList::from_vec(case.content.to_vec(alloc).ok()?),
-    })
+    match case.content.to_vec(alloc) {
+        Ok(words) => Some(Edit::Category {
+            slave: case.slave,
+            kind: case.kind,
+            words: WordList::from_vec(words),
+        }),
+        Err(_refused) => None,
+    }
 }
 
-/// The aliases, and then the category, as a group of edits.
+/// The alias, and then the category, as a group of edits.
 fn group(alloc: Global, case: &Case) -> Option<Command> {
-    let mut edits = alias_edits(alloc, case.aliases)?;
+    let mut edits = alias_edits(alloc, case.alias)?;
     edits.push(category_edit(alloc, case)?).ok()?;
     Some(Command::Group(EditList::from_vec(edits)))
 }
 
-/// Why the command is refused.
-fn refusal(alloc: Global, plant: &Plant, command: &Command) -> Option<Refusal> {
-    let layout = Layout::of(alloc, plant).ok()?;
-    match changes(alloc, plant, &layout, command) {
-        Ok(change) => {
-            drop(change);
-            None
-        }
-        Err(refusal) => Some(refusal),
-    }
-}
-
-/// Why the group is refused on a line of zeros.
-fn refusal_of(alloc: Global, case: &Case) -> Option<Refusal> {
-    let plant = line_of(alloc, EMPTY_LINE)?;
-    let command = group(alloc, case)?;
-    refusal(alloc, &plant, &command)
-}
-
-/// Whether the category of the case is refused, with its type.
-fn is_refused(alloc: Global, case: &Case) -> bool {
-    match refusal_of(alloc, case) {
-        Some(
-            Refusal {
-                cause: Cause::BadCategory { kind },
-                position: Some(position),
-            },
-        ) => kind == case.kind && position == case.position,
+/// Whether a command is refused for the category of the case.
+fn is_for(refusal: &Refusal, case: &Case) -> bool {
+    match *refusal {
+        Refusal {
+            cause: Cause::BadCategory { kind },
+            position: Some(position),
+        } => kind == case.kind && position == case.position,
         _ => false,
     }
 }
 
-#[test]
-fn malformed_categories_are_refused(rt: HostRuntime) {
-    for case in MALFORMED {
-        assert!(rt; is_refused(rt.alloc(), case));
+/// Whether the command is refused on the line for the category of the case.
+fn refuses(alloc: Global, plant: &Plant, command: &Command, case: &Case) -> bool {
+    let Ok(layout) = Layout::of(alloc, plant) else {
+        return false;
+    };
+    match changes(alloc, plant, &layout, command) {
+        Ok(change) => {
+            drop(change);
+            false
+        }
+        Err(refusal) => is_for(&refusal, case),
     }
+}
+
+/// Whether the category of the case is refused on the line, with its type.
+fn is_refused(alloc: Global, plant: &Plant, case: &Case) -> bool {
+    match group(alloc, case) {
+        Some(command) => refuses(alloc, plant, &command, case),
+        None => false,
+    }
+}
+
+/// Whether the categories are refused on a line of zeros.
+fn are_refused(alloc: Global, cases: &[Case]) -> bool {
+    let Some(plant) = line_of(alloc, EMPTY_LINE) else {
+        return false;
+    };
+    let mut are_refused = true;
+    for case in cases {
+        are_refused &= is_refused(alloc, &plant, case);
+    }
+    are_refused
+}
+
+#[test]
+fn chains_are_read_and_malformed_categories_refused(rt: HostRuntime) {
+    for row in CHAINS {
+        assert!(rt; is_read(rt.alloc(), row));
+    }
+    assert!(rt; are_refused(rt.alloc(), MALFORMED));
 }

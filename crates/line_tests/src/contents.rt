@@ -70,13 +70,12 @@ fn rewritten(alloc: Global, kind: u16, words: &[u16]) -> Result<Vec<u16>, CatFau
 
 fn comes(alloc: Global, case: &Case) -> bool {
     let (kind, words, wanted) = *case;
-    match (rewritten(alloc, kind, words), wanted) {
-        (Ok(written), Ok(wanted)) => written.as_slice() == wanted,
-        (
-            Err(CatFault::BadCategory { kind: refused }),
-            Err(CatFault::BadCategory { kind: wanted }),
-        ) => refused == wanted,
-        _ => false,
+    match rewritten(alloc, kind, words) {
+        Ok(written) => matches!(wanted, Ok(wanted) if written.as_slice() == wanted),
+        Err(CatFault::BadCategory { kind: refused }) => {
+            matches!(wanted, Err(CatFault::BadCategory { kind }) if kind == refused)
+        }
+        Err(_fault) => false,
     }
 }
 

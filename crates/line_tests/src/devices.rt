@@ -1,7 +1,7 @@
 //! Devices, and lines of them.
 
 use sii_words::{Plant, Words};
-use std::alloc::{AllocError, Global};
+use std::alloc::Global;
 
 /// A device: its first bytes, those of its categories, and how many it has. The others are 0.
 #[derive(Clone, Copy)]
@@ -62,18 +62,20 @@ pub(crate) fn put(bytes: &mut [u8], from: usize, new: &[u8]) {
     }
 }
 
-/// The bytes of a device.
-pub(crate) fn bytes_of(alloc: Global, device: &Device) -> Result<Vec<u8>, AllocError> {
-    let mut bytes = vec![in alloc; 0u8; device.size]?;
+/// The bytes of a device, and zeros behind them.
+pub(crate) fn bytes_of(device: &Device) -> [u8; 1024] {
+    let mut bytes = [0u8; 1024];
     put(&mut bytes, 0, device.front);
     put(&mut bytes, 128, device.categories);
-    Ok(bytes)
+    bytes
 }
 
-/// The words of a device.
+/// The words of a device of 1,024 bytes at most.
 pub(crate) fn words_of(alloc: Global, device: &Device) -> Option<Words> {
-    let bytes = bytes_of(alloc, device).ok()?;
-    Words::from_bytes(alloc, &bytes).ok()
+    if device.size > 1024 {
+        return None;
+    }
+    Words::from_bytes(alloc, &bytes_of(device)[..device.size]).ok()
 }
 
 /// A line of these devices.

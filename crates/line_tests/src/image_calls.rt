@@ -8,18 +8,18 @@ use std::alloc::Global;
 
 /// The codes that zeros get: from their head, their judgement, a new alias, category 0, the removal of a category, an image, and as a
 /// line.
-type Codes = (u32, u32, u32, u32, u32, u32, u32);
+type Codes = [u32; 7];
 
-/// A number of bytes, and the codes of so many zeros.
+/// A number of bytes, 8,194 at most, and the codes of so many zeros.
 type Zeros = (usize, Codes);
 
 const ZEROS: &[Zeros] = &[
-    (126, (2, 2, 2, 2, 2, 2, 2)),
-    (127, (1, 1, 1, 1, 1, 1, 1)),
-    (128, (0, 15, 15, 16, 16, 15, 0)),
-    (130, (0, 15, 15, 3, 2, 2, 2)),
-    (8_192, (0, 15, 15, 0, 16, 15, 0)),
-    (8_194, (2, 2, 2, 2, 2, 2, 2)),
+    (126, [2, 2, 2, 2, 2, 2, 2]),
+    (127, [1, 1, 1, 1, 1, 1, 1]),
+    (128, [0, 15, 15, 16, 16, 15, 0]),
+    (130, [0, 15, 15, 3, 2, 2, 2]),
+    (8_192, [0, 15, 15, 0, 16, 15, 0]),
+    (8_194, [2, 2, 2, 2, 2, 2, 2]),
 ];
 
 const NO_HEAD: Head = Head {
@@ -46,27 +46,6 @@ const NO_SIZES: ImageSizes = ImageSizes {
     counter: 0,
 };
 
-/// The codes of reading.
-fn read_codes(alloc: Global, bytes: &[u8]) -> (u32, u32, u32) {
-    let mut head = NO_HEAD;
-    let mut detail = 0;
-    let mut place = NO_PLACE;
-    (
-        read_head(alloc, bytes, &mut head),
-        judge_image(alloc, bytes, &mut detail),
-        find_category(alloc, bytes, 0, &mut place),
-    )
-}
-
-/// The codes of changing.
-fn change_codes(alloc: Global, bytes: &mut [u8], image: &[u8]) -> (u32, u32, u32) {
-    (
-        set_alias(alloc, bytes, 7),
-        edit_category(alloc, bytes, 10, &[]),
-        edit_image(alloc, bytes, image),
-    )
-}
-
 /// The code of a line of one slave.
 fn line_code(alloc: Global, bytes: &[u8]) -> u32 {
     let mut segments: [PlacedSegment; 0] = [];
@@ -76,23 +55,29 @@ fn line_code(alloc: Global, bytes: &[u8]) -> u32 {
 
 /// The codes of these zeros.
 fn codes_of(alloc: Global, bytes: &mut [u8], image: &[u8]) -> Codes {
-    let (head, judged, category) = read_codes(alloc, bytes);
+    let mut head = NO_HEAD;
+    let mut detail = 0;
+    let mut place = NO_PLACE;
+    let read = read_head(alloc, bytes, &mut head);
+    let judged = judge_image(alloc, bytes, &mut detail);
+    let found = find_category(alloc, bytes, 0, &mut place);
     let line = line_code(alloc, bytes);
-    let (alias, removed, written) = change_codes(alloc, bytes, image);
-    (head, judged, alias, category, removed, written, line)
+    let named = set_alias(alloc, bytes, 7);
+    let removed = edit_category(alloc, bytes, 10, &[]);
+    let written = edit_image(alloc, bytes, image);
+    [read, judged, named, found, removed, written, line]
 }
 
 /// Whether so many zeros get their codes.
-fn get_codes(alloc: Global, zeros: &Zeros) -> Option<bool> {
-    let (count, codes) = *zeros;
-    let mut bytes = vec![in alloc; 0u8; count].ok()?;
-    let image = vec![in alloc; 0u8; count].ok()?;
-    Some(codes_of(alloc, &mut bytes, &image) == codes)
+fn get_codes(alloc: Global, count: usize, codes: &Codes) -> bool {
+    let mut bytes = [0u8; 8194];
+    let image = [0u8; 8194];
+    count <= 8194 && codes_of(alloc, &mut bytes[..count], &image[..count]) == *codes
 }
 
 #[test]
 fn zeros_get_their_codes(rt: HostRuntime) {
-    for zeros in ZEROS {
-        assert!(rt; matches!(get_codes(rt.alloc(), zeros), Some(true)));
+    for (count, codes) in ZEROS {
+        assert!(rt; get_codes(rt.alloc(), *count, codes));
     }
 }

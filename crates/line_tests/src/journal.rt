@@ -1,5 +1,6 @@
 //! Journals that are cut off.
 
+use crate::devices::put;
 use jrn_format::{JournalFault, scan};
 use std::alloc::Global;
 
@@ -20,29 +21,14 @@ fn is_cut(alloc: Global, file: &[u8]) -> bool {
     }
 }
 
-/// The journal with its whole area.
-fn whole(alloc: Global) -> Option<Vec<u8>> {
-    let mut file = Vec::from_slice(alloc, SWAPPED).ok()?;
-    file.resize(4104, 0).ok()?;
-    Some(file)
-}
-
-/// Whether the whole journal is read, and refused with each number of bytes below.
-fn is_whole(alloc: Global, file: &[u8]) -> bool {
-    for size in 0..file.len() {
-        if !is_cut(alloc, &file[..size]) {
-            return false;
-        }
-    }
-    file.len() == 4104 && scan(alloc, file, &[64, 64]).is_ok()
-}
-
+/// The journal with its whole area is read, and refused with each number of bytes below.
 #[test]
 fn files_cut_short(rt: HostRuntime) {
-    assert!(rt;
-        match whole(rt.alloc()) {
-            Some(file) => is_whole(rt.alloc(), &file),
-            None => false,
-        }
-    );
+    let mut file = [0u8; 4104];
+    put(&mut file, 0, SWAPPED);
+    let mut are_cut = true;
+    for size in 0..4104usize {
+        are_cut &= is_cut(rt.alloc(), &file[..size]);
+    }
+    assert!(rt; are_cut && scan(rt.alloc(), &file, &[64, 64]).is_ok());
 }

@@ -46,8 +46,10 @@ fn is_whole(image: &ProcessImage) -> bool {
 
 /// The layout of a device.
 fn slave_layout(alloc: Global, device: &Device) -> Option<SlaveLayout> {
-    let words = words_of(alloc, device)?;
-    SlaveLayout::of(alloc, &words).ok()
+    match words_of(alloc, device) {
+        Some(words) => SlaveLayout::of(alloc, &words).ok(),
+        None => None,
+    }
 }
 
 /// The line before the change of its slaves.
@@ -55,11 +57,15 @@ const BEFORE: &[Device] = &[BOTH, NOTHING];
 
 /// The layouts of both slaves of the line.
 fn both_layouts(alloc: Global) -> Option<NewLayouts> {
-    let mut layouts = Vec::new(alloc);
-    let layout = slave_layout(alloc, &BOTH)?;
-    layouts.push(NewLayout { slave: 0, layout }).ok()?;
-    let layout = slave_layout(alloc, &INPUTS)?;
-    layouts.push(NewLayout { slave: 1, layout }).ok()?;
+    let first = NewLayout {
+        slave: 0,
+        layout: slave_layout(alloc, &BOTH)?,
+    };
+    let second = NewLayout {
+        slave: 1,
+        layout: slave_layout(alloc, &INPUTS)?,
+    };
+    let layouts = Vec::from_array(alloc, [first, second]).ok()?;
     Some(NewLayouts::of(layouts))
 }
 
@@ -81,13 +87,27 @@ fn becomes_whole(layout: &mut Layout, new: NewLayouts) -> bool {
     }
 }
 
-fn is_changed(alloc: Global) -> Option<bool> {
-    let plant = line_of(alloc, BEFORE)?;
-    let mut layout = Layout::of(alloc, &plant).ok()?;
-    Some(change(alloc, &mut layout) && becomes_whole(&mut layout, both_layouts(alloc)?))
+fn is_changed(alloc: Global, layout: &mut Layout) -> bool {
+    let is_changed = change(alloc, layout);
+    match both_layouts(alloc) {
+        Some(new) => becomes_whole(layout, new) && is_changed,
+        None => false,
+    }
+}
+
+/// The layout of the line before the change.
+fn layout_before(alloc: Global) -> Option<Layout> {
+    match line_of(alloc, BEFORE) {
+        Some(plant) => Layout::of(alloc, &plant).ok(),
+        None => None,
+    }
 }
 
 #[test]
 fn layouts_are_changed(rt: HostRuntime) {
-    assert!(rt; matches!(is_changed(rt.alloc()), Some(true)));
+    let is_changed = match layout_before(rt.alloc()) {
+        Some(mut layout) => is_changed(rt.alloc(), &mut layout),
+        None => false,
+    };
+    assert!(rt; is_changed);
 }

@@ -3,14 +3,13 @@ mod frames;
 mod process_data;
 mod process_half;
 mod recorder;
-mod rom_half;
+pub(crate) mod rom_half;
 mod sent;
 mod site_faults;
 
-use crate::devices::{ZERO, words_of};
+use crate::devices::{ZERO, put, words_of};
 use ecat_frame::{Command, Frame, FrameFault, fp};
 use esc_model::{ProcessHalf, RomHalf};
-use sii_words::Words;
 use site_core::Site;
 use site_mem::{MemSite, Parts};
 use std::alloc::Global;
@@ -56,16 +55,6 @@ fn line(alloc: Global, delay: u32) -> Option<MemSite> {
     line_with(alloc, &[0x1001], delay, None)
 }
 
-// The process halves of slaves with these words and these station addresses.
-fn process_halves(alloc: Global, words: &Words, stations: &[u16]) -> Option<Vec<ProcessHalf>> {
-    let mut process = Vec::new(alloc);
-    for station in stations {
-        let half = ProcessHalf::power_up(alloc, words, *station).ok()?;
-        process.push(half).ok()?;
-    }
-    Some(process)
-}
-
 // An entry for each of `count` EEPROM halves, none of which the site owns.
 fn no_halves(alloc: Global, count: usize) -> Option<Vec<Option<RomHalf>>> {
     let mut halves = Vec::new(alloc);
@@ -75,45 +64,16 @@ fn no_halves(alloc: Global, count: usize) -> Option<Vec<Option<RomHalf>>> {
     Some(halves)
 }
 
-// A line of slaves of `size` words. The site owns only these process halves.
-fn process_line(alloc: Global, size: u16, process: Vec<ProcessHalf>) -> Option<MemSite> {
+// A line of slaves of 128 words. The site owns only these process halves.
+fn process_line(alloc: Global, process: Vec<ProcessHalf>) -> Option<MemSite> {
     let count = process.len();
-    let mut sizes = Vec::new(alloc);
-    sizes.resize(count, size).ok()?;
     let parts = Parts {
-        sizes,
+        sizes: vec![in alloc; 128u16; count].ok()?,
         disk: None,
         halves: no_halves(alloc, count)?,
         process: Some(process),
     };
     site_of(alloc, parts)
-}
-
-// Whether the frame has the bytes `sent`, and comes back from slave 0 as `back`.
-fn is_exchanged(site: &mut impl Site, frame: &mut Frame, sent: &[u8], back: &[u8]) -> bool {
-    site.owns(0)
-        && frame.as_bytes() == sent
-        && site.exchange(0, frame).is_ok()
-        && frame.as_bytes() == back
-}
-
-// Whether a frame of one datagram has the bytes `sent`, and comes back from a slave as `back`.
-fn goes_and_comes(
-    alloc: Global,
-    command: Command,
-    address: u32,
-    content: &[u8],
-    sent: &[u8],
-    back: &[u8],
-) -> bool {
-    let Some(mut site) = line(alloc, 1) else {
-        return false;
-    };
-    let mut frame = Frame::new();
-    let is_exchanged = frame.push(command, 0, address, content).is_ok()
-        && is_exchanged(&mut site, &mut frame, sent, back);
-    drop(site.into_parts());
-    is_exchanged
 }
 
 // The bytes that issue word 4 = 1 to slave 0.
@@ -128,29 +88,51 @@ const ISSUED: &[u8] = &[
     0x00, 0x00, 0x01, 0x00, 0x01, 0x00,
 ];
 
-#[test]
-fn an_issue_has_these_bytes(rt: HostRuntime) {
-    let address = fp(0x1001, 0x0502);
-    let content = &ISSUE[12..20];
-    assert!(rt; goes_and_comes(rt.alloc(), Command::Fpwr, address, content, ISSUE, ISSUED));
+// Whether a frame with only this datagram has the bytes `sent`, and comes back from slave 0 as `back`.
+fn is_exchanged(
+    site: &mut impl Site,
+    command: Command,
+    address: u32,
+    content: &[u8],
+    sent: &[u8],
+    back: &[u8],
+) -> bool {
+    let mut frame = Frame::new();
+    site.owns(0)
+        && frame.push(command, 0, address, content).is_ok()
+        && frame.as_bytes() == sent
+        && site.exchange(0, &mut frame).is_ok()
+        && frame.as_bytes() == back
 }
 
-// Whether there is no room for this content.
-fn is_too_long(content: &[u8]) -> bool {
-    Frame::new().push(Command::Lrw, 0, 0, content) == Err(FrameFault::FrameFull)
-}
-
-// The longest datagram fills a frame of 1,500 bytes. A slave passes it on unchanged.
-#[test]
-fn the_longest_frame_is_exchanged(rt: HostRuntime) {
+// The longest datagram fills a frame of 1,500 bytes, and a slave passes it on unchanged. There is no room for one more byte.
+fn longest_is_exchanged(site: &mut impl Site) -> bool {
     let content = [7u8; 1487];
     let mut bytes = [7u8; 1500];
-    bytes[..12].copy_from_slice(&[0xda, 0x15, 0x0c, 0, 0, 0, 0, 0, 0xce, 0x05, 0, 0]);
-    bytes[1498] = 0;
-    bytes[1499] = 0;
-    let longest = &content[..1486];
-    assert!(rt;
-        is_too_long(&content)
-            && goes_and_comes(rt.alloc(), Command::Lrw, 0, longest, &bytes, &bytes)
+    put(
+        &mut bytes,
+        0,
+        &[0xda, 0x15, 0x0c, 0, 0, 0, 0, 0, 0xce, 0x05, 0, 0],
     );
+    put(&mut bytes, 1498, &[0, 0]);
+    Frame::new().push(Command::Lrw, 0, 0, &content) == Err(FrameFault::FrameFull)
+        && is_exchanged(site, Command::Lrw, 0, &content[..1486], &bytes, &bytes)
+}
+
+// Whether the longest frame, and one that issues word 4 = 1, are exchanged.
+fn are_exchanged(alloc: Global) -> bool {
+    let Some(mut site) = line(alloc, 1) else {
+        return false;
+    };
+    let address = fp(0x1001, 0x0502);
+    let content = &ISSUE[12..20];
+    let are_exchanged = longest_is_exchanged(&mut site)
+        && is_exchanged(&mut site, Command::Fpwr, address, content, ISSUE, ISSUED);
+    drop(site.into_parts());
+    are_exchanged
+}
+
+#[test]
+fn frames_are_exchanged(rt: HostRuntime) {
+    assert!(rt; are_exchanged(rt.alloc()));
 }

@@ -7,8 +7,8 @@ use std::alloc::Global;
 // What is done with a slave, and what must come of it.
 #[derive(Clone, Copy)]
 pub(super) enum Access {
-    // A word of a slave is issued with a value.
-    Issue(u16, u16, u16, Result<Issued, DeviceFault>),
+    // Word 4 of a slave is issued as 1.
+    Issue(u16, Result<Issued, DeviceFault>),
     // It is settled. It was taken or not.
     Settle(u16, bool, Result<Settled, DeviceFault>),
     Open(u16, Result<(), RomFault>),
@@ -17,7 +17,7 @@ pub(super) enum Access {
 }
 
 // Word 4 of slave 0 is issued as 1 and taken, and it is settled.
-pub(super) const TAKEN: Access = Access::Issue(0, 4, 1, Ok(Issued::Taken));
+pub(super) const TAKEN: Access = Access::Issue(0, Ok(Issued::Taken));
 
 pub(super) const WRITTEN: Access = Access::Settle(0, true, Ok(Settled::Written));
 
@@ -29,37 +29,30 @@ fn words_with(alias: u16) -> [u16; 64] {
     words
 }
 
-fn is_read(alloc: Global, site: &mut impl Site, answer: Result<u16, RomFault>) -> bool {
+// Whether reading all words of slave 0, which the site owns, has this answer.
+fn is_read(alloc: Global, site: &mut impl Site, answer: &Result<u16, RomFault>) -> bool {
     if !site.owns(0) {
         return false;
     }
-    match (read_all(alloc, site, 0), answer) {
-        (Ok(words), Ok(alias)) => words.as_slice() == words_with(alias).as_slice(),
-        (Err(fault), Err(wanted)) => fault == wanted,
-        _ => false,
+    match read_all(alloc, site, 0) {
+        Ok(words) => match *answer {
+            Ok(alias) => words.as_slice() == words_with(alias).as_slice(),
+            Err(_wanted) => false,
+        },
+        Err(fault) => *answer == Err(fault),
     }
 }
 
 // Whether this comes of it.
 pub(super) fn comes(alloc: Global, site: &mut impl Site, access: &Access) -> bool {
-    match *access {
-        Access::Issue(slave, word, value, answer) => {
-            site.owns(slave) && issue(site, slave, word, value) == answer
+    match access {
+        Access::Issue(slave, answer) => {
+            site.owns(*slave) && issue(site, *slave, 4, 1) == *answer
         }
         Access::Settle(slave, taken, answer) => {
-            site.owns(slave) && settle(site, slave, taken) == answer
+            site.owns(*slave) && settle(site, *slave, *taken) == *answer
         }
-        Access::Open(slave, answer) => site.owns(slave) && open_slave(site, slave) == answer,
+        Access::Open(slave, answer) => site.owns(*slave) && open_slave(site, *slave) == *answer,
         Access::Read(answer) => is_read(alloc, site, answer),
     }
-}
-
-// Whether all of this comes, one after another.
-pub(super) fn all_come(alloc: Global, site: &mut impl Site, accesses: &[Access]) -> bool {
-    for access in accesses {
-        if !comes(alloc, site, access) {
-            return false;
-        }
-    }
-    true
 }

@@ -167,11 +167,11 @@ fn is_spelled_as(command: Command, address: u32, content: &[u8], bytes: &[u8]) -
     frame.push(command, 0, address, content).is_ok() && frame.as_bytes() == bytes
 }
 
-// The place of the first fault in these bytes, if they are no frame.
-fn fault_in(bytes: &[u8]) -> Option<usize> {
+// Whether these bytes are no frame, with the first fault at this place.
+fn is_broken(bytes: &[u8], place: usize) -> bool {
     match Frame::parse(bytes) {
-        Err(FrameFault::BadFrame { at }) => Some(at),
-        Err(FrameFault::FrameFull) | Ok(_) => None,
+        Err(FrameFault::BadFrame { at }) => at == place,
+        Err(FrameFault::FrameFull) | Ok(_) => false,
     }
 }
 
@@ -190,35 +190,21 @@ fn comes(case: &Case) -> bool {
             is_spelled_as(command, address, content, bytes)
                 && reads_as(bytes, command, address, content)
         }
-        Case::Broken(bytes, place) => fault_in(bytes) == Some(place),
+        Case::Broken(bytes, place) => is_broken(bytes, place),
         Case::Read(bytes, count, spelling) => is_read_as(bytes, count, spelling),
     }
 }
 
-fn all_come(cases: &[Case]) -> bool {
-    for case in cases {
-        if !comes(case) {
-            return false;
-        }
-    }
-    true
-}
-
-#[test]
-fn frames_are_spelled_and_read(rt: HostRuntime) {
-    assert!(rt; fp(0x1001, 0x0502) == 0x0502_1001);
-    assert!(rt; all_come(CASES));
-}
-
-// A frame that is cut off; one with a stated length above 1,498.
-#[test]
-fn bytes_that_are_no_frame(rt: HostRuntime) {
-    for count in 0..22usize {
-        assert!(rt; fault_in(&ISSUE[..count]) == Some(0));
-    }
+// Whether a frame that is cut off is none, and neither is one with a stated length above 1,498.
+fn are_broken() -> bool {
     let mut long = [0u8; 1501];
-    long[..2].copy_from_slice(&[0xdb, 0x15]);
-    assert!(rt; fault_in(&long) == Some(0));
+    long[0] = 0xdb;
+    long[1] = 0x15;
+    let mut are_broken = is_broken(&long, 0);
+    for count in 0..22usize {
+        are_broken &= is_broken(&ISSUE[..count], 0);
+    }
+    are_broken
 }
 
 // A frame of as many datagrams without content as there is room for. Their codes and indices are 0, 1 and so on.
@@ -244,25 +230,12 @@ fn counted_up(frame: &Frame) -> usize {
     count
 }
 
-#[test]
-fn a_frame_has_room_for_124_datagrams(rt: HostRuntime) {
-    let frame = full_frame();
-    // A code that has a variant of its own is read as that variant.
-    assert!(rt;
-        counted_up(&frame) == 124
-            && frame.count() == 124
-            && is_read_as(frame.as_bytes(), 124, frame.as_bytes())
-            && frame.datagram(4).command == Command::Fprd
-    );
-}
-
-// A poll and an issue.
-fn poll_and_issue() -> Option<Frame> {
-    let mut frame = Frame::new();
-    let address = fp(0x1001, 0x0502);
-    frame.push(Command::Fprd, 0, address, &[0, 0]).ok()?;
-    frame.push(Command::Fpwr, 0, address, &ISSUE[12..20]).ok()?;
-    Some(frame)
+// Whether a frame has room for 124 datagrams. A code that has a variant of its own is read as that variant.
+fn is_filled(frame: &Frame) -> bool {
+    counted_up(frame) == 124
+        && frame.count() == 124
+        && is_read_as(frame.as_bytes(), 124, frame.as_bytes())
+        && frame.datagram(4).command == Command::Fprd
 }
 
 // Whether a frame has these bytes once the datagram at index `k` is answered.
@@ -274,21 +247,24 @@ fn is_answered(frame: &mut Frame, k: usize, content: &[u8], counter: u16, bytes:
     frame.as_bytes() == bytes
 }
 
-// Whether each answer gives these bytes.
-fn are_answered(frame: &mut Frame) -> bool {
+// Whether a frame of a poll and an issue has these bytes after each answer.
+fn are_answered() -> bool {
+    let mut frame = Frame::new();
+    let mut are_so = frame.push(Command::Fprd, 0, 0x0502_1001, &[0, 0]).is_ok()
+        && frame
+            .push(Command::Fpwr, 0, 0x0502_1001, &ISSUE[12..20])
+            .is_ok();
     for (k, content, counter, bytes) in ANSWERED {
-        if !is_answered(frame, *k, content, *counter, bytes) {
-            return false;
-        }
+        are_so &= is_answered(&mut frame, *k, content, *counter, bytes);
     }
-    true
+    are_so
 }
 
 #[test]
-fn datagrams_are_answered(rt: HostRuntime) {
-    let are_so = match poll_and_issue() {
-        Some(mut frame) => are_answered(&mut frame),
-        None => false,
-    };
-    assert!(rt; are_so);
+fn frames_are_spelled_read_and_answered(rt: HostRuntime) {
+    for case in CASES {
+        assert!(rt; comes(case));
+    }
+    let is_address = fp(0x1001, 0x0502) == 0x0502_1001;
+    assert!(rt; is_address && are_broken() && is_filled(&full_frame()) && are_answered());
 }

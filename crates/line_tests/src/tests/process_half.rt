@@ -1,6 +1,6 @@
 //! The process half of a slave, datagram by datagram.
 
-use crate::devices::{ZERO, words_of};
+use crate::devices::{Device, ZERO, words_of};
 use ecat_frame::{Command, fp};
 use esc_model::ProcessHalf;
 use std::alloc::Global;
@@ -129,34 +129,47 @@ fn stand(half: &mut ProcessHalf, place: u16, memory: &[u8]) {
     }
 }
 
-// A half with these FMMUs and bytes.
-fn half_of(alloc: Global, units: &[[u8; 16]], place: u16, memory: &[u8]) -> Option<ProcessHalf> {
-    let words = words_of(alloc, &ZERO)?;
-    let mut half = ProcessHalf::power_up(alloc, &words, STATION).ok()?;
-    write_units(&mut half, units);
-    stand(&mut half, place, memory);
-    Some(half)
+// The process half of such a slave at this station, with these bytes in its memory from `place` on.
+pub(super) fn half_of(
+    alloc: Global,
+    device: &Device,
+    station: u16,
+    place: u16,
+    memory: &[u8],
+) -> Option<ProcessHalf> {
+    match words_of(alloc, device) {
+        Some(words) => {
+            let mut half = ProcessHalf::power_up(alloc, &words, station).ok()?;
+            stand(&mut half, place, memory);
+            Some(half)
+        }
+        None => None,
+    }
 }
 
-// The byte at 0x1100 of a copy.
-fn copied_byte(half: &ProcessHalf) -> Option<u8> {
-    let copy = half.try_copy().ok()?;
-    Some(copy.peek(0x1100))
+// Whether a copy has this byte at 0x1100.
+fn is_copied(half: &ProcessHalf, byte: u8) -> bool {
+    match half.try_copy() {
+        Ok(copy) => copy.peek(0x1100) == byte,
+        Err(_refused) => false,
+    }
 }
 
 // Whether the LRW passes the slave so.
-fn is_passed(alloc: Global, slave: &Slave) -> Option<bool> {
-    let (units, place, memory, content, back, counter, output) = *slave;
-    let mut half = half_of(alloc, units, place, memory)?;
-    let mut content = content;
-    let added = half.take(Command::Lrw, 0, &mut content);
-    Some(added == counter && content == back && copied_byte(&half) == Some(output))
+fn passes(half: &mut ProcessHalf, slave: &Slave) -> bool {
+    let (units, _place, _memory, sent, back, counter, output) = slave;
+    let mut content = *sent;
+    write_units(half, units);
+    half.take(Command::Lrw, 0, &mut content) == *counter
+        && content == *back
+        && is_copied(half, *output)
 }
 
-#[test]
-fn a_line_exchanges_data(rt: HostRuntime) {
-    for slave in LINE {
-        assert!(rt; is_passed(rt.alloc(), slave) == Some(true));
+// Whether the LRW passes the slave so, once its memory holds its bytes.
+fn is_passed(alloc: Global, slave: &Slave) -> bool {
+    match half_of(alloc, &ZERO, STATION, slave.1, slave.2) {
+        Some(mut half) => passes(&mut half, slave),
+        None => false,
     }
 }
 
@@ -165,9 +178,10 @@ fn is_mapped(half: &mut ProcessHalf, unit: &[u8; 16], counter: u16, reads: [u8; 
     let mut content = [1u8, 2];
     write_units(half, &[*unit]);
     stand(half, 0x1000, &[0xa0, 0xa1]);
-    let added = half.take(Command::Lrw, 1, &mut content);
     let byte = if counter == 3 { 1 } else { 0xa0 };
-    added == counter && content == reads && half.peek(0x1000) == byte
+    half.take(Command::Lrw, 1, &mut content) == counter
+        && content == reads
+        && half.peek(0x1000) == byte
 }
 
 // Whether each FMMU maps its ranges as `RANGES` says.
@@ -206,16 +220,21 @@ fn identification(half: &mut ProcessHalf) -> [u8; 4] {
 }
 
 // Whether reads and writes are guarded, the half still shows its station address and alias after them, and its FMMUs map whole ranges.
-fn keeps_its_memory(alloc: Global) -> Option<bool> {
-    let mut half = half_of(alloc, &[], 0x1000, &[])?;
-    Some(
-        is_guarded(&mut half)
-            && identification(&mut half) == [0x01, 0x10, 0, 0]
-            && are_mapped(&mut half),
-    )
+fn keeps_its_memory(alloc: Global) -> bool {
+    match half_of(alloc, &ZERO, STATION, 0x1000, &[]) {
+        Some(mut half) => {
+            is_guarded(&mut half)
+                && identification(&mut half) == [0x01, 0x10, 0, 0]
+                && are_mapped(&mut half)
+        }
+        None => false,
+    }
 }
 
 #[test]
-fn the_memory_is_guarded_and_mapped(rt: HostRuntime) {
-    assert!(rt; keeps_its_memory(rt.alloc()) == Some(true));
+fn a_line_exchanges_data_and_keeps_its_memory(rt: HostRuntime) {
+    for slave in LINE {
+        assert!(rt; is_passed(rt.alloc(), slave));
+    }
+    assert!(rt; keeps_its_memory(rt.alloc()));
 }

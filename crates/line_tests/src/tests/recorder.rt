@@ -8,7 +8,7 @@ use site_mem::MemSite;
 use std::alloc::Global;
 
 pub(super) struct Recorder {
-    site: MemSite,
+    pub(super) site: MemSite,
     // The bytes of all frames, one frame after another.
     sent: Vec<u8>,
     // Whether memory was refused for none of them.
@@ -52,10 +52,14 @@ impl Recorder {
 
     // Whether these bytes were sent, and no others.
     pub(super) fn has_sent(&self, pieces: &[&[u8]]) -> bool {
-        match behind(self.sent.as_slice(), pieces) {
-            Some(left) => left.is_empty() && self.is_whole,
-            None => false,
+        let mut left = self.sent.as_slice();
+        for piece in pieces {
+            match left.strip_prefix(*piece) {
+                Some(rest) => left = rest,
+                None => return false,
+            }
         }
+        left.is_empty() && self.is_whole
     }
 
     // Lets go of the recorder, and of its site.
@@ -70,20 +74,6 @@ impl Recorder {
         drop(sent);
         drop(site.into_parts());
     }
-
-    // The bytes that were sent.
-    pub(super) fn sent(&self) -> &[u8] {
-        self.sent.as_slice()
-    }
-}
-
-// What follows these pieces, if the bytes begin with them.
-pub(super) fn behind<'a>(bytes: &'a [u8], pieces: &[&[u8]]) -> Option<&'a [u8]> {
-    let mut left = bytes;
-    for piece in pieces {
-        left = left.strip_prefix(*piece)?;
-    }
-    Some(left)
 }
 
 impl Site for Recorder {

@@ -173,9 +173,14 @@ fn half_of(alloc: Global, check: u16, delay: u32) -> Option<RomHalf> {
     let mut front = [0u8; 20];
     put(&mut front, 14, &check.to_le_bytes());
     put(&mut front, 16, &[0x21, 0x43, 0x65, 0x87]);
-    let front = front.as_slice();
-    let words = words_of(alloc, &Device { front, ..ZERO })?;
-    Some(RomHalf::power_up(words, STATION, delay))
+    let device = Device {
+        front: &front,
+        ..ZERO
+    };
+    match words_of(alloc, &device) {
+        Some(words) => Some(RomHalf::power_up(words, STATION, delay)),
+        None => None,
+    }
 }
 
 // Writes these bytes, 16 at most, from a register on, and returns what that adds to the working counter.
@@ -223,29 +228,34 @@ fn is_judged(half: &mut RomHalf, access: u8, order: &[u8; 3], status: u8) -> boo
         && polled(half) == 0
 }
 
-fn is_copied(half: &RomHalf) -> bool {
+pub(crate) fn is_copied(half: &RomHalf) -> bool {
     match half.try_copy() {
         Ok(copy) => copy.words().as_slice() == half.words().as_slice(),
         Err(_memory) => false,
     }
 }
 
+// Whether word 4 has this value, and this word is in flight.
+fn holds(half: &RomHalf, alias: u16, write: &Option<WordWrite>) -> bool {
+    half.words().alias() == alias && half.in_flight() == *write
+}
+
 // Whether the act has come to what it must.
 fn comes(half: &mut RomHalf, act: &Act) -> bool {
-    match *act {
-        Act::Write(register, bytes, counter) => write(half, register, bytes) == counter,
-        Act::Read(register, bytes) => read(half, register) == bytes,
-        Act::Poll(status) => polled(half) == status,
+    match act {
+        Act::Write(register, bytes, counter) => write(half, *register, bytes) == *counter,
+        Act::Read(register, bytes) => read(half, *register) == *bytes,
+        Act::Poll(status) => polled(half) == *status,
         Act::Take(command, address, count, counter) => {
-            added(half, command, address, count) == counter
+            added(half, *command, *address, *count) == *counter
         }
-        Act::Pass(datagrams) => stays_busy(half, datagrams),
+        Act::Pass(datagrams) => stays_busy(half, *datagrams),
         Act::End(rest) => {
-            half.rest(rest);
+            half.rest(*rest);
             true
         }
-        Act::Hold(alias, write) => half.words().alias() == alias && half.in_flight() == write,
-        Act::Judge(access, order, status) => is_judged(half, access, &order, status),
+        Act::Hold(alias, write) => holds(half, *alias, write),
+        Act::Judge(access, order, status) => is_judged(half, *access, order, *status),
         Act::IsCopied => is_copied(half),
     }
 }
@@ -260,24 +270,16 @@ fn all_come(half: &mut RomHalf, acts: &[Act]) -> bool {
 }
 
 // Whether all acts come to what they must.
-fn goes_so(alloc: Global, case: &Case) -> bool {
-    let (check, delay, acts) = *case;
+fn goes_so(alloc: Global, check: u16, delay: u32, acts: &[Act]) -> bool {
     match half_of(alloc, check, delay) {
         Some(mut half) => all_come(&mut half, acts),
         None => false,
     }
 }
 
-fn all_go_so(alloc: Global, cases: &[Case]) -> bool {
-    for case in cases {
-        if !goes_so(alloc, case) {
-            return false;
-        }
-    }
-    true
-}
-
 #[test]
 fn datagrams_come_to_what_they_must(rt: HostRuntime) {
-    assert!(rt; all_go_so(rt.alloc(), CASES));
+    for (check, delay, acts) in CASES {
+        assert!(rt; goes_so(rt.alloc(), *check, *delay, acts));
+    }
 }

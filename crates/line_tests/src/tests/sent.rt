@@ -2,13 +2,12 @@
 //! are those of the format's description; the others were spelt by hand: two bytes of header with the length of the datagram, then command
 //! (4 reads, 5 writes), index, station, register, length, IRQ, content and working counter.
 
-use super::access::{Access, TAKEN, WRITTEN, all_come};
-use super::process_data::{BACK, TWO, is_configured_for, line_of, plan_of, turns};
-use super::recorder::{Recorder, behind};
+use super::access::{self, Access, TAKEN, WRITTEN};
+use super::recorder::Recorder;
 use super::{ISSUE, line};
+use crate::devices::put;
 use esc_rom::RomFault;
-use sii_image::Plan;
-use site_core::{Issued, Settled, Site};
+use site_core::{Issued, Settled};
 use std::alloc::Global;
 
 // Forces access for the station, and ends that.
@@ -30,7 +29,7 @@ const CLEAR: &[u8] = &[
 ];
 
 // Asks for words 8 and 9, and for words 0 and 1.
-const READ: [u8; 20] = [
+const READ: &[u8] = &[
     0x12, 0x10, 5, 0, 0x01, 0x10, 0x02, 0x05, 6, 0, 0, 0, 0x00, 0x01, 8, 0, 0, 0, 0, 0,
 ];
 
@@ -53,7 +52,7 @@ const GIVEN_UP: Access = Access::Open(0, Err(DEAD));
 const CLEARED: Access = Access::Settle(0, false, Ok(Settled::Again));
 
 // The word is issued again while the slave is busy with it.
-const NOT_TAKEN: Access = Access::Issue(0, 4, 1, Ok(Issued::NotTaken));
+const NOT_TAKEN: Access = Access::Issue(0, Ok(Issued::NotTaken));
 
 // For how many datagrams the slave stays busy with a command, how many frames pass, how many are lost then, what is done with slave 0,
 // and the frames that are sent. A frame that must be taken is sent three times at most.
@@ -96,61 +95,60 @@ const SENT: &[Sent] = &[
     ),
 ];
 
-// Whether these frames are sent.
-fn sends(alloc: Global, row: &Sent) -> bool {
-    let (delay, passing, losing, accesses, frames) = *row;
+// Whether all of this comes, one after another.
+fn all_come(alloc: Global, site: &mut Recorder, accesses: &[Access]) -> bool {
+    let mut come = true;
+    for access in accesses {
+        come &= access::comes(alloc, site, access);
+    }
+    come
+}
+
+// Whether this comes on a line whose slave stays busy for `delay` datagrams, and sends these frames.
+fn sends(
+    alloc: Global,
+    delay: u32,
+    lost: (u32, u32),
+    accesses: &[Access],
+    frames: &[&[u8]],
+) -> bool {
     let Some(site) = line(alloc, delay) else {
         return false;
     };
-    let mut recorder = Recorder::of(alloc, site, passing, losing);
+    let mut recorder = Recorder::of(alloc, site, lost.0, lost.1);
     let sends = all_come(alloc, &mut recorder, accesses) && recorder.has_sent(frames);
     recorder.end();
     sends
 }
 
-#[test]
-fn words_are_written_by_these_frames(rt: HostRuntime) {
-    for row in SENT {
-        assert!(rt; sends(rt.alloc(), row));
-    }
-}
-
-// What follows the frames by which all 64 words are read, if the bytes begin with them.
-fn behind_a_read(sent: &[u8]) -> Option<&[u8]> {
-    let mut left = behind(sent, &[POLL])?;
+// The frames by which all 64 words are read: a poll, and for each pair of words a read, a poll and a fetch.
+fn frames_of_a_read() -> [u8; 1744] {
+    let mut frames = [0u8; 1744];
+    put(&mut frames, 0, POLL);
     for pair in 0..32u8 {
-        let mut read = READ;
-        read[14] = 2 * pair;
-        left = behind(left, &[&read, POLL, FETCH])?;
+        let at = 16 + 54 * usize::from(pair);
+        put(&mut frames, at, READ);
+        put(&mut frames, at + 14, &[2 * pair]);
+        put(&mut frames, at + 20, POLL);
+        put(&mut frames, at + 36, FETCH);
     }
-    Some(left)
-}
-
-// Whether all words are read by the frames of a read.
-fn reads(alloc: Global) -> bool {
-    let Some(site) = line(alloc, 0) else {
-        return false;
-    };
-    let mut recorder = Recorder::of(alloc, site, 0, 0);
-    let is_read = all_come(alloc, &mut recorder, &[Access::Read(Ok(0))]);
-    let is_so = match behind_a_read(recorder.sent()) {
-        Some(left) => left.is_empty(),
-        None => false,
-    };
-    recorder.end();
-    is_read && is_so
+    frames
 }
 
 #[test]
-fn words_are_read_by_these_frames(rt: HostRuntime) {
-    assert!(rt; reads(rt.alloc()));
+fn words_are_written_and_read_by_these_frames(rt: HostRuntime) {
+    for (delay, passing, losing, accesses, frames) in SENT {
+        assert!(rt; sends(rt.alloc(), *delay, (*passing, *losing), accesses, frames));
+    }
+    let read = &[Access::Read(Ok(0))];
+    assert!(rt; sends(rt.alloc(), 0, (0, 0), read, &[&frames_of_a_read()]));
 }
 
 // The zeros with which all FMMUs of a slave are cleared, and a working counter.
 const ZEROS: &[u8] = &[0; 130];
 
 // The frames that configure two slaves, and the one of a turn with the output 0xaa.
-const CYCLED: &[&[u8]] = &[
+pub(super) const CYCLED: &[&[u8]] = &[
     &[0x8c, 0x10, 5, 0, 0x01, 0x10, 0x00, 0x06, 128, 0, 0, 0],
     ZEROS,
     &[
@@ -183,29 +181,3 @@ const CYCLED: &[&[u8]] = &[
         0x13, 0x10, 12, 0, 0, 0, 0, 0, 7, 0, 0, 0, 0xaa, 0, 0, 0, 0, 0, 0, 0, 0,
     ],
 ];
-
-// Whether the line is configured, and exchanges the output 0xaa.
-fn is_cycled(site: &mut impl Site, plan: &Plan) -> bool {
-    plan.image.inputs() == 6
-        && is_configured_for(site, plan)
-        && turns(site, plan, &[0xaa], Ok(4), &BACK)
-}
-
-// Whether the line is configured, and exchanges its data, by these frames.
-fn cycles(alloc: Global, frames: &[&[u8]]) -> bool {
-    let Some(plan) = plan_of(alloc, TWO) else {
-        return false;
-    };
-    let Some(site) = line_of(alloc, &[0x1001, 0x1002]) else {
-        return false;
-    };
-    let mut recorder = Recorder::of(alloc, site, 0, 0);
-    let cycles = is_cycled(&mut recorder, &plan) && recorder.has_sent(frames);
-    recorder.end();
-    cycles
-}
-
-#[test]
-fn data_are_exchanged_by_these_frames(rt: HostRuntime) {
-    assert!(rt; cycles(rt.alloc(), CYCLED));
-}

@@ -3,6 +3,7 @@
 use super::access::{self, Access, TAKEN, WRITTEN};
 use super::{ISSUE, line_with};
 use ecat_frame::{Command, Frame, fp};
+use esc_model::RomHalf;
 use esc_rom::RomFault;
 use site_core::{DeviceFault, Issued, Settled, Site};
 use site_mem::{MemSite, Parts, Pattern};
@@ -17,26 +18,26 @@ enum Deed {
     FailWords(u32),
     Access(Access),
     Disk(DiskDeed),
-    // A frame issues a 1 for word 4 of slave 0, or polls it: its fault, if it has one.
-    Send(Option<DeviceFault>),
-    Poll(Option<DeviceFault>),
+    // A frame issues a 1 for word 4 of slave 0, or polls it, with this answer.
+    Send(Result<(), DeviceFault>),
+    Poll(Result<(), DeviceFault>),
     // There is one slave, of 64 words.
     IsAlone,
 }
 
 #[derive(Clone, Copy)]
 enum DiskDeed {
-    // Bytes are written at byte 0: the fault, if there is one.
-    Write(&'static [u8], Option<DeviceFault>),
+    // Bytes are written at byte 0.
+    Write(&'static [u8], Result<(), DeviceFault>),
     // Bytes are written from a place on.
     WriteAt(usize, &'static [u8]),
-    Sync(Option<DeviceFault>),
+    Sync(Result<(), DeviceFault>),
     Length(Result<usize, DeviceFault>),
     // Of five bytes these are the last three.
     Read([u8; 3]),
 }
 
-const STOPPED: Option<DeviceFault> = Some(DeviceFault::Stopped);
+const STOPPED: Result<(), DeviceFault> = Err(DeviceFault::Stopped);
 
 // A line and what is done with it.
 #[derive(Clone, Copy)]
@@ -99,7 +100,7 @@ const WORDS: &[Case] = &[
         delay: 1,
         deeds: &[
             Deed::FailOnce(0),
-            Deed::Access(Access::Issue(0, 4, 1, Ok(Issued::Lost))),
+            Deed::Access(Access::Issue(0, Ok(Issued::Lost))),
             Deed::Access(Access::Settle(0, false, Ok(Settled::Again))),
             Deed::Access(TAKEN),
             Deed::Access(WRITTEN),
@@ -144,22 +145,22 @@ const WORDS: &[Case] = &[
         delay: 1,
         deeds: &[
             Deed::Access(Access::Open(0, Err(RomFault::SlaveDead { slave: 0 }))),
-            Deed::Access(Access::Issue(0, 4, 1, Ok(Issued::NotTaken))),
+            Deed::Access(Access::Issue(0, Ok(Issued::NotTaken))),
         ],
         ..ONE
     },
     // A word that fails keeps its value.
     Case {
-        deeds: &[Deed::FailWords(1), Deed::Send(None), Deed::Poll(None)],
+        deeds: &[Deed::FailWords(1), Deed::Send(Ok(())), Deed::Poll(Ok(()))],
         ..ONE
     },
     Case {
         deeds: &[
             Deed::FailWords(1),
-            Deed::Send(None),
-            Deed::Poll(None),
-            Deed::Send(None),
-            Deed::Poll(None),
+            Deed::Send(Ok(())),
+            Deed::Poll(Ok(())),
+            Deed::Send(Ok(())),
+            Deed::Poll(Ok(())),
         ],
         words: &[(1, false)],
         ..ONE
@@ -169,10 +170,10 @@ const WORDS: &[Case] = &[
         deeds: &[
             Deed::FailOnce(1),
             Deed::Disk(DiskDeed::Length(Ok(4))),
-            Deed::Disk(DiskDeed::Write(&[9], Some(DeviceFault::Disk))),
+            Deed::Disk(DiskDeed::Write(&[9], Err(DeviceFault::Disk))),
             Deed::FailOnce(0),
-            Deed::Send(Some(DeviceFault::Lost)),
-            Deed::Disk(DiskDeed::Sync(None)),
+            Deed::Send(Err(DeviceFault::Lost)),
+            Deed::Disk(DiskDeed::Sync(Ok(()))),
         ],
         ..ONE
     },
@@ -192,8 +193,8 @@ const WORDS: &[Case] = &[
 // A 7 is written at byte 0 and synced; then 8 and 8 are. The power is cut in this write, or in the sync after it.
 const CUT_IN_A_WRITE: Case = Case {
     deeds: &[
-        Deed::Disk(DiskDeed::Write(&[7], None)),
-        Deed::Disk(DiskDeed::Sync(None)),
+        Deed::Disk(DiskDeed::Write(&[7], Ok(()))),
+        Deed::Disk(DiskDeed::Sync(Ok(()))),
         Deed::Disk(DiskDeed::Write(&[8, 8], STOPPED)),
         Deed::Disk(DiskDeed::Sync(STOPPED)),
         Deed::Disk(DiskDeed::Length(Err(DeviceFault::Stopped))),
@@ -203,9 +204,9 @@ const CUT_IN_A_WRITE: Case = Case {
 
 const CUT_IN_A_SYNC: Case = Case {
     deeds: &[
-        Deed::Disk(DiskDeed::Write(&[7], None)),
-        Deed::Disk(DiskDeed::Sync(None)),
-        Deed::Disk(DiskDeed::Write(&[8, 8], None)),
+        Deed::Disk(DiskDeed::Write(&[7], Ok(()))),
+        Deed::Disk(DiskDeed::Sync(Ok(()))),
+        Deed::Disk(DiskDeed::Write(&[8, 8], Ok(()))),
         Deed::Disk(DiskDeed::Sync(STOPPED)),
         Deed::Disk(DiskDeed::Length(Err(DeviceFault::Stopped))),
     ],
@@ -214,7 +215,10 @@ const CUT_IN_A_SYNC: Case = Case {
 
 // The power is cut in word 4 while a 9 at byte 0 is unsynced.
 const CUT_IN_A_WORD: Case = Case {
-    deeds: &[Deed::Disk(DiskDeed::Write(&[9], None)), Deed::Send(STOPPED)],
+    deeds: &[
+        Deed::Disk(DiskDeed::Write(&[9], Ok(()))),
+        Deed::Send(STOPPED),
+    ],
     ..ONE
 };
 
@@ -224,7 +228,7 @@ const CUT_IN_THE_SECOND: Case = Case {
     delay: 9,
     deeds: &[
         Deed::Access(TAKEN),
-        Deed::Access(Access::Issue(1, 4, 1, Err(DeviceFault::Stopped))),
+        Deed::Access(Access::Issue(1, Err(DeviceFault::Stopped))),
         Deed::Access(Access::Settle(0, true, Err(DeviceFault::Stopped))),
         Deed::Access(Access::Open(1, Err(RomFault::Stopped))),
     ],
@@ -297,14 +301,17 @@ const CUTS: &[Case] = &[
 
 // Bytes 1 and 2 are written, or a byte behind the end is, and a word is issued. Nothing is synced.
 const INSIDE: Case = Case {
-    deeds: &[Deed::Disk(DiskDeed::WriteAt(1, &[8, 9])), Deed::Send(None)],
+    deeds: &[
+        Deed::Disk(DiskDeed::WriteAt(1, &[8, 9])),
+        Deed::Send(Ok(())),
+    ],
     is_snapshot: true,
     words: &[(0, true)],
     ..ONE
 };
 
 const BEHIND: Case = Case {
-    deeds: &[Deed::Disk(DiskDeed::WriteAt(4, &[5])), Deed::Send(None)],
+    deeds: &[Deed::Disk(DiskDeed::WriteAt(4, &[5])), Deed::Send(Ok(()))],
     is_snapshot: true,
     words: &[(0, true)],
     ..ONE
@@ -344,14 +351,17 @@ const SNAPSHOTS: &[Case] = &[
     },
 ];
 
-// The fault of a datagram for the control register of slave 0, if it fails.
-fn fault_of(site: &mut impl Site, command: Command, content: &[u8]) -> Option<DeviceFault> {
+// Whether a datagram for the control register of slave 0 has this answer.
+fn is_answered(
+    site: &mut impl Site,
+    command: Command,
+    content: &[u8],
+    answer: &Result<(), DeviceFault>,
+) -> bool {
     let mut frame = Frame::new();
-    let pushed = frame.push(command, 0, fp(0x1001, 0x0502), content);
-    if pushed.is_err() || !site.owns(0) {
-        return Some(DeviceFault::Disk);
-    }
-    site.exchange(0, &mut frame).err()
+    frame.push(command, 0, fp(0x1001, 0x0502), content).is_ok()
+        && site.owns(0)
+        && site.exchange(0, &mut frame) == *answer
 }
 
 // Whether bytes can be written from byte `at` on.
@@ -359,35 +369,31 @@ fn is_written(site: &mut impl Site, at: usize, bytes: &[u8]) -> bool {
     if !site.has_disk() {
         return false;
     }
-    let Ok(length) = site.disk_len() else {
-        return false;
-    };
-    if at > length {
-        return false;
+    match site.disk_len() {
+        Ok(length) => at <= length && site.disk_write(at, bytes).is_ok(),
+        Err(_fault) => false,
     }
-    site.disk_write(at, bytes).is_ok()
 }
 
-// The last three bytes of five.
-fn last_bytes(site: &mut impl Site) -> Option<[u8; 3]> {
+// Whether the last three bytes of five are these.
+fn are_last(site: &mut impl Site, wanted: &[u8; 3]) -> bool {
     let mut bytes = [0u8; 3];
-    if !site.has_disk() || site.disk_len() != Ok(5) {
-        return None;
-    }
-    site.disk_read(2, &mut bytes).ok()?;
-    Some(bytes)
+    site.has_disk()
+        && site.disk_len() == Ok(5)
+        && site.disk_read(2, &mut bytes).is_ok()
+        && bytes == *wanted
 }
 
 fn disk_comes(site: &mut impl Site, deed: &DiskDeed) -> bool {
     if !site.has_disk() {
         return false;
     }
-    match *deed {
-        DiskDeed::Write(bytes, fault) => site.disk_write(0, bytes).err() == fault,
-        DiskDeed::WriteAt(at, bytes) => is_written(site, at, bytes),
-        DiskDeed::Sync(fault) => site.disk_sync().err() == fault,
-        DiskDeed::Length(answer) => site.disk_len() == answer,
-        DiskDeed::Read(bytes) => last_bytes(site) == Some(bytes),
+    match deed {
+        DiskDeed::Write(bytes, answer) => site.disk_write(0, bytes) == *answer,
+        DiskDeed::WriteAt(at, bytes) => is_written(site, *at, bytes),
+        DiskDeed::Sync(answer) => site.disk_sync() == *answer,
+        DiskDeed::Length(answer) => site.disk_len() == *answer,
+        DiskDeed::Read(bytes) => are_last(site, bytes),
     }
 }
 
@@ -397,19 +403,19 @@ fn is_alone(site: &impl Site) -> bool {
 
 // Whether the deed has come to what it must.
 fn comes(alloc: Global, site: &mut MemSite, deed: &Deed) -> bool {
-    match *deed {
+    match deed {
         Deed::FailOnce(calls) => {
-            site.fail_once(calls);
+            site.fail_once(*calls);
             true
         }
         Deed::FailWords(words) => {
-            site.fail_writes(0, words);
+            site.fail_writes(0, *words);
             true
         }
-        Deed::Access(access) => access::comes(alloc, site, &access),
-        Deed::Disk(disk) => disk_comes(site, &disk),
-        Deed::Send(fault) => fault_of(site, Command::Fpwr, &ISSUE[12..20]) == fault,
-        Deed::Poll(fault) => fault_of(site, Command::Fprd, &[0, 0]) == fault,
+        Deed::Access(access) => access::comes(alloc, site, access),
+        Deed::Disk(disk) => disk_comes(site, disk),
+        Deed::Send(answer) => is_answered(site, Command::Fpwr, &ISSUE[12..20], answer),
+        Deed::Poll(answer) => is_answered(site, Command::Fprd, &[0, 0], answer),
         Deed::IsAlone => is_alone(site),
     }
 }
@@ -423,58 +429,68 @@ fn all_come(alloc: Global, site: &mut MemSite, deeds: &[Deed]) -> bool {
     true
 }
 
-// Word 4 of a slave, and whether it is in flight.
-fn word(parts: &Parts, slave: usize) -> Option<(u16, bool)> {
-    match parts.halves.get(slave) {
-        Some(Some(half)) => Some((half.words().alias(), half.in_flight().is_some())),
-        Some(None) | None => None,
+// Whether the half has this word 4, and a word in flight if it must.
+fn is_word(half: &Option<RomHalf>, word: &(u16, bool)) -> bool {
+    match half {
+        Some(half) => half.words().alias() == word.0 && half.in_flight().is_some() == word.1,
+        None => false,
     }
 }
 
-fn are_words(parts: &Parts, words: &[(u16, bool)]) -> bool {
+fn are_words(halves: &[Option<RomHalf>], words: &[(u16, bool)]) -> bool {
+    if halves.len() != words.len() {
+        return false;
+    }
     for slave in 0..words.len() {
-        if word(parts, slave) != Some(words[slave]) {
+        if !is_word(&halves[slave], &words[slave]) {
             return false;
         }
     }
-    parts.halves.len() == words.len()
+    true
 }
 
 // Whether the disk and the slaves hold these bytes and words.
 fn hold(parts: &Parts, case: &Case) -> bool {
     match &parts.disk {
-        Some(disk) => disk.as_slice() == case.disk && are_words(parts, case.words),
+        Some(disk) => disk.as_slice() == case.disk && are_words(&parts.halves, case.words),
         None => false,
     }
 }
 
-// What a snapshot of the site holds, or the site itself.
-fn left_by(alloc: Global, site: MemSite, is_snapshot: bool) -> Option<Parts> {
-    if !is_snapshot {
-        return Some(site.into_parts());
+// Whether a snapshot of the site holds what it must.
+fn snapshot_holds(alloc: Global, site: &MemSite, case: &Case) -> bool {
+    match site.snapshot(alloc) {
+        Ok(parts) => hold(&parts, case),
+        Err(_refused) => false,
     }
-    let parts = site.snapshot(alloc).ok();
-    drop(site.into_parts());
-    parts
 }
 
-// Whether all deeds come to what they must, and leave what they must.
-fn goes_so(alloc: Global, case: &Case) -> Option<bool> {
+// The line of the case, with its fuse.
+fn line_of(alloc: Global, case: &Case) -> Option<MemSite> {
     let disk = [1, 2, 3, 4].to_vec(alloc).ok()?;
     let mut site = line_with(alloc, case.stations, case.delay, Some(disk))?;
     if let Some((writes, pattern)) = case.fuse {
         site.fuse(writes, pattern);
     }
+    Some(site)
+}
+
+// Whether all deeds come to what they must, and leave what they must.
+fn goes_so(alloc: Global, case: &Case) -> bool {
+    let Some(mut site) = line_of(alloc, case) else {
+        return false;
+    };
     let come = all_come(alloc, &mut site, case.deeds);
-    let parts = left_by(alloc, site, case.is_snapshot)?;
-    let hold = hold(&parts, case);
+    let is_shown = !case.is_snapshot || snapshot_holds(alloc, &site, case);
+    let parts = site.into_parts();
+    let hold = case.is_snapshot || hold(&parts, case);
     drop(parts);
-    Some(come && hold)
+    come && is_shown && hold
 }
 
 fn all_go_so(alloc: Global, cases: &[Case]) -> bool {
     for case in cases {
-        if goes_so(alloc, case) != Some(true) {
+        if !goes_so(alloc, case) {
             return false;
         }
     }

@@ -7,7 +7,7 @@ use Rattle.book_model.specs.Entries.{sizes_of}
 use Rattle.book_tests.proofs.line.open.Goals as goal
 
 pub open-requires-clause-live : goal.open-requires-clause-live
-open-requires-clause-live g c =
+open-requires-clause-live c =
     let file = c.args.file.now in
     let journal = c.in_ok-journal.journal in
     let are_sizes = c.deref-2.ensures.value ∙ c.in_ok-sizes.ensures ∙ ap (λ (plant : List (List ℕ)). sizes_of plant) c.deref.ensures.value in
