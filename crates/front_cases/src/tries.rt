@@ -1,4 +1,4 @@
-//! Tries a run once, or with each input and each output that fails after some bytes. A try answers what isn't as is expected, and nothing where all is.
+//! Tries a run once, or with each input and each output that fails after some bytes. A try answers what isn't as is expected, if anything.
 
 use crate::bench::{Bench, run_on};
 use station_cases::{
