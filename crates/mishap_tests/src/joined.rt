@@ -1,7 +1,7 @@
 //! A run by threads on a wire on which each frame takes a while, so that the others have something to send meanwhile.
 
-use crate::wire_threads::{ANSWERS, commands, run};
-use crate::wires::{Bench, bench_of, parts_on, practice_of};
+use crate::wire_threads::{Told, told_by_threads};
+use crate::wires::{Bench, bench_of, parts_on, slaves_of};
 use ecat_frame::Frame;
 use runner_cases::line::THREE;
 use site_file::FileDevice;
@@ -14,6 +14,7 @@ use std::thread::Threads;
 use std::time::Duration;
 use std::{io, thread};
 use wire_frames::{NumberedWire, Wire};
+use wire_practice::PracticeWire;
 
 /// How long a frame takes, in microseconds.
 const PAUSE: u64 = 500;
@@ -46,14 +47,14 @@ impl<'r, W: Wire, C: Clock> Wire for SlowWire<'r, W, C> {
     }
 }
 
-/// What a run by threads on this line has printed. None: memory was refused, or the parts aren't a line's.
-fn printed<R: Wait + Threads + Sync, W: Wire + Send>(
+/// What a run by threads on this line told. None: memory was refused, or the parts aren't a line's.
+fn told_on<R: Wait + Threads + Sync, W: Wire + Send>(
     rt: &R,
     alloc: Global,
     bench: &Bench,
     locked: &LockedLine<W>,
     parts: Parts,
-) -> Option<Vec<u8>> {
+) -> Option<Told> {
     if !parts.is_whole() {
         return None;
     }
@@ -62,20 +63,17 @@ fn printed<R: Wait + Threads + Sync, W: Wire + Send>(
         &bench.clock,
         FileDevice::new(&bench.files),
     );
-    let site = ShadowSite::of_parts(alloc, parts, device);
-    let mut text = Vec::new(alloc);
-    run(rt, alloc, site, commands(alloc)?, &mut text)?;
-    Some(text)
+    told_by_threads(rt, alloc, ShadowSite::of_parts(alloc, parts, device))
 }
 
-/// What a run by threads has printed, and how many datagrams its frames had at most. None: memory was refused, or the line isn't brought up.
+/// Whether a run prints what it should, and how many datagrams its frames had at most. None: memory was refused, or the line isn't brought up.
 fn ended<R: Wait + Threads + Clock + Sync>(
     rt: &R,
     alloc: Global,
     bench: &Bench,
-) -> Option<(Vec<u8>, usize)> {
+) -> Option<(bool, usize)> {
     let slow = SlowWire {
-        wire: practice_of(alloc, bench, &THREE)?,
+        wire: PracticeWire::new(slaves_of(alloc, &THREE)?, &bench.clock),
         clock: rt,
         is_slow: false,
         most: 0,
@@ -84,16 +82,16 @@ fn ended<R: Wait + Threads + Clock + Sync>(
     let parts = parts_on(alloc, bench, &mut wire)?;
     wire.wire().is_slow = true;
     let locked = LockedLine::new(LiveLine::new(wire));
-    let text = printed(rt, alloc, bench, &locked, parts)?;
+    let told = told_on(rt, alloc, bench, &locked, parts)?;
     let most = locked.into_line().into_wire().wire().most;
-    Some((text, most))
+    Some((told.is_all, most))
 }
 
 /// Whether a run prints what it should, and a frame of it has the datagrams of several slaves.
 fn is_joined<R: Wait + Threads + Clock + Sync>(rt: &R, alloc: Global) -> Option<bool> {
     let bench = bench_of(alloc, &THREE)?;
-    let (text, most) = ended(rt, alloc, &bench)?;
-    Some(text.as_slice() == ANSWERS.as_bytes() && (most == 2 || most == 3))
+    let (is_all, most) = ended(rt, alloc, &bench)?;
+    Some(is_all && (most == 2 || most == 3))
 }
 
 // Threads decide themselves when they have something to send, so it is tried a few times.

@@ -1,14 +1,13 @@
 //! Lines on a wire in memory, with the journal in a file in memory.
 
+ghost use Rattle.std.specs.Prelude.{IfSome};
+ghost use Rattle.site_shadow.specs.Parts.{AreWhole};
+
 use runner_cases::line::{Line, disk, parts_with, plant_of};
-use runner_cases::runs::is_found;
-use site_file::{FileDevice, OpenFiles, RandomAccessFile};
+use site_file::{OpenFiles, RandomAccessFile};
 use site_mem::{Parts, Pattern};
-use site_shadow::ShadowSite;
-use site_wire::{LiveLine, LockedLine, SharedSite, StopReason, WireDevice, WireSite};
 use std::alloc::Global;
 use std::io;
-use std::sync::Wait;
 use std::sync::atomic::AtomicU8;
 use std::sync::atomic::Ordering::SeqCst;
 use wire_bringup::{Sizes, bring_up};
@@ -24,11 +23,8 @@ pub(crate) struct JournalFile {
     bytes: Vec<AtomicU8>,
 }
 
-/// A line on a wire, and its journal.
-pub(crate) type Wired<'f> = WireSite<'f, PracticeWire<'f>, JournalFile, PracticeClock>;
-
-/// A line on a wire that threads share, and its journal.
-pub(crate) type Shared<'f, 'c, R> = SharedSite<'f, R, PracticeWire<'c>, JournalFile, PracticeClock>;
+/// The wire of a test.
+pub(crate) type TestWire<'f> = NumberedWire<PracticeWire<'f>>;
 
 /// What a line on a wire rests on: its journal's file, and a clock.
 #[derive(Drop)]
@@ -54,29 +50,13 @@ pub(crate) const NO_TROUBLE: Trouble = Trouble {
     cut: None,
 };
 
-impl JournalFile {
-    /// The bytes from this offset on.
-    fn from(&self, at: u64) -> &[AtomicU8] {
-        self.bytes.get(at as usize..).unwrap_or(&[])
-    }
-
-    /// All bytes. None: memory was refused.
-    fn bytes(&self, alloc: Global) -> Option<Vec<u8>> {
-        let mut bytes = Vec::new(alloc);
-        for byte in self.bytes.iter() {
-            bytes.push(byte.load(SeqCst)).ok()?;
-        }
-        Some(bytes)
-    }
-}
-
 impl RandomAccessFile for JournalFile {
     fn len(&self) -> io::Result<u64> {
         Ok(self.bytes.len() as u64)
     }
 
     fn read_exact_at(&self, bytes: &mut [u8], at: u64) -> io::Result<()> {
-        let held = self.from(at);
+        let held = self.bytes.get(at as usize..).unwrap_or(&[]);
         if held.len() < bytes.len() {
             return Err(io::Error::other("the file is short"));
         }
@@ -87,7 +67,8 @@ impl RandomAccessFile for JournalFile {
     }
 
     fn write_all_at(&self, bytes: &[u8], at: u64) -> io::Result<()> {
-        for (byte, held) in bytes.iter().zip(self.from(at)) {
+        let held = self.bytes.get(at as usize..).unwrap_or(&[]);
+        for (byte, held) in bytes.iter().zip(held) {
             held.store(*byte, SeqCst);
         }
         Ok(())
@@ -102,24 +83,10 @@ impl RandomAccessFile for JournalFile {
     }
 }
 
-/// The slaves of this line on a wire, just switched on. None: memory was refused.
-pub(crate) fn practice_of<'f>(
-    alloc: Global,
-    bench: &'f Bench,
-    line: &Line,
-) -> Option<PracticeWire<'f>> {
+/// The slaves of this line, just switched on. None: memory was refused.
+pub(crate) fn slaves_of(alloc: Global, line: &Line) -> Option<PracticeLine> {
     let plant = plant_of(alloc, line.slaves)?;
-    let slaves = PracticeLine::power_up(alloc, &plant, DELAY).ok()?;
-    Some(PracticeWire::new(slaves, &bench.clock))
-}
-
-/// A wire with the slaves of this line, just switched on. None: memory was refused.
-pub(crate) fn wire_of<'f>(
-    alloc: Global,
-    bench: &'f Bench,
-    line: &Line,
-) -> Option<NumberedWire<PracticeWire<'f>>> {
-    Some(NumberedWire::new(practice_of(alloc, bench, line)?, 7))
+    PracticeLine::power_up(alloc, &plant, DELAY).ok()
 }
 
 /// The file of the line's journal, and a clock. None: memory was refused.
@@ -137,110 +104,29 @@ pub(crate) fn bench_of(alloc: Global, line: &Line) -> Option<Bench> {
     })
 }
 
-/// The wire with this trouble from now on, in the place of any other.
-fn troubled<'f>(
-    mut wire: NumberedWire<PracticeWire<'f>>,
-    trouble: &Trouble,
-) -> NumberedWire<PracticeWire<'f>> {
+/// The wire has this trouble from now on, in the place of any other.
+pub(crate) fn plan(wire: &mut TestWire<'_>, trouble: &Trouble) {
     let under = wire.wire();
     under.plan(trouble.mishap);
     match trouble.cut {
         Some((words, left)) => under.cut_behind(words, left),
         None => under.keep_power(),
     }
-    wire
 }
 
-/// Brings up the line on this wire without trouble, and makes a site of it and of the journal's file, with this trouble from then on. None
-/// if the line isn't brought up, or memory was refused.
-pub(crate) fn site_on<'f>(
-    alloc: Global,
-    bench: &'f Bench,
-    wire: NumberedWire<PracticeWire<'f>>,
-    trouble: &Trouble,
-) -> Option<Wired<'f>> {
-    let mut wire = troubled(wire, &NO_TROUBLE);
-    let parts = parts_on(alloc, bench, &mut wire)?;
-    if !parts.is_whole() {
-        return None;
-    }
-    let device = WireDevice::new(
-        troubled(wire, trouble),
-        &bench.clock,
-        FileDevice::new(&bench.files),
-    );
-    Some(ShadowSite::of_parts(alloc, parts, device))
-}
-
-/// Brings up the line on this wire. Gives its parts, with the bytes of the journal's file.
+/// Brings up the line on this wire. Gives its parts, with the bytes of the journal's file. None if it isn't brought up, or memory was refused.
 pub(crate) fn parts_on<W: Wire>(
     alloc: Global,
     bench: &Bench,
     wire: &mut NumberedWire<W>,
-) -> Option<Parts> {
+) -> Option<Parts>
+    ensures { IfSome result (λ parts. AreWhole parts) }
+{
     let line = bring_up(alloc, wire, &bench.clock, &Sizes::unknown()).ok()?;
     let plant = line.into_words(alloc).ok()?;
-    parts_with(alloc, &plant, bench.files.journal.bytes(alloc)?)
-}
-
-/// Brings up the line on this wire without trouble. Gives its parts, and the line under a lock, with this trouble from then on.
-pub(crate) fn locked_on<'f>(
-    alloc: Global,
-    bench: &'f Bench,
-    wire: NumberedWire<PracticeWire<'f>>,
-    trouble: &Trouble,
-) -> Option<(Parts, LockedLine<PracticeWire<'f>>)> {
-    let mut wire = troubled(wire, &NO_TROUBLE);
-    let parts = parts_on(alloc, bench, &mut wire)?;
-    Some((
-        parts,
-        LockedLine::new(LiveLine::new(troubled(wire, trouble))),
-    ))
-}
-
-/// The site of these parts on this line, for threads.
-pub(crate) fn shared_on<'f, 'c, R: Wait>(
-    rt: &'f R,
-    alloc: Global,
-    bench: &'f Bench,
-    parts: Parts,
-    locked: &'f LockedLine<PracticeWire<'c>>,
-) -> Option<Shared<'f, 'c, R>> {
-    if !parts.is_whole() {
-        return None;
-    }
-    let device = WireDevice::shared(
-        locked.shared(rt),
-        &bench.clock,
-        FileDevice::new(&bench.files),
-    );
-    Some(ShadowSite::of_parts(alloc, parts, device))
-}
-
-/// The wire of a site, why the site has stopped, if it has, and how many frames it sent.
-pub(crate) fn taken_off<'f>(
-    site: Wired<'f>,
-) -> (NumberedWire<PracticeWire<'f>>, Option<StopReason>, u64) {
-    let (parts, device) = site.into_parts();
-    drop(parts);
-    let reason = device.reason();
-    let (frames, _again) = device.frames();
-    (device.into_wire(), reason, frames)
-}
-
-/// Whether nothing is live in the journal's file, and the aliases of the slaves of a wire are one of these rows. The line is brought up for it.
-pub(crate) fn is_found_on<'f>(
-    alloc: Global,
-    bench: &'f Bench,
-    wire: NumberedWire<PracticeWire<'f>>,
-    kept: &[[u16; 3]],
-) -> bool {
-    let Some(site) = site_on(alloc, bench, wire, &NO_TROUBLE) else {
-        return false;
-    };
-    let (parts, device) = site.into_parts();
-    drop(device);
-    let is_found = is_found(&parts, kept);
-    drop(parts);
-    is_found
+    let journal = &bench.files.journal;
+    let mut disk = vec![in alloc; 0u8; journal.bytes.len()].ok()?;
+    journal.read_exact_at(&mut disk, 0).ok()?;
+    let parts = parts_with(alloc, &plant, disk)?;
+    if parts.is_whole() { Some(parts) } else { None }
 }

@@ -1,18 +1,19 @@
-//! Lines on a wire in memory, and words that are written to them.
+//! Lines on a wire in memory, and what is done with them.
 ghost use Rattle.std.specs.Prelude.{IfSome};
 ghost use Rattle.site_shadow.specs.Parts.{AreWhole};
 
+use ecat_frame::{Command, Frame, fp};
 use esc_model::{RomHalf, station_address};
-use esc_rom::{issue, settle};
+use esc_rom::{issue, read_all, settle};
 use sii_words::Words;
 use site_core::{Issued, Settled, Site};
 use site_file::{FileDevice, OpenFiles, RandomAccessFile};
 use site_shadow::{Parts, Pattern, ShadowSite};
-use site_wire::{StopReason, WireDevice, WireSite};
+use site_wire::{StopReason, WireDevice};
 use std::alloc::Global;
 use std::io;
-use wire_bringup::{Sizes, SlaveState, bring_up};
-use wire_frames::{NumberedWire, Wire};
+use wire_bringup::{Sizes, SlaveState, bring_up, hand_back};
+use wire_frames::{Handed, NumberedWire, Wire};
 use wire_practice::{
     Cable, Fate, Mishap, NO_QUIRKS, PracticeClock, PracticeLine, PracticeSlave, PracticeWire,
     Quirks,
@@ -101,6 +102,69 @@ pub(crate) const NO_TROUBLE: Trouble = Trouble {
     cut: None,
 };
 
+/// What is done with a line.
+#[derive(Clone, Copy)]
+pub(crate) enum Act {
+    Nothing,
+    /// All words of slave 0 are read, each as 0.
+    Read,
+    /// The register is read that says who has access.
+    Look,
+    /// The words of slave 0 from word 4 on are made these. Each is issued so often, as long as it ends in error.
+    Write(&'static [u16], u32),
+}
+
+/// Words 4, 5 and 6 of slave 0, which are 0 at first, become these.
+const NEW: [u16; 3] = [0x1111, 0x2222, 0x3333];
+
+pub(crate) const WRITE_NEW: Act = Act::Write(&NEW, 100);
+
+/// What comes of an act.
+#[derive(Clone, Copy)]
+pub(crate) struct Outcome {
+    /// How many words are written, by what the site says.
+    pub count: usize,
+    /// Whether all is done.
+    pub is_done: bool,
+    /// Why the site has stopped, if it has.
+    pub reason: Option<StopReason>,
+}
+
+/// A line that is brought up and worked on, and what was seen.
+#[derive(Clone, Copy)]
+pub(crate) struct Work {
+    /// What the slaves were in as the line was brought up.
+    pub states: [SlaveState; 64],
+    pub outcome: Outcome,
+    /// Whether the chip has as many of the new words as are written.
+    pub is_kept: bool,
+    /// Words 4, 5 and 6 of slave 0.
+    pub words: Option<[u16; 3]>,
+    /// How many frames were sent before the act, and behind it.
+    pub from: u64,
+    pub to: u64,
+}
+
+/// Two acts on a line of these slaves, which is brought up for each. The first one meets this trouble.
+#[derive(Clone, Copy)]
+pub(crate) struct Run<'a> {
+    pub slaves: &'a [Slave],
+    pub trouble: Trouble,
+    pub act: Act,
+    /// What goes wrong as the EEPROMs are handed back behind the first act, if they are.
+    pub behind: Option<Trouble>,
+    pub then: Act,
+}
+
+/// What comes of a run.
+#[derive(Clone, Copy)]
+pub(crate) struct Ran {
+    pub first: Work,
+    /// What became of the access to the EEPROMs.
+    pub handed: [Handed; 64],
+    pub again: Work,
+}
+
 /// What a frame may meet that loses no word.
 pub(crate) const FATES: &[Fate] = &[
     Fate::LostBefore,
@@ -124,21 +188,13 @@ impl Bench {
 
 // A word of a slave.
 fn word_at(slave: &Slave, place: usize) -> u16 {
-    if place == 4 && slave.alias != 0 {
-        return slave.alias;
-    }
     match slave.content {
+        _ if place == 4 && slave.alias != 0 => slave.alias,
         Content::Filled(word) => word,
-        Content::Numbers(period, says) => number_at(place, period, says),
-    }
-}
-
-fn number_at(place: usize, period: usize, says: u16) -> u16 {
-    let number = place.checked_rem(period).unwrap_or(0x3e);
-    if number == 0x3e {
-        says
-    } else {
-        (number % 65536) as u16
+        Content::Numbers(period, says) => match place.checked_rem(period) {
+            Some(0x3e) | None => says,
+            Some(number) => (number % 65536) as u16,
+        },
     }
 }
 
@@ -225,31 +281,30 @@ pub(crate) fn brought_up<W: Wire>(
     Some((parts, states))
 }
 
-/// The site of a line that was brought up on this wire.
-pub(crate) fn site_on<'f, W: Wire>(
-    alloc: Global,
-    bench: &'f Bench,
-    wire: NumberedWire<W>,
-    parts: Parts,
-) -> WireSite<'f, W, NoFile, PracticeClock>
-    requires { AreWhole parts }
-{
-    let device = WireDevice::new(wire, &bench.clock, FileDevice::new(&bench.files));
-    ShadowSite::of_parts(alloc, parts, device)
+// Whether the station is seen to have access.
+fn has_access(site: &mut impl Site) -> bool {
+    let mut frame = Frame::new();
+    site.owns(0)
+        && frame
+            .push(Command::Fprd, 0, fp(0x1001, 0x0500), &[9])
+            .is_ok()
+        && site.exchange(0, &mut frame).is_ok()
+        && frame.as_bytes().get(12) == Some(&0)
 }
 
-/// The wire of a site, and why the site has stopped, if it has.
-pub(crate) fn taken_off<'f, W: Wire>(
-    site: WireSite<'f, W, NoFile, PracticeClock>,
-) -> (NumberedWire<W>, Option<StopReason>) {
-    let (parts, device) = site.into_parts();
-    drop(parts);
-    let reason = device.reason();
-    (device.into_wire(), reason)
+// Whether all words of slave 0 are read as 0.
+fn is_read(alloc: Global, site: &mut impl Site) -> bool {
+    if !site.owns(0) {
+        return false;
+    }
+    match read_all(alloc, site, 0) {
+        Ok(words) => words.as_slice() == [0u16; 64].as_slice(),
+        Err(_) => false,
+    }
 }
 
-/// Issues a word of slave 0 once, and tells what comes of it. None: the site has stopped.
-pub(crate) fn settled(site: &mut impl Site, word: u16, value: u16) -> Option<Settled> {
+// Issues a word of slave 0 once, and tells what comes of it. None: the site has stopped.
+fn settled(site: &mut impl Site, word: u16, value: u16) -> Option<Settled> {
     if !site.owns(0) {
         return None;
     }
@@ -258,4 +313,125 @@ pub(crate) fn settled(site: &mut impl Site, word: u16, value: u16) -> Option<Set
         return None;
     }
     settle(site, 0, issued == Issued::Taken).ok()
+}
+
+// Whether a word of slave 0 is written. It is issued so often, as long as it ends in error.
+fn is_written(site: &mut impl Site, word: u16, value: u16, tries: u32) -> bool {
+    for _issue in 0..tries {
+        let came = settled(site, word, value);
+        if came != Some(Settled::Again) {
+            return came == Some(Settled::Written);
+        }
+    }
+    false
+}
+
+// How many words of slave 0 are written, from word 4 on, before one isn't.
+fn count_written(site: &mut impl Site, values: &[u16], tries: u32) -> usize {
+    let mut word = 4u16;
+    for (place, value) in values.iter().enumerate() {
+        if !is_written(site, word, *value, tries) {
+            return place;
+        }
+        word = word.saturating_add(1);
+    }
+    values.len()
+}
+
+/// Does this with the line that was brought up on this wire, and gives the wire back.
+pub(crate) fn work_on<W: Wire>(
+    alloc: Global,
+    bench: &Bench,
+    wire: NumberedWire<W>,
+    parts: Parts,
+    act: &Act,
+) -> (NumberedWire<W>, Outcome)
+    requires { AreWhole parts }
+{
+    let device = WireDevice::new(wire, &bench.clock, FileDevice::new(&bench.files));
+    let mut site = ShadowSite::of_parts(alloc, parts, device);
+    let (count, is_done) = match *act {
+        Act::Nothing => (0, true),
+        Act::Read => (0, is_read(alloc, &mut site)),
+        Act::Look => (0, has_access(&mut site)),
+        Act::Write(values, tries) => {
+            let count = count_written(&mut site, values, tries);
+            (count, count == values.len())
+        }
+    };
+    let (parts, device) = site.into_parts();
+    drop(parts);
+    let outcome = Outcome {
+        count,
+        is_done,
+        reason: device.reason(),
+    };
+    (device.into_wire(), outcome)
+}
+
+/// Whether so many words are in the chip of slave 0, and those behind the next one are as they were.
+pub(crate) fn has_so_many(line: &PracticeLine, count: usize) -> bool {
+    match line.words(0) {
+        Some([_, _, _, _, a, b, c, ..]) => {
+            let words = [*a, *b, *c];
+            for place in 0..3usize {
+                let is_kept = place >= count || words[place] == NEW[place];
+                let is_left = place <= count || words[place] == 0;
+                if !is_kept || !is_left {
+                    return false;
+                }
+            }
+            true
+        }
+        _ => false,
+    }
+}
+
+// Brings up the line on this wire without trouble, and does this with it, with this trouble from then on. None if it isn't brought up, or memory
+// was refused.
+fn work_with<'f>(
+    alloc: Global,
+    bench: &Bench,
+    wire: TestWire<'f>,
+    trouble: &Trouble,
+    act: &Act,
+) -> Option<(TestWire<'f>, Work)> {
+    let mut wire = wire;
+    plan(&mut wire, &NO_TROUBLE);
+    let (parts, states) = brought_up(alloc, bench, &mut wire)?;
+    plan(&mut wire, trouble);
+    let from = wire.sent();
+    let (mut wire, outcome) = work_on(alloc, bench, wire, parts, act);
+    let line = wire.wire().line();
+    let work = Work {
+        states,
+        outcome,
+        is_kept: has_so_many(line, outcome.count),
+        words: match line.words(0) {
+            Some([_, _, _, _, a, b, c, ..]) => Some([*a, *b, *c]),
+            _ => None,
+        },
+        from,
+        to: wire.sent(),
+    };
+    Some((wire, work))
+}
+
+/// What comes of a run. None: the line isn't brought up, or memory was refused.
+pub(crate) fn came_of(alloc: Global, run: &Run) -> Option<Ran> {
+    let bench = Bench::new(alloc);
+    let wire = wire_of(alloc, &bench, run.slaves, None)?;
+    let (mut wire, first) = work_with(alloc, &bench, wire, &run.trouble, &run.act)?;
+    if let Some(behind) = run.behind {
+        plan(&mut wire, &behind);
+        hand_back(&mut wire, &first.states);
+    }
+    let handed = wire.handed();
+    let (wire, again) = work_with(alloc, &bench, wire, &NO_TROUBLE, &run.then)?;
+    drop(wire);
+    Some(Ran {
+        first,
+        handed,
+        again,
+    })
 }

@@ -1,14 +1,14 @@
 //! A station beside a master that lends its wire, with all that a master may do with messages, and slaves as a master leaves them.
 ghost use Rattle.site_shadow.specs.Parts.{AreWhole};
 
-use crate::bench::{BLANK, Bench, Slave, brought_up, line_of};
+use crate::bench::{BLANK, Bench, Slave, WRITE_NEW, brought_up, has_so_many, line_of, work_on};
+use crate::bringing_up::{Finding, Findings, finds};
 use crate::master::{Habits, Master, PROMPT, TIME_OUT};
-use crate::quirks::{has_so_many, written_on};
 use site_shadow::Parts;
 use site_wire::StopReason;
 use std::alloc::Global;
-use wire_bringup::{FoundSlave, Sizes, SlaveState, bring_up, hand_back};
-use wire_frames::{LineFault, NumberedWire, SlaveFault};
+use wire_bringup::{Sizes, SlaveState, hand_back};
+use wire_frames::{LineFault, NumberedWire};
 use wire_practice::{NO_QUIRKS, Quirks};
 
 // A slave with the station address that a master has given it, whose words take three milliseconds to write.
@@ -52,63 +52,101 @@ const HELD: Slave = Slave {
     ..BLANK
 };
 
-// What a master may do.
-const CASES: &[Habits] = &[
-    PROMPT,
+// What a master may do, and how many words are written beside it. None: the line isn't brought up.
+const CASES: &[(Habits, Option<usize>)] = &[
+    (PROMPT, Some(3)),
     // Messages and answers are dropped.
-    Habits { drops: 2, ..PROMPT },
-    Habits { loses: 2, ..PROMPT },
-    Habits {
-        drops: 3,
-        loses: 5,
-        ..PROMPT
-    },
+    (Habits { drops: 2, ..PROMPT }, Some(3)),
+    (Habits { loses: 2, ..PROMPT }, Some(3)),
+    (
+        Habits {
+            drops: 3,
+            loses: 5,
+            ..PROMPT
+        },
+        Some(3),
+    ),
     // They wait for a hundred turns, before the wire or behind it.
-    Habits {
-        waits: TIME_OUT - 1,
-        ..PROMPT
-    },
-    Habits {
-        holds: TIME_OUT,
-        ..PROMPT
-    },
-    Habits {
-        waits: 50,
-        holds: 50,
-        ..PROMPT
-    },
+    (
+        Habits {
+            waits: TIME_OUT - 1,
+            ..PROMPT
+        },
+        Some(3),
+    ),
+    (
+        Habits {
+            holds: TIME_OUT,
+            ..PROMPT
+        },
+        Some(3),
+    ),
+    (
+        Habits {
+            waits: 50,
+            holds: 50,
+            ..PROMPT
+        },
+        Some(3),
+    ),
     // An answer comes once its message was sent again, or long after that.
-    Habits {
-        holds: TIME_OUT + 1,
-        ..PROMPT
-    },
-    Habits {
-        delays: (2, 110),
-        holds: 30,
-        ..PROMPT
-    },
-    Habits {
-        delays: (3, 350),
-        ..PROMPT
-    },
+    (
+        Habits {
+            holds: TIME_OUT + 1,
+            ..PROMPT
+        },
+        Some(3),
+    ),
+    (
+        Habits {
+            delays: (2, 110),
+            holds: 30,
+            ..PROMPT
+        },
+        Some(3),
+    ),
+    (
+        Habits {
+            delays: (3, 350),
+            ..PROMPT
+        },
+        Some(3),
+    ),
     // Answers come twice, and in another order.
-    Habits {
-        doubles: 1,
-        ..PROMPT
-    },
-    Habits {
-        doubles: 1,
-        delays: (3, 105),
-        is_turned: true,
-        ..PROMPT
-    },
-    Habits {
-        doubles: 2,
-        delays: (3, 350),
-        drops: 7,
-        is_turned: true,
-        ..PROMPT
-    },
+    (
+        Habits {
+            doubles: 1,
+            ..PROMPT
+        },
+        Some(3),
+    ),
+    (
+        Habits {
+            doubles: 1,
+            delays: (3, 105),
+            is_turned: true,
+            ..PROMPT
+        },
+        Some(3),
+    ),
+    (
+        Habits {
+            doubles: 2,
+            delays: (3, 350),
+            drops: 7,
+            is_turned: true,
+            ..PROMPT
+        },
+        Some(3),
+    ),
+    // A message that waits for too long is lost.
+    (
+        Habits {
+            waits: TIME_OUT + 1,
+            ..PROMPT
+        },
+        None,
+    ),
 ];
 
 // A wire that a master with these habits lends. None: memory was refused.
@@ -126,7 +164,7 @@ fn lent<'f>(
 
 // What came of the words.
 #[derive(Clone, Copy)]
-struct Outcome {
+struct Written {
     // How many were written, by what the site says, before it stopped. None: the line wasn't brought up.
     count: Option<usize>,
     reason: Option<StopReason>,
@@ -134,7 +172,7 @@ struct Outcome {
     is_kept: bool,
 }
 
-impl Outcome {
+impl Written {
     // Whether so many were written, and none is lost, without a stop.
     fn is(&self, count: Option<usize>) -> bool {
         self.count == count && self.reason.is_none() && self.is_kept
@@ -147,99 +185,99 @@ fn handed_back<'f>(
     bench: &Bench,
     wire: NumberedWire<Master<'f>>,
     found: (Parts, [SlaveState; 64]),
-) -> (NumberedWire<Master<'f>>, Outcome)
+) -> (NumberedWire<Master<'f>>, Written)
     requires { AreWhole found.0 }
 {
     let (parts, states) = found;
-    let (mut wire, count, reason) = written_on(alloc, bench, wire, parts);
+    let (mut wire, outcome) = work_on(alloc, bench, wire, parts, &WRITE_NEW);
     hand_back(&mut wire, &states);
-    let outcome = Outcome {
-        count: Some(count),
-        reason,
-        is_kept: has_so_many(wire.wire().line(), count),
+    let written = Written {
+        count: Some(outcome.count),
+        reason: outcome.reason,
+        is_kept: has_so_many(&wire.wire().line, outcome.count),
     };
-    (wire, outcome)
+    (wire, written)
 }
 
 // The same of a line that is brought up first.
-fn written<'f>(
+fn write_on<'f>(
     alloc: Global,
     bench: &Bench,
     mut wire: NumberedWire<Master<'f>>,
-) -> (NumberedWire<Master<'f>>, Outcome) {
+) -> (NumberedWire<Master<'f>>, Written) {
     match brought_up(alloc, bench, &mut wire) {
         Some(found) => handed_back(alloc, bench, wire, found),
         None => {
-            let outcome = Outcome {
+            let written = Written {
                 count: None,
                 reason: None,
-                is_kept: has_so_many(wire.wire().line(), 0),
+                is_kept: has_so_many(&wire.wire().line, 0),
             };
-            (wire, outcome)
+            (wire, written)
         }
     }
 }
 
-// How many messages it takes to write so many words beside a master with these habits. None: it doesn't come to that, or memory was refused.
-fn messages_of(alloc: Global, habits: Habits, count: Option<usize>) -> Option<u32> {
+// What comes of the words beside a master, and then beside a prompt one.
+#[derive(Clone, Copy)]
+struct Ran {
+    first: Written,
+    // How many messages it took.
+    messages: u32,
+    again: Written,
+}
+
+// Writes the words beside a master with these habits, and then beside a prompt one. None: memory was refused.
+fn came_of(alloc: Global, habits: Habits) -> Option<Ran> {
     let bench = Bench::new(alloc);
     let wire = lent(alloc, &bench, &[KEPT, OTHER], habits, false)?;
-    let (mut wire, outcome) = written(alloc, &bench, wire);
-    let messages = wire.wire().messages();
+    let (mut wire, first) = write_on(alloc, &bench, wire);
+    let master = wire.wire();
+    let messages = master.messages;
+    master.begin_anew(PROMPT);
+    let (wire, again) = write_on(alloc, &bench, wire);
     drop(wire);
-    if outcome.is(count) {
-        Some(messages)
-    } else {
-        None
-    }
+    Some(Ran {
+        first,
+        messages,
+        again,
+    })
 }
 
 #[test]
 fn words_are_written_beside_a_master(rt: HostRuntime) {
-    for habits in CASES {
-        assert!(rt; messages_of(rt.alloc(), *habits, Some(3)).is_some());
+    for (habits, count) in CASES {
+        let came = came_of(rt.alloc(), *habits);
+        assert!(rt; matches!(came, Some(ran) if ran.first.is(*count)));
     }
 }
 
-#[test]
-fn a_message_that_waits_for_too_long_is_lost(rt: HostRuntime) {
-    let habits = Habits {
-        waits: TIME_OUT + 1,
-        ..PROMPT
-    };
-    assert!(rt; messages_of(rt.alloc(), habits, None).is_some());
-}
-
 // Whether the site stops for a master that ends behind so many messages, with no word lost, and beside the next one all words are written.
-fn is_completed(alloc: Global, ends: u32) -> Option<bool> {
-    let bench = Bench::new(alloc);
-    let habits = Habits {
-        ends: Some(ends),
-        ..PROMPT
-    };
-    let wire = lent(alloc, &bench, &[KEPT, OTHER], habits, false)?;
-    let (mut wire, outcome) = written(alloc, &bench, wire);
-    let is_stopped = outcome.is(None) || outcome.reason == Some(StopReason::Silent);
-    wire.wire().begin_anew(PROMPT);
-    let (wire, again) = written(alloc, &bench, wire);
-    drop(wire);
-    Some(is_stopped && outcome.is_kept && again.is(Some(3)))
+fn is_completed(alloc: Global, ends: u32) -> bool {
+    let habits = Habits { ends, ..PROMPT };
+    match came_of(alloc, habits) {
+        Some(Ran { first, again, .. }) => {
+            let is_stopped = first.is(None) || first.reason == Some(StopReason::Silent);
+            is_stopped && first.is_kept && again.is(Some(3))
+        }
+        None => false,
+    }
 }
 
 // It ends behind each of the last hundred messages, among which are all that write words, and behind each thirteenth before.
 #[test]
 fn a_master_ends_in_the_midst(rt: HostRuntime) {
-    let messages = messages_of(rt.alloc(), PROMPT, Some(3)).unwrap_or(0);
+    let messages = match came_of(rt.alloc(), PROMPT) {
+        Some(ran) if ran.first.is(Some(3)) => ran.messages,
+        _ => 0,
+    };
     assert!(rt; messages > 100);
     for ends in 0..messages {
         if ends % 13 == 0 || messages - ends <= 100 {
-            assert!(rt; is_completed(rt.alloc(), ends) == Some(true));
+            assert!(rt; is_completed(rt.alloc(), ends));
         }
     }
 }
-
-// Of which slaves of a line the PDI keeps the EEPROM, or why it can't be worked on.
-type Found = Result<(bool, bool), LineFault>;
 
 const SHARED: LineFault = LineFault::SharedAddress {
     slave: 1,
@@ -247,10 +285,12 @@ const SHARED: LineFault = LineFault::SharedAddress {
     station: 0x03e9,
 };
 
+const OPEN: Finding = Finding::Open;
+
 // What slaves a master has left, whether their EEPROMs may be taken by force, and what is found.
-const FOUND: &[(&[Slave], bool, Found)] = &[
-    (&[KEPT, OTHER], false, Ok((false, false))),
-    (&[OTHER, KEPT], false, Ok((false, false))),
+const FOUND: &[(&[Slave], bool, Findings)] = &[
+    (&[KEPT, OTHER], false, Ok(&[OPEN, OPEN])),
+    (&[OTHER, KEPT], false, Ok(&[OPEN, OPEN])),
     (&[KEPT, KEPT], false, Err(SHARED)),
     (
         &[FRESH, KEPT],
@@ -262,32 +302,21 @@ const FOUND: &[(&[Slave], bool, Found)] = &[
         true,
         Err(LineFault::Unaddressed { slave: 1 }),
     ),
-    (&[KEPT, HELD], false, Ok((false, true))),
-    (&[HELD, KEPT], false, Ok((true, false))),
-    (&[HELD, KEPT], true, Ok((false, false))),
+    (&[KEPT, HELD], false, Ok(&[OPEN, Finding::Held])),
+    (&[HELD, KEPT], false, Ok(&[Finding::Held, OPEN])),
+    (&[HELD, KEPT], true, Ok(&[OPEN, OPEN])),
 ];
 
-// Whether the PDI keeps the EEPROM of this slave.
-fn is_held(found: &FoundSlave) -> bool {
-    matches!(found.words, Err(SlaveFault::Held))
-}
-
-// Whether this is found beside a master. None: it can't be told, or memory was refused.
-fn is_found(alloc: Global, slaves: &[Slave], is_forced: bool, found: &Found) -> Option<bool> {
+// Whether this is found beside a master. None: memory was refused.
+fn is_found(alloc: Global, slaves: &[Slave], is_forced: bool, findings: &Findings) -> Option<bool> {
     let bench = Bench::new(alloc);
     let mut wire = lent(alloc, &bench, slaves, PROMPT, is_forced)?;
-    match bring_up(alloc, &mut wire, &bench.clock, &Sizes::unknown()) {
-        Ok(line) => match line.slaves.as_slice() {
-            [first, second] => Some(*found == Ok((is_held(first), is_held(second)))),
-            _ => None,
-        },
-        Err(fault) => Some(*found == Err(fault)),
-    }
+    Some(finds(alloc, &bench, &mut wire, &Sizes::unknown(), findings))
 }
 
 #[test]
 fn slaves_are_found_as_a_master_left_them(rt: HostRuntime) {
-    for (slaves, is_forced, found) in FOUND {
-        assert!(rt; is_found(rt.alloc(), slaves, *is_forced, found) == Some(true));
+    for (slaves, is_forced, findings) in FOUND {
+        assert!(rt; is_found(rt.alloc(), slaves, *is_forced, findings) == Some(true));
     }
 }

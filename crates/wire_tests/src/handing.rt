@@ -1,10 +1,8 @@
 //! EEPROMs that are handed back, also where the site has stopped before.
 
-use crate::bench::{BLANK, Bench, NO_TROUBLE, Slave, Trouble, WELL, brought_up, plan, wire_of};
-use crate::quirks::written_on;
+use crate::bench::{Act, BLANK, NO_TROUBLE, Run, Slave, Trouble, WELL, WRITE_NEW, came_of};
 use site_shadow::Pattern;
 use std::alloc::Global;
-use wire_bringup::hand_back;
 use wire_frames::Handed;
 use wire_practice::{Fate, Mishap, NO_QUIRKS, Quirks};
 
@@ -193,29 +191,23 @@ const CASES: &[Case] = &[
     ),
 ];
 
-// How many words are written, and what becomes of the access. None: the line isn't brought up, or memory was refused.
-fn handed_of(
-    alloc: Global,
-    slaves: &[Slave],
-    work: &Trouble,
-    behind: &Trouble,
-) -> Option<(usize, [Handed; 2])> {
-    let bench = Bench::new(alloc);
-    let mut wire = wire_of(alloc, &bench, slaves, None)?;
-    let (parts, states) = brought_up(alloc, &bench, &mut wire)?;
-    plan(&mut wire, work);
-    let (mut wire, count, _reason) = written_on(alloc, &bench, wire, parts);
-    plan(&mut wire, behind);
-    hand_back(&mut wire, &states);
-    let [one, other, ..] = wire.handed();
-    drop(wire);
-    Some((count, [one, other]))
+// Whether so many words are written, and this becomes of the access. None: the line isn't brought up, or memory was refused.
+fn is_handed_so(alloc: Global, case: &Case) -> Option<bool> {
+    let (slaves, trouble, count, behind, handed) = *case;
+    let run = Run {
+        slaves,
+        trouble,
+        act: WRITE_NEW,
+        behind: Some(behind),
+        then: Act::Nothing,
+    };
+    let came = came_of(alloc, &run)?;
+    Some(came.first.outcome.count == count && [came.handed[0], came.handed[1]] == handed)
 }
 
 #[test]
 fn eeproms_are_handed_back(rt: HostRuntime) {
-    for (slaves, work, count, behind, handed) in CASES {
-        let came = handed_of(rt.alloc(), slaves, work, behind);
-        assert!(rt; came == Some((*count, *handed)));
+    for case in CASES {
+        assert!(rt; is_handed_so(rt.alloc(), case) == Some(true));
     }
 }

@@ -7,6 +7,8 @@ mod bench;
 #[cfg(test)]
 mod beside;
 #[cfg(test)]
+mod bringing_up;
+#[cfg(test)]
 mod captured_wire;
 #[cfg(test)]
 mod handing;

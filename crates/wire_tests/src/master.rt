@@ -35,7 +35,7 @@ pub(crate) struct Habits {
     /// Whether of several answers the one that came last is given first.
     pub is_turned: bool,
     /// Behind how many messages it ends.
-    pub ends: Option<u32>,
+    pub ends: u32,
 }
 
 /// One that hands each answer back in the next turn.
@@ -47,7 +47,7 @@ pub(crate) const PROMPT: Habits = Habits {
     delays: (0, 0),
     doubles: 0,
     is_turned: false,
-    ends: None,
+    ends: u32::MAX,
 };
 
 /// A message, or an answer.
@@ -63,11 +63,12 @@ struct Message {
 #[derive(Drop)]
 pub(crate) struct Master<'c> {
     clock: &'c PracticeClock,
-    line: PracticeLine,
+    /// The slaves.
+    pub line: PracticeLine,
     habits: Habits,
     turn: u64,
     /// How many messages came, and how many went over the wire.
-    messages: u32,
+    pub messages: u32,
     answers: u32,
     /// The message that waits.
     waiting: Option<Message>,
@@ -81,16 +82,13 @@ fn is_each(count: u32, each: u32) -> bool {
 }
 
 fn message_of(bytes: &[u8], due: u64) -> Message {
+    let length = bytes.len().min(LONGEST);
     let mut message = Message {
         bytes: [0; LONGEST],
-        length: bytes.len().min(LONGEST),
+        length,
         due,
     };
-    for (place, byte) in bytes.iter().enumerate() {
-        if let Some(slot) = message.bytes.get_mut(place) {
-            *slot = *byte;
-        }
-    }
+    message.bytes[..length].copy_from_slice(&bytes[..length]);
     message
 }
 
@@ -109,16 +107,6 @@ impl<'c> Master<'c> {
         }
     }
 
-    /// The slaves.
-    pub(crate) fn line(&self) -> &PracticeLine {
-        &self.line
-    }
-
-    /// How many messages came.
-    pub(crate) fn messages(&self) -> u32 {
-        self.messages
-    }
-
     /// Another master takes the line over, with nothing that waits.
     pub(crate) fn begin_anew(&mut self, habits: Habits) {
         self.habits = habits;
@@ -126,13 +114,6 @@ impl<'c> Master<'c> {
         self.answers = 0;
         self.waiting = None;
         self.ready = [None; ROOM];
-    }
-
-    fn has_ended(&self) -> bool {
-        match self.habits.ends {
-            Some(messages) => self.messages > messages,
-            None => false,
-        }
     }
 
     /// Turns pass up to this one, if it isn't past.
@@ -143,50 +124,40 @@ impl<'c> Master<'c> {
         self.line.pass_time(self.clock.now());
     }
 
-    /// The message that waits goes over the wire, if its turn comes by this one.
+    /// The message that waits goes over the wire and through the slaves, if its turn comes by this one.
     fn exchange(&mut self, until: u64) {
         match self.waiting {
             Some(message) if message.due <= until => {
                 self.waiting = None;
                 self.pass_to(message.due);
-                self.carry(&message);
+                let length = message.length.min(LONGEST);
+                if let Ok(mut frame) = Frame::parse(&message.bytes[..length]) {
+                    self.line.take(&mut frame);
+                    self.come_back(frame.as_bytes());
+                }
             }
             _ => {}
         }
     }
 
-    /// A message goes through the slaves.
-    fn carry(&mut self, message: &Message) {
-        let length = message.length.min(LONGEST);
-        if let Ok(mut frame) = Frame::parse(&message.bytes[..length]) {
-            self.line.take(&mut frame);
-            self.come_back(frame.as_bytes());
-        }
-    }
-
-    /// An answer came back.
+    /// An answer came back. It waits, once or twice, and is dropped where there is no room.
     fn come_back(&mut self, bytes: &[u8]) {
         self.answers = self.answers.saturating_add(1);
         if is_each(self.answers, self.habits.loses) {
             return;
         }
         let (each, more) = self.habits.delays;
-        let mut due = self.turn.saturating_add(self.habits.holds);
-        if is_each(self.answers, each) {
-            due = due.saturating_add(more);
-        }
-        self.keep(message_of(bytes, due));
+        let more = if is_each(self.answers, each) { more } else { 0 };
+        let due = self.turn.saturating_add(self.habits.holds);
+        let answer = message_of(bytes, due.saturating_add(more));
+        let mut copies = 1u32;
         if is_each(self.answers, self.habits.doubles) {
-            self.keep(message_of(bytes, due));
+            copies = 2;
         }
-    }
-
-    /// An answer waits. It is dropped where there is no room.
-    fn keep(&mut self, answer: Message) {
         for place in 0..ROOM {
-            if self.ready[place].is_none() {
+            if copies > 0 && self.ready[place].is_none() {
                 self.ready[place] = Some(answer);
-                return;
+                copies = copies.saturating_sub(1);
             }
         }
     }
@@ -199,21 +170,15 @@ impl<'c> Master<'c> {
         }
     }
 
-    /// Where the answer stands that is given next, if one comes by this turn.
-    fn next(&self, until: u64) -> Option<usize> {
+    /// The answer that is given next, if one comes by this turn.
+    fn take_answer(&mut self, until: u64) -> Option<Message> {
         let mut found = None;
         for place in 0..ROOM {
             if self.is_due(place, until) && (found.is_none() || self.habits.is_turned) {
                 found = Some(place);
             }
         }
-        found
-    }
-
-    /// The answer that is given next, if one comes by this turn.
-    fn take_answer(&mut self, until: u64) -> Option<Message> {
-        let place = self.next(until)?;
-        let slot = self.ready.get_mut(place)?;
+        let slot = self.ready.get_mut(found?)?;
         slot.take()
     }
 }
@@ -223,7 +188,7 @@ impl Wire for Master<'_> {
 
     fn send(&mut self, bytes: &[u8]) -> io::Result<()> {
         self.messages = self.messages.saturating_add(1);
-        if self.has_ended() {
+        if self.messages > self.habits.ends {
             return Err(io::Error::other("it has ended"));
         }
         if !is_each(self.messages, self.habits.drops) {
@@ -234,7 +199,7 @@ impl Wire for Master<'_> {
     }
 
     fn receive(&mut self, bytes: &mut [u8]) -> io::Result<usize> {
-        if self.has_ended() {
+        if self.messages > self.habits.ends {
             return Err(io::Error::other("it has ended"));
         }
         let until = self.turn.saturating_add(TIME_OUT);

@@ -1,9 +1,10 @@
 //! Slaves whose words are read side by side, by frames of many datagrams, and what is told of those that can't be worked on.
 
-use crate::bench::{BLANK, Bench, Content, FATES, Slave, Trouble, WELL, plan, wire_of};
+use crate::bench::{BLANK, Content, FATES, Slave, WELL};
+use crate::bringing_up::{Finding, Findings, Line, course_of};
 use std::alloc::Global;
-use wire_bringup::{FoundLine, FoundSlave, Sizes, bring_up};
-use wire_frames::{Cause, SlaveFault};
+use wire_bringup::Sizes;
+use wire_frames::{Cause, LineFault};
 use wire_practice::{Cable, Fate, Mishap, NO_QUIRKS, PowerLoss, Quirks};
 
 // A slave of 64 words, each its own number, whose chip repeats.
@@ -121,22 +122,28 @@ const PLAINS: &[Slave] = &[PLAIN, PLAIN, PLAIN];
 
 const MIXED: &[Slave] = &[PLAIN, WIDE, PLAIN];
 
-// What becomes of a slave: its words are read, or it can't be worked on.
-#[derive(Clone, Copy)]
-enum Outcome {
-    Read,
-    Dead(Cause),
-}
+const READ: Finding = Finding::Read;
 
-const READ: Outcome = Outcome::Read;
+const RESTARTED: Finding = Finding::Dead(Cause::Restarted);
 
-const RESTARTED: Outcome = Outcome::Dead(Cause::Restarted);
+const UNPLUGGED: Finding = Finding::Dead(Cause::CableOrPower);
 
-const UNPLUGGED: Outcome = Outcome::Dead(Cause::CableOrPower);
+const MUTE: Finding = Finding::Dead(Cause::NoAcknowledge);
 
-const MUTE: Outcome = Outcome::Dead(Cause::NoAcknowledge);
+const STUCK: Finding = Finding::Dead(Cause::StuckBusy);
 
-const ALL_READ: &[Outcome] = &[READ, READ, READ];
+const SHARED: Finding = Finding::Dead(Cause::Shared);
+
+const ALL_READ: &[Finding] = &[READ, READ, READ];
+
+// A slave that emulates its EEPROM of words that are all 0, and stays busy for two datagrams.
+const DELAYS: Slave = Slave {
+    quirks: Quirks {
+        delay: 2,
+        ..NO_QUIRKS
+    },
+    ..BLANK
+};
 
 // The cable behind the first slave or behind the second one is pulled, while words are read.
 const PULLED_BEHIND_FIRST: Cable = Cable {
@@ -149,6 +156,31 @@ const PULLED: Cable = Cable {
     frames: 60,
 };
 
+// Three frames are lost, and one comes back with a counter of 0 or 129 in place of 1.
+const FIRST_LOST: Mishap = Mishap {
+    passing: 0,
+    failing: 3,
+    fate: Fate::LostBefore,
+};
+
+const TENTH_LOST: Mishap = Mishap {
+    passing: 9,
+    failing: 3,
+    fate: Fate::LostBehind,
+};
+
+const UNCOUNTED: Mishap = Mishap {
+    passing: 0,
+    failing: 1,
+    fate: Fate::Turned(13, 1),
+};
+
+const OVERCOUNTED: Mishap = Mishap {
+    passing: 0,
+    failing: 1,
+    fate: Fate::Turned(13, 0x80),
+};
+
 // How many frames are sent before those with a datagram for each of three slaves: a broadcast, another one, and three addresses; AL status
 // and access of three; and for each of three access by force, access given back, a poll and a clearing.
 const BEFORE: u32 = 2 + 3 + 2 * 3 + 4 * 3;
@@ -156,112 +188,74 @@ const BEFORE: u32 = 2 + 3 + 2 * 3 + 4 * 3;
 // The first frame of many has three commands of six bytes, at bytes 2, 20 and 38, and the number at 56. The second one has three polls of
 // two bytes, at 2, 16 and 30, and the third one three fetches of four, at 2, 18 and 34. Of a datagram, byte 0 is the command, 2 and 3 are
 // the station address, 4 and 5 the register, 6 the length, 10 and further the content, and the working counter is behind that.
-const TURNED: &[(u32, usize, u8)] = &[
+const TURNED: &[(&[Slave], u32, usize, u8)] = &[
     // Command, address, register, length, content and counter of the second command; the frame's number.
-    (0, 20, 1),
-    (0, 22, 1),
-    (0, 24, 2),
-    (0, 26, 1),
-    (0, 32, 1),
-    (0, 36, 1),
-    (0, 36, 3),
-    (0, 58, 1),
+    (PLAINS, 0, 20, 1),
+    (PLAINS, 0, 22, 1),
+    (PLAINS, 0, 24, 2),
+    (PLAINS, 0, 26, 1),
+    (PLAINS, 0, 32, 1),
+    (PLAINS, 0, 36, 1),
+    (PLAINS, 0, 36, 3),
+    (PLAINS, 0, 58, 1),
     // Busy, an error, and the counter of the second poll.
-    (1, 27, 0x80),
-    (1, 27, 0x20),
-    (1, 28, 1),
+    (PLAINS, 1, 27, 0x80),
+    (PLAINS, 1, 27, 0x20),
+    (PLAINS, 1, 28, 1),
     // Command, address and counter of the first, the second and the last fetch.
-    (2, 2, 1),
-    (2, 20, 1),
-    (2, 32, 1),
-    (2, 48, 3),
+    (PLAINS, 2, 2, 1),
+    (PLAINS, 2, 20, 1),
+    (PLAINS, 2, 32, 1),
+    (PLAINS, 2, 48, 3),
+    // The second slave's reads load eight bytes, so the third fetch is at byte 38: bit 6 of the second poll; length and counter of the second
+    // fetch; command and counter of the third one.
+    (MIXED, 1, 26, 0x40),
+    (MIXED, 2, 24, 1),
+    (MIXED, 2, 36, 1),
+    (MIXED, 2, 36, 3),
+    (MIXED, 2, 38, 1),
+    (MIXED, 2, 52, 1),
 ];
 
-// Of three slaves, the second one's reads load eight bytes, so the third fetch is at byte 38: bit 6 of the second poll; length and counter of
-// the second fetch; command and counter of the third one.
-const TURNED_AT_MIXED: &[(u32, usize, u8)] = &[
-    (1, 26, 0x40),
-    (2, 24, 1),
-    (2, 36, 1),
-    (2, 36, 3),
-    (2, 38, 1),
-    (2, 52, 1),
-];
-
-// The words of each slave: their numbers, but for the size.
-const NUMBERS: &[u16] = &[
-    0, 1, 2, 3, 4, 5, 6, 7, 8, 9, 10, 11, 12, 13, 14, 15, 16, 17, 18, 19, 20, 21, 22, 23, 24, 25,
-    26, 27, 28, 29, 30, 31, 32, 33, 34, 35, 36, 37, 38, 39, 40, 41, 42, 43, 44, 45, 46, 47, 48, 49,
-    50, 51, 52, 53, 54, 55, 56, 57, 58, 59, 60, 61, 0, 63,
-];
-
-fn is_so(found: &FoundSlave, outcome: Outcome) -> bool {
-    match (&found.words, outcome) {
-        (Ok(words), Outcome::Read) => words.as_slice() == NUMBERS,
-        (Err(SlaveFault::Dead(sighting)), Outcome::Dead(cause)) => sighting.cause() == cause,
-        _ => false,
-    }
-}
-
-// Whether the line has as many slaves as there are outcomes, and each slave came to its own.
-fn are_so(line: &FoundLine, outcomes: &[Outcome]) -> bool {
-    for place in 0..outcomes.len() {
-        match line.slaves.get(place) {
-            Some(found) if is_so(found, outcomes[place]) => {}
-            _ => return false,
-        }
-    }
-    line.slaves.len() == outcomes.len()
-}
-
-// How a line was brought up.
-#[derive(Clone, Copy)]
-struct Course {
-    // Whether each slave came to its outcome.
-    are_so: bool,
-    // How many frames were sent, and after how many microseconds.
-    frames: u64,
-    time: u64,
-}
-
-// How a line is brought up with a cable that is pulled, if there is one, where frames have this mishap. None: it can't be brought up, or memory
-// was refused.
-fn course_of(
+// Whether this is found of these slaves where one frame has this fate.
+fn is_found_with(
     alloc: Global,
     slaves: &[Slave],
-    cable: Option<Cable>,
-    mishap: Mishap,
-    outcomes: &[Outcome],
-) -> Option<Course> {
-    let bench = Bench::new(alloc);
-    let mut wire = wire_of(alloc, &bench, slaves, cable)?;
-    plan(&mut wire, &Trouble { mishap, cut: None });
-    let line = bring_up(alloc, &mut wire, &bench.clock, &Sizes::unknown()).ok()?;
-    Some(Course {
-        are_so: are_so(&line, outcomes),
-        frames: wire.sent(),
-        time: bench.clock.now(),
-    })
+    passing: u32,
+    fate: Fate,
+    findings: &Findings,
+) -> bool {
+    let line = Line {
+        slaves,
+        cable: None,
+        mishap: Mishap {
+            passing,
+            failing: 1,
+            fate,
+        },
+    };
+    matches!(course_of(alloc, &line, &Sizes::unknown(), findings), Some(course) if course.is_so)
 }
 
-// Whether the words of all three slaves are read where one frame has this fate.
-fn are_read(alloc: Global, slaves: &[Slave], passing: u32, fate: Fate) -> bool {
-    let mishap = Mishap {
-        passing,
-        failing: 1,
-        fate,
-    };
-    match course_of(alloc, slaves, None, mishap, ALL_READ) {
-        Some(course) => course.are_so,
-        None => false,
+#[test]
+fn falsified_datagrams_are_asked_again(rt: HostRuntime) {
+    for (slaves, frame, place, bits) in TURNED {
+        let fate = Fate::Turned(*place, *bits);
+        assert!(rt; is_found_with(rt.alloc(), slaves, BEFORE + *frame, fate, &Ok(ALL_READ)));
     }
 }
 
-// Whether they are, whichever of these datagrams is falsified.
-fn are_asked_again(alloc: Global, slaves: &[Slave], turned: &[(u32, usize, u8)]) -> bool {
-    for (frame, place, bits) in turned {
-        let passing = BEFORE.saturating_add(*frame);
-        if !are_read(alloc, slaves, passing, Fate::Turned(*place, *bits)) {
+// Slaves, from which frame on and up to which one a frame may be lost or doubled, and what is found nevertheless.
+const ASKED_AGAIN: &[(&[Slave], u32, u32, Findings)] = &[
+    (MIXED, BEFORE, BEFORE + 12, Ok(ALL_READ)),
+    (&[DELAYS], 0, 40, Ok(&[Finding::Open])),
+];
+
+// Whether this is found of these slaves, whichever of these frames has this fate.
+fn is_always_found(alloc: Global, fate: Fate, case: &(&[Slave], u32, u32, Findings)) -> bool {
+    let (slaves, from, to, findings) = case;
+    for passing in *from..*to {
+        if !is_found_with(alloc, slaves, passing, fate, findings) {
             return false;
         }
     }
@@ -269,102 +263,159 @@ fn are_asked_again(alloc: Global, slaves: &[Slave], turned: &[(u32, usize, u8)])
 }
 
 #[test]
-fn falsified_datagrams_are_asked_again(rt: HostRuntime) {
-    assert!(rt; are_asked_again(rt.alloc(), PLAINS, TURNED));
-    assert!(rt; are_asked_again(rt.alloc(), MIXED, TURNED_AT_MIXED));
-}
-
-#[test]
 fn lost_and_doubled_frames_are_asked_again(rt: HostRuntime) {
     for fate in FATES {
-        for frame in 0..12u32 {
-            assert!(rt; are_read(rt.alloc(), MIXED, BEFORE + frame, *fate));
+        for case in ASKED_AGAIN {
+            assert!(rt; is_always_found(rt.alloc(), *fate, case));
         }
     }
 }
 
-// How many frames are sent to slaves that are all read. Each pair of words takes three frames for all slaves: 32 pairs of the first 64 words,
-// and as many from each of seven words on at which chips may begin to repeat. Besides there are two broadcasts, and seven frames for each slave.
-// Of slaves that load eight bytes each four words take three frames: 16 times, and as many from each of the seven words on.
-const FRAMES: &[(&[Slave], &[Outcome], u64)] = &[
-    (&[PLAIN], &[READ], 777),
-    (&[PLAIN, PLAIN], &[READ, READ], 784),
-    (PLAINS, ALL_READ, 791),
-    (&[WIDE], &[READ], 393),
-    (&[WIDE, WIDE], &[READ, READ], 400),
-    (&[WIDE, WIDE, WIDE], ALL_READ, 407),
-];
+// Slaves side by side, a cable that is pulled, what frames meet, what is found, and how many frames are sent, where that is known.
+type Case = (
+    &'static [Slave],
+    Option<Cable>,
+    Mishap,
+    Findings,
+    Option<u64>,
+);
 
-// How many frames are sent to these slaves, if they come to these outcomes.
-fn frames_for(alloc: Global, slaves: &[Slave], outcomes: &[Outcome]) -> Option<u64> {
-    match course_of(alloc, slaves, None, WELL, outcomes) {
-        Some(course) if course.are_so => Some(course.frames),
-        _ => None,
-    }
-}
-
-#[test]
-fn words_are_read_once(rt: HostRuntime) {
-    for (slaves, outcomes, frames) in FRAMES {
-        assert!(rt; frames_for(rt.alloc(), slaves, outcomes) == Some(*frames));
-    }
-}
-
-// Slaves side by side, a cable that is pulled, and what becomes of them.
-const LINES: &[(&[Slave], Option<Cable>, &[Outcome])] = &[
-    (&[PLAIN, BUSY, SLOW], None, ALL_READ),
-    (&[SLOW, MISSES, BUSY], None, ALL_READ),
-    (&[WIDE, BUSY, WIDE_AND_MISSES], None, ALL_READ),
-    (&[PLAIN, LOSES_POWER, SLOW], None, &[READ, RESTARTED, READ]),
+// The frames to slaves that are all read: each pair of words takes three frames for all slaves: 32 pairs of the first 64 words, and as many
+// from each of seven words on at which chips may begin to repeat. Besides there are two broadcasts, and seven frames for each slave. Of slaves
+// that load eight bytes each four words take three frames: 16 times, and as many from each of the seven words on.
+const CASES: &[Case] = &[
+    (&[PLAIN], None, WELL, Ok(&[READ]), Some(777)),
+    (&[PLAIN, PLAIN], None, WELL, Ok(&[READ, READ]), Some(784)),
+    (PLAINS, None, WELL, Ok(ALL_READ), Some(791)),
+    (&[WIDE], None, WELL, Ok(&[READ]), Some(393)),
+    (&[WIDE, WIDE], None, WELL, Ok(&[READ, READ]), Some(400)),
+    (&[WIDE, WIDE, WIDE], None, WELL, Ok(ALL_READ), Some(407)),
+    (&[PLAIN, BUSY, SLOW], None, WELL, Ok(ALL_READ), None),
+    (&[SLOW, MISSES, BUSY], None, WELL, Ok(ALL_READ), None),
+    (
+        &[WIDE, BUSY, WIDE_AND_MISSES],
+        None,
+        WELL,
+        Ok(ALL_READ),
+        None,
+    ),
+    (
+        &[PLAIN, LOSES_POWER, SLOW],
+        None,
+        WELL,
+        Ok(&[READ, RESTARTED, READ]),
+        None,
+    ),
     (
         &[BUSY, NEVER_ACKNOWLEDGES, PLAIN],
         None,
-        &[READ, MUTE, READ],
+        WELL,
+        Ok(&[READ, MUTE, READ]),
+        None,
     ),
     (
         &[PLAIN, MISSES, PLAIN],
         Some(PULLED),
-        &[READ, READ, UNPLUGGED],
+        WELL,
+        Ok(&[READ, READ, UNPLUGGED]),
+        None,
     ),
-    (&[EMULATED, EMULATED], None, &[READ, READ]),
-    (&[EMULATED_MUTE, EMULATED], None, &[MUTE, READ]),
+    (&[EMULATED, EMULATED], None, WELL, Ok(&[READ, READ]), None),
+    (
+        &[EMULATED_MUTE, EMULATED],
+        None,
+        WELL,
+        Ok(&[MUTE, READ]),
+        None,
+    ),
     (
         &[EMULATED, STAYS_BUSY],
         None,
-        &[READ, Outcome::Dead(Cause::StuckBusy)],
+        WELL,
+        Ok(&[READ, STUCK]),
+        None,
     ),
     // Slave 1 keeps the station address of slave 0.
     (
         &[EMULATED, KEEPS_ADDRESS],
         None,
-        &[Outcome::Dead(Cause::Shared), RESTARTED],
+        WELL,
+        Ok(&[SHARED, RESTARTED]),
+        None,
     ),
-    (&[EMULATED_LOSES_POWER, EMULATED], None, &[RESTARTED, READ]),
+    (
+        &[EMULATED_LOSES_POWER, EMULATED],
+        None,
+        WELL,
+        Ok(&[RESTARTED, READ]),
+        None,
+    ),
     (
         &[EMULATED, EMULATED],
         Some(PULLED_BEHIND_FIRST),
-        &[READ, UNPLUGGED],
+        WELL,
+        Ok(&[READ, UNPLUGGED]),
+        None,
+    ),
+    // Frames that are lost three times, or falsified as slaves are counted.
+    (&[DELAYS], None, WELL, Ok(&[Finding::Open]), None),
+    (&[DELAYS], None, FIRST_LOST, Err(LineFault::Silent), None),
+    (&[DELAYS], None, TENTH_LOST, Err(LineFault::Silent), None),
+    (&[DELAYS], None, UNCOUNTED, Err(LineFault::NoSlaves), None),
+    (
+        &[DELAYS],
+        None,
+        OVERCOUNTED,
+        Err(LineFault::TooManySlaves { slaves: 129 }),
+        None,
     ),
 ];
 
-#[test]
-fn slaves_differ(rt: HostRuntime) {
-    for (slaves, cable, outcomes) in LINES {
-        let course = course_of(rt.alloc(), slaves, *cable, WELL, outcomes);
-        assert!(rt; matches!(course, Some(course) if course.are_so));
+// Whether this is found, with so many frames.
+fn is_found(alloc: Global, case: &Case) -> bool {
+    let (slaves, cable, mishap, findings, frames) = case;
+    let line = Line {
+        slaves,
+        cable: *cable,
+        mishap: *mishap,
+    };
+    match course_of(alloc, &line, &Sizes::unknown(), findings) {
+        Some(course) => course.is_so && (frames.is_none() || *frames == Some(course.frames)),
+        None => false,
     }
 }
 
-// After how many microseconds slow slaves are brought up.
-fn time_of(alloc: Global, slaves: &[Slave], outcomes: &[Outcome]) -> Option<u64> {
-    let course = course_of(alloc, slaves, None, WELL, outcomes)?;
-    Some(course.time)
+#[test]
+fn slaves_are_found(rt: HostRuntime) {
+    for case in CASES {
+        assert!(rt; is_found(rt.alloc(), case));
+    }
+}
+
+// One slow slave, and three.
+const ONE_SLOW: Line<'static> = Line {
+    slaves: &[SLOW],
+    cable: None,
+    mishap: WELL,
+};
+
+const THREE_SLOW: Line<'static> = Line {
+    slaves: &[SLOW, SLOW, SLOW],
+    ..ONE_SLOW
+};
+
+// After how many microseconds the line is brought up, if this is found.
+fn time_of(alloc: Global, line: &Line<'_>, findings: &Findings) -> Option<u64> {
+    match course_of(alloc, line, &Sizes::unknown(), findings) {
+        Some(course) if course.is_so => Some(course.time),
+        _ => None,
+    }
 }
 
 // Three slow slaves take no more than a tenth longer than one.
 #[test]
 fn slow_slaves_are_read_at_the_same_time(rt: HostRuntime) {
-    let one = time_of(rt.alloc(), &[SLOW], &[READ]).unwrap_or(0);
-    let three = time_of(rt.alloc(), &[SLOW, SLOW, SLOW], ALL_READ).unwrap_or(u64::MAX);
+    let one = time_of(rt.alloc(), &ONE_SLOW, &Ok(&[READ])).unwrap_or(0);
+    let three = time_of(rt.alloc(), &THREE_SLOW, &Ok(ALL_READ)).unwrap_or(u64::MAX);
     assert!(rt; one >= 256 * 2_000 && three <= one.saturating_add(one / 10));
 }
