@@ -1,4 +1,4 @@
-//! Tests of a desk, of its wakeups, and of a line in memory that threads serve from one, where a part of it fails or loses power.
+//! Tests of a desk, and of a line in memory that threads serve from one, where a part of it fails or loses power.
 #![tactic(auto)]
 
 #[cfg(test)]
@@ -21,5 +21,3 @@ mod sites;
 mod stops;
 #[cfg(test)]
 mod submitter;
-#[cfg(test)]
-mod wakes;

@@ -1,4 +1,5 @@
-//! Tests of a station on one thread and of its recovery, through public calls, on lines in memory that fail or lose power.
+//! Tests of a station on one thread and of its recovery, through public calls, on lines in memory that fail or lose power. And of a desk: whom
+//! each change wakes.
 #![tactic(auto)]
 
 #[cfg(test)]
@@ -17,3 +18,5 @@ mod scripts;
 mod stops;
 #[cfg(test)]
 mod story;
+#[cfg(test)]
+mod wakes;

@@ -1,4 +1,4 @@
-use Rattle.desk_tests.proofs.wakes.wakes.Given as goal
+use Rattle.runner_tests.proofs.wakes.wakes.Given as goal
 
 -- the book that was just opened, and its ledgers
 abbrev pub ghosts-wakes_at-T-Ledger : goal.ghosts-wakes_at-T-Ledger

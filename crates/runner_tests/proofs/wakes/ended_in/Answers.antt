@@ -4,9 +4,9 @@ use Rattle.std.proofs.Crossing.{crosses}
 use Rattle.sii_edit.proofs.command.Command.TheSendSync as command
 use Rattle.desk_book.specs.contracts.ticket.Ticket as Ticket
 use Rattle.station_threads.proofs.Sent.{desk-sync}
-use Rattle.desk_tests.proofs.wakes.Sleeper.TheSendSync as sleeper
-use Rattle.desk_tests.specs.contracts.wakes.Tired as Tired
-use Rattle.desk_tests.proofs.wakes.ended_in.Goals as goal
+use Rattle.runner_tests.proofs.wakes.Sleeper.TheSendSync as sleeper
+use Rattle.runner_tests.specs.contracts.wakes.Tired as Tired
+use Rattle.runner_tests.proofs.wakes.ended_in.Goals as goal
 
 ticket-send : IsSend Ticket.the_row
 ticket-send = search (command.the_field_send, crosses, sendable) depth 40

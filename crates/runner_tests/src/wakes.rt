@@ -3,13 +3,15 @@
 //! In each trial one thread sleeps at a desk, and this one makes a change, with nobody else awake who could wake it by accident. Where a
 //! wakeup is lost, the trial doesn't end.
 
-ghost use Rattle.std.specs.Prelude.{◌≡◌, []};
+ghost use Rattle.std.specs.Prelude.{◌≡◌, [], IfSome};
 ghost use denote.Param.Send.{IsSync};
 
-use crate::line::{Plan, book_of};
 use book_core::Core;
 use book_model::{RomNext, RomOutcome, Status};
+use jrn_format::{Form, Journal};
 use runner_cases::asks::{Ask, command};
+use runner_cases::line::{Slave, plant_of};
+use sii_words::ItemList;
 use site_core::{DeviceFault, Issued, Settled};
 use station_jobs::{Dispatch, Turn};
 use station_threads::{BlankLedger, Desk, Refusals, Share, Ticket, Tickets};
@@ -413,16 +415,33 @@ fn wakes_at<
 }
 
 /// Two slaves of zeros, whose process image is empty.
-const TWO: Plan = Plan {
-    words: 64,
-    slaves: &[&[], &[]],
-    area: 4096,
-    has_cycle: false,
-};
+const TWO: &[Slave] = &[Slave::Zero, Slave::Zero];
+
+/// A journal without batches.
+fn no_batches(alloc: Global) -> Journal
+    ensures form { result.form ≡ Form.Two }
+    ensures batches { result.batches ≡ [] }
+{
+    Journal {
+        form: Form::Two,
+        batches: ItemList::from_vec(Vec::new(alloc)),
+    }
+}
+
+/// The book of these slaves, on a journal without batches, with an area of 4,096 bytes. None: memory was refused.
+fn book_of(alloc: Global, slaves: &[Slave]) -> Option<Core>
+    ensures { IfSome result (λ core. core.accepted ≡ []) }
+{
+    let plant = plant_of(alloc, slaves)?;
+    if plant.len() < 1 || plant.len() > 64 {
+        return None;
+    }
+    Core::open(alloc, plant, 4096, no_batches(alloc)).ok()
+}
 
 /// Whether the sleep of the trial ended as it has to.
 fn wakes<W: Wait + Threads + Sync + Clock + Abort>(rt: &W, alloc: Global, trial: &Trial) -> bool {
-    let core = book_of(rt, alloc, &TWO);
+    let core = book_of(alloc, TWO).expect(rt, "memory");
     wakes_at::<Brand, Brand, W>(
         rt,
         alloc,
