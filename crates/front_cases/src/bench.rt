@@ -61,7 +61,7 @@ impl Bench {
     }
 }
 
-/// Runs the program on these arguments, its name first.
+/// Runs the program on these arguments, its name first. What it prints stands on the bench in place of what the last run printed.
 pub fn run_on(
     rt: &(impl Wait + Threads + Sync),
     bench: &mut Bench,
