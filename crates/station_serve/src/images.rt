@@ -300,9 +300,15 @@ fn done<E: Write>(ended: Result<(), Failure>, faults: &mut E) -> ExitStatus {
 pub(crate) fn files_of_images(task: ImageTask<'_>) -> Files<'_> {
     match task {
         ImageTask::Alias { hex, file, .. } | ImageTask::Show { hex, file, .. } => match file {
-            Some(name) => Files::Image { name, hex },
+            Some(_) => Files::Images {
+                hex,
+                has_input: false,
+            },
             None => Files::Input,
         },
-        ImageTask::Diff { hex, old, new, .. } => Files::Pair { old, new, hex },
+        ImageTask::Diff { hex, old, new, .. } => Files::Images {
+            hex,
+            has_input: old.is_none() || new.is_none(),
+        },
     }
 }

@@ -11,7 +11,7 @@ use station_files::{ExitStatus, Fault, Store, report_fault, status_of};
 use station_line::init_line;
 use station_plan::{plan_script, show_journal};
 use station_session::{Streams, Watch};
-use station_troubles::{Files, Heard, Journal, LineNames, tell_more};
+use station_troubles::{Files, Heard, LineNames, Remembering, tell_more};
 use std::io::{Read, Write};
 use std::rt::Clock;
 use std::sync::Wait;
@@ -103,17 +103,25 @@ fn serve_and_tell<
     store: &mut S,
     streams: Streams<'_, W, E>,
 ) -> ExitStatus {
+    let alloc = watch.rt.alloc();
     let Streams { output, faults } = streams;
+    let mut known = Remembering::new(alloc, store, is_told);
     let mut heard = Heard::new(&mut *faults);
     let streams = Streams {
         output,
         faults: &mut heard,
     };
-    let status = serve_task(watch, task, input, store, streams);
+    let status = serve_task(watch, task, input, &mut known, streams);
     match heard.code() {
         Some(code) if is_told => {
-            let alloc = watch.rt.alloc();
-            tell_more(alloc, "sii_station", code, files_of(task), store, faults);
+            tell_more(
+                alloc,
+                "sii_station",
+                code,
+                files_of(task),
+                &mut known,
+                faults,
+            );
         }
         _ => {}
     }
@@ -125,25 +133,22 @@ fn files_of(task: Task<'_>) -> Files<'_> {
     match task {
         Task::Image(image) => files_of_images(image),
         Task::Explain { .. } | Task::Completions { .. } | Task::Man => Files::Nothing,
-        Task::Layout { line, .. } => line_files(line, Journal::Unread, None),
-        Task::Init { line } => line_files(line, Journal::New, None),
-        Task::Plan { line, script, .. } => line_files(line, Journal::Kept, Some(script)),
+        Task::Layout { line, .. }
+        | Task::Init { line }
+        | Task::Recover { line, .. }
+        | Task::Journal { line, .. } => line_files(line, None),
+        Task::Plan { line, script, .. } => line_files(line, Some(script)),
         Task::Run(run) => Files::Line(LineNames {
             line: run.names.line,
-            journal: Journal::Kept,
             script: Some(run.names.script),
             capture: run.names.capture,
         }),
-        Task::Recover { line, .. } | Task::Journal { line, .. } => {
-            line_files(line, Journal::Kept, None)
-        }
     }
 }
 
-fn line_files<'a>(line: &'a str, journal: Journal, script: Option<&'a str>) -> Files<'a> {
+fn line_files<'a>(line: &'a str, script: Option<&'a str>) -> Files<'a> {
     Files::Line(LineNames {
         line,
-        journal,
         script,
         capture: None,
     })

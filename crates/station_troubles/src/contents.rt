@@ -1,8 +1,7 @@
 //! What is wrong in the bytes of an image or a journal.
 
-use crate::search::{End, Search};
 use jrn_format::{JournalFault, scan};
-use sii_words::{ImageFile, Words, is_device_size, is_image_size};
+use sii_words::{ImageFile, is_device_size, is_image_size};
 use station_listing::Code;
 use station_text::{HexFault, read_hex};
 use std::alloc::{AllocError, Global};
@@ -24,18 +23,20 @@ pub(crate) enum Image {
 
 /// What is wrong in an image.
 #[derive(Clone, Copy)]
-enum BadImage {
+pub(crate) enum BadImage {
     /// It has this odd number of bytes.
     OddLength(usize),
     /// It has this number of words, which breaks a rule.
     BadSize(usize, &'static str),
     /// Its check byte should be this one.
     BadCheck(u8),
+    /// It isn't hexadecimal text.
+    NoHex,
 }
 
 /// Why a journal is refused.
 #[derive(Clone, Copy)]
-struct BadJournal {
+pub(crate) struct BadJournal {
     fault: JournalFault,
     /// The number of its bytes.
     bytes: usize,
@@ -45,58 +46,51 @@ struct BadJournal {
     slaves: usize,
 }
 
-/// What is said of a file that isn't hexadecimal text.
-const NO_HEX: &str = "not pairs of hexadecimal digits alone";
-
-/// Judges the bytes of an image file.
-pub(crate) fn judge_image(
-    search: &mut Search,
-    name: &str,
+/// What is wrong in an image with these bytes; `None` where nothing is.
+pub(crate) fn flaw_of_image(
+    alloc: Global,
     image: Image,
     bytes: &[u8],
-) -> Result<(), End> {
+) -> Result<Option<BadImage>, AllocError> {
     match image {
-        Image::Eeprom | Image::Written => judge_size(search, name, image, bytes.len()),
-        Image::Checked => judge_check(search, name, bytes),
-        Image::Spelt => judge_text(search, name, bytes),
+        Image::Eeprom | Image::Written => Ok(bad_size(image, bytes.len())),
+        Image::Checked => flaw_of_checked(alloc, bytes),
+        Image::Spelt => flaw_of_text(alloc, bytes),
     }
 }
 
-/// Judges the hexadecimal text of an image.
-fn judge_text(search: &mut Search, name: &str, bytes: &[u8]) -> Result<(), End> {
+/// What is wrong in the hexadecimal text of an image.
+fn flaw_of_text(alloc: Global, bytes: &[u8]) -> Result<Option<BadImage>, AllocError> {
     let Ok(text) = str::from_utf8(bytes) else {
-        return Err(search.end(Code::BadHex, name, &NO_HEX));
+        return Ok(Some(BadImage::NoHex));
     };
-    match read_hex(search.alloc, text) {
-        Ok(spelt) => judge_check(search, name, &spelt),
-        Err(HexFault::BadHex) => Err(search.end(Code::BadHex, name, &NO_HEX)),
-        Err(HexFault::Memory) => Err(End::Memory),
+    match read_hex(alloc, text) {
+        Ok(spelt) => flaw_of_checked(alloc, &spelt),
+        Err(HexFault::BadHex) => Ok(Some(BadImage::NoHex)),
+        Err(HexFault::Memory) => Err(AllocError),
     }
 }
 
-/// Judges the number of an image's bytes, and its check byte.
-fn judge_check(search: &mut Search, name: &str, bytes: &[u8]) -> Result<(), End> {
-    judge_size(search, name, Image::Checked, bytes.len())?;
-    match ImageFile::from_bytes(search.alloc, bytes) {
-        Ok(image) if image.check_ok() => Ok(()),
-        Ok(image) => {
-            let bad = BadImage::BadCheck(image.check_byte());
-            Err(search.end(Code::BadCheck, name, &bad))
-        }
-        Err(_) => Err(End::Memory),
+/// What is wrong in the number of an image's bytes, or else in its check byte.
+fn flaw_of_checked(alloc: Global, bytes: &[u8]) -> Result<Option<BadImage>, AllocError> {
+    if let Some(bad) = bad_size(Image::Checked, bytes.len()) {
+        return Ok(Some(bad));
+    }
+    match ImageFile::from_bytes(alloc, bytes) {
+        Ok(image) if image.check_ok() => Ok(None),
+        Ok(image) => Ok(Some(BadImage::BadCheck(image.check_byte()))),
+        Err(_) => Err(AllocError),
     }
 }
 
-/// Judges the number of an image's bytes.
-fn judge_size(search: &mut Search, name: &str, image: Image, bytes: usize) -> Result<(), End> {
+/// What is wrong in the number of an image's bytes.
+fn bad_size(image: Image, bytes: usize) -> Option<BadImage> {
     if bytes % 2 != 0 {
-        return Err(search.end(Code::OddLength, name, &BadImage::OddLength(bytes)));
+        return Some(BadImage::OddLength(bytes));
     }
     let words = bytes / 2;
-    match broken_rule(words, image) {
-        Some(rule) => Err(search.end(Code::BadSize, name, &BadImage::BadSize(words, rule))),
-        None => Ok(()),
-    }
+    let rule = broken_rule(words, image)?;
+    Some(BadImage::BadSize(words, rule))
 }
 
 /// The rule that a number of words breaks, if it does.
@@ -111,36 +105,33 @@ fn broken_rule(words: usize, image: Image) -> Option<&'static str> {
     }
 }
 
-/// Judges the bytes of a journal, on a line of slaves with these words.
-pub(crate) fn judge_journal(
-    search: &mut Search,
-    name: &str,
+/// Why a journal with these bytes is refused on a line of slaves with so many words each; `None` where it isn't.
+pub(crate) fn flaw_of_journal(
+    alloc: Global,
     journal: &[u8],
-    slaves: &[Words],
-) -> Result<(), End> {
-    let sizes = sizes_of(search.alloc, slaves)?;
-    match scan(search.alloc, journal, &sizes) {
-        Ok(_) => Ok(()),
-        Err(JournalFault::Memory) => Err(End::Memory),
-        Err(fault) => {
-            let bad = BadJournal {
-                fault,
-                bytes: journal.len(),
-                count: count_of(journal),
-                slaves: slaves.len(),
-            };
-            Err(search.end(code_of(fault), name, &bad))
-        }
+    sizes: &[u16],
+) -> Result<Option<BadJournal>, AllocError> {
+    match scan(alloc, journal, sizes) {
+        Ok(_) => Ok(None),
+        Err(JournalFault::Memory) => Err(AllocError),
+        Err(fault) => Ok(Some(BadJournal {
+            fault,
+            bytes: journal.len(),
+            count: count_of(journal),
+            slaves: sizes.len(),
+        })),
     }
 }
 
-fn code_of(fault: JournalFault) -> Code {
-    match fault {
-        JournalFault::Memory => Code::Memory,
-        JournalFault::NotAJournal => Code::NotAJournal,
-        JournalFault::BadVersion { .. } => Code::BadVersion,
-        JournalFault::WrongLine => Code::WrongLine,
-        JournalFault::BadJournal { .. } => Code::BadJournal,
+impl BadImage {
+    /// The code of the fault that this gives.
+    pub(crate) fn code(self) -> Code {
+        match self {
+            BadImage::OddLength(_) => Code::OddLength,
+            BadImage::BadSize(..) => Code::BadSize,
+            BadImage::BadCheck(_) => Code::BadCheck,
+            BadImage::NoHex => Code::BadHex,
+        }
     }
 }
 
@@ -149,15 +140,6 @@ fn count_of(journal: &[u8]) -> u16 {
     let low = journal.get(2).copied().unwrap_or(0);
     let high = journal.get(3).copied().unwrap_or(0);
     u16::from_le_bytes([low, high])
-}
-
-/// The number of words of each slave.
-fn sizes_of(alloc: Global, slaves: &[Words]) -> Result<Vec<u16>, AllocError> {
-    let mut sizes = Vec::with_capacity(alloc, slaves.len())?;
-    for words in slaves {
-        sizes.push(words.len() as u16)?;
-    }
-    Ok(sizes)
 }
 
 impl fmt::Display for BadImage {
@@ -171,6 +153,7 @@ impl fmt::Display for BadImage {
                 f,
                 "the check byte, the low byte of word 7, must be 0x{expected:02x}"
             ),
+            BadImage::NoHex => f.write_str("not pairs of hexadecimal digits alone"),
         }
     }
 }

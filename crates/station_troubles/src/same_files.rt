@@ -1,11 +1,12 @@
 //! Which two files of a subcommand on a line are one.
 ghost use Rattle.std.specs.Prelude.{◌≡◌};
 
-use crate::looking::{LineNames, script_again};
-use crate::search::{End, Search, Shown};
+use crate::remembering::{Memory, Remembering};
+use crate::shown::Shown;
+use crate::telling::{LineNames, file_told};
 use station_files::{Clash, FileNames, Store, find_clash, image_names};
 use station_listing::Code;
-use station_text::{LineFile, ScriptCommand};
+use station_text::{LineFault, LineFile, ScriptCommand, ScriptFault, read_line, read_script};
 use std::alloc::{AllocError, Global};
 use std::{fmt, slice};
 
@@ -30,7 +31,7 @@ enum Role {
 struct FilesOfLine<'a> {
     names: LineNames<'a>,
     line: &'a LineFile,
-    /// The commands of the script; none where no script is read.
+    /// The commands of the script; none where it wasn't read.
     commands: &'a [ScriptCommand],
 }
 
@@ -41,78 +42,105 @@ struct Told<'a> {
     name: &'a str,
 }
 
-/// Says which two files of a subcommand on this line are one, or that the capture's is there already.
-pub(crate) fn look_at_names<S: Store>(
-    search: &mut Search,
+/// Which two of the files of a line are one, or that the file is there which is to be made: the capture, or else the journal, which was read last.
+pub(crate) fn clash_text<S: Store>(
+    alloc: Global,
+    code: Code,
     names: LineNames<'_>,
-    line: &LineFile,
-    store: &mut S,
-) -> Result<(), End>
-    ensures same { S.files store.new ≡ S.files store.old }
+    store: &mut Remembering<'_, S>,
+) -> Result<Option<String>, AllocError>
+    ensures same { S.files store.new.store.now ≡ S.files store.old.store.now }
 {
-    let commands = commands_again(search, names.script, store)?;
+    let Some(line) = line_read(alloc, &store.memory)? else {
+        return Ok(None);
+    };
+    let commands = commands_read(alloc, names.script, &store.memory)?;
     let files = FilesOfLine {
         names,
-        line,
+        line: &line,
         commands: &commands,
     };
-    look_at_files(search, files, store)
+    let listed = files.names(alloc)?;
+    let found = match find_clash(alloc, &listed, store.store) {
+        Ok(found) => found,
+        Err(_) => return Ok(None),
+    };
+    match (found, code) {
+        (Some(clash), _) => meeting_of(alloc, files, &listed, clash, store.store),
+        (None, Code::Exists) => taken(alloc, names.capture, &store.memory),
+        (None, _) => Ok(None),
+    }
 }
 
-/// Reads the commands of a script, if one is read.
-fn commands_again<S: Store>(
-    search: &mut Search,
+/// That a file is there which is to be made.
+fn taken(
+    alloc: Global,
+    capture: Option<&str>,
+    memory: &Memory,
+) -> Result<Option<String>, AllocError> {
+    match (capture, memory.reads.last()) {
+        (Some(name), _) => file_told(alloc, name, &TAKEN),
+        (None, Some(last)) => file_told(alloc, last.name.as_str(), &"the file is there already"),
+        (None, None) => Ok(None),
+    }
+}
+
+/// The line that the line file describes, which was read first, if it was.
+fn line_read(alloc: Global, memory: &Memory) -> Result<Option<LineFile>, AllocError> {
+    let Some(read) = memory.reads.first() else {
+        return Ok(None);
+    };
+    let Ok(text) = str::from_utf8(&read.bytes) else {
+        return Ok(None);
+    };
+    match read_line(alloc, text) {
+        Ok(line) => Ok(Some(line)),
+        Err(LineFault::BadLine) => Ok(None),
+        Err(LineFault::Memory) => Err(AllocError),
+    }
+}
+
+/// The commands of the script; none where it wasn't read.
+fn commands_read(
+    alloc: Global,
     script: Option<&str>,
-    store: &mut S,
-) -> Result<Vec<ScriptCommand>, End>
-    ensures same { S.files store.new ≡ S.files store.old }
-{
-    match script {
-        Some(script) => script_again(search, script, store),
-        None => Ok(Vec::new(search.alloc)),
+    memory: &Memory,
+) -> Result<Vec<ScriptCommand>, AllocError> {
+    match script_text(script, memory) {
+        Some(text) => match read_script(alloc, text) {
+            Ok(commands) => Ok(commands),
+            Err(ScriptFault::BadScript { .. }) => Ok(Vec::new(alloc)),
+            Err(ScriptFault::Memory) => Err(AllocError),
+        },
+        None => Ok(Vec::new(alloc)),
     }
 }
 
-/// Finds the first two of these files of which one would be lost where the other is written. Else the capture's file is there, and is none of
-/// the others.
-fn look_at_files<S: Store>(
-    search: &mut Search,
-    files: FilesOfLine<'_>,
-    store: &mut S,
-) -> Result<(), End>
-    ensures same { S.files store.new ≡ S.files store.old }
-{
-    let names = files.names(search.alloc)?;
-    match (find_clash(search.alloc, &names, store), files.names.capture) {
-        (Ok(Some(clash)), _) => Err(meeting_of(search, files, &names, clash, store)),
-        (Ok(None), Some(name)) => Err(search.end(Code::Exists, name, &TAKEN)),
-        (Ok(None), None) => Ok(()),
-        (Err(_), _) => Err(End::Memory),
-    }
+/// The text of the script, if it was read.
+fn script_text<'m>(script: Option<&str>, memory: &'m Memory) -> Option<&'m str> {
+    let place = memory.script_place(script?)?;
+    let read = memory.reads.get(place)?;
+    str::from_utf8(&read.bytes).ok()
 }
 
-/// Says how the two files of a clash among these names meet.
+/// How the two files of a clash among these names meet.
 fn meeting_of<S: Store>(
-    search: &mut Search,
+    alloc: Global,
     files: FilesOfLine<'_>,
     names: &FileNames,
     clash: Clash,
     store: &mut S,
-) -> End
+) -> Result<Option<String>, AllocError>
     ensures same { S.files store.new ≡ S.files store.old }
 {
-    let alloc = search.alloc;
-    let one = files.told(alloc, names, clash.one);
-    let other = files.told(alloc, names, clash.other);
-    let (Ok(one), Ok(other)) = (one, other) else {
-        return End::Memory;
-    };
+    let one = files.told(alloc, names, clash.one)?;
+    let other = files.told(alloc, names, clash.other)?;
     let how = if is_same_file(alloc, one.name, other.name, store) {
         " are the same file"
     } else {
         ": one has the name that the other takes while it is replaced"
     };
-    search.find(format!(in alloc; "{one} and {other}{how}"))
+    Ok(Some(format!(in alloc; "{one} and {other}{how}")?))
 }
 
 /// Whether both names lead to the same file.
@@ -129,10 +157,12 @@ impl FilesOfLine<'_> {
     /// Their names.
     fn names(self, alloc: Global) -> Result<FileNames, AllocError> {
         let names = self.names;
-        let images = image_names(alloc, self.commands)?;
         let files = FileNames::of_line(alloc, self.line, names.line, names.capture)?;
         match names.script {
-            Some(script) => files.with_script(alloc, script, &images),
+            Some(script) => {
+                let images = image_names(alloc, self.commands)?;
+                files.with_script(alloc, script, &images)
+            }
             None => Ok(files),
         }
     }

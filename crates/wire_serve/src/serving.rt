@@ -7,9 +7,8 @@ use crate::slaves::serve_slaves;
 use command_line::{InputScript, Script};
 use line_watch::{Capture, CapturedWire, Cleared, Progress, WatchedWire};
 use station_files::{ExitStatus, Fault, Store, report_fault};
-use station_listing::Code;
 use station_session::{begin_capture, end_capture};
-use station_troubles::{Files, Journal, LineNames, look_again};
+use station_troubles::{Files, LineNames, Remembering, reason_of};
 use std::alloc::Global;
 use std::io;
 use std::io::{Read, Write};
@@ -122,18 +121,22 @@ fn serve_job<
         is_told,
         terminal,
     } = screen;
-    match begin_apart(rt.alloc(), job.capture, job.task, store) {
+    let alloc = rt.alloc();
+    let mut known = Remembering::new(alloc, store, is_told);
+    match begin_apart(alloc, job.capture, job.task, &mut known) {
         Ok(begun) => {
             let captured = CapturedWire::new(wire, begun.as_ref(), rt);
-            let ended = do_counted(rt, job, terminal, captured, store, output);
-            let status = status_of(rt.alloc(), ended, is_told, job.task, store, faults);
+            let ended = do_counted(rt, job, terminal, captured, &mut known, output);
+            let files = files_of(job.task, None);
+            let status = status_of(alloc, ended, is_told, files, &mut known, faults);
             end_capture(begun, status, faults)
         }
         Err(fault) => {
             drop(wire);
             let status = report_fault(fault, faults);
             if is_told {
-                tell_names(rt.alloc(), fault, job.task, job.capture, store, faults);
+                let files = files_of(job.task, job.capture);
+                tell_file(alloc, fault, files, &mut known, faults);
             }
             status
         }
@@ -281,13 +284,25 @@ fn all_done(ended: Result<(), WireFault>) -> Result<ExitStatus, WireFault> {
     Ok(ExitStatus::Done)
 }
 
+/// The files that a task works on, and its capture.
+fn files_of<'a>(task: Task<'a>, capture: Option<&'a str>) -> Files<'a> {
+    match task.line() {
+        Some(line) => Files::Line(LineNames {
+            line,
+            script: task.script(),
+            capture,
+        }),
+        None => Files::Nothing,
+    }
+}
+
 /// The exit status for a result: that of what was done, or that of the fault, which is printed, with what there is to tell of it if `is_told`.
 fn status_of<S: Store, E: Write>(
     alloc: Global,
     ended: Result<ExitStatus, WireFault>,
     is_told: bool,
-    task: Task<'_>,
-    store: &mut S,
+    files: Files<'_>,
+    store: &mut Remembering<'_, S>,
     faults: &mut E,
 ) -> ExitStatus {
     match ended {
@@ -295,7 +310,7 @@ fn status_of<S: Store, E: Write>(
         Err(fault) => {
             let _ = writeln!(faults, "{fault}");
             if is_told {
-                tell_more(alloc, fault, task, store, faults);
+                tell_more(alloc, fault, files, store, faults);
             }
             fault.status()
         }
@@ -306,42 +321,27 @@ fn status_of<S: Store, E: Write>(
 fn tell_more<S: Store, E: Write>(
     alloc: Global,
     fault: WireFault,
-    task: Task<'_>,
-    store: &mut S,
+    files: Files<'_>,
+    store: &mut Remembering<'_, S>,
     faults: &mut E,
 ) {
     if let Some(told) = fault.told() {
         let _ = writeln!(faults, "{told}");
     }
-    if let WireFault::Station(Fault::SameFile) = fault {
-        tell_names(alloc, Fault::SameFile, task, None, store, faults);
+    if let WireFault::Station(fault) = fault {
+        tell_file(alloc, fault, files, store, faults);
     }
 }
 
-/// Prints which two files of a task a fault is about, where it is about two.
-fn tell_names<S: Store, E: Write>(
+/// Prints which file a fault is about, what is wrong there and where, if it is about one.
+fn tell_file<S: Store, E: Write>(
     alloc: Global,
     fault: Fault,
-    task: Task<'_>,
-    capture: Option<&str>,
-    store: &mut S,
+    files: Files<'_>,
+    store: &mut Remembering<'_, S>,
     faults: &mut E,
 ) {
-    let code = match fault {
-        Fault::SameFile => Code::SameFile,
-        Fault::Exists => Code::Exists,
-        _ => return,
-    };
-    let Some(line) = task.line() else {
-        return;
-    };
-    let files = Files::Line(LineNames {
-        line,
-        journal: Journal::Unread,
-        script: task.script(),
-        capture,
-    });
-    if let Some(text) = look_again(alloc, code, files, store) {
+    if let Some(text) = reason_of(alloc, fault.code(), files, store) {
         let _ = writeln!(faults, "{text}; see sii_wire explain");
     }
 }
