@@ -1,7 +1,6 @@
-//! What the subcommands list and answer, as JSON: one object a line, whose key `row` says what it is.
+//! What the subcommands list, as JSON: one object a line, whose key `row` says what it is.
 #![tactic(auto)]
 
-mod answers;
 mod cell;
 mod changes;
 mod diff;
@@ -13,7 +12,6 @@ mod names;
 mod row;
 mod show;
 
-pub use answers::write_answers;
 pub use cell::{Cause, Cell};
 pub use changes::write_change_rows;
 pub use diff::diff_as_json;

@@ -1,4 +1,4 @@
-//! The refusals and faults of a book as the program prints them.
+//! The answers to the commands of a script, and the refusals and faults of a book, as the program prints them.
 
 ghost use Rattle.std.specs.Prelude.{◌≡◌, ◌≢◌, IfErr, Some};
 ghost use Rattle.station_files.specs.Faults.{IsOfStream};
@@ -32,6 +32,56 @@ pub fn fault_of_book(fault: BookFault) -> Fault
         BookFault::Disk => Fault::Disk,
         BookFault::Stopped => Fault::Stopped,
         BookFault::SlaveDead { slave } => Fault::SlaveDead { slave },
+    }
+}
+
+/// Takes the answers to the commands of a script, in order, and behind them the totals. Each writer takes them as lines of text.
+pub trait Answers {
+    ghost use Rattle.std.specs.Prelude.{IfErr};
+    ghost use Rattle.station_files.specs.Faults.{IsOfStream};
+
+    /// The command at this place of the script, counted from 0, is accepted and has this number.
+    ///
+    /// # Errors
+    ///
+    /// `File` or `Memory` where the answer can't be written.
+    fn accepted(&mut self, place: usize, number: u64) -> Result<(), Fault>
+        ensures { IfErr result IsOfStream };
+
+    /// The command at this place of the script, counted from 0, is refused.
+    ///
+    /// # Errors
+    ///
+    /// `File` or `Memory` where the answer can't be written.
+    fn refused(&mut self, place: usize, refused: Refused) -> Result<(), Fault>
+        ensures { IfErr result IsOfStream };
+
+    /// The commands are served: so many were accepted, are durable, and are settled.
+    ///
+    /// # Errors
+    ///
+    /// `File` or `Memory` where they can't be written.
+    fn totals(&mut self, accepted: u64, durable: u64, settled: u64) -> Result<(), Fault>
+        ensures { IfErr result IsOfStream };
+}
+
+impl<W: Write> Answers for W {
+    fn accepted(&mut self, place: usize, number: u64) -> Result<(), Fault> {
+        print_accepted(place, number, self)
+    }
+
+    fn refused(&mut self, place: usize, refused: Refused) -> Result<(), Fault> {
+        writeln!(self, "command {place} {refused}")?;
+        Ok(())
+    }
+
+    fn totals(&mut self, accepted: u64, durable: u64, settled: u64) -> Result<(), Fault> {
+        writeln!(
+            self,
+            "accepted {accepted} durable {durable} settled {settled}"
+        )?;
+        self.flush()?;
+        Ok(())
     }
 }
 

@@ -2,112 +2,106 @@
 ghost use Rattle.std.specs.Prelude.{◌≡◌, ◌∷◌, [], IsTrue, OnOk, None};
 ghost use Rattle.station_line.specs.Rounds.{AnswersCommand, IsAccepted, ServesOrCloses, ServesSo, SubmitsSo};
 
-use crate::answers::{fault_of_book, print_accepted, print_refused, refused_as};
+use crate::answers::{Answers, fault_of_book, refused_as};
 use crate::rounds::{serve_all, serve_round};
 use book_core::Core;
 use book_model::SubmitRefusal;
 use sii_edit::Command;
 use site_core::Site;
 use station_alone::{Alone, Answer};
-use station_files::{ExitStatus, Fault, Refused};
+use station_files::{ExitStatus, Fault, Refused, worse};
 use station_listing::Code;
-use std::io::Write;
 
-/// Submits the commands in order to a station of `slaves` slaves, prints the answer to each, serves them in rounds, and prints the totals,
+/// Submits the commands in order to a station of `slaves` slaves, tells the answer to each, serves them in rounds, and tells the totals,
 /// also behind a fault. A refusal raises the status. A command is dropped once it is answered.
 ///
 /// # Errors
 ///
-/// `File` where the output fails; `Memory` at any point, also where a round had no memory; `Unserved` where 2^64 - 1 rounds don't suffice;
-/// and otherwise the fault that closed the book. Commands that were accepted before stay accepted.
-pub fn serve_commands<S: Site, W: Write>(
+/// `File` where an answer can't be written; `Memory` at any point, also where a round had no memory; `Unserved` where 2^64 - 1 rounds don't
+/// suffice; and otherwise the fault that closed the book. Commands that were accepted before stay accepted.
+pub fn serve_commands<S: Site, A: Answers>(
     alone: &mut Alone<S>,
     slaves: u16,
     commands: Vec<Command>,
-    output: &mut W,
+    answers: &mut A,
     status: &mut ExitStatus,
 ) -> Result<(), Fault>
     ensures { ServesSo commands.items result status.old status.new alone.old alone.new }
 {
-    let served = serve_in_rounds(alone, slaves, commands, output, status);
-    let ended = end_session(alone.core(), output);
+    let served = serve_in_rounds(alone, slaves, commands, answers, status);
+    let ended = end_session(alone.core(), answers);
     match served {
         Ok(()) => ended,
         Err(fault) => Err(fault),
     }
 }
 
-/// Submits the commands in order, prints the answer to each, and serves them in rounds.
-fn serve_in_rounds<S: Site, W: Write>(
+/// Submits the commands in order, tells the answer to each, and serves them in rounds.
+fn serve_in_rounds<S: Site, A: Answers>(
     alone: &mut Alone<S>,
     slaves: u16,
     commands: Vec<Command>,
-    output: &mut W,
+    answers: &mut A,
     status: &mut ExitStatus,
 ) -> Result<(), Fault>
     ensures { ServesOrCloses commands.items result status.old status.new alone.old alone.new }
 {
-    submit_all(alone, slaves, commands, output, status)?;
+    submit_all(alone, slaves, commands, answers, status)?;
     serve_all(alone, slaves)
 }
 
-/// Prints the totals, and gives the fault that closed the book, if one did.
-fn end_session<W: Write>(core: &Core, output: &mut W) -> Result<(), Fault>
+/// Tells the totals, and gives the fault that closed the book, if one did.
+fn end_session<A: Answers>(core: &Core, answers: &mut A) -> Result<(), Fault>
     ensures { OnOk result (core.now.fault ≡ None) }
 {
     let totals = core.status();
-    let (accepted, durable, settled) = (totals.accepted, totals.durable, totals.settled);
-    writeln!(
-        output,
-        "accepted {accepted} durable {durable} settled {settled}"
-    )?;
-    output.flush()?;
+    answers.totals(totals.accepted, totals.durable, totals.settled)?;
     match core.fault() {
         Some(fault) => Err(fault_of_book(fault)),
         None => Ok(()),
     }
 }
 
-/// Submits the commands in order, and prints the answer to each.
-fn submit_all<S: Site, W: Write>(
+/// Submits the commands in order, and tells the answer to each.
+fn submit_all<S: Site, A: Answers>(
     alone: &mut Alone<S>,
     slaves: u16,
     commands: Vec<Command>,
-    output: &mut W,
+    answers: &mut A,
     status: &mut ExitStatus,
 ) -> Result<(), Fault>
     ensures { SubmitsSo commands.items result status.old status.new alone.old alone.new }
 {
     let mut place = 0usize;
     for command in commands {
-        submit_next(alone, slaves, place, command, output, status)?;
+        submit_next(alone, slaves, place, command, answers, status)?;
         place = place.saturating_add(1);
     }
     Ok(())
 }
 
-/// Submits the command at position `place` of the script, from 0, prints the answer, and drops the command.
-fn submit_next<S: Site, W: Write>(
+/// Submits the command at position `place` of the script, from 0, tells the answer, and drops the command.
+fn submit_next<S: Site, A: Answers>(
     alone: &mut Alone<S>,
     slaves: u16,
     place: usize,
     command: Command,
-    output: &mut W,
+    answers: &mut A,
     status: &mut ExitStatus,
 ) -> Result<(), Fault>
     ensures { SubmitsSo (command ∷ []) result status.old status.new alone.old alone.new }
 {
-    submit_one(alone, slaves, place, &command, output, status)
+    submit_one(alone, slaves, place, &command, answers, status)
 }
 
-/// Submits the command at position `place` of the script, from 0, and prints the answer. While the book is full, it makes a round and
+/// Submits the command at position `place` of the script, from 0, and tells the answer. While the book is full, it makes a round and
 /// submits the command again.
-fn submit_one<S: Site, W: Write>(
+fn submit_one<S: Site, A: Answers>(
     alone: &mut Alone<S>,
     slaves: u16,
     place: usize,
     command: &Command,
-    output: &mut W,
+    answers: &mut A,
     status: &mut ExitStatus,
 ) -> Result<(), Fault>
     ensures { SubmitsSo (command.now ∷ []) result status.old status.new alone.old alone.new }
@@ -115,7 +109,7 @@ fn submit_one<S: Site, W: Write>(
     for _round in 0..u64::MAX {
         let answer = alone.submit(command);
         if !is_full(answer) {
-            return print_answer(place, answer, output, status);
+            return tell_answer(place, answer, answers, status);
         }
         serve_round(alone, slaves)?;
     }
@@ -129,18 +123,18 @@ fn is_full(answer: Answer) -> bool
     matches!(answer, Answer::Refused(SubmitRefusal::Full))
 }
 
-/// Prints the answer to the command at position `place` of the script. A refusal raises the status.
-fn print_answer<W: Write>(
+/// Tells the answer to the command at position `place` of the script. A refusal raises the status.
+fn tell_answer<A: Answers>(
     place: usize,
     answer: Answer,
-    output: &mut W,
+    answers: &mut A,
     status: &mut ExitStatus,
 ) -> Result<(), Fault>
     requires { AnswersCommand answer }
     ensures { status.new ≡ ExitStatus.Done → (status.old ≡ ExitStatus.Done) × IsAccepted answer }
 {
     let refused = match answer {
-        Answer::Accepted(number) => return print_accepted(place, number, output),
+        Answer::Accepted(number) => return answers.accepted(place, number),
         Answer::Refused(refusal) => refused_as(refusal),
         Answer::NoMemory => Refused {
             code: Code::Memory,
@@ -148,5 +142,6 @@ fn print_answer<W: Write>(
         },
         Answer::Did | Answer::Idle | Answer::Ended | Answer::Failed(_) => unreachable!(),
     };
-    print_refused(place, refused, output, status)
+    *status = worse(*status, refused.status());
+    answers.refused(place, refused)
 }

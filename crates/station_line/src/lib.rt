@@ -15,7 +15,7 @@ mod session;
 mod site;
 mod starting;
 
-pub use answers::{fault_of_book, print_accepted, print_refused, refused_as};
+pub use answers::{Answers, fault_of_book, print_accepted, print_refused, refused_as};
 pub use commands::serve_commands;
 pub use device_faults::of_device;
 pub use faults::{of_journal, of_open};

@@ -8,7 +8,7 @@ ghost use Rattle.station_plan.specs.Plan.{IsComparison, IsPlanOf, IsServedStatio
 
 use crate::contents::contents_of;
 use crate::plan_listing::print_plan;
-use crate::plan_rows::write_plan;
+use crate::plan_rows::{AnswerRows, write_plan};
 use crate::tally::Tally;
 use book_core::Core;
 use line_changes::{ChangedWord, Resize, changed_words, resizes};
@@ -19,8 +19,8 @@ use site_mem::FaultPlan;
 use site_shadow::ShadowSite;
 use station_alone::Alone;
 use station_files::{ExitStatus, Fault, Store};
-use station_json::{Form, write_answers};
-use station_line::{Given, Session, load, of_open, open_station, serve_commands};
+use station_json::Form;
+use station_line::{Answers, Given, Session, load, of_open, open_station, serve_commands};
 use std::alloc::{AllocError, Global};
 use std::io::Write;
 
@@ -137,32 +137,29 @@ fn plan_rows<W: Write>(
     requires old { was_old ≡ is_old site.seen.state.disk.bytes }
     ensures { IfOk result (PlansSite site commands.items) }
 {
-    let mut status = ExitStatus::Done;
-    let mut answers = Vec::new(alloc);
-    match plan_site(alloc, site, was_old, commands, &mut answers, &mut status) {
-        Ok(planned) => match write_plan(alloc, &answers, &planned, output) {
-            Ok(()) => Ok(status),
+    let mut answered = ExitStatus::Done;
+    let mut rows = AnswerRows::new(alloc, &mut *output);
+    match plan_site(alloc, site, was_old, commands, &mut rows, &mut answered) {
+        Ok(planned) => match write_plan(alloc, &planned, output) {
+            Ok(()) => Ok(answered),
             Err(fault) => Err(fault),
         },
-        Err(fault) => {
-            let _ = write_answers(alloc, &answers, output);
-            Err(fault)
-        }
+        Err(fault) => Err(fault),
     }
 }
 
-/// Opens the station on the line in memory, serves the commands on one thread, and compares the words before and after. Prints the
-/// answers and the totals as `run` does.
+/// Opens the station on the line in memory, serves the commands on one thread, and compares the words before and after. Tells the
+/// answers and the totals.
 ///
 /// # Errors
 ///
 /// As for `open_station`, then as for `serve_commands`; `Memory` at any point.
-fn plan_site<W: Write>(
+fn plan_site<A: Answers>(
     alloc: Global,
     site: ShadowSite<FaultPlan>,
     was_old: bool,
     commands: Vec<Command>,
-    output: &mut W,
+    answers: &mut A,
     status: &mut ExitStatus,
 ) -> Result<Planned, Fault>
     requires disk { IsTrue site.line.has_disk }
@@ -173,7 +170,7 @@ fn plan_site<W: Write>(
     let before = contents_of(alloc, &site)?;
     let site = site.with_device(Tally::new());
     match open_station(alloc, site, was_old, None) {
-        Ok(alone) => serve_plan(alloc, before, alone, commands, output, status),
+        Ok(alone) => serve_plan(alloc, before, alone, commands, answers, status),
         Err((left, fault)) => {
             drop(left);
             drop(commands);
@@ -183,19 +180,19 @@ fn plan_site<W: Write>(
 }
 
 /// Serves the commands on an open station, and compares the words of its slaves with `before`.
-fn serve_plan<W: Write>(
+fn serve_plan<A: Answers>(
     alloc: Global,
     before: Plant,
     alone: Alone<ShadowSite<Tally>>,
     commands: Vec<Command>,
-    output: &mut W,
+    answers: &mut A,
     status: &mut ExitStatus,
 ) -> Result<Planned, Fault>
     requires { OwnsAll alone.line }
     ensures { IfOk result (ServesPlan alone commands.items status.old status.new before) }
 {
     let slaves = before.len() as u16;
-    let (site, resizes) = serve_station(alloc, alone, slaves, commands, output, status)?;
+    let (site, resizes) = serve_station(alloc, alone, slaves, commands, answers, status)?;
     let planned = compare(alloc, before, &site, resizes);
     drop(site);
     planned
@@ -203,19 +200,19 @@ fn serve_plan<W: Write>(
 
 /// Serves the commands on an open station of `slaves` slaves. Returns its site, and where a command that it accepted makes word 0x3E say
 /// another size than the slave has.
-fn serve_station<S: Site + Drop, W: Write>(
+fn serve_station<S: Site + Drop, A: Answers>(
     alloc: Global,
     mut alone: Alone<S>,
     slaves: u16,
     commands: Vec<Command>,
-    output: &mut W,
+    answers: &mut A,
     status: &mut ExitStatus,
 ) -> Result<(S, Vec<Resize>), Fault>
     requires { OwnsAll alone.line }
     ensures served { IfOk result (λ served. IsServedStation alone commands.items status.old status.new (S.line served.0) (S.seen served.0)) }
     ensures owned { IfOk result (λ served. OwnsAll (S.line served.0)) }
 {
-    match serve_resizes(alloc, &mut alone, slaves, commands, output, status) {
+    match serve_resizes(alloc, &mut alone, slaves, commands, answers, status) {
         Ok(resizes) => {
             let (core, site) = alone.into_parts();
             drop(core);
@@ -230,18 +227,18 @@ fn serve_station<S: Site + Drop, W: Write>(
 
 /// Serves the commands on an open station of `slaves` slaves. Returns where one that it accepted makes word 0x3E say another size than the
 /// slave has.
-fn serve_resizes<S: Site, W: Write>(
+fn serve_resizes<S: Site, A: Answers>(
     alloc: Global,
     alone: &mut Alone<S>,
     slaves: u16,
     commands: Vec<Command>,
-    output: &mut W,
+    answers: &mut A,
     status: &mut ExitStatus,
 ) -> Result<Vec<Resize>, Fault>
     ensures { IfOk result (λ _. ServesSo {E = Fault} commands.items (Ok tt) status.old status.new alone.old alone.new) }
 {
     let base = alone.core().contents().try_copy();
-    serve_commands(alone, slaves, commands, output, status)?;
+    serve_commands(alone, slaves, commands, answers, status)?;
     let resizes = resizes_since(alloc, base, alone.core())?;
     Ok(resizes)
 }

@@ -1,16 +1,74 @@
 //! A plan, as rows of JSON.
+ghost use Rattle.std.specs.Prelude.{IfErr};
+ghost use Rattle.station_files.specs.Faults.{IsOfStream};
+
 use crate::plan::Planned;
 use crate::tally::Tally;
 use line_changes::Resize;
 use sii_image::ImageFault;
 use sii_words::Plant;
-use station_files::Fault;
-use station_json::{write_answers, write_cells, write_change_rows, write_layout_rows};
+use station_files::{Fault, Refused};
+use station_json::{Cause, write_cells, write_change_rows, write_layout_rows};
+use station_line::Answers;
 use station_listing::{Code, list_layout};
 use std::alloc::Global;
 use std::io::Write;
 
-/// Writes the answers that are printed in this text, and then a plan: the words that change, the commands that make word 0x3E say another
+/// Writes the answers to the commands of a script as rows.
+#[derive(Drop)]
+pub(crate) struct AnswerRows<'a, W> {
+    alloc: Global,
+    output: &'a mut W,
+}
+
+impl<'a, W> AnswerRows<'a, W> {
+    /// Rows that are written to this output.
+    pub(crate) fn new(alloc: Global, output: &'a mut W) -> AnswerRows<'a, W> {
+        AnswerRows { alloc, output }
+    }
+}
+
+impl<W: Write> Answers for AnswerRows<'_, W> {
+    fn accepted(&mut self, place: usize, number: u64) -> Result<(), Fault> {
+        let row = [
+            ("row", "answer".into()),
+            ("command", place.into()),
+            ("accepted", number.into()),
+        ];
+        write_cells(self.alloc, &row, self.output)
+    }
+
+    fn refused(&mut self, place: usize, refused: Refused) -> Result<(), Fault> {
+        let row = [
+            ("row", "answer".into()),
+            ("command", place.into()),
+            ("refused", cause_of(refused).into()),
+        ];
+        write_cells(self.alloc, &row, self.output)
+    }
+
+    fn totals(&mut self, accepted: u64, durable: u64, settled: u64) -> Result<(), Fault> {
+        let row = [
+            ("row", "totals".into()),
+            ("accepted", accepted.into()),
+            ("durable", durable.into()),
+            ("settled", settled.into()),
+        ];
+        write_cells(self.alloc, &row, self.output)
+    }
+}
+
+/// The cause of a refusal, as a value of a row.
+fn cause_of(refused: Refused) -> Cause<'static> {
+    let position = refused.position;
+    Cause {
+        code: u64::from(refused.code.number()),
+        name: refused.code.entry().name,
+        at: position.map(u64::from),
+    }
+}
+
+/// Writes a plan: the words that change, the commands that make word 0x3E say another
 /// size, how much is written on the way, and the process image before and after if it changes.
 ///
 /// # Errors
@@ -18,11 +76,9 @@ use std::io::Write;
 /// As for `write_cells`.
 pub(crate) fn write_plan<W: Write>(
     alloc: Global,
-    answers: &[u8],
     planned: &Planned,
     output: &mut W,
 ) -> Result<(), Fault> {
-    write_answers(alloc, answers, output)?;
     write_change_rows(alloc, &planned.changes, output)?;
     write_resizes(alloc, &planned.resizes, output)?;
     write_writes(alloc, planned.tally, output)?;

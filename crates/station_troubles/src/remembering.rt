@@ -149,10 +149,26 @@ impl Memory {
         self.place_of(locked.name.as_str(), locked.behind)
     }
 
-    /// The place of the script of this name, which is read behind the line file, and behind the journal if that is read.
+    /// The place of the script of this name, which is read behind the journal, or before a journal is locked.
     pub(crate) fn script_place(&self, script: &str) -> Option<usize> {
-        let behind = self.journal_place().unwrap_or(0);
-        self.place_of(script, behind.saturating_add(1))
+        let Some(journal) = self.journal_place() else {
+            return self.place_of(script, 0);
+        };
+        match self.place_of(script, journal.saturating_add(1)) {
+            None => self.place_of(script, 0),
+            found => found,
+        }
+    }
+
+    /// Whether the file that was read last is an image that a script names, if there is a script.
+    pub(crate) fn ends_in_script(&self, script: Option<&str>) -> bool {
+        let last = self.reads.len().saturating_sub(1);
+        match (&self.locked, self.journal_place(), script) {
+            (Some(_), Some(journal), _) if last > journal => true,
+            (Some(locked), _, _) if last >= locked.behind => false,
+            (_, _, Some(script)) => self.place_of(script, 0).is_some(),
+            _ => false,
+        }
     }
 }
 

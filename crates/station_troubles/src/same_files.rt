@@ -51,7 +51,7 @@ pub(crate) fn clash_text<S: Store>(
 ) -> Result<Option<String>, AllocError>
     ensures same { S.files store.new.store.now ≡ S.files store.old.store.now }
 {
-    let Some(line) = line_read(alloc, &store.memory)? else {
+    let Some(line) = line_read(alloc, names.line, &store.memory)? else {
         return Ok(None);
     };
     let commands = commands_read(alloc, names.script, &store.memory)?;
@@ -85,12 +85,13 @@ fn taken(
     }
 }
 
-/// The line that the line file describes, which was read first, if it was.
-fn line_read(alloc: Global, memory: &Memory) -> Result<Option<LineFile>, AllocError> {
-    let Some(read) = memory.reads.first() else {
-        return Ok(None);
-    };
-    let Ok(text) = str::from_utf8(&read.bytes) else {
+/// The line that the line file of this name describes, if it was read.
+pub(crate) fn line_read(
+    alloc: Global,
+    name: &str,
+    memory: &Memory,
+) -> Result<Option<LineFile>, AllocError> {
+    let Some(text) = text_at(memory.place_of(name, 0), memory) else {
         return Ok(None);
     };
     match read_line(alloc, text) {
@@ -106,20 +107,23 @@ fn commands_read(
     script: Option<&str>,
     memory: &Memory,
 ) -> Result<Vec<ScriptCommand>, AllocError> {
-    match script_text(script, memory) {
-        Some(text) => match read_script(alloc, text) {
-            Ok(commands) => Ok(commands),
-            Err(ScriptFault::BadScript { .. }) => Ok(Vec::new(alloc)),
-            Err(ScriptFault::Memory) => Err(AllocError),
-        },
-        None => Ok(Vec::new(alloc)),
+    let place = match script {
+        Some(script) => memory.script_place(script),
+        None => None,
+    };
+    let Some(text) = text_at(place, memory) else {
+        return Ok(Vec::new(alloc));
+    };
+    match read_script(alloc, text) {
+        Ok(commands) => Ok(commands),
+        Err(ScriptFault::BadScript { .. }) => Ok(Vec::new(alloc)),
+        Err(ScriptFault::Memory) => Err(AllocError),
     }
 }
 
-/// The text of the script, if it was read.
-fn script_text<'m>(script: Option<&str>, memory: &'m Memory) -> Option<&'m str> {
-    let place = memory.script_place(script?)?;
-    let read = memory.reads.get(place)?;
+/// The text of the file that was read at this place, if one was.
+fn text_at(place: Option<usize>, memory: &Memory) -> Option<&str> {
+    let read = memory.reads.get(place?)?;
     str::from_utf8(&read.bytes).ok()
 }
 

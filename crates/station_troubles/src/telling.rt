@@ -5,12 +5,11 @@ use crate::contents::{Image, flaw_of_image, flaw_of_journal};
 use crate::line_text::line_trouble;
 use crate::places::line_at;
 use crate::remembering::{FailedCall, FileRead, Memory, Remembering, Why};
-use crate::same_files::clash_text;
+use crate::same_files::{clash_text, line_read};
 use crate::script_text::script_trouble;
 use crate::shown::{Place, Shown};
 use station_files::Store;
 use station_listing::Code;
-use station_text::read_line;
 use std::alloc::{AllocError, Global};
 use std::fmt::Display;
 use std::io::Write;
@@ -228,19 +227,15 @@ fn told_of_line(
             told_of_image(alloc, code, image_kind(names, memory), last)
         }
         Code::NotAJournal | Code::BadVersion | Code::WrongLine | Code::BadJournal => {
-            told_of_journal(alloc, memory)
+            told_of_journal(alloc, names.line, memory)
         }
         _ => Ok(None),
     }
 }
 
-/// What the image that was read last has to hold: behind a script it is one that a command writes.
+/// What the image that was read last has to hold.
 fn image_kind(names: LineNames<'_>, memory: &Memory) -> Image {
-    let behind_script = match names.script {
-        Some(script) => memory.script_place(script).is_some(),
-        None => false,
-    };
-    if behind_script {
+    if memory.ends_in_script(names.script) {
         Image::Written
     } else {
         Image::Eeprom
@@ -269,24 +264,33 @@ fn told_of_text(alloc: Global, code: Code, read: &FileRead) -> Result<Option<Str
 }
 
 /// Why the journal is refused.
-fn told_of_journal(alloc: Global, memory: &Memory) -> Result<Option<String>, AllocError> {
+fn told_of_journal(
+    alloc: Global,
+    line: &str,
+    memory: &Memory,
+) -> Result<Option<String>, AllocError> {
     let Some(place) = memory.journal_place() else {
         return Ok(None);
     };
     let Some(journal) = memory.reads.get(place) else {
         return Ok(None);
     };
-    let sizes = sizes_before(alloc, memory, place)?;
+    let slaves = slaves_of(alloc, line, memory)?;
+    let sizes = sizes_before(alloc, slaves, place, memory)?;
     match flaw_of_journal(alloc, &journal.bytes, &sizes)? {
         Some(bad) => file_told(alloc, journal.name.as_str(), &bad),
         None => Ok(None),
     }
 }
 
-/// How many words each slave has, by the images that were read between the line file and the journal at this place. Where these aren't
-/// all, each slave may have the most.
-fn sizes_before(alloc: Global, memory: &Memory, journal: usize) -> Result<Vec<u16>, AllocError> {
-    let slaves = count_of_slaves(alloc, memory)?;
+/// How many words each of so many slaves has, by the images that were read between lock and journal. Where these aren't all, each slave may
+/// have the most.
+fn sizes_before(
+    alloc: Global,
+    slaves: usize,
+    journal: usize,
+    memory: &Memory,
+) -> Result<Vec<u16>, AllocError> {
     let behind = match &memory.locked {
         Some(locked) => locked.behind,
         None => 0,
@@ -303,16 +307,10 @@ fn sizes_before(alloc: Global, memory: &Memory, journal: usize) -> Result<Vec<u1
     Ok(sizes)
 }
 
-/// How many slaves the line file has that was read first; 0 where there is none.
-fn count_of_slaves(alloc: Global, memory: &Memory) -> Result<usize, AllocError> {
-    let Some(line) = memory.reads.first() else {
-        return Ok(0);
-    };
-    let Ok(text) = str::from_utf8(&line.bytes) else {
-        return Ok(0);
-    };
-    match read_line(alloc, text) {
-        Ok(line) => Ok(line.images.len()),
-        Err(_) => Ok(0),
+/// How many slaves the line file of this name has; 0 where none was read.
+fn slaves_of(alloc: Global, line: &str, memory: &Memory) -> Result<usize, AllocError> {
+    match line_read(alloc, line, memory)? {
+        Some(line) => Ok(line.images.len()),
+        None => Ok(0),
     }
 }

@@ -9,13 +9,13 @@ use Rattle.station_line.proofs.commands.submit_one.Goals as goal
 pub loop-round-init : goal.loop-round-init
 loop-round-init g c = record { goes = goes-none c.args.alone.now; same = refl }
 
-pub print_answer-requires : goal.print_answer-requires
-print_answer-requires g c = answers-command c.args.command.now c.submit-answer.result c.loop-round.alone c.submit-answer.new.self c.submit-answer.ensures
+pub tell_answer-requires : goal.tell_answer-requires
+tell_answer-requires g c = answers-command c.args.command.now c.submit-answer.result c.loop-round.alone c.submit-answer.new.self c.submit-answer.ensures
 
 pub returns-then-not-is_full : goal.returns-then-not-is_full
 returns-then-not-is_full g c =
-    submits-one c.args.command.now c.submit-answer.result c.print_answer.result c.args.status.now c.loop-round.status c.print_answer.new.status c.args.alone.now c.loop-round.alone c.submit-answer.new.self
-    c.loop-round.invariant.same c.loop-round.invariant.goes c.submit-answer.ensures c.print_answer.ensures
+    submits-one c.args.command.now c.submit-answer.result c.tell_answer.result c.args.status.now c.loop-round.status c.tell_answer.new.status c.args.alone.now c.loop-round.alone c.submit-answer.new.self
+    c.loop-round.invariant.same c.loop-round.invariant.goes c.submit-answer.ensures c.tell_answer.ensures
 
 pub loop-round-preserved : goal.loop-round-preserved
 loop-round-preserved g c = record {
