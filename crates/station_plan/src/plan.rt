@@ -137,11 +137,11 @@ fn plan_rows<W: Write>(
     requires old { was_old ≡ is_old site.seen.state.disk.bytes }
     ensures { IfOk result (PlansSite site commands.items) }
 {
-    let mut answered = ExitStatus::Done;
+    let mut status = ExitStatus::Done;
     let mut rows = AnswerRows::new(alloc, &mut *output);
-    match plan_site(alloc, site, was_old, commands, &mut rows, &mut answered) {
+    match plan_site(alloc, site, was_old, commands, &mut rows, &mut status) {
         Ok(planned) => match write_plan(alloc, &planned, output) {
-            Ok(()) => Ok(answered),
+            Ok(()) => Ok(status),
             Err(fault) => Err(fault),
         },
         Err(fault) => Err(fault),

@@ -96,7 +96,8 @@ pub fn serve<
         is_quiet,
     };
     let mut joined = InputScript::new(store, typed.map(Script::typed));
-    serve_job(rt, job, screen, wire, &mut joined, output)
+    let mut known = Remembering::new(rt.alloc(), &mut joined, screen.is_told);
+    serve_job(rt, job, screen, wire, &mut known, output)
 }
 
 /// Carries out a job on this wire.
@@ -113,7 +114,7 @@ fn serve_job<
     job: Job<'_>,
     screen: Screen<'_, E, T>,
     wire: EthernetWire<R, W>,
-    store: &mut S,
+    store: &mut Remembering<'_, S>,
     output: &mut O,
 ) -> ExitStatus {
     let Screen {
@@ -121,14 +122,12 @@ fn serve_job<
         is_told,
         terminal,
     } = screen;
-    let alloc = rt.alloc();
-    let mut known = Remembering::new(alloc, store, is_told);
-    match begin_apart(alloc, job.capture, job.task, &mut known) {
+    match begin_apart(rt.alloc(), job.capture, job.task, store) {
         Ok(begun) => {
             let captured = CapturedWire::new(wire, begun.as_ref(), rt);
-            let ended = do_counted(rt, job, terminal, captured, &mut known, output);
+            let ended = do_counted(rt, job, terminal, captured, store, output);
             let files = files_of(job.task, None);
-            let status = status_of(alloc, ended, is_told, files, &mut known, faults);
+            let status = status_of(rt.alloc(), ended, is_told, files, store, faults);
             end_capture(begun, status, faults)
         }
         Err(fault) => {
@@ -136,7 +135,7 @@ fn serve_job<
             let status = report_fault(fault, faults);
             if is_told {
                 let files = files_of(job.task, job.capture);
-                tell_file(alloc, fault, files, &mut known, faults);
+                tell_file(rt.alloc(), fault, files, store, faults);
             }
             status
         }
