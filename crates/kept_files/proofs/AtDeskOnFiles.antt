@@ -1,5 +1,6 @@
 -- The laws of a desk whose parts stand on files.
-use Rattle.std.proofs.Common.{◌≡◌, ◌∙◌, ℕ, zero, suc, ◌<◌, Bool, List, [], ◌∷◌, length, map, Some, slice_get, is_some, IsTrue, Result, refl, sym, ap, subst, arith}
+use Rattle.std.proofs.Common.{◌≡◌, ◌∙◌, ℕ, zero, suc, ◌<◌, Bool, List, [], ◌∷◌, length, map, Some, slice_get, is_some, IsTrue, refl, sym, ap, subst}
+use Rattle.std.proofs.Common.{arith}
 use Rattle.std.proofs.lemmas.List.{length-map}
 use Rattle.std.proofs.lemmas.Option.{slice_get_within, slice_get-map}
 use Rattle.std.specs.Option.{option_map}
@@ -10,7 +11,6 @@ use Rattle.site_core.specs.Disk.{Disk}
 use Rattle.site_core.specs.State.{State, Seen, Pair}
 use Rattle.site_core.specs.Times.{Follows}
 use Rattle.site_core.proofs.Times.{Follows-same, Follows-then}
-use Rattle.site_shadow.specs.Following.{first_of}
 use Rattle.site_file.specs.declared.asking.LineFile.{LineFile}
 use Rattle.site_file.specs.declared.asking.LineFile.TheVariants.{Journal as JournalFile, Image}
 use Rattle.site_file.specs.declared.files.FileDevice.{FileDevice}
@@ -33,7 +33,7 @@ use Rattle.desk_laws.specs.Joined.{IsOpenedOn}
 use Rattle.desk_laws.specs.Together.{AreTogether, starts}
 use Rattle.kept_files.specs.KeptFiles.{has_file}
 use Rattle.kept_files.specs.Cuts.{AllCut, DiskCut, SlaveCut, IsKeptPair}
-use Rattle.kept_files.specs.DeskFiles.{PartOnFiles, DeskOnFiles, DeskIsCut, PartHasItsFile, CutLeavesKeptParts}
+use Rattle.kept_files.specs.DeskFiles.{DeskOnFiles, DeskIsCut, PartHasItsFile, CutLeavesKeptParts}
 use Rattle.kept_files.proofs.Extending.{first_stays}
 use Rattle.kept_files.proofs.AtDesk.{cut_is_kept}
 use Rattle.kept_files.proofs.InJobs.{journal_is_cut, image_is_cut, action_follows, call_follows}

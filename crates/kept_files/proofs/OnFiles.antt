@@ -14,7 +14,8 @@ use Rattle.site_file.proofs.FilesFollow.{left_at_first}
 use Rattle.site_file.proofs.FollowingWords.{left_since, site_is_followed}
 use Rattle.book_model.specs.Book.{Book, base_of}
 use Rattle.book_model.specs.Opening.{words_in}
-use Rattle.kept_files.specs.KeptFiles.{has_file, holding, words_or_none, KeepsFiles, SiteHasFiles, SiteKeepsOn, CutLeavesKept, RecoveryLeavesContents, HasContents}
+use Rattle.kept_files.specs.KeptFiles.{has_file, holding, words_or_none, KeepsFiles, SiteHasFiles, SiteKeepsOn, SiteKeepsServing, CutLeavesKept}
+use Rattle.kept_files.specs.KeptFiles.{RecoveryLeavesContents, HasContents}
 
 -- WHAT THE FILES HOLD AT FIRST
 
@@ -68,7 +69,8 @@ pub site_keeps_on : (F : Type 0) → SiteKeepsOn F
 site_keeps_on F device before now follows new first keeps =
     let files : FilesFollow 0 (has_file before.state) (holding before.state) device now =
     site_is_followed F device now follows (has_file before.state) (holding before.state)
-    (subst (λ (s : State). (name : LineFile) → IsTrue (has_file before.state name) → Holds s name (holding before.state name)) (sym first) (holds_state before.state)) in
+    (subst (λ (s : State). (name : LineFile) → IsTrue (has_file before.state name) → Holds s name (holding before.state name)) (sym first)
+    (holds_state before.state)) in
     record {
       device = device;
       calls = calls_of files.pieces ++ files.last;
@@ -83,6 +85,32 @@ site_keeps_on F device before now follows new first keeps =
               found.2,
             );
       };
+      hold = λ sound going name later there becomes. files.holds sound going name later there becomes;
+    }
+
+pub site_keeps_serving : (F : Type 0) → SiteKeepsServing F
+site_keeps_serving F device commands before now follows new first keeps =
+    let files : FilesFollow 0 (has_file before.state) (holding before.state) device now =
+    site_is_followed F device now follows (has_file before.state) (holding before.state)
+    (subst (λ (s : State). (name : LineFile) → IsTrue (has_file before.state name) → Holds s name (holding before.state name)) (sym first)
+    (holds_state before.state)) in
+    record {
+      device = device;
+      calls = calls_of files.pieces ++ files.last;
+      moment = device.asking.calls;
+      log = files.has;
+      kept = λ machine kept.
+          let next = keeps machine kept in
+          record {
+            k = next.k;
+            may_keep = next.may_keep;
+            kept = λ images bytes left.
+                let found = left_since (has_file before.state) (holding before.state) device now files images bytes left in (
+                  found.0,
+                  next.stays.left found.0 (subst (λ (past : List Moment). LeftSince now (length past) found.0) (sym new) found.1),
+                  found.2,
+                );
+          };
       hold = λ sound going name later there becomes. files.holds sound going name later there becomes;
     }
 

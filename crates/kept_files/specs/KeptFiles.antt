@@ -1,8 +1,9 @@
 -- The files behind the site of a station: what it keeps of the site, it keeps of them.
-use Rattle.std.specs.Prelude.{◌≡◌, ℕ, Bool, true, false, List, [], Option, Some, None, is_some, slice_get, IsTrue}
+use Rattle.std.specs.Prelude.{◌≡◌, ◌⊎◌, ℕ, Bool, true, false, List, [], Option, Some, None, is_some, slice_get, IsTrue}
+use Rattle.sii_edit.specs.declared.command.Command.{Command}
 use Rattle.esc_model.specs.SlaveHalf.{SlaveHalf}
 use Rattle.site_core.specs.State.{State, Seen, Pair, LeftSince}
-use Rattle.site_core.specs.Passes.{LeavesOnly}
+use Rattle.site_core.specs.Passes.{LeavesOnly, StaysWithin}
 use Rattle.site_shadow.specs.Following.{first_of}
 use Rattle.site_file.specs.declared.asking.LineFile.{LineFile}
 use Rattle.site_file.specs.declared.asking.LineFile.TheVariants.{Journal, Image}
@@ -14,8 +15,9 @@ use Rattle.site_file.specs.Files.{File, IsBytes, sound, image_of, BecomesBy}
 use Rattle.site_file.specs.Held.{of_file}
 use Rattle.site_file.specs.AllFiles.{AreLeft, Holds, Shows}
 use Rattle.book_model.specs.Book.{Book, base_of}
-use Rattle.book_model.specs.Machine.{Machine}
+use Rattle.book_model.specs.Machine.{Machine, reopened, MayKeep}
 use Rattle.world_law.specs.Law.{KeptFor}
+use Rattle.site_journal.specs.Running.{KeptWith}
 use Rattle.station_alone.specs.Keeping.{KeepsThroughout}
 use Rattle.station_alone.specs.Recovery.{HasRecovered}
 use Rattle.station_alone.specs.Station.{Station}
@@ -74,6 +76,40 @@ pub record KeepsOn (F : Type 0) (before now : Seen) : Type 0 where
   pub keeps : KeepsFiles before.state calls
   pub hold : device.has_failed ≡ false → ¬ IsTrue now.is_stopped → BecomeOnly (Holds now.state) before.state calls
 
+-- WHAT IS KEPT BEHIND AN OPEN
+
+-- The pair is kept for the machine; or for its next session, which began with the first k of its commands and has accepted the first j of these,
+-- for some j.
+abbrev pub KeptBehind : Machine → (k : ℕ) → List Command → Pair → Type 0
+KeptBehind machine k commands pair = KeptFor machine pair ⊎ KeptWith (reopened machine k) commands pair
+
+-- A station was opened on the way, and has accepted these commands. The machine's next session began there with the first k of its commands, every
+-- acknowledged one among them. At each moment a power cut could have left only what is kept for the machine, or for that session.
+pub record KeepsNext (machine : Machine) (commands : List Command) (before now : Seen) : Type 0 where
+  pub k : ℕ
+  pub may_keep : MayKeep machine k
+  pub stays : StaysWithin (KeptBehind machine k commands) before now
+
+-- This is so for each machine, if all that a power cut could leave was kept before.
+abbrev pub KeepsServing : List Command → Seen → Seen → Type 0
+KeepsServing commands before now = (machine : Machine) → LeavesOnly (KeptFor machine) before.state → KeepsNext machine commands before now
+
+-- These calls are all that was asked of the files of a line since they held the state in which a site began. A power cut at any moment has left in
+-- them, all at once, only what is kept so.
+pub record LeaveNext (machine : Machine) (commands : List Command) (before : State) (calls : List Asked) : Type 0 where
+  pub k : ℕ
+  pub may_keep : MayKeep machine k
+  pub kept : LeaveOnly (KeptBehind machine k commands) before calls
+
+-- As `KeepsOn`, while a station was opened and then accepted these commands: what a power cut leaves in the files is kept so.
+pub record KeepsOnServing (F : Type 0) (commands : List Command) (before now : Seen) : Type 0 where
+  pub device : FileDevice F
+  pub calls : List Asked
+  pub moment : ℕ
+  pub log : HasLog moment calls
+  pub kept : (machine : Machine) → LeavesOnly (KeptFor machine) before.state → LeaveNext machine commands before.state calls
+  pub hold : device.has_failed ≡ false → ¬ IsTrue now.is_stopped → BecomeOnly (Holds now.state) before.state calls
+
 -- The image of a slave has the words with which the book was opened, all synced.
 abbrev pub HasContents : Book → LineFile → File → Type 0
 HasContents book Journal file = Unit {0}
@@ -95,6 +131,11 @@ CutLeavesKept = (before now : Seen) (is_sound : Bool) (files : FilesOf now is_so
 abbrev pub SiteKeepsOn : Type 0 → Type 0
 SiteKeepsOn F = (device : FileDevice F) (before now : Seen) → Follows device now → before.past ≡ [] → first_of now ≡ before.state
     → KeepsThroughout before now → KeepsOn F before now
+
+-- The same of a station that was opened there and accepted these commands.
+abbrev pub SiteKeepsServing : Type 0 → Type 0
+SiteKeepsServing F = (device : FileDevice F) (commands : List Command) (before now : Seen) → Follows device now → before.past ≡ []
+    → first_of now ≡ before.state → KeepsServing commands before now → KeepsOnServing F commands before now
 
 -- Behind a complete recovery the images have the contents, if no call on a file has failed and the site goes on.
 abbrev pub RecoveryLeavesContents : Type 0

@@ -1,4 +1,4 @@
-ghost use Rattle.kept_files.specs.KeptFiles.{SiteHasFiles, CutLeavesKept, SiteKeepsOn, RecoveryLeavesContents};
+ghost use Rattle.kept_files.specs.KeptFiles.{SiteHasFiles, CutLeavesKept, SiteKeepsOn, SiteKeepsServing, RecoveryLeavesContents};
 
 /// The files behind a site: all that was asked of them since they held the state in which the site began, and what that makes of them.
 pub fn a_site_has_files<F>()
@@ -17,6 +17,12 @@ pub fn a_cut_leaves_kept_files()
 /// The same from a site's first call on, with what the files hold now: the state of the site, if no call on them has failed and it goes on.
 pub fn a_site_keeps_its_files<F>()
     ensures { SiteKeepsOn F }
+{}
+
+/// The same of a station that was opened on the way and then accepted commands: what a power cut leaves in the files is kept for the machine, or
+/// for the session that began with that open, with a prefix of these commands accepted.
+pub fn a_station_keeps_its_files<F>()
+    ensures { SiteKeepsServing F }
 {}
 
 /// A recovery that is complete has left the contents in the files: each slave's image has the words with which the session began, all of them

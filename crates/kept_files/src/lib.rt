@@ -12,5 +12,5 @@ pub use desk::{
 };
 pub use laws::{
     a_cut_leaves_kept_files, a_recovery_leaves_the_contents, a_site_has_files,
-    a_site_keeps_its_files,
+    a_site_keeps_its_files, a_station_keeps_its_files,
 };

@@ -51,14 +51,14 @@ disk_step : (old : Station) (answer : Answer) (new : Station) → StepsDisk old 
 disk_step old answer new (step.carried_out does) = carried_out (disk_next old.book).0 old answer new does
 disk_step old answer new (step.out_of_memory takes nothing) = same_station old new nothing.same
 
-slave_step : (next : RomNext) (slave : ℕ) (old : Station) (answer : Answer) (new : Station) → Serves next slave old answer new
+pub slave_step : (next : RomNext) (slave : ℕ) (old : Station) (answer : Answer) (new : Station) → Serves next slave old answer new
     → Follows old.seen new.seen
 slave_step (rom.Issue word value) slave old answer new does = does.issues.follows
 slave_step (rom.Settle taken) slave old answer new does = does.settles.quiet.follows
 slave_step rom.Idle slave old answer new does = same_station old new does.same
 slave_step rom.Stop slave old answer new does = same_station old new does.same
 
-one_step : (choice : Choice) (old : Station) (answer : Answer) (new : Station) → Steps choice old answer new → Follows old.seen new.seen
+pub one_step : (choice : Choice) (old : Station) (answer : Answer) (new : Station) → Steps choice old answer new → Follows old.seen new.seen
 one_step (Submit command) old answer new steps = same_seen old.seen new.seen steps.seen
 one_step Disk old answer new steps = disk_step old answer new steps
 one_step (Rom slave) old answer new steps = slave_step (rom_next old.book slave).0 slave old answer new steps

@@ -17,6 +17,7 @@ use Rattle.station_files.specs.declared.faults.Fault.{Fault}
 use Rattle.station_files.specs.declared.faults.ExitStatus.{ExitStatus}
 use Rattle.station_files.specs.declared.faults.ExitStatus.TheVariants.{Done}
 use Rattle.station_line.specs.Rounds.{AnswersCommand, AreAmong, Goes, IsAccepted, SubmitsSo}
+use Rattle.station_line.proofs.Extending.{one_step}
 use Rattle.station_line.proofs.RoundLaws.{goes-by, goes-none, goes-then}
 
 -- ---- some of the commands
@@ -92,7 +93,8 @@ pub answers-command : (command : Command) (answer : Answer) (old new : Station) 
 answers-command command answer old new went = subst AnswersCommand (sym went.steps.answered) (told-number went.steps.result)
 
 pub goes-went : (command : Command) (answer : Answer) (old new : Station) → Went (Submit command) old answer new → Goes (accepted_by (Submit command) answer) old new
-goes-went command answer old new went = goes-by (accepted_by (Submit command) answer) 0 old new went.goes_on went.keeps
+goes-went command answer old new went = goes-by (accepted_by (Submit command) answer) 0 old new went.goes_on
+    (one_step (Submit command) old answer new went.steps) went.keeps
 
 -- a command that has to wait isn't accepted
 pub goes-refused : (command : Command) (answer : Answer) (old new : Station) → (IsAccepted answer → ⊥) → Went (Submit command) old answer new → Goes [] old new

@@ -1,6 +1,7 @@
 -- A station on which the commands of a script are submitted one by one and served in rounds.
 use Rattle.std.specs.Prelude.{◌≡◌, ◌⊎◌, ℕ, List, [], ◌∷◌, length, is_some, true, Result, OnOk, ⊤}
 use Rattle.sii_edit.specs.declared.command.Command.{Command}
+use Rattle.site_core.specs.Times.{Follows}
 use Rattle.book_model.specs.Book.{Book}
 use Rattle.book_model.specs.Reading.{live_bytes}
 use Rattle.station_alone.specs.declared.choice.Answer.{Answer}
@@ -10,10 +11,12 @@ use Rattle.station_alone.specs.Keeping.{GoesOn, Keeps}
 use Rattle.station_files.specs.declared.faults.ExitStatus.{ExitStatus}
 use Rattle.station_files.specs.declared.faults.ExitStatus.TheVariants.{Done}
 
--- The session went on with these commands accepted. If a power cut before could leave only what is kept, so it could at each moment since.
+-- The session went on with these commands accepted, and calls alone led its site on. If a power cut before could leave only what is kept, so it could
+-- at each moment since.
 pub record Goes (commands : List Command) (old new : Station) : Type 0 where
   pub most : ℕ
   pub on : GoesOn commands most old new
+  pub led : Follows old.seen new.seen
   pub keeps : Keeps commands old new
 
 -- all accepted commands are durable, and nothing is live
