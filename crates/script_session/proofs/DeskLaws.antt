@@ -1,6 +1,7 @@
 -- A desk that was closed with what one submitter handed in.
-use Rattle.std.proofs.Common.{◌≡◌, ℕ, Bool, ◌+◌, ◌≤◌, true, false, List, [], ◌∷◌, ◌++◌, length, refl, sym, ◌∙◌, ap, subst, arith, inl, inr, Option, Some, None, Result, Ok, Err}
-use Rattle.std.specs.Prelude.{◌⊎◌, is_some, IfErr, IfOk, IfSome, IsSomeAnd, MatchResult, OnOk}
+use Rattle.std.proofs.Common.{◌≡◌, ℕ, Bool, ◌+◌, ◌≤◌, true, false, List, [], ◌∷◌, ◌++◌, length, refl, sym, ◌∙◌, ap, subst, arith, inl, inr, Option}
+use Rattle.std.proofs.Common.{Some, None, Result, Ok, Err}
+use Rattle.std.specs.Prelude.{◌⊎◌, is_some, IfErr, IfOk, IfSome, IsSomeAnd, IsTrue, MatchResult, OnOk}
 use Rattle.std.specs.Global.{Vec}
 use Rattle.sii_edit.specs.declared.command.Command.{Command}
 use Rattle.esc_model.specs.SlaveHalf.{SlaveHalf}
@@ -33,8 +34,10 @@ use Rattle.script_session.specs.Asking.{no_counts, ComesTo, GivesUp, Receives, f
 use Rattle.script_session.specs.declared.closing.AtDesk.{AtDesk}
 use Rattle.script_session.specs.declared.closing.Ending.{Ending}
 use Rattle.script_session.specs.declared.threads.Left.{Left}
-use Rattle.script_session.specs.Parts.{Sites, BeginsWith, HasDiskOf, IsApart, IsServable, AreEndsOfParts, IsTogether}
-use Rattle.script_session.specs.AtDesk.{seen_of, Closes, ClosesWith, EndsFollowed, EndsSo, IsServedAtDesk, IsStopped, IsStoppedAtDesk, LeavesSo, ServesFollowed, TellsWhy}
+use Rattle.script_session.specs.declared.threads.NotServed.{NotServed}
+use Rattle.script_session.specs.Parts.{Sites, AreFollowed, BeginsWith, HasDiskOf, IsApart, IsServable, AreEndsOfParts, IsTogether}
+use Rattle.script_session.specs.AtDesk.{seen_of, Closes, ClosesWith, DeskServes, EndsApart, EndsFollowed, EndsSo, IsServedAtDesk, IsStopped}
+use Rattle.script_session.specs.AtDesk.{IsStoppedAtDesk, LeavesSo, ServesFollowed, TellsWhy}
 use Rattle.script_session.proofs.AskLaws.{all-received}
 use Rattle.script_session.proofs.SlaveLaws.{contents-together}
 use Rattle.script_session.proofs.LeftLaws.{kept-together, left-together}
@@ -216,12 +219,12 @@ module _ (opened : Station) (commands : List Command) (sites : Sites) (ends : En
     closes = closes;
     together = together;
     contents = λ just. contents-together opened.book (replayed opened.book closes.calls) opened.seen.state sites ends site apart of_sites together (closes.closed.contents just);
-    left = left-together opened closes.calls sites ends site apart of_sites together closes.closed.left;
+    left = left-together opened closes.calls sites ends apart of_sites site together closes.closed.left;
   }
   leaves-so is_driven status told (Err why) stops = record {
     calls = stops.calls;
     answered = stops.answered;
-    kept = λ unserved. kept-together opened stops.calls sites ends site apart of_sites together (stops.kept unserved);
+    kept = λ unserved. kept-together opened stops.calls sites ends apart of_sites site together (stops.kept unserved);
     tells = stops.tells;
   }
 
@@ -234,23 +237,37 @@ served-at-desk opened commands book seen sites at (Ok left) of_book of_seen apar
     record { told = same.told; left = leaves-so opened commands sites at.ends left.site parts of_sites is.0 left.ending.is_driven left.ending.status left.ending.told left.ending.closed same.ended }
 served-at-desk opened commands book seen sites at (Err fault) of_book of_seen apart of_sites is ends = tt
 
-pub serves-parts : {D E : Type 0} (follows : D → Seen → Type 0) (well : D → Type 0) (opened : Station) (commands : List Command) (book : Book) (seen : Seen) (sites : Sites) (at : AtDesk SiteValue) (sound : Result (Unit {0}) Fault) (result : Result (Left SiteValue) E) → book ≡ opened.book → seen ≡ opened.seen
-    → IsApart seen.state sites → AreEndsOfParts sites at.ends → IfOk result (λ (left : Left SiteValue). IsTogether at.ends left.site × (left.ending ≡ at.ending)) → IfOk result (λ (left : Left SiteValue). left.sound ≡ sound) → OnOk result (EndsFollowed follows well opened sound at.ends)
-    → EndsSo book commands at.ends at.ending → IfOk result (λ (left : Left SiteValue). ServesFollowed follows well opened commands left)
-serves-parts follows well opened commands book seen sites at sound (Ok left) of_book of_seen apart of_sites is same followed ends =
-    let here : EndsSo opened.book commands at.ends at.ending = subst (λ (b : Book). EndsSo b commands at.ends at.ending) of_book ends in
-    record {
-      parts = record {
-        sites = sites;
-        apart = subst (λ (s : Seen). IsApart s.state sites) of_seen apart;
-        ends = at.ends;
-        of_sites = of_sites;
-        ended = subst (λ (e : Ending). EndsSo opened.book commands at.ends e) (sym is.1) here;
-        together = is.0;
-      };
+-- a desk served these sites
+module _ (opened : Station) (commands : List Command) (book : Book) (seen : Seen) (sites : Sites) (at : AtDesk SiteValue)
+    (of_book : book ≡ opened.book) (of_seen : seen ≡ opened.seen) (apart : IsApart seen.state sites) (of_sites : AreEndsOfParts sites at.ends)
+    (ends : EndsSo book commands at.ends at.ending) where
+  abbrev desk-serves : (ending : Ending) → ending ≡ at.ending → DeskServes opened commands ending
+  desk-serves ending same = record {
+    sites = sites;
+    apart = subst (λ (s : Seen). IsApart s.state sites) of_seen apart;
+    ends = at.ends;
+    of_sites = of_sites;
+    ended = subst (λ (e : Ending). EndsSo opened.book commands at.ends e) (sym same)
+        (subst (λ (b : Book). EndsSo b commands at.ends at.ending) of_book ends);
+  }
+
+  module _ {D : Type 0} (follows : D → Seen → Type 0) where
+    -- and the line was put together again
+    pub serves-parts : {E : Type 0} (well : D → Type 0) (sound : Result (Unit {0}) Fault) (result : Result (Left SiteValue) E)
+        → IfOk result (λ (left : Left SiteValue). IsTogether at.ends left.site × (left.ending ≡ at.ending))
+        → IfOk result (λ (left : Left SiteValue). left.sound ≡ sound) → EndsFollowed follows well opened sound at.ends
+        → IfOk result (λ (left : Left SiteValue). ServesFollowed follows well opened commands left)
+    serves-parts well sound (Ok left) is same followed = record {
+      parts = record { desk = desk-serves left.ending is.1; together = is.0 };
       followed = subst (λ (r : Result (Unit {0}) Fault). EndsFollowed follows well opened r at.ends) (sym same) followed;
     }
-serves-parts follows well opened commands book seen sites at sound (Err fault) of_book of_seen apart of_sites is same followed ends = tt
+    serves-parts well sound (Err fault) is same followed = tt
+
+    -- or not
+    pub ends-apart : (result : Result (Left SiteValue) NotServed) → AreFollowed follows at.ends
+        → IfErr result (λ (why : NotServed). IsTrue why.is_begun → EndsApart follows opened commands)
+    ends-apart (Ok left) followed = tt
+    ends-apart (Err why) followed = λ begun. record { ending = at.ending; desk = desk-serves at.ending refl; followed = followed }
 
 -- where no fault is told, the desk was closed, and the line was served
 pub served-told : (opened : Station) (commands : List Command) (ending : Ending) (site : SiteValue) → ending.told ≡ Ok tt → LeavesSo opened commands ending site → IsServedAtDesk opened commands ending.is_driven ending.status (Ok tt) site

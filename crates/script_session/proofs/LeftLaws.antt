@@ -51,14 +51,11 @@ synced-less disk image stop =
     let long : length disk.bytes ≤ length image = le_trans (le-min same same) stop.no_shorter in
     record { bytes = λ at is. stop.bytes at tt; no_shorter = le_trans (min-le_right disk.synced_length (length disk.bytes)) long }
 
-module _ (opened : Station) (calls : List Call) (sites : Sites) (ends : Ends SiteValue) (site : SiteValue) (apart : IsApart opened.seen.state sites) (of_sites : AreEndsOfParts sites ends) (together : IsTogether ends site) where
+module _ (opened : Station) (calls : List Call) (sites : Sites) (ends : Ends SiteValue) (apart : IsApart opened.seen.state sites)
+    (of_sites : AreEndsOfParts sites ends) where
   -- the line when the work began: the disk is synced
   abbrev pub old : State
   old = record opened.seen.state { disk = of_bytes opened.seen.state.disk.bytes }
-
-  -- the line once it was done: the disk is that of the flusher
-  abbrev new : State
-  new = record site.seen.state { disk = ends.flusher.site.seen.state.disk }
 
   began : (slave : ℕ) (s : SiteValue) → slice_get (starts ends.workers.items) slave ≡ Some s → slice_get old.halves slave ≡ slice_get s.seen.state.halves slave
   began slave s at =
@@ -68,12 +65,6 @@ module _ (opened : Station) (calls : List Call) (sites : Sites) (ends : Ends Sit
       let same : worker.0 ≡ s = sym worker.2.start ∙ end.2 in
       half.1 ∙ sym (subst (λ (x : SiteValue). HasHalf slave half.0 x) same (subst (λ (n : ℕ). HasHalf n half.0 worker.0) (omega arith) half.2.has))
 
-  ended : (slave : ℕ) (s : SiteValue) → slice_get (at_desk.sites ends.workers.items) slave ≡ Some s → slice_get new.halves slave ≡ slice_get s.seen.state.halves slave
-  ended slave s at =
-      let end = mapped-back (λ (e : Stay SiteValue SlaveLog). e.site) ends.workers.items slave s at in
-      let half = placed-at EndsWith 0 ends.workers.items site.seen.state.halves slave end.0 together.halves end.1 in
-      half.1 ∙ sym (subst (λ (x : SiteValue). HasHalf slave half.0 x) end.2 (subst (λ (n : ℕ). HasHalf n half.0 end.0.site) (omega arith) half.2))
-
   pub first : AreTogether seen_of ends.flusher.start (starts ends.workers.items) old
   first = record {
     disk = sym (ap (λ (s : SiteValue). s.seen.state.disk) of_sites.flusher ∙ apart.disk);
@@ -82,13 +73,6 @@ module _ (opened : Station) (calls : List Call) (sites : Sites) (ends : Ends Sit
         let all = placed-long (λ place (x : SiteValue) (e : Stay SiteValue SlaveLog). IsEndOfSlave place x e) 0 sites.slaves.items ends.workers.items of_sites.workers in
         sym (length-map ends.workers.items (λ (e : Stay SiteValue SlaveLog). e.start) ∙ all ∙ many);
     halves = began;
-  }
-
-  last : AreTogether seen_of ends.flusher.site (at_desk.sites ends.workers.items) new
-  last = record {
-    disk = refl;
-    count = placed-long EndsWith 0 ends.workers.items site.seen.state.halves together.halves ∙ sym (length-map ends.workers.items (λ (e : Stay SiteValue SlaveLog). e.site));
-    halves = ended;
   }
 
   pub opened-on : (machine : Machine) (begins : BeginsAs machine calls opened) → IsOpenedOn machine begins.journal old calls
@@ -101,19 +85,40 @@ module _ (opened : Station) (calls : List Call) (sites : Sites) (ends : Ends Sit
         commands_fit = begins.commands_fit;
       }
 
-  less : (pair : Pair) → Leaves site.seen.state pair → Leaves new pair
-  less pair leaves = record {
-    disk = synced-less ends.flusher.site.seen.state.disk pair.disk (subst (λ (d : Disk). StopImage d pair.disk) together.disk leaves.disk);
-    words = leaves.words;
-  }
+  module _ (site : SiteValue) (together : IsTogether ends site) where
+    -- the line once it was done: the disk is that of the flusher
+    abbrev new : State
+    new = record site.seen.state { disk = ends.flusher.site.seen.state.disk }
 
-  kept-less : (machine : Machine) (book : Book) → IsKeptAs machine book new → IsKeptAs machine book site.seen.state
-  kept-less machine book is = record { k = is.k; may_keep = is.may_keep; base = is.base; kept = λ pair leaves. is.kept pair (less pair leaves) }
+    ended : (slave : ℕ) (s : SiteValue) → slice_get (at_desk.sites ends.workers.items) slave ≡ Some s
+        → slice_get new.halves slave ≡ slice_get s.seen.state.halves slave
+    ended slave s at =
+        let end = mapped-back (λ (e : Stay SiteValue SlaveLog). e.site) ends.workers.items slave s at in
+        let half = placed-at EndsWith 0 ends.workers.items site.seen.state.halves slave end.0 together.halves end.1 in
+        half.1 ∙ sym (subst (λ (x : SiteValue). HasHalf slave half.0 x) end.2 (subst (λ (n : ℕ). HasHalf n half.0 end.0.site) (omega arith) half.2))
 
-  pub kept-together : AllEndSo IsKeptAs opened.book calls seen_of ends.flusher ends.workers.items → AllLeftSo IsKeptAs opened calls site
-  kept-together all machine begins = kept-less machine (replayed opened.book calls) (all machine begins.journal old new begins.book (opened-on machine begins) first last)
+    last : AreTogether seen_of ends.flusher.site (at_desk.sites ends.workers.items) new
+    last = record {
+      disk = refl;
+      count = placed-long EndsWith 0 ends.workers.items site.seen.state.halves together.halves ∙ sym
+          (length-map ends.workers.items (λ (e : Stay SiteValue SlaveLog). e.site));
+      halves = ended;
+    }
 
-  pub left-together : AllEndSo IsLeft opened.book calls seen_of ends.flusher ends.workers.items → AllLeftSo IsLeft opened calls site
-  left-together all machine begins =
-      let is = all machine begins.journal old new begins.book (opened-on machine begins) first last in
-      record { kept = kept-less machine (replayed opened.book calls) is.kept; leads = λ pair leaves. is.leads pair (less pair leaves) }
+    less : (pair : Pair) → Leaves site.seen.state pair → Leaves new pair
+    less pair leaves = record {
+      disk = synced-less ends.flusher.site.seen.state.disk pair.disk (subst (λ (d : Disk). StopImage d pair.disk) together.disk leaves.disk);
+      words = leaves.words;
+    }
+
+    kept-less : (machine : Machine) (book : Book) → IsKeptAs machine book new → IsKeptAs machine book site.seen.state
+    kept-less machine book is = record { k = is.k; may_keep = is.may_keep; base = is.base; kept = λ pair leaves. is.kept pair (less pair leaves) }
+
+    pub kept-together : AllEndSo IsKeptAs opened.book calls seen_of ends.flusher ends.workers.items → AllLeftSo IsKeptAs opened calls site
+    kept-together all machine begins = kept-less machine (replayed opened.book calls)
+        (all machine begins.journal old new begins.book (opened-on machine begins) first last)
+
+    pub left-together : AllEndSo IsLeft opened.book calls seen_of ends.flusher ends.workers.items → AllLeftSo IsLeft opened calls site
+    left-together all machine begins =
+        let is = all machine begins.journal old new begins.book (opened-on machine begins) first last in
+        record { kept = kept-less machine (replayed opened.book calls) is.kept; leads = λ pair leaves. is.leads pair (less pair leaves) }

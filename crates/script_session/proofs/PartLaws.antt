@@ -1,6 +1,6 @@
 -- EEPROM halves that are put into sites, and taken from them, one by one.
 use Rattle.std.proofs.Common.{◌≡◌, ℕ, zero, suc, take, slice_get, ◌+◌, List, [], ◌∷◌, ◌++◌, length, Some, None, Option, Result, Ok, Err, refl, sym, ◌∙◌, ap, subst, arith}
-use Rattle.std.specs.Prelude.{is_some, IfSome, IfOk, IsTrue, OnOk}
+use Rattle.std.specs.Prelude.{is_some, IfSome, IfOk, IsTrue}
 use Rattle.std.specs.Global.{Vec}
 use Rattle.std.specs.List.{AllByRecursion}
 use Rattle.std.proofs.lemmas.Bool.{false≢true}
@@ -91,11 +91,12 @@ followed_next follows ends i end all here one =
     take_next (e ∷ ends) zero end here = let same : e ≡ end = cc in ap (λ (x : Stay SiteValue SlaveLog). x ∷ []) same
     take_next (e ∷ ends) (suc i) end here = ap (λ (l : List (Stay SiteValue SlaveLog)). e ∷ l) (take_next ends i end here)
 
-pub followed_together : {D A E : Type 0} (follows : D → Seen → Type 0) (result : Result A E) (ends : Ends SiteValue) (workers : List (Stay SiteValue SlaveLog)) → IsFlushed ends.flusher.log ends.flusher.start.seen ends.flusher.site.seen
-    → IsFollowed follows ends.flusher.site.seen → workers ≡ ends.workers.items → AllByRecursion (IsWorkFollowed follows) workers → OnOk result (AreFollowed follows ends)
-followed_together follows (Ok whole) ends workers flushed followed same all = record {
+pub followed_together : {D : Type 0} (follows : D → Seen → Type 0) (ends : Ends SiteValue) (workers : List (Stay SiteValue SlaveLog))
+    → IsFlushed ends.flusher.log ends.flusher.start.seen ends.flusher.site.seen
+    → IsFollowed follows ends.flusher.site.seen → workers ≡ ends.workers.items → AllByRecursion (IsWorkFollowed follows) workers
+    → AreFollowed follows ends
+followed_together follows ends workers flushed followed same all = record {
   flushed = flushed;
   followed = followed;
   workers = subst (λ (l : List (Stay SiteValue SlaveLog)). AllByRecursion (IsWorkFollowed follows) l) same all;
 }
-followed_together follows (Err fault) ends workers flushed followed same all = tt

@@ -29,23 +29,20 @@ use Rattle.station_alone.specs.Opening.{Begins, OpensCounted}
 use Rattle.station_alone.specs.declared.opening.Found.{Found}
 use Rattle.desk_book.specs.declared.call.Call.{Call}
 use Rattle.desk_book.specs.declared.call.Call.TheVariants.{Submitted, DiskAsked, DiskTold, SlaveAsked, SlaveTold, PlanAsked, Finished}
-use Rattle.desk_book.specs.Calls.{after, replayed, is_refusal, AreAnswered}
+use Rattle.desk_book.specs.Calls.{after, replayed, is_refusal}
 use Rattle.desk_book.proofs.CountLaws.{each-slave}
 use Rattle.desk_book.proofs.KeptLaws.{keeps-disk_next, keeps-disk_done, keeps-rom_next, keeps-rom_done}
 use Rattle.desk_laws.specs.Joined.{CallFits, served_by}
-use Rattle.desk_laws.specs.Together.{AllEndSo, IsLeft}
-use Rattle.desk_laws.specs.Slaves.{AllReadAsContents, IsJustOpened}
-use Rattle.desk_book.specs.Closing.{is_served}
+use Rattle.desk_laws.specs.Together.{IsLeft}
 use Rattle.desk_book.specs.Numbered.{Numbered}
 use Rattle.desk_book.specs.Serving.{ShareCounts}
-use Rattle.station_threads.specs.Closing.{IsHandedIn}
 use Rattle.station_threads.specs.declared.closing.Ends.{Ends}
 use Rattle.station_threads.specs.declared.closing.CloseFault.{CloseFault}
 use Rattle.station_files.specs.Faults.{IsOfStream}
 use Rattle.station_files.specs.declared.faults.Fault.{Fault}
 use Rattle.station_files.specs.declared.faults.ExitStatus.TheVariants.{Done}
 use Rattle.script_session.specs.Asking.{no_counts}
-use Rattle.script_session.specs.AtDesk.{seen_of, AllLeftSo, BeginsAs, Closes, ClosesWith, IsStopped, TellsWhy}
+use Rattle.script_session.specs.AtDesk.{AllLeftSo, BeginsAs, Closes, ClosesWith, IsStopped, TellsWhy}
 use Rattle.script_session.specs.Parts.{Sites, IsApart, AreEndsOfParts, IsTogether}
 use Rattle.script_session.specs.Redoing.{IsCount, IsOpenedHere, IsRedone, KeepsLine, StopsRedoing, issues_of}
 use Rattle.script_session.proofs.DeskLaws.{none-of}
@@ -214,10 +211,11 @@ module _ (opened : Station) (sites : Sites) (ends : Ends SiteValue) (site : Site
           closes = with_none;
           together = together;
           contents = λ just. contents-together opened.book (replayed opened.book calls) opened.seen.state sites ends site apart of_sites together (closes.closed.contents just);
-          left = left-together opened calls sites ends site apart of_sites together closes.closed.left;
+          left = left-together opened calls sites ends apart of_sites site together closes.closed.left;
         };
         counts = subst (λ (n : ℕ). IsCount n words) all counts;
-        keeps = keeps-line opened here stands calls none sound site (left-together opened calls sites ends site apart of_sites together closes.closed.left);
+        keeps = keeps-line opened here stands calls none sound site (left-together opened calls sites ends apart of_sites site together
+            closes.closed.left);
       }
 
   pub redone : (book : Book) (seen : Seen) → book ≡ opened.book → seen ≡ opened.seen → IsApart seen.state sites → AreEndsOfParts sites ends

@@ -1,5 +1,6 @@
 -- The parts of a line that ended soundly at a desk: what their devices have followed, and that the disk is synced.
-use Rattle.std.proofs.Common.{◌≡◌, ℕ, zero, suc, ◌+◌, List, [], ◌∷◌, ◌++◌, length, take, slice_get, refl, sym, ◌∙◌, ap, subst, arith, inl, inr, Some, None, Result, Ok, Err}
+use Rattle.std.proofs.Common.{◌≡◌, ℕ, zero, suc, ◌+◌, List, [], ◌∷◌, ◌++◌, length, slice_get, sym, ◌∙◌, ap, subst, arith, inl, inr, Some, Result, Ok}
+use Rattle.std.proofs.Common.{Err}
 use Rattle.std.specs.Prelude.{OnOk}
 use Rattle.std.proofs.lemmas.List.{append-nil}
 use Rattle.site_core.specs.declared.fault.DeviceFault.{DeviceFault}
@@ -120,11 +121,11 @@ pub served_soundly : {D : Type 0} (follows : D → Seen → Type 0) (well : D �
     → IsServedFollowed (Soundly follows well) opened left.site
 served_soundly follows well opened commands left serves sound = record {
   served = record {
-    sites = serves.parts.sites;
-    apart = serves.parts.apart;
-    ends = serves.parts.ends;
-    of_sites = serves.parts.of_sites;
+    sites = serves.parts.desk.sites;
+    apart = serves.parts.desk.apart;
+    ends = serves.parts.desk.ends;
+    of_sites = serves.parts.desk.of_sites;
     together = serves.parts.together;
   };
-  followed = subst (λ (r : Result (Unit {0}) Fault). EndsFollowed follows well opened r serves.parts.ends) sound serves.followed;
+  followed = subst (λ (r : Result (Unit {0}) Fault). EndsFollowed follows well opened r serves.parts.desk.ends) sound serves.followed;
 }

@@ -155,14 +155,18 @@ pub record LeavesSo (opened : Station) (commands : List Command) (ending : Endin
       (λ done. IsServedAtDesk opened commands ending.is_driven ending.status ending.told site)
       (λ why. IsStoppedAtDesk opened why ending.told site)
 
--- The line of this station was taken apart, a desk of its book served the parts, and the line was put together again.
-pub record ServesParts (opened : Station) (commands : List Command) (ending : Ending) (site : SiteValue) : Type 0 where
+-- The line of this station was taken apart, and a desk of its book served the parts.
+pub record DeskServes (opened : Station) (commands : List Command) (ending : Ending) : Type 0 where
   pub sites : Sites
   pub apart : IsApart opened.seen.state sites
   pub ends : Ends SiteValue
   pub of_sites : AreEndsOfParts sites ends
   pub ended : EndsSo opened.book commands ends ending
-  pub together : IsTogether ends site
+
+-- Behind that the line was put together again.
+pub record ServesParts (opened : Station) (commands : List Command) (ending : Ending) (site : SiteValue) : Type 0 where
+  pub desk : DeskServes opened commands ending
+  pub together : IsTogether desk.ends site
 
 -- The line of this station was taken apart, a desk served the parts, and the line was put together again.
 pub record PartsAreServed (opened : Station) (site : SiteValue) : Type 0 where
@@ -195,4 +199,10 @@ EndsFollowed follows well opened (Err fault) ends = AreFollowed follows ends
 pub record ServesFollowed {D : Type 0} (follows : D → Seen → Type 0) (well : D → Type 0) (opened : Station) (commands : List Command)
     (left : Left SiteValue) : Type 0 where
   pub parts : ServesParts opened commands left.ending left.site
-  pub followed : EndsFollowed follows well opened left.sound parts.ends
+  pub followed : EndsFollowed follows well opened left.sound parts.desk.ends
+
+-- A desk served the parts, whatever came of putting the line together, and behind each part a device has kept this of the part's site.
+pub record EndsApart {D : Type 0} (follows : D → Seen → Type 0) (opened : Station) (commands : List Command) : Type 0 where
+  pub ending : Ending
+  pub desk : DeskServes opened commands ending
+  pub followed : AreFollowed follows desk.ends

@@ -1,5 +1,5 @@
 -- A line that is taken apart into sites, and put together again.
-use Rattle.std.specs.Prelude.{◌≡◌, ◌⊎◌, ◌≤◌, ◌+◌, ℕ, List, [], true, length, Ok, Option, Some, is_some, slice_get, IsTrue, None, false}
+use Rattle.std.specs.Prelude.{◌≡◌, ◌⊎◌, ◌≤◌, ◌+◌, ℕ, List, [], true, length, Result, Ok, IfOk, Option, Some, is_some, slice_get, IsTrue, None, false}
 use Rattle.std.specs.List.{AllByRecursion}
 use Rattle.std.specs.Global.{Vec}
 use Rattle.esc_model.specs.SlaveHalf.{SlaveHalf}
@@ -8,6 +8,8 @@ use Rattle.site_core.specs.State.{State, Seen}
 use Rattle.site_shadow.specs.Unsynced.{of_bytes}
 use Rattle.esc_rom.specs.Owned.{OwnsAll}
 use Rattle.site_shadow.specs.Site.{SiteValue}
+use Rattle.site_shadow.specs.Line.{halves_of}
+use Rattle.station_files.specs.declared.faults.Fault.{Fault}
 use Rattle.station_line.specs.Site.{IsFollowed}
 use Rattle.book_model.specs.declared.next.DiskNext.TheVariants as disk
 use Rattle.desk_book.specs.Logs.{DiskEntry}
@@ -84,6 +86,10 @@ pub record AreFollowed {D : Type 0} (follows : D → Seen → Type 0) (ends : En
 -- this is the EEPROM half of this slave at the end of its worker
 abbrev pub EndsWith : ℕ → Stay SiteValue SlaveLog → SlaveHalf → Type 0
 EndsWith slave end half = HasHalf slave half end.site
+
+-- these are the EEPROM halves of the slaves, in order, at the ends of their workers, unless a fault is told
+abbrev pub AreHalvesOf : List (Stay SiteValue SlaveLog) → Result (Vec (Option SlaveHalf)) Fault → Type 0
+AreHalvesOf workers result = IfOk result (λ halves. AllPlaced EndsWith 0 workers (halves_of halves.items))
 
 -- The site's disk has the bytes that the flusher left, all of them synced, and each slave's EEPROM half is as its worker left it. It has seen no
 -- call.

@@ -18,5 +18,5 @@ pub use closing::Ending;
 pub use redoing::{Redone, redo_by_threads};
 pub use soundness::is_sound;
 pub use station_threads::CloseFault;
-pub use threads::{Left, serve_by_threads};
+pub use threads::{Left, NotServed, serve_by_threads};
 pub use work::Work;

@@ -1,8 +1,8 @@
 //! Serves a line by threads.
 
-ghost use Rattle.std.specs.Prelude.{◌≡◌, ◌+◌, ◌≤◌, [], false, vec_capacity, IfOk, OnOk};
+ghost use Rattle.std.specs.Prelude.{◌≡◌, ◌+◌, ◌≤◌, [], false, vec_capacity, IfErr, IfOk, IsTrue};
 ghost use Rattle.script_session.specs.Asking.{no_counts};
-ghost use Rattle.script_session.specs.AtDesk.{LeavesSo, OpensDesk, ServesFollowed, ServesSites};
+ghost use Rattle.script_session.specs.AtDesk.{EndsApart, LeavesSo, OpensDesk, ServesFollowed, ServesSites};
 ghost use Rattle.script_session.specs.Parts.{AreEndsOfParts, AreFollowed, IsLineOf, IsServable, IsTogether, OwnUpTo};
 ghost use Rattle.station_line.specs.Site.{IsFollowed};
 
@@ -44,6 +44,28 @@ pub struct Left<S> {
     pub sound: Result<(), Fault>,
 }
 
+/// Why a line was not served, or not put together again behind that.
+#[derive(Clone, Copy)]
+pub struct NotServed {
+    /// The fault.
+    pub fault: Fault,
+    /// Whether a desk served the parts of the line, and what they left couldn't be put together. If not, no desk began, and no device was asked
+    /// anything.
+    pub is_begun: bool,
+}
+
+impl NotServed {
+    /// No desk began.
+    fn unbegun(fault: Fault) -> Self
+        ensures { result.is_begun ≡ false }
+    {
+        NotServed {
+            fault,
+            is_begun: false,
+        }
+    }
+}
+
 /// Serves the commands by threads on the line of this station, which has `slaves` slaves, and puts the line together again. Prints the
 /// answer to each command, what is told of them as it happens, and the totals. If a thread can't be started, no command is submitted. The
 /// station must not have accepted a command yet.
@@ -60,12 +82,13 @@ pub fn serve_by_threads<D: Device + Copy + Send, O: Write, W: Wait + Threads + S
     slaves: usize,
     work: Work,
     output: &mut O,
-) -> Result<Left<ShadowSite<D>>, Fault>
+) -> Result<Left<ShadowSite<D>>, NotServed>
     requires { alone.book.accepted ≡ [] }
     ensures line { IfOk result (λ left. IsLineOf slaves left.site.line) }
     ensures left { IfOk result (λ left. LeavesSo alone work.commands.items left.ending left.site) }
     ensures parts { IfOk result (λ left. ServesFollowed D.follows D.well alone work.commands.items left) }
     ensures before { IsFollowed D.follows alone.seen }
+    ensures failed { IfErr result (λ why. IsTrue why.is_begun → EndsApart D.follows alone work.commands.items) }
     ensures unserved { IfOk result (λ left. left.ending.is_driven ≡ false → left.unserved.items ≡ work.commands.items) }
 {
     let (core, site) = alone.into_parts();
@@ -75,15 +98,20 @@ pub fn serve_by_threads<D: Device + Copy + Send, O: Write, W: Wait + Threads + S
         Err(fault) => {
             drop(core);
             drop(work);
-            return Err(fault);
+            return Err(NotServed::unbegun(fault));
         }
     };
     let opening = Opening::of(core);
-    let at = serve_at_desk::<Brand, Brand, Brand, D, O, W>(
-        rt, alloc, opening, sites, work, output,
-    )?;
-    let sound = judge_ends(began_soundly, &at.ends);
-    put_back(alloc, room, slaves, at, sound)
+    match serve_at_desk::<Brand, Brand, Brand, D, O, W>(rt, alloc, opening, sites, work, output) {
+        Ok(at) => {
+            let sound = judge_ends(began_soundly, &at.ends);
+            put_back(alloc, room, slaves, at, sound)
+        }
+        Err(AllocError) => {
+            drop(room);
+            Err(NotServed::unbegun(Fault::Memory))
+        }
+    }
 }
 
 /// The sites of a line, and an empty list with room for the halves of its slaves.
@@ -107,18 +135,18 @@ pub(crate) fn prepare<D: Device + Copy>(
     }
 }
 
-/// Puts a line of `slaves` slaves together again.
+/// Puts a line of `slaves` slaves together again, which a desk has served.
 fn put_back<D: Device + Copy>(
     alloc: Global,
     room: Vec<Option<RomHalf>>,
     slaves: usize,
     at: AtDesk<ShadowSite<D>>,
     sound: Result<(), Fault>,
-) -> Result<Left<ShadowSite<D>>, Fault>
+) -> Result<Left<ShadowSite<D>>, NotServed>
     requires { room.items ≡ [] }
     ensures line { IfOk result (λ left. IsLineOf slaves left.site.line) }
     ensures left { IfOk result (λ left. IsTogether at.ends left.site × (left.ending ≡ at.ending)) }
-    ensures followed { OnOk result (AreFollowed D.follows at.ends) }
+    ensures followed { AreFollowed D.follows at.ends }
     ensures unserved { IfOk result (λ left. left.unserved ≡ at.unserved) }
     ensures sound { IfOk result (λ left. left.sound ≡ sound) }
 {
@@ -136,7 +164,10 @@ fn put_back<D: Device + Copy>(
         }),
         Err(fault) => {
             drop(unserved);
-            Err(fault)
+            Err(NotServed {
+                fault,
+                is_begun: true,
+            })
         }
     }
 }

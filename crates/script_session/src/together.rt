@@ -1,11 +1,14 @@
 //! Puts a line together again from the ends of its threads.
 
-ghost use Rattle.std.specs.Prelude.{◌≡◌, [], IfOk, IfSome, IsTrue, OnOk};
+ghost use Rattle.std.specs.Prelude.{◌≡◌, ◌∷◌, ◌++◌, [], List, Ok, IfOk, IfSome, IsTrue};
 ghost use Rattle.std.specs.List.{AllByRecursion};
 ghost use Rattle.site_shadow.specs.Line.{half_of, halves_of};
+ghost use Rattle.site_shadow.specs.Site.{SiteValue};
+ghost use Rattle.station_jobs.specs.Ends.{Stay};
 ghost use Rattle.station_jobs.specs.Flushing.{IsFlushed};
+ghost use Rattle.station_jobs.specs.declared.log.SlaveLog.{SlaveLog};
 ghost use Rattle.station_threads.specs.Places.{AllPlaced};
-ghost use Rattle.script_session.specs.Parts.{AreFollowed, EndsWith, HasDiskOf, IsLineOf, IsTogether, IsWorkFollowed};
+ghost use Rattle.script_session.specs.Parts.{AreFollowed, AreHalvesOf, EndsWith, HasDiskOf, IsLineOf, IsTogether, IsWorkFollowed};
 ghost use Rattle.station_line.specs.Site.{IsFollowed};
 
 use crate::apart::site_of;
@@ -35,7 +38,7 @@ fn half_at<D: Device + Copy>(
     end: End<ShadowSite<D>, SlaveLog>,
 ) -> Result<Option<RomHalf>, Fault>
     ensures half { IfOk result (λ half. EndsWith slave end (half_of half)) }
-    ensures followed { OnOk result (IsWorkFollowed D.follows end) }
+    ensures followed { IsWorkFollowed D.follows end }
 {
     let (mut parts, _device) = parts_of(end);
     if slave >= parts.halves.len() {
@@ -47,22 +50,52 @@ fn half_at<D: Device + Copy>(
     Ok(half)
 }
 
-/// The EEPROM halves of all slaves, in order, as their workers left them.
+/// These halves, and behind them that of the next slave, as its worker left it.
+fn with_half<D: Device + Copy>(
+    halves: Vec<Option<RomHalf>>,
+    end: End<ShadowSite<D>, SlaveLog>,
+) -> Result<Vec<Option<RomHalf>>, Fault>
+    ensures halves { (workers : List (Stay SiteValue SlaveLog)) → AreHalvesOf workers (Ok halves) → AreHalvesOf (workers ++ end ∷ []) result }
+    ensures followed { IsWorkFollowed D.follows end }
+{
+    let mut halves = halves;
+    let half = half_at(halves.len(), end)?;
+    halves.push(half)?;
+    Ok(halves)
+}
+
+/// The same behind a fault, which stays. The site of the worker is taken apart all the same.
+fn with_next<D: Device + Copy>(
+    halves: Result<Vec<Option<RomHalf>>, Fault>,
+    end: End<ShadowSite<D>, SlaveLog>,
+) -> Result<Vec<Option<RomHalf>>, Fault>
+    ensures halves { (workers : List (Stay SiteValue SlaveLog)) → AreHalvesOf workers halves → AreHalvesOf (workers ++ end ∷ []) result }
+    ensures followed { IsWorkFollowed D.follows end }
+{
+    match halves {
+        Ok(halves) => with_half(halves, end),
+        Err(fault) => {
+            let (parts, _device) = parts_of(end);
+            drop(parts);
+            Err(fault)
+        }
+    }
+}
+
+/// The EEPROM halves of all slaves, in order, as their workers left them. The site of each worker is taken apart, also behind a fault.
 fn halves_at<D: Device + Copy>(
     room: Vec<Option<RomHalf>>,
     workers: Vec<End<ShadowSite<D>, SlaveLog>>,
 ) -> Result<Vec<Option<RomHalf>>, Fault>
     requires { room.items ≡ [] }
     ensures halves { IfOk result (λ halves. AllPlaced EndsWith 0 workers.items (halves_of halves.items)) }
-    ensures followed { OnOk result (AllByRecursion (IsWorkFollowed D.follows) workers.items) }
+    ensures followed { AllByRecursion (IsWorkFollowed D.follows) workers.items }
 {
-    let mut halves = room;
+    let mut halves = Ok(room);
     for end in workers {
-        let slave = halves.len();
-        let half = half_at(slave, end)?;
-        halves.push(half)?;
+        halves = with_next(halves, end);
     }
-    Ok(halves)
+    halves
 }
 
 /// Whether the site is a line of `slaves` slaves, all of them owned, with its disk.
@@ -135,7 +168,7 @@ fn whole_line<D: Device + Copy>(site: ShadowSite<D>, slaves: usize) -> Result<Sh
 ///
 /// # Errors
 ///
-/// `Unserved` where these are not the ends of one line of `slaves` slaves; `Memory`. The ends are dropped.
+/// `Unserved` where these are not the ends of one line of `slaves` slaves; `Memory`. What devices have followed they have followed all the same.
 pub(crate) fn put_together<D: Device + Copy>(
     alloc: Global,
     room: Vec<Option<RomHalf>>,
@@ -144,7 +177,7 @@ pub(crate) fn put_together<D: Device + Copy>(
 ) -> Result<ShadowSite<D>, Fault>
     requires { room.items ≡ [] }
     ensures together { IfOk result (λ site. IsTogether ends site × IsLineOf slaves site.line) }
-    ensures followed { OnOk result (AreFollowed D.follows ends) }
+    ensures followed { AreFollowed D.follows ends }
 {
     let ((line, device), workers) = split(ends);
     let halves = match halves_at(room, workers) {

@@ -1,11 +1,15 @@
 -- What a power cut leaves in the files of a run.
-use Rattle.std.proofs.Common.{◌≡◌, ◌∙◌, ℕ, ◌+◌, zero, suc, eq-eqb, Bool, true, false, List, [], ◌∷◌, Some, slice_get, IsTrue, Result, Ok, Err, refl, sym, ap, subst, inl, inr, arith}
+use Rattle.std.proofs.Common.{◌≡◌, ◌∙◌, ℕ, ◌+◌, zero, suc, eq-eqb, Bool, true, false, List, [], ◌∷◌, Some, slice_get, IsTrue, Result, Ok, Err, refl}
+use Rattle.std.proofs.Common.{sym, ap, subst, inl, inr, arith}
 use Rattle.std.specs.Prelude.{◌⊎◌, OnOk}
 use Rattle.std.specs.List.{AllByRecursion}
 use Rattle.sii_edit.specs.declared.command.Command.{Command}
 use Rattle.esc_model.specs.SlaveHalf.{SlaveHalf}
 use Rattle.site_core.specs.Disk.{Disk}
+use Rattle.site_core.specs.Passes.{LeavesOnly}
 use Rattle.site_core.specs.State.{State, Seen, Pair}
+use Rattle.site_core.proofs.Runs.{Passes-stays, Passes-then, Passes-weaker}
+use Rattle.site_core.proofs.Times.{Follows-then}
 use Rattle.site_shadow.specs.Site.{SiteValue}
 use Rattle.site_shadow.specs.Unsynced.{of_bytes}
 use Rattle.site_file.specs.declared.asking.LineFile.{LineFile as FileName}
@@ -16,16 +20,19 @@ use Rattle.site_file.specs.Held.{is_same}
 use Rattle.site_file.specs.Files.{File, image_of}
 use Rattle.site_file.specs.AllFiles.{Holds, HoldsDisk, HoldsWords, Shows}
 use Rattle.book_model.specs.Book.{Book}
-use Rattle.book_model.specs.Machine.{Machine}
+use Rattle.book_model.specs.Machine.{Machine, reopened}
+use Rattle.site_journal.specs.Running.{KeptWith}
 use Rattle.desk_book.specs.declared.call.Call.{Call}
 use Rattle.desk_book.specs.Calls.{AreAnswered, replayed}
 use Rattle.station_alone.specs.Station.{Station}
+use Rattle.station_alone.specs.Keeping.{KeptFor}
+use Rattle.station_alone.specs.Opening.{BeginsSession}
 use Rattle.station_jobs.specs.declared.log.SlaveLog.{SlaveLog}
 use Rattle.station_jobs.specs.Ends.{Stay}
-use Rattle.kept_files.specs.KeptFiles.{KeepsOn, has_file}
+use Rattle.kept_files.specs.KeptFiles.{KeepsOn, KeepsOnServing, KeptBehind, has_file}
 use Rattle.kept_files.specs.Cuts.{IsKeptPair}
 use Rattle.kept_files.specs.DeskFiles.{DeskOnFiles, PartOnFiles}
-use Rattle.kept_files.proofs.OnFiles.{site_keeps_on}
+use Rattle.kept_files.proofs.OnFiles.{site_keeps_on, site_keeps_serving}
 use Rattle.kept_files.proofs.Extending.{first_stays}
 use Rattle.kept_files.proofs.AtDeskOnFiles.{part_has_its_file, device_of_part, flushed_follows, worked_follows, cut_leaves_kept_parts}
 use Rattle.station_threads.specs.Parts.{IsEndOfSlave}
@@ -36,12 +43,16 @@ use Rattle.station_files.specs.ScriptFiles.{SpellsCommands}
 use Rattle.station_files.specs.declared.faults.ExitStatus.{ExitStatus}
 use Rattle.station_files.specs.declared.faults.Fault.{Fault}
 use Rattle.script_session.specs.declared.closing.Ending.{Ending}
-use Rattle.script_session.specs.AtDesk.{EndsFollowed, ServesParts, seen_of}
-use Rattle.script_session.specs.Parts.{AreFollowed, BeginsWith, EndsWith, IsWorkFollowed, Soundly}
+use Rattle.script_session.specs.AtDesk.{DeskServes, EndsApart, EndsFollowed, ServesParts, seen_of}
+use Rattle.script_session.specs.Parts.{AreFollowed, BeginsWith, EndsWith, IsTogether, IsWorkFollowed, Soundly}
 use Rattle.script_session.proofs.LeftLaws.{first, opened-on, placed-back}
 use Rattle.script_session.proofs.SlaveLaws.{placed-at}
-use Rattle.station_session.specs.RunFiles.{BeginsPart, DeskFollowed, DeskGoes, GoesBehind, GoesFollowed, HoldTogether, IsLeftBy, KeepsAtDesk, RunsFollowed, KeepsRunFiles, RunKeepsFiles, unserved, served, unopened, opened}
-use Rattle.station_line.specs.Opened.{Loads}
+use Rattle.station_session.specs.RunFiles.{BeginsPart, DeskGoes, GoesAlone, GoesBehind, GoesFollowed, HoldTogether, IsLeftBy, KeepsAtDesk, KeepsParts}
+use Rattle.station_session.specs.RunFiles.{OfDevices, OfFiles, RunsFollowed, KeepsRunFiles, RunKeepsFiles, Says, ServesFollowedBy, ServesOn}
+use Rattle.station_session.specs.RunFiles.{ServesSome, unbegun, apart, served, unopened, opened, unrecovered, recovered}
+use Rattle.station_line.specs.Opened.{GoesKept, Loads}
+use Rattle.station_line.specs.Rounds.{Goes}
+use Rattle.station_line.specs.Site.{IsFollowed}
 
 -- ---- on files
 
@@ -64,7 +75,14 @@ module _ (F : Type 0) {D : Type 0} (follows : D → Seen → Type 0) (to_file : 
       let device = to_file stage.followed.0 now stage.followed.1 in
       site_keeps_on F device.0 before now device.1 new (first_stays before now new stage.goes.goes_on) stage.goes.keeps
 
-  module _ (station : Station) (synced : station.seen.state.disk ≡ of_bytes station.seen.state.disk.bytes) (commands : List Command) (ending : Ending) (site : SiteValue) (parts : ServesParts station commands ending site) (followed : AreFollowed follows parts.ends) where
+  serves_on_files : (commands : List Command) (before now : Seen) → before.past ≡ [] → ServesOn follows commands before now
+      → KeepsOnServing F commands before now
+  serves_on_files commands before now new serves =
+      let device = to_file serves.followed.0 now serves.followed.1 in
+      site_keeps_serving F device.0 commands before now device.1 new (first_stays before now new serves.goes_on) serves.keeps
+
+  module _ (station : Station) (synced : station.seen.state.disk ≡ of_bytes station.seen.state.disk.bytes) (commands : List Command) (ending : Ending)
+      (parts : DeskServes station commands ending) (followed : AreFollowed follows parts.ends) where
     journal_part : PartOnFiles F (is_same JournalFile) parts.ends.flusher.start.seen parts.ends.flusher.site.seen
     journal_part =
         let start = parts.ends.flusher.start.seen in
@@ -105,21 +123,22 @@ module _ (F : Type 0) {D : Type 0} (follows : D → Seen → Type 0) (to_file : 
           file_is = holds.file_is ∙ ap (λ (h : SlaveHalf). image_of h.words) (same-half station.seen.state.halves slave holds.half half.0 holds.here half.1);
         }
 
-    keeps_at_desk : (sound : Result (Unit {0}) Fault) → OnOk sound (HoldTogether parts.ends desk site) → KeepsAtDesk F station sound parts.ends site
-    keeps_at_desk sound together = record {
+    keeps_parts : KeepsParts F station parts.ends
+    keeps_parts = record {
       desk = desk;
       begins = begins;
       kept = λ machine calls begun images begins answered bytes cut.
           subst (LeftKept machine calls images) (sym begins.book)
           (cut_leaves_kept_parts F SiteValue seen_of parts.ends.flusher parts.ends.workers.items desk machine begins.journal old calls begun images
-          (opened-on station calls parts.sites parts.ends site parts.apart parts.of_sites parts.together machine begins)
+          (opened-on station calls parts.sites parts.ends parts.apart parts.of_sites machine begins)
           (subst (λ (b : Book). AreAnswered b calls) begins.book answered)
-          (first station calls parts.sites parts.ends site parts.apart parts.of_sites parts.together) bytes cut);
-      together = together;
+          (first station calls parts.sites parts.ends parts.apart parts.of_sites) bytes cut);
     }
 
     -- where no call of a device has failed and no site has stopped, and the disk is synced, the files hold what is put together
-    module _ (no_failure : (device : D) (seen : Seen) (f : follows device seen) → ((to_file device seen f).0.has_failed ≡ false) × (seen.is_stopped ≡ false))
+    module _ (site : SiteValue) (together : IsTogether parts.ends site)
+        (no_failure : (device : D) (seen : Seen) (f : follows device seen)
+        → ((to_file device seen f).0.has_failed ≡ false) × (seen.is_stopped ≡ false))
         (all_synced : parts.ends.flusher.site.seen.state.disk ≡ of_bytes parts.ends.flusher.site.seen.state.disk.bytes) where
       going : (stopped : Bool) → stopped ≡ false → ¬ IsTrue stopped
       going stopped is stops = let never : false ≡ true = sym is ∙ stops in absurd cc
@@ -134,7 +153,7 @@ module _ (F : Type 0) {D : Type 0} (follows : D → Seen → Type 0) (to_file : 
           let same = device_of_part F (is_same JournalFile) start end device.0 (ap (λ (s : SiteValue). s.seen.past) parts.of_sites.flusher ∙ parts.apart.new) (flushed_follows parts.ends.flusher.log start end followed.flushed) device.1 in
           let held : HoldsDisk end.state.disk file =
           (journal_part.follow left.begun left.held).holds (ap (λ (d : FileDevice F). d.has_failed) same ∙ well.0) (going end.is_stopped well.1) JournalFile file refl left.became in
-          subst (λ (d : Disk). HoldsDisk d file) (all_synced ∙ sym parts.together.disk) held
+          subst (λ (d : Disk). HoldsDisk d file) (all_synced ∙ sym together.disk) held
 
       image_together : (slave : ℕ) (end : Stay SiteValue SlaveLog) (is : slice_get parts.ends.workers.items slave ≡ Some end) (file : File) → IsLeftBy (image_part slave end is) (Image slave) file → Holds site.seen.state (Image slave) file
       unfolding image_part
@@ -147,7 +166,7 @@ module _ (F : Type 0) {D : Type 0} (follows : D → Seen → Type 0) (to_file : 
           let same = device_of_part F (is_same (Image slave)) end.start.seen end.site.seen device.0 (ap (λ (s : SiteValue). s.seen.past) worker.2.start ∙ half.2.new) (worked_follows end.log.slave end.log.jobs end.start.seen end.site.seen work.worked) device.1 in
           let held : HoldsWords end.site.seen.state.halves slave file =
           ((image_part slave end is).follow left.begun left.held).holds (ap (λ (d : FileDevice F). d.has_failed) same ∙ well.0) (going end.site.seen.is_stopped well.1) (Image slave) file (eq-eqb slave slave refl) left.became in
-          let back = placed-at EndsWith 0 parts.ends.workers.items site.seen.state.halves slave end parts.together.halves is in
+          let back = placed-at EndsWith 0 parts.ends.workers.items site.seen.state.halves slave end together.halves is in
           let same_place : 0 + slave ≡ slave = omega arith in
           let half_is = same-half end.site.seen.state.halves slave held.half back.0 held.here (subst (λ (k : ℕ). slice_get end.site.seen.state.halves k ≡ Some back.0) same_place back.2) in
           record { half = back.0; here = back.1; file_is = held.file_is ∙ ap (λ (h : SlaveHalf). image_of h.words) half_is }
@@ -162,24 +181,40 @@ module _ (F : Type 0) {D : Type 0} (follows : D → Seen → Type 0) (well : D �
   soundly_file device seen soundly = to_file device seen soundly.0
 
   keeps_desk : (station : Station) → station.seen.state.disk ≡ of_bytes station.seen.state.disk.bytes → (commands : List Command) (ending : Ending) (site : SiteValue) (sound : Result (Unit {0}) Fault) (parts : ServesParts station commands ending site)
-      → EndsFollowed follows well station sound parts.ends → KeepsAtDesk F station sound parts.ends site
-  unfolding soundly_file
-  keeps_desk station synced commands ending site (Ok done) parts followed =
-      keeps_at_desk F (Soundly follows well) soundly_file station synced commands ending site parts followed.parts (Ok done)
-      (hold_together F (Soundly follows well) soundly_file station synced commands ending site parts followed.parts (λ device seen f. (well_file device seen f.0 f.1, f.2)) followed.synced)
+      → EndsFollowed follows well station sound parts.desk.ends → KeepsAtDesk F station sound parts.desk.ends site
+  unfolding soundly_file keeps_parts
+  keeps_desk station synced commands ending site (Ok done) parts followed = record {
+    parts = keeps_parts F (Soundly follows well) soundly_file station synced commands ending parts.desk followed.parts;
+    together =
+        hold_together F (Soundly follows well) soundly_file station synced commands ending parts.desk followed.parts site parts.together
+        (λ device seen f. (well_file device seen f.0 f.1, f.2)) followed.synced;
+  }
   keeps_desk station synced commands ending site (Err fault) parts followed =
-      keeps_at_desk F follows to_file station synced commands ending site parts followed (Err fault) tt
+      record { parts = keeps_parts F follows to_file station synced commands ending parts.desk followed; together = tt }
 
-  goes_behind_on_files : (sound : Result (Unit {0}) Fault) (left : Seen) (status : ExitStatus) → left.past ≡ [] → GoesBehind (GoesFollowed follows) sound left status → GoesBehind (KeepsOn F) sound left status
-  goes_behind_on_files (Ok done) left status new goes = (goes.0, goes_on_files F follows to_file left goes.0 new goes.1)
-  goes_behind_on_files (Err fault) left status new goes = goes
+  alone_on_files : (commands : List Command) (left : Seen) (status : ExitStatus) → left.past ≡ []
+      → GoesAlone (OfDevices follows well) commands left status → GoesAlone (OfFiles F) commands left status
+  alone_on_files commands left status new (unrecovered last stage bad) = unrecovered last (goes_on_files F follows to_file left last new stage) bad
+  alone_on_files commands left status new (recovered accepted last among serves) = recovered accepted last among
+      (serves_on_files F follows to_file accepted left last new serves)
 
-  desk_on_files : (station : Station) → station.seen.state.disk ≡ of_bytes station.seen.state.disk.bytes → (commands : List Command) (status : ExitStatus) → DeskGoes (GoesFollowed follows) (DeskFollowed follows well) station commands status
-      → DeskGoes (KeepsOn F) (KeepsAtDesk F) station commands status
-  desk_on_files station synced commands status (unserved bad) = unserved bad
+  behind_on_files : (is_driven : Bool) (sound : Result (Unit {0}) Fault) (commands : List Command) (left : Seen) (status : ExitStatus)
+      → left.past ≡ [] → GoesBehind (OfDevices follows well) is_driven sound commands left status
+      → GoesBehind (OfFiles F) is_driven sound commands left status
+  behind_on_files true (Ok done) commands left status new goes = (goes.0, goes_on_files F follows to_file left goes.0 new goes.1)
+  behind_on_files false (Ok done) commands left status new goes = alone_on_files commands left status new goes
+  behind_on_files true (Err fault) commands left status new goes = goes
+  behind_on_files false (Err fault) commands left status new goes = goes
+
+  desk_on_files : (station : Station) → station.seen.state.disk ≡ of_bytes station.seen.state.disk.bytes
+      → (commands : List Command) (status : ExitStatus) → ServesFollowedBy follows well station commands status
+      → DeskGoes (OfFiles F) station commands status
+  desk_on_files station synced commands status (unbegun bad) = unbegun bad
+  desk_on_files station synced commands status (apart ending desk followed bad) =
+      apart ending desk (keeps_parts F follows to_file station synced commands ending desk followed) bad
   desk_on_files station synced commands status (served ending site sound parts followed closes) =
       served ending site sound parts (keeps_desk station synced commands ending site sound parts followed)
-      (λ closed driven. goes_behind_on_files sound site.seen status parts.together.new (closes closed driven))
+      (λ closed. behind_on_files ending.is_driven sound commands site.seen status parts.together.new (closes closed))
 
   pub run_on_files : (before : Seen) (commands : List Command) (status : ExitStatus) → before.past ≡ [] → RunsFollowed follows well before commands status → RunKeepsFiles F before commands status
   run_on_files before commands status new (unopened last stage bad) = unopened last (goes_on_files F follows to_file before last new stage) bad
@@ -194,25 +229,115 @@ pub kept_as : (F : Type 0) (site other : SiteValue) (commands : List Command) (s
 kept_as F site other commands status same kept = subst (λ (s : SiteValue). RunKeepsFiles F s.seen commands status) same kept
 
 -- where a fault is told of one status, so it is of the final one
-pub behind_told : (Stage : Seen → Seen → Type 0) (sound : Result (Unit {0}) Fault) (left : Seen) (one final : ExitStatus) → (¬ IsFaultless one → ¬ IsFaultless final) → GoesBehind Stage sound left one → GoesBehind Stage sound left final
-behind_told Stage (Ok done) left one final worse goes = goes
-behind_told Stage (Err fault) left one final worse goes = worse goes
+alone_told : (says : Says) (commands : List Command) (left : Seen) (one final : ExitStatus) → (¬ IsFaultless one → ¬ IsFaultless final)
+    → GoesAlone says commands left one → GoesAlone says commands left final
+alone_told says commands left one final worse (unrecovered last stage bad) = unrecovered last stage (worse bad)
+alone_told says commands left one final worse (recovered accepted last among serves) = recovered accepted last among serves
 
--- the parts ended soundly, and this is what went behind the desk
-pub behind_goes : (Stage : Seen → Seen → Type 0) (sound : Result (Unit {0}) Fault) (left : Seen) (status : ExitStatus) → sound ≡ Ok tt → (last : Seen) × Stage left last → GoesBehind Stage sound left status
-behind_goes Stage sound left status is goes = subst (λ (r : Result (Unit {0}) Fault). GoesBehind Stage r left status) (sym is) goes
+pub behind_told : (says : Says) (is_driven : Bool) (sound : Result (Unit {0}) Fault) (commands : List Command) (left : Seen) (one final : ExitStatus)
+    → (¬ IsFaultless one → ¬ IsFaultless final) → GoesBehind says is_driven sound commands left one
+    → GoesBehind says is_driven sound commands left final
+behind_told says true (Ok done) commands left one final worse goes = goes
+behind_told says false (Ok done) commands left one final worse goes = alone_told says commands left one final worse goes
+behind_told says true (Err fault) commands left one final worse goes = worse goes
+behind_told says false (Err fault) commands left one final worse goes = worse goes
 
-desk_told : (F : Type 0) (station : Station) (commands : List Command) (one final : ExitStatus) → (¬ IsFaultless one → ¬ IsFaultless final) → DeskGoes (KeepsOn F) (KeepsAtDesk F) station commands one
-    → DeskGoes (KeepsOn F) (KeepsAtDesk F) station commands final
-desk_told F station commands one final worse (unserved bad) = unserved (worse bad)
-desk_told F station commands one final worse (served ending site sound parts desk closes) =
-    served ending site sound parts desk (λ closed driven. behind_told (KeepsOn F) sound site.seen one final worse (closes closed driven))
+-- the parts ended soundly, and this is what went behind the desk, where the commands were submitted there and where they weren't
+pub behind_driven : (says : Says) (is_driven : Bool) (sound : Result (Unit {0}) Fault) (commands : List Command) (left : Seen) (status : ExitStatus)
+    → sound ≡ Ok tt → is_driven ≡ true → (last : Seen) × says.stage left last
+    → GoesBehind says is_driven sound commands left status
+behind_driven says is_driven sound commands left status is driven goes =
+    subst (λ (r : Result (Unit {0}) Fault). GoesBehind says is_driven r commands left status) (sym is)
+    (subst (λ (b : Bool). GoesBehind says b (Ok tt) commands left status) (sym driven) goes)
+
+pub behind_alone : (says : Says) (is_driven : Bool) (sound : Result (Unit {0}) Fault) (commands : List Command) (left : Seen) (status : ExitStatus)
+    → sound ≡ Ok tt → is_driven ≡ false → GoesAlone says commands left status
+    → GoesBehind says is_driven sound commands left status
+behind_alone says is_driven sound commands left status is undriven goes =
+    subst (λ (r : Result (Unit {0}) Fault). GoesBehind says is_driven r commands left status) (sym is)
+    (subst (λ (b : Bool). GoesBehind says b (Ok tt) commands left status) (sym undriven) goes)
+
+-- the recovery failed
+pub behind_failed : (says : Says) (is_driven : Bool) (sound : Result (Unit {0}) Fault) (commands : List Command) (left : Seen) (status : ExitStatus)
+    → sound ≡ Ok tt → ¬ IsFaultless status → (last : Seen) → says.stage left last
+    → GoesBehind says is_driven sound commands left status
+behind_failed says true sound commands left status is bad last stage = behind_driven says true sound commands left status is refl (last, stage)
+behind_failed says false sound commands left status is bad last stage = behind_alone says false sound commands left status is refl
+    (unrecovered last stage bad)
+
+-- the parts didn't end soundly
+pub behind_unsound : (says : Says) (is_driven : Bool) (sound : Result (Unit {0}) Fault) (fault : Fault) (commands : List Command) (left : Seen)
+    (status : ExitStatus) → sound ≡ Err fault → ¬ IsFaultless status → GoesBehind says is_driven sound commands left status
+behind_unsound says true sound fault commands left status is bad = subst
+    (λ (r : Result (Unit {0}) Fault). GoesBehind says true r commands left status) (sym is) bad
+behind_unsound says false sound fault commands left status is bad = subst
+    (λ (r : Result (Unit {0}) Fault). GoesBehind says false r commands left status) (sym is) bad
+
+-- the commands that were left are those of the run
+pub behind_unserved : (says : Says) (is_driven : Bool) (sound : Result (Unit {0}) Fault) (unserved commands : List Command) (left : Seen)
+    (status : ExitStatus) → (is_driven ≡ false → unserved ≡ commands) → GoesBehind says is_driven sound unserved left status
+    → GoesBehind says is_driven sound commands left status
+behind_unserved says true (Ok done) unserved commands left status same goes = goes
+behind_unserved says false (Ok done) unserved commands left status same goes = subst (λ (l : List Command). GoesAlone says l left status) (same refl)
+    goes
+behind_unserved says true (Err fault) unserved commands left status same goes = goes
+behind_unserved says false (Err fault) unserved commands left status same goes = goes
+
+-- ---- on one thread
+
+-- a site was recovered, and commands were accepted on it behind that
+pub serves_behind : {D : Type 0} (follows : D → Seen → Type 0) (before : Seen) (r : Station) (accepted : List Command) (s : Station)
+    → GoesKept before r.seen → BeginsSession before r → Goes accepted r s → IsFollowed follows s.seen
+    → ServesOn follows accepted before s.seen
+serves_behind follows before r accepted s goes begins serves followed = record {
+  goes_on = Follows-then before r.seen s.seen goes.goes_on serves.led;
+  keeps = λ machine kept.
+      let first = goes.keeps machine kept in
+      let session = begins machine kept in
+      let behind = serves.keeps (reopened machine session.k) session.of session.kept in
+      let next : Pair → Type 0 = KeptBehind machine session.k accepted in
+      record {
+        k = session.k;
+        may_keep = session.may_keep;
+        stays =
+            Passes-stays next before s.seen
+            (Passes-then (LeavesOnly next) before r.seen s.seen
+            (Passes-weaker (LeavesOnly (KeptFor machine)) (LeavesOnly next) before r.seen (λ state only pair leaves. inl (only pair leaves))
+            first.passes)
+            (Passes-weaker (LeavesOnly (KeptWith (reopened machine session.k) accepted)) (LeavesOnly next) r.seen s.seen
+            (λ state only pair leaves. inr (only pair leaves)) behind.on_the_way.passes));
+      };
+  followed = followed;
+}
+
+pub goes_alone : {D : Type 0} (follows : D → Seen → Type 0) (well : D → Type 0) (before : Seen) (r : Station) (commands : List Command)
+    (status : ExitStatus) → GoesKept before r.seen → BeginsSession before r → ServesSome follows commands r
+    → GoesAlone (OfDevices follows well) commands before status
+goes_alone follows well before r commands status goes begins some =
+    recovered some.accepted some.last.seen some.among (serves_behind follows before r some.accepted some.last goes begins some.goes some.followed)
+
+-- what a line was not served with, by what `serve_by_threads` tells
+pub not_served : {D : Type 0} (follows : D → Seen → Type 0) (well : D → Type 0) (station : Station) (commands : List Command) (begun : Bool)
+    (status : ExitStatus) → ¬ IsFaultless status → (IsTrue begun → EndsApart follows station commands)
+    → ServesFollowedBy follows well station commands status
+not_served follows well station commands true status bad left = let e = left refl in apart e.ending e.desk e.followed bad
+not_served follows well station commands false status bad left = unbegun bad
+
+desk_told : (F : Type 0) (station : Station) (commands : List Command) (one final : ExitStatus) → ¬ IsFaultless final
+    → DeskGoes (OfFiles F) station commands one
+    → DeskGoes (OfFiles F) station commands final
+desk_told F station commands one final bad (unbegun was) = unbegun bad
+desk_told F station commands one final bad (apart ending desk keeps was) = apart ending desk keeps bad
+desk_told F station commands one final bad (served ending site sound parts desk closes) =
+    served ending site sound parts desk (λ closed. behind_told (OfFiles F) ending.is_driven sound commands site.seen one final (λ was. bad)
+    (closes closed))
 
 -- a fault of the capture ends the run as a fault, or the status stays
 pub told_as : (F : Type 0) (before : Seen) (commands : List Command) (one final : ExitStatus) → (final ≡ one) ⊎ (¬ IsFaultless final) → RunKeepsFiles F before commands one → RunKeepsFiles F before commands final
 told_as F before commands one final (inl same) kept = subst (λ (s : ExitStatus). RunKeepsFiles F before commands s) (sym same) kept
 told_as F before commands one final (inr bad) (unopened last stage was) = unopened last stage bad
-told_as F before commands one final (inr bad) (opened station stage synced goes) = opened station stage synced (desk_told F station commands one final (λ was. bad) goes)
+told_as F before commands one final (inr bad) (opened station stage synced goes) = opened station stage synced
+    (desk_told F station commands one final bad goes)
 
 pub runs_kept : (F : Type 0) (old : Known) (name script : List ℕ) (line : LineFile) (site : SiteValue) (commands : List Command) (status : ExitStatus) → Loads old name line site → SpellsCommands old script commands → RunKeepsFiles F site.seen commands status
     → KeepsRunFiles F old name script status

@@ -1,8 +1,9 @@
 -- A run on the files of a line: what a power cut leaves in them as the station is opened, while its desk is at work, and as the line is recovered
 -- behind it.
-use Rattle.std.specs.Prelude.{◌≡◌, ℕ, Bool, List, ◌++◌, Result, Ok, Err, OnOk, Some, slice_get, IsTrue}
+use Rattle.std.specs.Prelude.{◌≡◌, ℕ, Bool, true, false, List, ◌++◌, Result, Ok, Err, OnOk, Some, slice_get, IsTrue}
 use Rattle.sii_edit.specs.declared.command.Command.{Command}
 use Rattle.site_core.specs.State.{Pair, Seen}
+use Rattle.site_core.specs.Times.{Follows as SiteFollows}
 use Rattle.site_shadow.specs.Site.{SiteValue}
 use Rattle.site_shadow.specs.Unsynced.{of_bytes}
 use Rattle.site_file.specs.declared.asking.LineFile.{LineFile as FileName}
@@ -16,7 +17,7 @@ use Rattle.station_jobs.specs.Ends.{Stay}
 use Rattle.desk_book.specs.declared.call.Call.{Call}
 use Rattle.desk_book.specs.Calls.{AreAnswered, replayed}
 use Rattle.station_alone.specs.Station.{Station}
-use Rattle.kept_files.specs.KeptFiles.{KeepsOn, has_file}
+use Rattle.kept_files.specs.KeptFiles.{KeepsOn, KeepsOnServing, KeepsServing, has_file}
 use Rattle.kept_files.specs.Cuts.{IsKeptPair}
 use Rattle.kept_files.specs.DeskFiles.{DeskOnFiles, DeskIsCut, PartOnFiles}
 use Rattle.station_threads.specs.declared.closing.Ends.{Ends}
@@ -28,34 +29,53 @@ use Rattle.station_files.specs.declared.faults.ExitStatus.{ExitStatus}
 use Rattle.station_files.specs.declared.faults.Fault.{Fault}
 use Rattle.station_line.specs.Opened.{GoesKept}
 use Rattle.script_session.specs.declared.closing.Ending.{Ending}
-use Rattle.script_session.specs.AtDesk.{BeginsAs, EndsFollowed, ServesParts, seen_of}
+use Rattle.script_session.specs.AtDesk.{BeginsAs, DeskServes, EndsFollowed, ServesParts, seen_of}
+use Rattle.script_session.specs.Parts.{AreFollowed}
+use Rattle.station_line.specs.Rounds.{AreAmong, Goes}
 use Rattle.station_line.specs.Site.{IsFollowed}
 use Rattle.station_line.specs.Opened.{Loads}
 
 -- ---- how far a run comes
 
--- A recovery went behind a closed desk; or the parts didn't end soundly, and a fault is told.
-abbrev pub GoesBehind : (Stage : Seen → Seen → Type 0) → (sound : Result (Unit {0}) Fault) → (left : Seen) → ExitStatus → Type 0
-GoesBehind Stage (Ok done) left status = (last : Seen) × Stage left last
-GoesBehind Stage (Err fault) left status = ¬ IsFaultless status
+-- What is said of a run: of a site before it was opened or recovered and behind that; of a site before it was recovered and then accepted these
+-- commands on one thread, and behind that; of a station and the ends of a desk's threads; and of these, of whether the parts ended soundly, and of
+-- the site that was put together.
+pub record Says : Type 1 where
+  pub stage : Seen → Seen → Type 0
+  pub serving : List Command → Seen → Seen → Type 0
+  pub parts : Station → Ends SiteValue → Type 0
+  pub desk : Station → Result (Unit {0}) Fault → Ends SiteValue → SiteValue → Type 0
 
--- The line of an open station was served so. `Stage` relates a site before work on one thread to the site behind it, `Desk` is said of the station,
--- of whether the parts ended soundly, of the ends of a desk's threads, and of the site that was put together.
-pub data DeskGoes (Stage : Seen → Seen → Type 0) (Desk : Station → Result (Unit {0}) Fault → Ends SiteValue → SiteValue → Type 0) (station : Station)
-    (commands : List Command) (status : ExitStatus) : Type 0 where
-  -- the line couldn't be taken apart or put together, or memory was refused
-  unserved : ¬ IsFaultless status → DeskGoes Stage Desk station commands status
-  -- a desk served its parts; if it was closed with the commands submitted there, a recovery went behind it
+-- The commands weren't submitted at a desk that was closed. Behind it the line was recovered, and some of them were accepted on one thread; or the
+-- recovery failed.
+pub data GoesAlone (says : Says) (commands : List Command) (left : Seen) (status : ExitStatus) : Type 0 where
+  unrecovered : (last : Seen) → says.stage left last → ¬ IsFaultless status → GoesAlone says commands left status
+  recovered : (accepted : List Command) (last : Seen) → AreAmong accepted commands → says.serving accepted left last
+      → GoesAlone says commands left status
+
+-- A recovery went behind a closed desk, and then the commands if they weren't submitted there; or the parts didn't end soundly, and a fault is told.
+abbrev pub GoesBehind : Says → (is_driven : Bool) → (sound : Result (Unit {0}) Fault) → List Command → (left : Seen) → ExitStatus → Type 0
+GoesBehind says true (Ok done) commands left status = (last : Seen) × says.stage left last
+GoesBehind says false (Ok done) commands left status = GoesAlone says commands left status
+GoesBehind says is_driven (Err fault) commands left status = ¬ IsFaultless status
+
+-- The line of an open station was served so.
+pub data DeskGoes (says : Says) (station : Station) (commands : List Command) (status : ExitStatus) : Type 0 where
+  -- no desk began: the line couldn't be taken apart, or memory was refused
+  unbegun : ¬ IsFaultless status → DeskGoes says station commands status
+  -- a desk served its parts, and what they left couldn't be put together
+  apart : (ending : Ending) (desk : DeskServes station commands ending) → says.parts station desk.ends → ¬ IsFaultless status
+      → DeskGoes says station commands status
+  -- a desk served its parts; if it was closed, a recovery went behind it
   served : (ending : Ending) (site : SiteValue) (sound : Result (Unit {0}) Fault) (parts : ServesParts station commands ending site)
-      → Desk station sound parts.ends site
-      → (ending.closed ≡ Ok tt → IsTrue ending.is_driven → GoesBehind Stage sound site.seen status) → DeskGoes Stage Desk station commands status
+      → says.desk station sound parts.desk.ends site
+      → (ending.closed ≡ Ok tt → GoesBehind says ending.is_driven sound commands site.seen status) → DeskGoes says station commands status
 
 -- The station was opened, perhaps behind a recovery, with its disk synced, and its line served so; or it couldn't be opened.
-pub data RunGoes (Stage : Seen → Seen → Type 0) (Desk : Station → Result (Unit {0}) Fault → Ends SiteValue → SiteValue → Type 0) (before : Seen)
-    (commands : List Command) (status : ExitStatus) : Type 0 where
-  unopened : (last : Seen) → Stage before last → ¬ IsFaultless status → RunGoes Stage Desk before commands status
-  opened : (station : Station) → Stage before station.seen → station.seen.state.disk ≡ of_bytes station.seen.state.disk.bytes
-      → DeskGoes Stage Desk station commands status → RunGoes Stage Desk before commands status
+pub data RunGoes (says : Says) (before : Seen) (commands : List Command) (status : ExitStatus) : Type 0 where
+  unopened : (last : Seen) → says.stage before last → ¬ IsFaultless status → RunGoes says before commands status
+  opened : (station : Station) → says.stage before station.seen → station.seen.state.disk ≡ of_bytes station.seen.state.disk.bytes
+      → DeskGoes says station commands status → RunGoes says before commands status
 
 -- ---- by devices
 
@@ -64,17 +84,37 @@ pub record GoesFollowed {D : Type 0} (follows : D → Seen → Type 0) (before n
   pub goes : GoesKept before now
   pub followed : IsFollowed follows now
 
--- behind a desk, with devices that keep this of its parts
-abbrev pub DeskFollowed : {D : Type 0} → (D → Seen → Type 0) → (D → Type 0) → Station → Result (Unit {0}) Fault → Ends SiteValue → SiteValue → Type 0
-DeskFollowed follows well station sound ends site = EndsFollowed follows well station sound ends
+-- The site was recovered, and then a station on it accepted these commands: calls alone led it on, what was kept for a machine stays so at each
+-- moment of them, and a device keeps this of the site.
+pub record ServesOn {D : Type 0} (follows : D → Seen → Type 0) (commands : List Command) (before now : Seen) : Type 0 where
+  pub goes_on : SiteFollows before now
+  pub keeps : KeepsServing commands before now
+  pub followed : IsFollowed follows now
+
+-- A station on one thread accepted some of these commands, and a device keeps this of its site.
+pub record ServesSome {D : Type 0} (follows : D → Seen → Type 0) (commands : List Command) (opened : Station) : Type 0 where
+  pub accepted : List Command
+  pub among : AreAmong accepted commands
+  pub last : Station
+  pub goes : Goes accepted opened last
+  pub followed : IsFollowed follows last.seen
+
+-- what devices that keep this say of a run
+abbrev pub OfDevices : {D : Type 0} → (D → Seen → Type 0) → (D → Type 0) → Says
+OfDevices follows well = record {
+  stage = GoesFollowed follows;
+  serving = ServesOn follows;
+  parts = λ station ends. AreFollowed follows ends;
+  desk = λ station sound ends site. EndsFollowed follows well station sound ends;
+}
 
 -- A run, with devices that keep this of its sites.
 abbrev pub RunsFollowed : {D : Type 0} → (D → Seen → Type 0) → (D → Type 0) → Seen → List Command → ExitStatus → Type 0
-RunsFollowed follows well before commands status = RunGoes (GoesFollowed follows) (DeskFollowed follows well) before commands status
+RunsFollowed follows well before commands status = RunGoes (OfDevices follows well) before commands status
 
 -- The same of an open station.
 abbrev pub ServesFollowedBy : {D : Type 0} → (D → Seen → Type 0) → (D → Type 0) → Station → List Command → ExitStatus → Type 0
-ServesFollowedBy follows well station commands status = DeskGoes (GoesFollowed follows) (DeskFollowed follows well) station commands status
+ServesFollowedBy follows well station commands status = DeskGoes (OfDevices follows well) station commands status
 
 -- ---- on files
 
@@ -100,21 +140,28 @@ pub record HoldTogether {F : Type 0} (ends : Ends SiteValue) (desk : DeskOnFiles
 
 -- Each part of the desk stands on its file, which holds the part as its thread begins if it held the line as the station was opened. Whatever calls
 -- its book has answered by then: a power cut, each device anywhere in its job, leaves in the files, all at once, only what is kept for the session
--- of each machine that the station begins as, with all commands that the book has accepted, and each durable one acknowledged. Where the parts ended
--- soundly, the files hold the line that was put together of them.
-pub record KeepsAtDesk (F : Type 0) (station : Station) (sound : Result (Unit {0}) Fault) (ends : Ends SiteValue) (site : SiteValue) : Type 0 where
+-- of each machine that the station begins as, with all commands that the book has accepted, and each durable one acknowledged.
+pub record KeepsParts (F : Type 0) (station : Station) (ends : Ends SiteValue) : Type 0 where
   pub desk : DeskOnFiles F seen_of ends.flusher ends.workers.items
   pub begins : (name : FileName) (file : File) → Holds station.seen.state name file → BeginsPart ends name file
   pub kept : (machine : Machine) (calls : List Call) (begun : FileName → File) (images : FileName → List ℕ) → BeginsAs machine calls station
       → AreAnswered station.book calls → ((name : FileName) → IsBytes (images name)) → DeskIsCut desk calls begun images
       → (pair : Pair) × IsKeptPair machine (replayed station.book calls) pair
       × ((name : FileName) → IsTrue (has_file station.seen.state name) → Shows pair name (images name))
-  pub together : OnOk sound (HoldTogether ends desk site)
+
+-- The same, and where the parts ended soundly, the files hold the line that was put together of them.
+pub record KeepsAtDesk (F : Type 0) (station : Station) (sound : Result (Unit {0}) Fault) (ends : Ends SiteValue) (site : SiteValue) : Type 0 where
+  pub parts : KeepsParts F station ends
+  pub together : OnOk sound (HoldTogether ends parts.desk site)
+
+-- what the files of a run keep
+abbrev pub OfFiles : Type 0 → Says
+OfFiles F = record { stage = KeepsOn F; serving = KeepsOnServing F; parts = KeepsParts F; desk = KeepsAtDesk F }
 
 -- What a power cut has left in the files of a run is kept, as far as the run came, however it ended: as the station was opened, at its desk, and in
--- the recovery behind the desk, each since the log of its device began. Each begins with the files as the one before left them.
+-- what went behind the desk, each since the log of its device began. Each begins with the files as the one before left them.
 abbrev pub RunKeepsFiles : (F : Type 0) → (before : Seen) → List Command → ExitStatus → Type 0
-RunKeepsFiles F before commands status = RunGoes (KeepsOn F) (KeepsAtDesk F) before commands status
+RunKeepsFiles F before commands status = RunGoes (OfFiles F) before commands status
 
 -- The line and the script were read, and what a power cut has left in the line's files as the commands were run on them is kept so.
 pub record KeepsRunFiles (F : Type 0) (old : Known) (name script : List ℕ) (status : ExitStatus) : Type 0 where

@@ -4,7 +4,7 @@ ghost use Rattle.station_files.specs.Faults.{IsFaultless};
 ghost use Rattle.station_files.specs.Files.{ChangesAmong};
 ghost use Rattle.station_line.specs.Site.{files_of, HoldsSite, IsFollowed};
 ghost use Rattle.script_session.specs.Parts.{IsLineOf};
-ghost use Rattle.station_session.specs.RunFiles.{GoesBehind, GoesFollowed, ServesFollowedBy};
+ghost use Rattle.station_session.specs.RunFiles.{GoesBehind, OfDevices, ServesFollowedBy, ServesSome};
 ghost use Rattle.station_session.specs.Session.{EndsStation};
 ghost use Rattle.script_session.specs.Saving.{SavesBehind, SavesLeft};
 
@@ -55,7 +55,7 @@ pub(crate) fn run_threads<
         streams.output,
     ) {
         Ok(left) => end_threads(rt.alloc(), line, left, store, streams),
-        Err(fault) => report_fault(fault, streams.faults),
+        Err(why) => report_fault(why.fault, streams.faults),
     }
 }
 
@@ -72,8 +72,8 @@ fn end_threads<D: Device + Copy, S: Store, W: Write, E: Write>(
     requires told { OnOk left.ending.told (left.ending.closed ≡ Ok tt) }
     ensures others { ChangesAmong (S.files store.old) (S.files store.new) (files_of line.now) }
     ensures saved { IsFaultless result → SavesLeft (S.files store.new) line.now left result }
-    ensures goes { left.ending.closed ≡ Ok tt → IsTrue left.ending.is_driven
-        → GoesBehind (GoesFollowed D.follows) left.sound left.site.seen result }
+    ensures goes { left.ending.closed ≡ Ok tt
+        → GoesBehind (OfDevices D.follows D.well) left.ending.is_driven left.sound left.unserved.items left.site.seen result }
 {
     let status = left.ending.status;
     let told = status_of(left.ending.told, streams.faults);
@@ -102,7 +102,7 @@ fn save_behind<D: Device + Copy, S: Store, W: Write, E: Write>(
     ensures others { ChangesAmong (S.files store.old) (S.files store.new) (files_of line.now) }
     ensures saved { IsFaultless result
         → SavesBehind (S.files store.new) line.now left.site.seen left.ending.is_driven left.unserved.items result }
-    ensures goes { IsTrue left.ending.is_driven → GoesBehind (GoesFollowed D.follows) left.sound left.site.seen result }
+    ensures goes { GoesBehind (OfDevices D.follows D.well) left.ending.is_driven left.sound left.unserved.items left.site.seen result }
 {
     let Left {
         site,
@@ -172,7 +172,8 @@ fn run_alone<D: Device + Copy, S: Store, W: Write, E: Write>(
 ) -> ExitStatus
     requires disk { IsTrue alone.line.has_disk }
     requires slaves { length alone.line.sizes ≡ length line.now.images.items }
-    ensures { EndsStation true (S.files store.old) (S.files store.new) line.now alone commands.items result }
+    ensures ends { EndsStation true (S.files store.old) (S.files store.new) line.now alone commands.items result }
+    ensures serves { ServesSome D.follows commands.items alone }
 {
     let mut status = ExitStatus::Done;
     let slaves = line.images.len() as u16;
@@ -182,7 +183,11 @@ fn run_alone<D: Device + Copy, S: Store, W: Write, E: Write>(
             worse(status, saved)
         }
         Err(fault) => {
-            drop(alone);
+            // What its device followed, it followed up to here.
+            let (core, site) = alone.into_parts();
+            drop(core);
+            let (parts, _device) = site.into_parts();
+            drop(parts);
             worse(status, report_fault(fault, streams.faults))
         }
     }

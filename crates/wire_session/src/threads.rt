@@ -54,7 +54,7 @@ pub(crate) fn run_threads<
 {
     match serve_by_threads(rt, rt.alloc(), alone, line.images.len(), work, output) {
         Ok(left) => end_threads(rt.alloc(), line, left, store, output),
-        Err(fault) => Err(WireFault::Station(fault)),
+        Err(why) => Err(WireFault::Station(why.fault)),
     }
 }
 

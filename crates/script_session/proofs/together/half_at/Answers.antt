@@ -11,3 +11,6 @@ returns-clause-half g c =
 
 pub returns-clause-followed : goal.returns-clause-followed
 returns-clause-followed g c = record { worked = c.parts_of-parts.ensures.led; followed = c.parts_of-parts.ensures.followed }
+
+pub returns-then-slave-len-clause-followed : goal.returns-then-slave-len-clause-followed
+returns-then-slave-len-clause-followed g c = record { worked = c.parts_of-parts.ensures.led; followed = c.parts_of-parts.ensures.followed }

@@ -1,6 +1,6 @@
-use Rattle.std.proofs.Common.{◌≡◌, ◌∷◌, arith}
+use Rattle.std.proofs.Common.{◌≡◌, ◌∷◌}
 use Rattle.std.specs.Vec.Iter.{into_iter_items}
-use Rattle.script_session.proofs.PartLaws.{followed_more, halves-more}
+use Rattle.script_session.proofs.PartLaws.{followed_more}
 use Rattle.station_threads.proofs.Zips.{gone-over}
 use Rattle.script_session.proofs.together.halves_at.Goals as goal
 
@@ -10,6 +10,6 @@ loop-end-preserved g c =
     let end = c.in-Some.end in
     let steps : into_iter_items at.end-iterator ≡ end ∷ into_iter_items c.next.new.self = c.in-Some.ensures.steps.0 in (
       gone-over at.yielded end (into_iter_items at.end-iterator) (into_iter_items c.next.new.self) (into_iter_items c.into_iter-end-iterator.result) steps at.invariant.0,
-      rw c.in_ok-push.ensures.items (halves-more at.yielded at.halves.items end c.in_ok-half.half c.len-slave.result at.invariant.1 (omega (arith, at.halves.ok.0, c.len-slave.ensures)) c.in_ok-half.ensures.half),
-      followed_more g.D.Device.follows at.yielded end at.invariant.2 c.in_ok-half.ensures.followed,
+      c.with_next-halves.ensures.halves at.yielded at.invariant.1,
+      followed_more g.D.Device.follows at.yielded end at.invariant.2 c.with_next-halves.ensures.followed,
     )

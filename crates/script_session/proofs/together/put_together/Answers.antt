@@ -11,4 +11,17 @@ returns-clause-together g c =
 pub returns-clause-followed : goal.returns-clause-followed
 returns-clause-followed g c =
     let parted = c.split-line in
-    followed_together g.D.Device.follows c.whole_line.result c.args.ends parted.result.1.items parted.ensures.flushed parted.ensures.followed (ap (λ w. w.items) parted.ensures.workers) c.in-Ok.ensures.followed
+    followed_together g.D.Device.follows c.args.ends parted.result.1.items parted.ensures.flushed parted.ensures.followed
+    (ap (λ w. w.items) parted.ensures.workers) c.halves_at.ensures.followed
+
+pub returns-in_err-site-clause-followed : goal.returns-in_err-site-clause-followed
+returns-in_err-site-clause-followed g c =
+    let parted = c.split-line in
+    followed_together g.D.Device.follows c.args.ends parted.result.1.items parted.ensures.flushed parted.ensures.followed
+    (ap (λ w. w.items) parted.ensures.workers) c.halves_at.ensures.followed
+
+pub returns-in-Err-clause-followed : goal.returns-in-Err-clause-followed
+returns-in-Err-clause-followed g c =
+    let parted = c.split-line in
+    followed_together g.D.Device.follows c.args.ends parted.result.1.items parted.ensures.flushed parted.ensures.followed
+    (ap (λ w. w.items) parted.ensures.workers) c.halves_at.ensures.followed

@@ -1,4 +1,4 @@
-use Rattle.station_session.specs.RunFiles.{GoesFollowed}
+use Rattle.station_session.specs.RunFiles.{OfDevices}
 use Rattle.station_session.proofs.RunFiles.{behind_told}
 use Rattle.station_session.proofs.ThreadsEnd.{not-closed, saves-left}
 use Rattle.std.proofs.Common.{◌≡◌, ◌∙◌, Ok, Err, sym}
@@ -14,9 +14,11 @@ returns-in-Err-clause-saved g c good =
     absurd (not-closed c.args.left.ending.closed c.in-Err.field-0 c.args.left.ending.told c.status_of-told.result c.in-Err.is c.requires.told c.status_of-told.ensures.fault (c.worse-in-Err.ensures.faultless good).1)
 
 pub returns-in-Ok-clause-goes : goal.returns-in-Ok-clause-goes
-returns-in-Ok-clause-goes g c closed driven =
-    behind_told (GoesFollowed g.D.Device.follows) c.args.left.sound c.args.left.site.seen c.save_behind-saved.result c.worse-in-Ok.result
-    (λ bad good. bad (c.worse.ensures.faultless (c.worse-in-Ok.ensures.faultless good).1).1) (c.save_behind-saved.ensures.goes driven)
+returns-in-Ok-clause-goes g c closed =
+    let left = c.args.left in
+    behind_told (OfDevices g.D.Device.follows g.D.Device.well) left.ending.is_driven left.sound left.unserved.items left.site.seen
+    c.save_behind-saved.result c.worse-in-Ok.result
+    (λ bad good. bad (c.worse.ensures.faultless (c.worse-in-Ok.ensures.faultless good).1).1) c.save_behind-saved.ensures.goes
 
 pub returns-in-Err-clause-goes : goal.returns-in-Err-clause-goes
-returns-in-Err-clause-goes g c closed driven = absurd (let e : Err c.in-Err.field-0 ≡ Ok tt = sym c.in-Err.is ∙ closed in cc)
+returns-in-Err-clause-goes g c closed = absurd (let e : Err c.in-Err.field-0 ≡ Ok tt = sym c.in-Err.is ∙ closed in cc)
