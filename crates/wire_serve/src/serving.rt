@@ -96,7 +96,27 @@ pub fn serve<
         is_quiet,
     };
     let mut joined = InputScript::new(store, typed.map(Script::typed));
-    let mut known = Remembering::new(rt.alloc(), &mut joined, screen.is_told);
+    serve_remembering(rt, job, screen, wire, &mut joined, output)
+}
+
+/// Carries out a job on this wire. What is read is remembered, if a fault has a second line.
+fn serve_remembering<
+    H: Wait + Threads + Clock + AllocGlobal + Sync,
+    R: Read + Send + Drop,
+    W: Write + Send + Drop,
+    S: Store,
+    O: Write,
+    E: Write,
+    T: Write + Send + Copy + Drop,
+>(
+    rt: &H,
+    job: Job<'_>,
+    screen: Screen<'_, E, T>,
+    wire: EthernetWire<R, W>,
+    store: &mut S,
+    output: &mut O,
+) -> ExitStatus {
+    let mut known = Remembering::new(rt.alloc(), store, screen.is_told);
     serve_job(rt, job, screen, wire, &mut known, output)
 }
 
