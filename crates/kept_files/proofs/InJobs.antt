@@ -14,7 +14,7 @@ use Rattle.site_shadow.specs.Following.{state_at, LeftTowards}
 use Rattle.site_file.specs.declared.asking.LineFile.{LineFile}
 use Rattle.site_file.specs.declared.asking.LineFile.TheVariants.{Journal, Image}
 use Rattle.site_file.specs.declared.files.FileDevice.{FileDevice}
-use Rattle.site_file.specs.Calls.{Asked}
+use Rattle.site_file.specs.declared.asking.Asked.{Asked}
 use Rattle.site_file.specs.Files.{File, IsBytes, BecomesBy}
 use Rattle.site_file.specs.Held.{is_same, of_file}
 use Rattle.site_file.specs.AllFiles.{AreLeftBehind, LeadTo, FilesFollow, Holds, ShowOne, calls_of}

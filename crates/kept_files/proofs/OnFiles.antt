@@ -1,21 +1,26 @@
 -- The laws of a station on files, from those of the files and of the station.
 use Rattle.std.proofs.Common.{◌≡◌, ◌∙◌, ℕ, List, [], ◌++◌, length, Option, Some, None, slice_get, is_some, IsTrue, refl, sym, ap, subst}
+use Rattle.std.proofs.lemmas.List.{append_cancel_left}
 use Rattle.std.proofs.lemmas.Option.{slice_get-map}
 use Rattle.std.specs.Option.{option_map}
 use Rattle.esc_model.specs.SlaveHalf.{SlaveHalf}
-use Rattle.site_core.specs.State.{Moment, State, LeftSince}
+use Rattle.sii_edit.specs.declared.command.Command.{Command}
+use Rattle.site_core.specs.State.{Moment, State, Seen, LeftSince}
 use Rattle.site_shadow.specs.Following.{first_of}
 use Rattle.site_file.specs.declared.asking.LineFile.{LineFile}
 use Rattle.site_file.specs.declared.asking.LineFile.TheVariants.{Journal, Image}
-use Rattle.site_file.specs.Asking.{nothing_asked}
+use Rattle.site_file.specs.declared.asking.Asked.{Asked}
+use Rattle.site_file.specs.declared.files.FileDevice.{FileDevice}
+use Rattle.site_file.specs.Following.{Follows}
 use Rattle.site_file.specs.Files.{File, image_of}
 use Rattle.site_file.specs.AllFiles.{AreLeft, FilesFollow, Holds, HoldsWords, calls_of}
 use Rattle.site_file.proofs.FilesFollow.{left_at_first}
 use Rattle.site_file.proofs.FollowingWords.{left_since, site_is_followed}
 use Rattle.book_model.specs.Book.{Book, base_of}
 use Rattle.book_model.specs.Opening.{words_in}
-use Rattle.kept_files.specs.KeptFiles.{has_file, holding, words_or_none, KeepsFiles, SiteHasFiles, SiteKeepsOn, SiteKeepsServing, CutLeavesKept}
-use Rattle.kept_files.specs.KeptFiles.{RecoveryLeavesContents, HasContents}
+use Rattle.station_alone.specs.Keeping.{KeepsThroughout}
+use Rattle.kept_files.specs.KeptFiles.{has_file, holding, words_or_none, FilesOf, KeepsFiles, SiteHasFiles, SiteKeepsOn, SiteKeepsServing, CutLeavesKept}
+use Rattle.kept_files.specs.KeptFiles.{RecoveryLeavesContents, HasContents, KeepsServing}
 
 -- WHAT THE FILES HOLD AT FIRST
 
@@ -30,40 +35,32 @@ holds_state state (Image slave) there = holds_words state.halves slave (slice_ge
 
 -- nothing was asked of the files
 pub keeps_unasked : (before : State) → KeepsFiles before []
-keeps_unasked before = record {
-  moment = 0;
-  log = nothing_asked;
-  kept = λ machine kept images bytes left.
-      let shown = left_at_first before (has_file before) (holding before) (holds_state before) images left in (shown.0, kept shown.0 shown.1, shown.2);
-}
+keeps_unasked before machine kept images bytes left =
+    let shown = left_at_first before (has_file before) (holding before) (holds_state before) images left in (shown.0, kept shown.0 shown.1, shown.2)
 
 -- THE LAWS
 
 pub site_has_files : (F : Type 0) → SiteHasFiles F
-site_has_files F device seen is_sound follows sound =
+site_has_files F device calls seen is_sound follows log sound =
     let files : FilesFollow 0 (has_file (first_of seen)) (holding (first_of seen)) device seen =
     site_is_followed F device seen follows (has_file (first_of seen)) (holding (first_of seen)) (holds_state (first_of seen)) in
-    record {
-      calls = calls_of files.pieces ++ files.last;
-      moment = device.asking.calls;
-      log = files.has;
+    let same : calls_of files.pieces ++ files.last ≡ calls =
+    append_cancel_left device.asking.calls.begun.value (calls_of files.pieces ++ files.last) calls (sym files.has ∙ log) in
+    subst (λ (c : List Asked). FilesOf c seen is_sound) same
+    (record {
       leave = left_since (has_file (first_of seen)) (holding (first_of seen)) device seen files;
       hold = λ is name later there becomes. files.holds (sound is).0 (sound is).1 name later there becomes;
-    }
+    })
 
 pub cut_leaves_kept : CutLeavesKept
-cut_leaves_kept before now is_sound files new first keeps = record {
-  moment = files.moment;
-  log = files.log;
-  kept = λ machine kept images bytes left.
-      let within = keeps machine kept in
-      let start : first_of now ≡ before.state = first in
-      let found = files.leave images bytes (subst (λ (s : State). AreLeft files.calls (holding s) images) (sym start) left) in (
-        found.0,
-        within.left found.0 (subst (λ (past : List Moment). LeftSince now (length past) found.0) (sym new) found.1),
-        λ name there. found.2 name (subst (λ (s : State). IsTrue (has_file s name)) (sym start) there),
-      );
-}
+cut_leaves_kept before now is_sound calls files new first keeps machine kept images bytes left =
+    let within = keeps machine kept in
+    let start : first_of now ≡ before.state = first in
+    let found = files.leave images bytes (subst (λ (s : State). AreLeft calls (holding s) images) (sym start) left) in (
+      found.0,
+      within.left found.0 (subst (λ (past : List Moment). LeftSince now (length past) found.0) (sym new) found.1),
+      λ name there. found.2 name (subst (λ (s : State). IsTrue (has_file s name)) (sym start) there),
+    )
 
 pub site_keeps_on : (F : Type 0) → SiteKeepsOn F
 site_keeps_on F device before now follows new first keeps =
@@ -74,19 +71,22 @@ site_keeps_on F device before now follows new first keeps =
     record {
       device = device;
       calls = calls_of files.pieces ++ files.last;
-      keeps = record {
-        moment = device.asking.calls;
-        log = files.has;
-        kept = λ machine kept images bytes left.
-            let within = keeps machine kept in
-            let found = left_since (has_file before.state) (holding before.state) device now files images bytes left in (
-              found.0,
-              within.left found.0 (subst (λ (past : List Moment). LeftSince now (length past) found.0) (sym new) found.1),
-              found.2,
-            );
-      };
+      log = files.has;
+      keeps = λ machine kept images bytes left.
+          let within = keeps machine kept in
+          let found = left_since (has_file before.state) (holding before.state) device now files images bytes left in (
+            found.0,
+            within.left found.0 (subst (λ (past : List Moment). LeftSince now (length past) found.0) (sym new) found.1),
+            found.2,
+          );
       hold = λ sound going name later there becomes. files.holds sound going name later there becomes;
     }
+
+-- that is its device
+pub device_kept : (F : Type 0) (device : FileDevice F) (before now : Seen) (follows : Follows device now) (new : before.past ≡ [])
+    (first : first_of now ≡ before.state) (keeps : KeepsThroughout before now) → (site_keeps_on F device before now follows new first keeps).device ≡ device
+unfolding site_keeps_on
+device_kept F device before now follows new first keeps = refl
 
 pub site_keeps_serving : (F : Type 0) → SiteKeepsServing F
 site_keeps_serving F device commands before now follows new first keeps =
@@ -97,7 +97,6 @@ site_keeps_serving F device commands before now follows new first keeps =
     record {
       device = device;
       calls = calls_of files.pieces ++ files.last;
-      moment = device.asking.calls;
       log = files.has;
       kept = λ machine kept.
           let next = keeps machine kept in
@@ -114,6 +113,12 @@ site_keeps_serving F device commands before now follows new first keeps =
       hold = λ sound going name later there becomes. files.holds sound going name later there becomes;
     }
 
+pub device_served : (F : Type 0) (device : FileDevice F) (commands : List Command) (before now : Seen) (follows : Follows device now)
+    (new : before.past ≡ []) (first : first_of now ≡ before.state) (keeps : KeepsServing commands before now)
+    → (site_keeps_serving F device commands before now follows new first keeps).device ≡ device
+unfolding site_keeps_serving
+device_served F device commands before now follows new first keeps = refl
+
 has_contents : (book : Book) (state : State) (name : LineFile) (file : File) → words_in state.halves ≡ base_of book → Holds state name file
     → HasContents book name file
 has_contents book state Journal file same holds = tt
@@ -125,5 +130,5 @@ has_contents book state (Image slave) file same holds = (
 )
 
 pub recovery_leaves_contents : RecoveryLeavesContents
-recovery_leaves_contents s is_sound files recovered sound name later there becomes =
+recovery_leaves_contents s is_sound calls files recovered sound name later there becomes =
     has_contents s.book s.seen.state name later recovered.words (files.hold sound name later there becomes)

@@ -9,7 +9,7 @@ use Rattle.site_core.specs.Times.{Follows}
 use Rattle.site_file.specs.declared.asking.LineFile.{LineFile}
 use Rattle.site_file.specs.declared.asking.LineFile.TheVariants.{Journal as JournalFile, Image}
 use Rattle.site_file.specs.declared.files.FileDevice.{FileDevice}
-use Rattle.site_file.specs.Calls.{Asked}
+use Rattle.site_file.specs.declared.asking.Asked.{Asked}
 use Rattle.site_file.specs.Files.{File, IsBytes}
 use Rattle.site_file.specs.Held.{is_same}
 use Rattle.site_file.specs.AllFiles.{AreLeftBehind, FilesFollow, calls_of}

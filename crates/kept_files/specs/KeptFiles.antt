@@ -8,7 +8,7 @@ use Rattle.site_shadow.specs.Following.{first_of}
 use Rattle.site_file.specs.declared.asking.LineFile.{LineFile}
 use Rattle.site_file.specs.declared.asking.LineFile.TheVariants.{Journal, Image}
 use Rattle.site_file.specs.declared.files.FileDevice.{FileDevice}
-use Rattle.site_file.specs.Calls.{Asked}
+use Rattle.site_file.specs.declared.asking.Asked.{Asked}
 use Rattle.site_file.specs.Asking.{HasLog}
 use Rattle.site_file.specs.Following.{Follows}
 use Rattle.site_file.specs.Files.{File, IsBytes, sound, image_of, BecomesBy}
@@ -50,29 +50,25 @@ BecomeOnly Q state calls = (name : LineFile) (later : File) → IsTrue (has_file
     → BecomesBy (of_file name calls) (holding state name) later
     → Q name later
 
--- A site stands on files. These calls, the log of its device, are all that was asked of them since they held the state in which the site began. A
--- power cut at any moment has left in them what it may have left of the site. If no call failed and the site goes on, they hold it.
-pub record FilesOf (seen : Seen) (is_sound : Bool) : Type 0 where
-  pub calls : List Asked
-  pub moment : ℕ
-  pub log : HasLog moment calls
+-- A site stands on files. By these calls, made since they held the state in which the site began, a power cut at any moment has left in them what it
+-- may have left of the site. If no call failed and the site goes on, they hold it.
+pub record FilesOf (calls : List Asked) (seen : Seen) (is_sound : Bool) : Type 0 where
   pub leave : LeaveOnly (LeftSince seen 0) (first_of seen) calls
   pub hold : IsTrue is_sound → BecomeOnly (Holds seen.state) (first_of seen) calls
 
 -- WHAT IS KEPT
 
--- These calls are all that was asked of the files of a line since they held the state in which a site began. For each machine: if all that a power
--- cut could leave of the site then was kept, a power cut at any moment has left in the files, all at once, only what is kept.
-pub record KeepsFiles (before : State) (calls : List Asked) : Type 0 where
-  pub moment : ℕ
-  pub log : HasLog moment calls
-  pub kept : (machine : Machine) → LeavesOnly (KeptFor machine) before → LeaveOnly (KeptFor machine) before calls
+-- These calls were made on the files of a line since they held the state in which a site began. For each machine: if all that a power cut could leave
+-- of the site then was kept, a power cut at any moment has left in the files, all at once, only what is kept.
+abbrev pub KeepsFiles : (before : State) → List Asked → Type 0
+KeepsFiles before calls = (machine : Machine) → LeavesOnly (KeptFor machine) before → LeaveOnly (KeptFor machine) before calls
 
 -- A device made these calls on the files of a line since they held the state before, while calls led the site from there to where it is now. What a
 -- power cut leaves in them is kept so; and as long as no call has failed and the site goes on, they hold its state.
 pub record KeepsOn (F : Type 0) (before now : Seen) : Type 0 where
   pub device : FileDevice F
   pub calls : List Asked
+  pub log : HasLog device.asking.calls calls
   pub keeps : KeepsFiles before.state calls
   pub hold : device.has_failed ≡ false → ¬ IsTrue now.is_stopped → BecomeOnly (Holds now.state) before.state calls
 
@@ -94,8 +90,8 @@ pub record KeepsNext (machine : Machine) (commands : List Command) (before now :
 abbrev pub KeepsServing : List Command → Seen → Seen → Type 0
 KeepsServing commands before now = (machine : Machine) → LeavesOnly (KeptFor machine) before.state → KeepsNext machine commands before now
 
--- These calls are all that was asked of the files of a line since they held the state in which a site began. A power cut at any moment has left in
--- them, all at once, only what is kept so.
+-- By these calls, made on the files of a line since they held the state in which a site began, a power cut at any moment has left in them, all at
+-- once, only what is kept so.
 pub record LeaveNext (machine : Machine) (commands : List Command) (before : State) (calls : List Asked) : Type 0 where
   pub k : ℕ
   pub may_keep : MayKeep machine k
@@ -105,8 +101,7 @@ pub record LeaveNext (machine : Machine) (commands : List Command) (before : Sta
 pub record KeepsOnServing (F : Type 0) (commands : List Command) (before now : Seen) : Type 0 where
   pub device : FileDevice F
   pub calls : List Asked
-  pub moment : ℕ
-  pub log : HasLog moment calls
+  pub log : HasLog device.asking.calls calls
   pub kept : (machine : Machine) → LeavesOnly (KeptFor machine) before.state → LeaveNext machine commands before.state calls
   pub hold : device.has_failed ≡ false → ¬ IsTrue now.is_stopped → BecomeOnly (Holds now.state) before.state calls
 
@@ -119,13 +114,13 @@ HasContents book (Image slave) file = (words : List ℕ) × (slice_get (base_of 
 
 -- The files behind a site, by what its device keeps of it.
 abbrev pub SiteHasFiles : Type 0 → Type 0
-SiteHasFiles F = (device : FileDevice F) (seen : Seen) (is_sound : Bool) → Follows device seen
-    → (IsTrue is_sound → (device.has_failed ≡ false) × ¬ IsTrue seen.is_stopped) → FilesOf seen is_sound
+SiteHasFiles F = (device : FileDevice F) (calls : List Asked) (seen : Seen) (is_sound : Bool) → Follows device seen
+    → HasLog device.asking.calls calls → (IsTrue is_sound → (device.has_failed ≡ false) × ¬ IsTrue seen.is_stopped) → FilesOf calls seen is_sound
 
 -- What was kept for a machine before the calls of a station, and throughout them, a power cut leaves in the files.
 abbrev pub CutLeavesKept : Type 0
-CutLeavesKept = (before now : Seen) (is_sound : Bool) (files : FilesOf now is_sound) → before.past ≡ [] → first_of now ≡ before.state
-    → KeepsThroughout before now → KeepsFiles before.state files.calls
+CutLeavesKept = (before now : Seen) (is_sound : Bool) (calls : List Asked) → FilesOf calls now is_sound → before.past ≡ []
+    → first_of now ≡ before.state → KeepsThroughout before now → KeepsFiles before.state calls
 
 -- The device of a site that saw its first call there.
 abbrev pub SiteKeepsOn : Type 0 → Type 0
@@ -139,5 +134,5 @@ SiteKeepsServing F = (device : FileDevice F) (commands : List Command) (before n
 
 -- Behind a complete recovery the images have the contents, if no call on a file has failed and the site goes on.
 abbrev pub RecoveryLeavesContents : Type 0
-RecoveryLeavesContents = (s : Station) (is_sound : Bool) (files : FilesOf s.seen is_sound) → HasRecovered s → IsTrue is_sound
-    → BecomeOnly (HasContents s.book) (first_of s.seen) files.calls
+RecoveryLeavesContents = (s : Station) (is_sound : Bool) (calls : List Asked) → FilesOf calls s.seen is_sound → HasRecovered s → IsTrue is_sound
+    → BecomeOnly (HasContents s.book) (first_of s.seen) calls

@@ -1,12 +1,12 @@
 //! A device whose frames are written down.
+ghost use Rattle.std.specs.Prelude.{◌≡◌};
 
 use crate::capture::Capture;
 use crate::ethernet::Way;
 use ecat_frame::Frame;
 use esc_model::RomHalf;
 use site_file::RandomAccessFile;
-use site_shadow::{Device, Passing, Pattern, Resting};
-use std::alloc::AllocError;
+use site_shadow::{Device, Lends, LinePart, Passing, Pattern, Resting};
 use std::rt::Clock;
 use std::sync::Wait;
 
@@ -21,18 +21,6 @@ pub struct Captured<'c, D, F, R> {
     rt: &'c R,
 }
 
-impl<'c, D: Copy, F, R> Copy for Captured<'c, D, F, R> {}
-
-impl<'c, D: Clone, F, R> Clone for Captured<'c, D, F, R> {
-    fn clone(&self) -> Result<Self, AllocError> {
-        Ok(Captured {
-            device: self.device.clone()?,
-            capture: self.capture,
-            rt: self.rt,
-        })
-    }
-}
-
 impl<'c, D, F: RandomAccessFile + Drop, R: Wait + Clock> Captured<'c, D, F, R> {
     /// Makes the device whose frames are written down in this capture.
     pub fn new(device: D, capture: Option<&'c Capture<F>>, rt: &'c R) -> Captured<'c, D, F, R> {
@@ -41,6 +29,14 @@ impl<'c, D, F: RandomAccessFile + Drop, R: Wait + Clock> Captured<'c, D, F, R> {
             capture,
             rt,
         }
+    }
+
+    /// The device whose frames were written down.
+    pub fn into_device(self) -> D
+        ensures { result ≡ self.entry.device }
+    {
+        let Captured { device, .. } = self;
+        device
     }
 
     fn note(&self, way: Way, frame: &Frame) {
@@ -119,4 +115,25 @@ impl<'c, D: Device, F: RandomAccessFile + Drop, R: Wait + Clock> Device for Capt
     }
 
     ghost goes_on = { λ captured. D.goes_on captured.device };
+}
+
+/// The device inside lends and takes back. The frames of what is lent are written down in the same capture.
+impl<'c, D: Lends, F: RandomAccessFile + Drop, R: Wait + Clock> Lends for Captured<'c, D, F, R> {
+    /// What is told of the device inside.
+    type Told = D::Told;
+
+    ghost tells = { λ captured. D.tells captured.device };
+
+    fn lend(&mut self, part: LinePart) -> Self {
+        Captured::new(self.device.lend(part), self.capture, self.rt)
+    }
+
+    fn take_back(&mut self, lent: Self) -> D::Told {
+        let Captured { device, .. } = lent;
+        self.device.take_back(device)
+    }
+
+    fn tell(&mut self) -> D::Told {
+        self.device.tell()
+    }
 }

@@ -7,8 +7,7 @@ use crate::progress::Progress;
 use ecat_frame::Frame;
 use esc_model::RomHalf;
 use jrn_format::{AREA_START, OPEN, Spelling};
-use site_shadow::{Device, Passing, Pattern, Resting};
-use std::alloc::AllocError;
+use site_shadow::{Device, Lends, LinePart, Passing, Pattern, Resting};
 use std::io::Write;
 use std::rt::Clock;
 
@@ -25,20 +24,6 @@ pub struct Watched<'p, D, T, R> {
     appended: u16,
     /// Whether its gate was opened, and the journal wasn't synced since.
     is_open: bool,
-}
-
-impl<'p, D: Copy, T, R> Copy for Watched<'p, D, T, R> {}
-
-impl<'p, D: Clone, T, R> Clone for Watched<'p, D, T, R> {
-    fn clone(&self) -> Result<Self, AllocError> {
-        Ok(Watched {
-            device: self.device.clone()?,
-            progress: self.progress,
-            rt: self.rt,
-            appended: self.appended,
-            is_open: self.is_open,
-        })
-    }
 }
 
 /// How many commands a batch has, whose bytes behind its gate begin so: bytes 5 and 6, behind the generation and the payload's length. None
@@ -70,6 +55,14 @@ impl<'p, D, T: Write, R: Clock> Watched<'p, D, T, R> {
         ensures { result.now ≡ self.now.device }
     {
         &self.device
+    }
+
+    /// The device whose work was counted.
+    pub fn into_device(self) -> D
+        ensures { result ≡ self.entry.device }
+    {
+        let Watched { device, .. } = self;
+        device
     }
 
     /// Something was written to the journal from `at` on: a gate, a batch or a header.
@@ -169,4 +162,25 @@ impl<'p, D: Device, T: Write, R: Clock> Device for Watched<'p, D, T, R> {
     }
 
     ghost goes_on = { λ watched. D.goes_on watched.device };
+}
+
+/// The device inside lends and takes back. What is lent counts for the same progress.
+impl<'p, D: Lends, T: Write, R: Clock> Lends for Watched<'p, D, T, R> {
+    /// What is told of the device inside.
+    type Told = D::Told;
+
+    ghost tells = { λ watched. D.tells watched.device };
+
+    fn lend(&mut self, part: LinePart) -> Self {
+        Watched::new(self.device.lend(part), self.progress, self.rt)
+    }
+
+    fn take_back(&mut self, lent: Self) -> D::Told {
+        let Watched { device, .. } = lent;
+        self.device.take_back(device)
+    }
+
+    fn tell(&mut self) -> D::Told {
+        self.device.tell()
+    }
 }

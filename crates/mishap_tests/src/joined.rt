@@ -1,12 +1,10 @@
 //! A run by threads on a wire on which each frame takes a while, so that the others have something to send meanwhile.
 
-use crate::wire_threads::{Told, told_by_threads};
+use crate::wire_threads::told_on;
 use crate::wires::{Bench, bench_of, parts_on, slaves_of};
 use ecat_frame::Frame;
 use runner_cases::line::THREE;
-use site_file::FileDevice;
-use site_shadow::{Parts, ShadowSite};
-use site_wire::{LiveLine, LockedLine, WireDevice};
+use site_wire::{LiveLine, LockedLine};
 use std::alloc::Global;
 use std::rt::Clock;
 use std::sync::Wait;
@@ -45,25 +43,6 @@ impl<'r, W: Wire, C: Clock> Wire for SlowWire<'r, W, C> {
     fn receive(&mut self, bytes: &mut [u8]) -> io::Result<usize> {
         self.wire.receive(bytes)
     }
-}
-
-/// What a run by threads on this line told. None: memory was refused, or the parts aren't a line's.
-fn told_on<R: Wait + Threads + Sync, W: Wire + Send>(
-    rt: &R,
-    alloc: Global,
-    bench: &Bench,
-    locked: &LockedLine<W>,
-    parts: Parts,
-) -> Option<Told> {
-    if !parts.is_whole() {
-        return None;
-    }
-    let device = WireDevice::shared(
-        locked.shared(rt),
-        &bench.clock,
-        FileDevice::new(&bench.files),
-    );
-    told_by_threads(rt, alloc, ShadowSite::of_parts(alloc, parts, device))
 }
 
 /// Whether a run prints what it should, and how many datagrams its frames had at most. None: memory was refused, or the line isn't brought up.

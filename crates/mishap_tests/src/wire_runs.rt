@@ -4,14 +4,14 @@
 ghost use Rattle.std.specs.Prelude.{IfSome};
 ghost use Rattle.site_shadow.specs.Parts.{AreWhole};
 
-use crate::wire_threads::told_by_threads;
+use crate::wire_threads::told_on;
 use crate::wires::{
-    Bench, JournalFile, NO_TROUBLE, TestWire, Trouble, bench_of, parts_on, plan, slaves_of,
+    Bench, NO_TROUBLE, OpenJournal, TestWire, Trouble, bench_of, journal_on, parts_on, plan,
+    slaves_of,
 };
 use runner_cases::line::{Line, THREE};
 use runner_cases::runs::{SERVED, UNOPENED, Way, ended_on, is_found, kept_by};
 use runner_cases::sites::{PATTERNS, recovered};
-use site_file::FileDevice;
 use site_mem::{Parts, Pattern};
 use site_shadow::ShadowSite;
 use site_wire::{LiveLine, LockedLine, StopReason, WireDevice, WireSite};
@@ -73,7 +73,7 @@ struct Came {
 }
 
 /// A line on a wire, and its journal.
-type Wired<'f> = WireSite<'f, PracticeWire<'f>, JournalFile, PracticeClock>;
+type Wired<'f> = WireSite<'f, PracticeWire<'f>, OpenJournal<'f>, PracticeClock>;
 
 const RECOVERY: Step = Step {
     act: Act::Recover,
@@ -188,9 +188,7 @@ fn ran_by_threads<'f, R: Wait + Threads + Sync>(
     let parts = parts_with(alloc, bench, &mut wire, trouble)?;
     let before = wire.sent();
     let locked = LockedLine::new(LiveLine::new(wire));
-    let journal = FileDevice::new(&bench.files);
-    let device = WireDevice::shared(locked.shared(rt), &bench.clock, journal);
-    let told = told_by_threads(rt, alloc, ShadowSite::of_parts(alloc, parts, device))?;
+    let told = told_on(rt, alloc, bench, &locked, parts)?;
     let reason = locked.reason(rt);
     let mut wire = locked.into_line().into_wire();
     let is_done = told.is_all && reason.is_none();
@@ -206,7 +204,7 @@ fn ran_alone<'f>(
     step: &Step,
 ) -> Option<(TestWire<'f>, Left)> {
     let parts = parts_with(alloc, bench, &mut wire, &step.trouble)?;
-    let device = WireDevice::new(wire, &bench.clock, FileDevice::new(&bench.files));
+    let device = WireDevice::new(wire, &bench.clock, journal_on(alloc, bench));
     let site = ShadowSite::of_parts(alloc, parts, device);
     Some(acted(alloc, site, step.act))
 }

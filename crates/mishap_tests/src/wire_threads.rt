@@ -2,17 +2,20 @@
 
 ghost use Rattle.std.specs.Prelude.{◌≡◌, [], IfSome};
 
+use crate::wires::{Bench, journal_on};
 use runner_cases::asks::command;
 use runner_cases::runs::ASKS;
 use runner_cases::sites::{off, open};
 use script_session::{Work, serve_by_threads};
 use sii_edit::Command;
 use site_core::Site;
-use site_shadow::{Device, ShadowSite};
+use site_shadow::{Lends, Parts, ShadowSite};
+use site_wire::{LockedLine, WireDevice};
 use station_alone::Alone;
 use std::alloc::Global;
 use std::sync::Wait;
 use std::thread::Threads;
+use wire_frames::Wire;
 
 /// What a run without trouble prints.
 const ANSWERS: &str = "command 0 accepted 0
@@ -76,7 +79,7 @@ fn told_in(text: &[u8]) -> Told {
 }
 
 /// Runs the commands by threads on this site. None: memory was refused.
-pub(crate) fn told_by_threads<D: Device + Copy + Send, R: Wait + Threads + Sync>(
+fn told_by_threads<D: Lends + Send, R: Wait + Threads + Sync>(
     rt: &R,
     alloc: Global,
     site: ShadowSite<D>,
@@ -90,4 +93,19 @@ pub(crate) fn told_by_threads<D: Device + Copy + Send, R: Wait + Threads + Sync>
         drop(serve_by_threads(rt, alloc, station, 3, work, &mut text).ok()?);
     }
     Some(told_in(&text))
+}
+
+/// What a run by threads on this line told. None: memory was refused, or the parts aren't a line's.
+pub(crate) fn told_on<R: Wait + Threads + Sync, W: Wire + Send>(
+    rt: &R,
+    alloc: Global,
+    bench: &Bench,
+    locked: &LockedLine<W>,
+    parts: Parts,
+) -> Option<Told> {
+    if !parts.is_whole() {
+        return None;
+    }
+    let device = WireDevice::shared(locked.shared(rt), &bench.clock, journal_on(alloc, bench));
+    told_by_threads(rt, alloc, ShadowSite::of_parts(alloc, parts, device))
 }

@@ -4,7 +4,7 @@ ghost use Rattle.std.specs.Prelude.{IfSome};
 ghost use Rattle.site_shadow.specs.Parts.{AreWhole};
 
 use runner_cases::line::{Line, disk, parts_with, plant_of};
-use site_file::{OpenFiles, RandomAccessFile};
+use site_file::{FileDevice, OpenFiles, RandomAccessFile};
 use site_mem::{Parts, Pattern};
 use std::alloc::Global;
 use std::io;
@@ -26,10 +26,16 @@ pub(crate) struct JournalFile {
 /// The wire of a test.
 pub(crate) type TestWire<'f> = NumberedWire<PracticeWire<'f>>;
 
+/// The journal's file, opened.
+#[derive(Drop)]
+pub(crate) struct OpenJournal<'f> {
+    file: &'f JournalFile,
+}
+
 /// What a line on a wire rests on: its journal's file, and a clock.
 #[derive(Drop)]
 pub(crate) struct Bench {
-    pub(crate) files: OpenFiles<JournalFile>,
+    pub(crate) journal: JournalFile,
     pub(crate) clock: PracticeClock,
 }
 
@@ -50,13 +56,13 @@ pub(crate) const NO_TROUBLE: Trouble = Trouble {
     cut: None,
 };
 
-impl RandomAccessFile for JournalFile {
+impl RandomAccessFile for OpenJournal<'_> {
     fn len(&self) -> io::Result<u64> {
-        Ok(self.bytes.len() as u64)
+        Ok(self.file.bytes.len() as u64)
     }
 
     fn read_exact_at(&self, bytes: &mut [u8], at: u64) -> io::Result<()> {
-        let held = self.bytes.get(at as usize..).unwrap_or(&[]);
+        let held = self.file.bytes.get(at as usize..).unwrap_or(&[]);
         if held.len() < bytes.len() {
             return Err(io::Error::other("the file is short"));
         }
@@ -67,7 +73,7 @@ impl RandomAccessFile for JournalFile {
     }
 
     fn write_all_at(&self, bytes: &[u8], at: u64) -> io::Result<()> {
-        let held = self.bytes.get(at as usize..).unwrap_or(&[]);
+        let held = self.file.bytes.get(at as usize..).unwrap_or(&[]);
         for (byte, held) in bytes.iter().zip(held) {
             held.store(*byte, SeqCst);
         }
@@ -96,11 +102,18 @@ pub(crate) fn bench_of(alloc: Global, line: &Line) -> Option<Bench> {
         bytes.push(AtomicU8::new(*byte)).ok()?;
     }
     Some(Bench {
-        files: OpenFiles {
-            journal: JournalFile { bytes },
-            images: Vec::new(alloc),
-        },
+        journal: JournalFile { bytes },
         clock: PracticeClock::new(),
+    })
+}
+
+/// The device of the journal alone.
+pub(crate) fn journal_on<'f>(alloc: Global, bench: &'f Bench) -> FileDevice<OpenJournal<'f>> {
+    FileDevice::new(OpenFiles {
+        journal: OpenJournal {
+            file: &bench.journal,
+        },
+        images: Vec::new(alloc),
     })
 }
 
@@ -124,9 +137,11 @@ pub(crate) fn parts_on<W: Wire>(
 {
     let line = bring_up(alloc, wire, &bench.clock, &Sizes::unknown()).ok()?;
     let plant = line.into_words(alloc).ok()?;
-    let journal = &bench.files.journal;
+    let journal = &bench.journal;
     let mut disk = vec![in alloc; 0u8; journal.bytes.len()].ok()?;
-    journal.read_exact_at(&mut disk, 0).ok()?;
+    OpenJournal { file: journal }
+        .read_exact_at(&mut disk, 0)
+        .ok()?;
     let parts = parts_with(alloc, &plant, disk)?;
     if parts.is_whole() { Some(parts) } else { None }
 }

@@ -35,11 +35,15 @@ use Rattle.script_session.specs.declared.closing.AtDesk.{AtDesk}
 use Rattle.script_session.specs.declared.closing.Ending.{Ending}
 use Rattle.script_session.specs.declared.threads.Left.{Left}
 use Rattle.script_session.specs.declared.threads.NotServed.{NotServed}
-use Rattle.script_session.specs.Parts.{Sites, AreFollowed, BeginsWith, HasDiskOf, IsApart, IsServable, AreEndsOfParts, IsTogether}
-use Rattle.script_session.specs.AtDesk.{seen_of, Closes, ClosesWith, DeskServes, EndsApart, EndsFollowed, EndsSo, IsServedAtDesk, IsStopped}
+use Rattle.script_session.specs.declared.told.PartTold.{PartTold}
+use Rattle.script_session.specs.Parts.{Sites, AreFollowed, AreSound, BeginsWith, EndsSynced, HasDiskOf, IsApart, IsDeskTold, IsServable, AreEndsOfParts}
+use Rattle.script_session.specs.AtDesk.{seen_of, Closes, ClosesWith, DeskServes, EndsApart, EndsSo, IsServedAtDesk, IsStopped}
+use Rattle.script_session.specs.Parts.{IsTogether, Telling}
 use Rattle.script_session.specs.AtDesk.{IsStoppedAtDesk, LeavesSo, ServesFollowed, TellsWhy}
 use Rattle.script_session.proofs.AskLaws.{all-received}
 use Rattle.script_session.proofs.SlaveLaws.{contents-together}
+use Rattle.station_line.specs.Site.{IsFollowed}
+use Rattle.script_session.proofs.SoundLaws.{followed_ends, on_ok}
 use Rattle.script_session.proofs.LeftLaws.{kept-together, left-together}
 
 -- the result for a closed desk
@@ -228,8 +232,8 @@ module _ (opened : Station) (commands : List Command) (sites : Sites) (ends : En
     tells = stops.tells;
   }
 
-pub served-at-desk : {E : Type 0} (opened : Station) (commands : List Command) (book : Book) (seen : Seen) (sites : Sites) (at : AtDesk SiteValue) (result : Result (Left SiteValue) E) → book ≡ opened.book → seen ≡ opened.seen → IsApart seen.state sites → AreEndsOfParts sites at.ends
-    → IfOk result (λ (left : Left SiteValue). IsTogether at.ends left.site × (left.ending ≡ at.ending)) → EndsSo book commands at.ends at.ending → IfOk result (λ (left : Left SiteValue). LeavesSo opened commands left.ending left.site)
+pub served-at-desk : {T E : Type 0} (opened : Station) (commands : List Command) (book : Book) (seen : Seen) (sites : Sites) (at : AtDesk SiteValue) (result : Result (Left SiteValue T) E) → book ≡ opened.book → seen ≡ opened.seen → IsApart seen.state sites → AreEndsOfParts sites at.ends
+    → IfOk result (λ (left : Left SiteValue T). IsTogether at.ends left.site × (left.ending ≡ at.ending)) → EndsSo book commands at.ends at.ending → IfOk result (λ (left : Left SiteValue T). LeavesSo opened commands left.ending left.site)
 served-at-desk opened commands book seen sites at (Ok left) of_book of_seen apart of_sites is ends =
     let here : EndsSo opened.book commands at.ends at.ending = subst (λ (b : Book). EndsSo b commands at.ends at.ending) of_book ends in
     let same : EndsSo opened.book commands at.ends left.ending = subst (λ (e : Ending). EndsSo opened.book commands at.ends e) (sym is.1) here in
@@ -253,18 +257,23 @@ module _ (opened : Station) (commands : List Command) (book : Book) (seen : Seen
 
   module _ {D : Type 0} (follows : D → Seen → Type 0) where
     -- and the line was put together again
-    pub serves-parts : {E : Type 0} (well : D → Type 0) (sound : Result (Unit {0}) Fault) (result : Result (Left SiteValue) E)
-        → IfOk result (λ (left : Left SiteValue). IsTogether at.ends left.site × (left.ending ≡ at.ending))
-        → IfOk result (λ (left : Left SiteValue). left.sound ≡ sound) → EndsFollowed follows well opened sound at.ends
-        → IfOk result (λ (left : Left SiteValue). ServesFollowed follows well opened commands left)
-    serves-parts well sound (Ok left) is same followed = record {
+    pub serves-parts : {T E : Type 0} (well : D → Type 0) (tells : D → T → Type 0) (line : PartTold T) (result : Result (Left SiteValue T) E)
+        → IfOk result (λ (left : Left SiteValue T). IsTogether at.ends left.site × (left.ending ≡ at.ending))
+        → IfOk result (λ (left : Left SiteValue T). (s : Seen) → IsFollowed (Telling follows well tells line) s
+        → IsDeskTold follows well tells s left.told at.ends)
+        → IfOk result (λ (left : Left SiteValue T). OnOk left.sound (AreSound left.told × EndsSynced at.ends.flusher.log))
+        → IsFollowed (Telling follows well tells line) seen → length opened.line.sizes ≡ length seen.state.halves → AreFollowed follows at.ends
+        → IfOk result (λ (left : Left SiteValue T). ServesFollowed follows well tells opened commands left)
+    serves-parts well tells line (Ok left) is told sound before count all = record {
       parts = record { desk = desk-serves left.ending is.1; together = is.0 };
-      followed = subst (λ (r : Result (Unit {0}) Fault). EndsFollowed follows well opened r at.ends) (sym same) followed;
+      followed = followed_ends follows well tells opened seen sites at.ends left.told left.sound of_seen apart of_sites (told seen before) count sound all;
+      told = told opened.seen (subst (IsFollowed (Telling follows well tells line)) of_seen before);
+      sound = on_ok left.sound (λ (both : AreSound left.told × EndsSynced at.ends.flusher.log). both.0) sound;
     }
-    serves-parts well sound (Err fault) is same followed = tt
+    serves-parts well tells line (Err fault) is told sound before count all = tt
 
     -- or not
-    pub ends-apart : (result : Result (Left SiteValue) NotServed) → AreFollowed follows at.ends
+    pub ends-apart : {T : Type 0} (result : Result (Left SiteValue T) NotServed) → AreFollowed follows at.ends
         → IfErr result (λ (why : NotServed). IsTrue why.is_begun → EndsApart follows opened commands)
     ends-apart (Ok left) followed = tt
     ends-apart (Err why) followed = λ begun. record { ending = at.ending; desk = desk-serves at.ending refl; followed = followed }

@@ -3,6 +3,7 @@ pub mod HalfPlaces
 mod PartLaws
 pub mod SlaveLaws
 pub mod LeftLaws
+pub mod ToldLaws
 pub mod SoundLaws
 pub mod DeskLaws
 pub mod IssueLaws

@@ -71,25 +71,23 @@ puts-together (Err fault) slaves site disk halves workers ends is new there byte
 
 -- ---- the devices behind the ends
 
--- one end more
-pub followed_more : {D : Type 0} (follows : D → Seen → Type 0) (ends : List (Stay SiteValue SlaveLog)) (end : Stay SiteValue SlaveLog) → AllByRecursion (IsWorkFollowed follows) ends → IsWorkFollowed follows end → AllByRecursion (IsWorkFollowed follows) (ends ++ end ∷ [])
-followed_more follows [] end all one = (one, tt)
-followed_more follows (e ∷ ends) end all one = (all.0, followed_more follows ends end all.1 one)
+-- one item more
+pub all_more : {A : Type 0} (P : A → Type 0) (xs : List A) (x : A) → AllByRecursion P xs → P x → AllByRecursion P (xs ++ x ∷ [])
+all_more P [] x all one = (one, tt)
+all_more P (y ∷ xs) x all one = (all.0, all_more P xs x all.1 one)
 
--- the first ends, and the next one
-pub followed_next : {D : Type 0} (follows : D → Seen → Type 0) (ends : List (Stay SiteValue SlaveLog)) (i : ℕ) (end : Stay SiteValue SlaveLog)
-    → AllByRecursion (IsWorkFollowed follows) (take i ends) → slice_get ends i ≡ Some end → IsWorkFollowed follows end
-    → AllByRecursion (IsWorkFollowed follows) (take (i + 1) ends)
-followed_next follows ends i end all here one =
+-- the first items, and the next one
+pub all_next : {A : Type 0} (P : A → Type 0) (xs : List A) (i : ℕ) (x : A) → AllByRecursion P (take i xs) → slice_get xs i ≡ Some x → P x
+    → AllByRecursion P (take (i + 1) xs)
+all_next P xs i x all here one =
     let same : suc i ≡ i + 1 = omega arith in
-    subst (λ (n : ℕ). AllByRecursion (IsWorkFollowed follows) (take n ends)) same
-    (subst (AllByRecursion (IsWorkFollowed follows)) (sym (take_next ends i end here)) (followed_more follows (take i ends) end all one))
+    subst (λ (n : ℕ). AllByRecursion P (take n xs)) same
+    (subst (AllByRecursion P) (sym (take_next xs i x here)) (all_more P (take i xs) x all one))
   where
-    take_next : (ends : List (Stay SiteValue SlaveLog)) (i : ℕ) (end : Stay SiteValue SlaveLog) → slice_get ends i ≡ Some end
-        → take (suc i) ends ≡ take i ends ++ end ∷ []
-    take_next [] i end here = absurd cc
-    take_next (e ∷ ends) zero end here = let same : e ≡ end = cc in ap (λ (x : Stay SiteValue SlaveLog). x ∷ []) same
-    take_next (e ∷ ends) (suc i) end here = ap (λ (l : List (Stay SiteValue SlaveLog)). e ∷ l) (take_next ends i end here)
+    take_next : {A : Type 0} (xs : List A) (i : ℕ) (x : A) → slice_get xs i ≡ Some x → take (suc i) xs ≡ take i xs ++ x ∷ []
+    take_next [] i x here = absurd cc
+    take_next (y ∷ xs) zero x here = let same : y ≡ x = cc in ap (λ z. z ∷ []) same
+    take_next (y ∷ xs) (suc i) x here = ap (λ l. y ∷ l) (take_next xs i x here)
 
 pub followed_together : {D : Type 0} (follows : D → Seen → Type 0) (ends : Ends SiteValue) (workers : List (Stay SiteValue SlaveLog))
     → IsFlushed ends.flusher.log ends.flusher.start.seen ends.flusher.site.seen

@@ -16,7 +16,9 @@ use Rattle.station_jobs.specs.Jobs.{DoneInTurn, IsDone, IsLast, MayEnd}
 use Rattle.station_threads.specs.declared.closing.Ends.{Ends}
 use Rattle.station_alone.specs.Station.{Station}
 use Rattle.station_files.specs.declared.faults.Fault.{Fault}
-use Rattle.script_session.specs.Parts.{Sites, IsApart, AreEndsOfParts, AreFollowed, EndsSynced, Soundly}
+use Rattle.script_session.specs.Parts.{Sites, IsApart, AreEndsOfParts, AreFollowed, AreSound, EndsSynced, IsDeskTold, Soundly}
+use Rattle.script_session.specs.declared.told.DeskTold.{DeskTold}
+use Rattle.script_session.proofs.ToldLaws.{line_soundly, parts_soundly}
 use Rattle.station_line.specs.Site.{IsFollowed}
 use Rattle.sii_edit.specs.declared.command.Command.{Command}
 use Rattle.script_session.specs.declared.threads.Left.{Left}
@@ -103,23 +105,24 @@ parts_followed follows well opened seen sites ends of_seen apart of_sites before
           (start ∙ ap of_bytes (sym (ap (λ (d : Disk). d.bytes) start))) synced;
     }
 
--- what devices have followed, by how the ends were judged
-pub followed_ends : {D : Type 0} (follows : D → Seen → Type 0) (well : D → Type 0) (opened : Station) (seen : Seen) (sites : Sites) (ends : Ends SiteValue) (sound : Result (Unit {0}) Fault) → seen ≡ opened.seen → IsApart seen.state sites
-    → AreEndsOfParts sites ends → OnOk sound (IsFollowed (Soundly follows well) seen) → length opened.line.sizes ≡ length seen.state.halves → OnOk sound (AreFollowed (Soundly follows well) ends) → OnOk sound (EndsSynced ends.flusher.log) → AreFollowed follows ends
-    → EndsFollowed follows well opened sound ends
-followed_ends follows well opened seen sites ends (Ok done) of_seen apart of_sites before count parts synced all =
-    parts_followed follows well opened seen sites ends of_seen apart of_sites before count parts synced
-followed_ends follows well opened seen sites ends (Err fault) of_seen apart of_sites before count parts synced all = all
-
 -- what holds where a result is `Ok`
 pub on_ok : {A E : Type 0} {P Q : Type 0} (result : Result A E) → (P → Q) → OnOk result P → OnOk result Q
 on_ok (Ok value) step holds = step holds
 on_ok (Err fault) step holds = tt
 
+-- what devices have followed, by how the ends were judged
+pub followed_ends : {D T : Type 0} (follows : D → Seen → Type 0) (well : D → Type 0) (tells : D → T → Type 0) (opened : Station) (seen : Seen) (sites : Sites) (ends : Ends SiteValue) (told : DeskTold T) (sound : Result (Unit {0}) Fault) → seen ≡ opened.seen
+    → IsApart seen.state sites → AreEndsOfParts sites ends → IsDeskTold follows well tells seen told ends → length opened.line.sizes ≡ length seen.state.halves → OnOk sound (AreSound told × EndsSynced ends.flusher.log) → AreFollowed follows ends
+    → EndsFollowed follows well opened sound ends
+followed_ends follows well tells opened seen sites ends told (Ok done) of_seen apart of_sites is count sound all =
+    parts_followed follows well opened seen sites ends of_seen apart of_sites (line_soundly follows well tells seen told ends is sound.0) count
+    (parts_soundly follows well tells seen told ends is sound.0) sound.1
+followed_ends follows well tells opened seen sites ends told (Err fault) of_seen apart of_sites is count sound all = all
+
 -- the parts that were served and ended soundly
-pub served_soundly : {D : Type 0} (follows : D → Seen → Type 0) (well : D → Type 0) (opened : Station) (commands : List Command) (left : Left SiteValue) → ServesFollowed follows well opened commands left → left.sound ≡ Ok tt
+pub served_soundly : {D T : Type 0} (follows : D → Seen → Type 0) (well : D → Type 0) (tells : D → T → Type 0) (opened : Station) (commands : List Command) (left : Left SiteValue T) → ServesFollowed follows well tells opened commands left → left.sound ≡ Ok tt
     → IsServedFollowed (Soundly follows well) opened left.site
-served_soundly follows well opened commands left serves sound = record {
+served_soundly follows well tells opened commands left serves sound = record {
   served = record {
     sites = serves.parts.desk.sites;
     apart = serves.parts.desk.apart;

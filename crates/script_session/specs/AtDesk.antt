@@ -36,7 +36,7 @@ use Rattle.script_session.specs.declared.closing.Ending.{Ending}
 use Rattle.script_session.specs.declared.threads.Opening.{Opening}
 use Rattle.script_session.specs.declared.threads.Left.{Left}
 use Rattle.script_session.specs.Asking.{commands_of, GivesUp}
-use Rattle.script_session.specs.Parts.{Sites, IsApart, AreEndsOfParts, AreFollowed, IsTogether, Soundly}
+use Rattle.script_session.specs.Parts.{Sites, IsApart, AreEndsOfParts, AreFollowed, AreSound, IsDeskTold, IsTogether, Soundly}
 use Rattle.station_line.specs.Site.{IsFollowed}
 
 -- the state of a site and its past
@@ -195,11 +195,14 @@ abbrev pub EndsFollowed : {D : Type 0} → (D → Seen → Type 0) → (D → Ty
 EndsFollowed follows well opened (Ok sound) ends = PartsFollowed (Soundly follows well) opened ends
 EndsFollowed follows well opened (Err fault) ends = AreFollowed follows ends
 
--- The parts were served with this ending, and devices have followed them so.
-pub record ServesFollowed {D : Type 0} (follows : D → Seen → Type 0) (well : D → Type 0) (opened : Station) (commands : List Command)
-    (left : Left SiteValue) : Type 0 where
+-- The parts were served with this ending, devices have followed them so, and what is told of the devices is told. No part is called sound that
+-- wasn't, and none is unsound where no fault is told.
+pub record ServesFollowed {D T : Type 0} (follows : D → Seen → Type 0) (well : D → Type 0) (tells : D → T → Type 0) (opened : Station)
+    (commands : List Command) (left : Left SiteValue T) : Type 0 where
   pub parts : ServesParts opened commands left.ending left.site
   pub followed : EndsFollowed follows well opened left.sound parts.desk.ends
+  pub told : IsDeskTold follows well tells opened.seen left.told parts.desk.ends
+  pub sound : OnOk left.sound (AreSound left.told)
 
 -- A desk served the parts, whatever came of putting the line together, and behind each part a device has kept this of the part's site.
 pub record EndsApart {D : Type 0} (follows : D → Seen → Type 0) (opened : Station) (commands : List Command) : Type 0 where

@@ -1,5 +1,5 @@
 -- A line that is taken apart into sites, and put together again.
-use Rattle.std.specs.Prelude.{◌≡◌, ◌⊎◌, ◌≤◌, ◌+◌, ℕ, List, [], true, length, Result, Ok, IfOk, Option, Some, is_some, slice_get, IsTrue, None, false}
+use Rattle.std.specs.Prelude.{◌≡◌, ◌⊎◌, ◌≤◌, ◌+◌, ℕ, List, [], ◌∷◌, true, length, Ok, Option, Some, is_some, slice_get, IsTrue, None, false}
 use Rattle.std.specs.List.{AllByRecursion}
 use Rattle.std.specs.Global.{Vec}
 use Rattle.esc_model.specs.SlaveHalf.{SlaveHalf}
@@ -9,7 +9,6 @@ use Rattle.site_shadow.specs.Unsynced.{of_bytes}
 use Rattle.esc_rom.specs.Owned.{OwnsAll}
 use Rattle.site_shadow.specs.Site.{SiteValue}
 use Rattle.site_shadow.specs.Line.{halves_of}
-use Rattle.station_files.specs.declared.faults.Fault.{Fault}
 use Rattle.station_line.specs.Site.{IsFollowed}
 use Rattle.book_model.specs.declared.next.DiskNext.TheVariants as disk
 use Rattle.desk_book.specs.Logs.{DiskEntry}
@@ -19,6 +18,9 @@ use Rattle.station_jobs.specs.Flushing.{IsFlushed}
 use Rattle.station_jobs.specs.Working.{IsWorked}
 use Rattle.station_threads.specs.declared.parts.PerDevice.{PerDevice}
 use Rattle.station_threads.specs.declared.closing.Ends.{Ends}
+use Rattle.script_session.specs.declared.told.PartTold.{PartTold}
+use Rattle.script_session.specs.declared.told.DeskTold.{DeskTold}
+use Rattle.script_session.specs.declared.together.OfSlaves.{OfSlaves}
 use Rattle.station_threads.specs.Places.{AllPlaced}
 use Rattle.station_threads.specs.Sites.{OwnParts, AreEndsOfSites, IsEndOfTurns}
 
@@ -68,10 +70,23 @@ pub record AreEndsOfParts (sites : Sites) (ends : Ends SiteValue) : Type 0 where
 abbrev pub Soundly : {D : Type 0} → (D → Seen → Type 0) → (D → Type 0) → D → Seen → Type 0
 Soundly follows well device seen = follows device seen × well device × (seen.is_stopped ≡ false)
 
+-- A device keeps this of a site, and this is told of it. Where it is called sound, nothing has failed that it was asked, and the site goes on.
+abbrev pub Telling : {D T : Type 0} → (D → Seen → Type 0) → (D → Type 0) → (D → T → Type 0) → PartTold T → D → Seen → Type 0
+Telling follows well tells told device seen =
+    follows device seen × tells device told.told × (IsTrue told.is_sound → well device × (seen.is_stopped ≡ false))
+
 -- The jobs of its log led the site of a slave's end there, and a device keeps this of it.
 pub record IsWorkFollowed {D : Type 0} (follows : D → Seen → Type 0) (end : Stay SiteValue SlaveLog) : Type 0 where
   pub worked : IsWorked end.log.slave end.log.jobs end.start.seen end.site.seen
   pub followed : IsFollowed follows end.site.seen
+
+-- Each of these is told of the device behind the end at its place.
+abbrev pub AreToldOf : {D T : Type 0} → (D → Seen → Type 0) → (D → Type 0) → (D → T → Type 0) → List (PartTold T) → List (Stay SiteValue SlaveLog)
+    → Type 0
+AreToldOf follows well tells [] [] = Unit {0}
+AreToldOf follows well tells (told ∷ rest) (end ∷ ends) =
+    IsWorkFollowed (Telling follows well tells told) end × AreToldOf follows well tells rest ends
+AreToldOf follows well tells tellings ends = ⊥
 
 -- The log is empty, or its last action is a sync that succeeded.
 abbrev pub EndsSynced : List DiskEntry → Type 0
@@ -83,13 +98,34 @@ pub record AreFollowed {D : Type 0} (follows : D → Seen → Type 0) (ends : En
   pub followed : IsFollowed follows ends.flusher.site.seen
   pub workers : AllByRecursion (IsWorkFollowed follows) ends.workers.items
 
+-- This is told of the devices of a line that was served at a desk: of the line's, whose site was this before it was taken apart, and of those
+-- behind the ends of the disk and of each slave.
+pub record IsDeskTold {D T : Type 0} (follows : D → Seen → Type 0) (well : D → Type 0) (tells : D → T → Type 0) (opened : Seen) (told : DeskTold T)
+    (ends : Ends SiteValue) : Type 0 where
+  pub before : IsFollowed (Telling follows well tells told.line) opened
+  pub flushed : IsFlushed ends.flusher.log ends.flusher.start.seen ends.flusher.site.seen
+  pub disk : IsFollowed (Telling follows well tells told.disk) ends.flusher.site.seen
+  pub slaves : AreToldOf follows well tells told.slaves.items ends.workers.items
+
+-- The line began soundly, and each part of it ended so.
+pub record AreSound {T : Type 0} (told : DeskTold T) : Type 0 where
+  pub line : IsTrue told.line.is_sound
+  pub disk : IsTrue told.disk.is_sound
+  pub slaves : AllByRecursion (λ (part : PartTold T). IsTrue part.is_sound) told.slaves.items
+
 -- this is the EEPROM half of this slave at the end of its worker
 abbrev pub EndsWith : ℕ → Stay SiteValue SlaveLog → SlaveHalf → Type 0
 EndsWith slave end half = HasHalf slave half end.site
 
--- these are the EEPROM halves of the slaves, in order, at the ends of their workers, unless a fault is told
-abbrev pub AreHalvesOf : List (Stay SiteValue SlaveLog) → Result (Vec (Option SlaveHalf)) Fault → Type 0
-AreHalvesOf workers result = IfOk result (λ halves. AllPlaced EndsWith 0 workers (halves_of halves.items))
+-- The EEPROM halves of the slaves are those at the ends of their workers, in order, and this is told of the devices behind these.
+pub record AreLeftBy {D T : Type 0} (follows : D → Seen → Type 0) (well : D → Type 0) (tells : D → T → Type 0)
+    (workers : List (Stay SiteValue SlaveLog)) (left : OfSlaves T) : Type 0 where
+  pub halves : AllPlaced EndsWith 0 workers (halves_of left.halves.items)
+  pub told : AreToldOf follows well tells left.told.items workers
+
+-- There is nothing in these lists yet.
+abbrev pub IsRoom : {T : Type 0} → OfSlaves T → Type 0
+IsRoom room = (room.halves.items ≡ []) × (room.told.items ≡ [])
 
 -- The site's disk has the bytes that the flusher left, all of them synced, and each slave's EEPROM half is as its worker left it. It has seen no
 -- call.

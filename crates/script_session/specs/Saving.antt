@@ -40,7 +40,7 @@ pub record SavesBehind (files : Known) (line : LineFile) (before : Seen) (is_dri
 
 -- No fault was told of the work at the desk, which was closed, and the files hold the line after it, with the commands that were not
 -- submitted there.
-pub record SavesLeft (files : Known) (line : LineFile) (left : Left SiteValue) (status : ExitStatus) : Type 0 where
+pub record SavesLeft {T : Type 0} (files : Known) (line : LineFile) (left : Left SiteValue T) (status : ExitStatus) : Type 0 where
   pub worst : status ≡ Done → left.ending.status ≡ Done
   pub told : left.ending.told ≡ Ok tt
   pub behind : SavesBehind files line left.site.seen left.ending.is_driven left.unserved.items status

@@ -6,11 +6,13 @@ ghost use Rattle.site_shadow.specs.Parts.{site_of};
 ghost use Rattle.site_shadow.specs.Site.{SiteValue};
 ghost use Rattle.station_threads.specs.Places.{AllPlaced};
 ghost use Rattle.station_threads.specs.Sites.{OwnParts};
-ghost use Rattle.script_session.specs.Parts.{BeginsWith, HasDiskOf, IsServable};
+ghost use Rattle.script_session.specs.Parts.{BeginsWith, HasDiskOf, IsServable, Telling};
 ghost use Rattle.station_line.specs.Site.{IsFollowed};
 
+use crate::told::{PartTold, told_by};
 use esc_model::{FIRST_STATION, ProcessHalf, RomHalf};
-use site_shadow::{Device, Parts, ShadowSite};
+use site_core::Site;
+use site_shadow::{Device, Lends, LinePart, Parts, ShadowSite};
 use station_files::Fault;
 use station_threads::{PerDevice, Sites, own_parts};
 use std::alloc::{AllocError, Global};
@@ -46,7 +48,7 @@ fn nothing(alloc: Global, sizes: &Vec<u16>) -> Result<Parts, AllocError> {
 /// # Errors
 ///
 /// `Unserved` where the parts are not whole (`Parts::is_whole`).
-pub(crate) fn site_of<D: Device + Copy>(
+pub(crate) fn site_of<D: Device + Drop>(
     alloc: Global,
     parts: Parts,
     device: D,
@@ -57,6 +59,7 @@ pub(crate) fn site_of<D: Device + Copy>(
 {
     if !parts.is_whole() {
         drop(parts);
+        drop(device);
         return Err(Fault::Unserved);
     }
     Ok(ShadowSite::of_parts(alloc, parts, device))
@@ -72,10 +75,10 @@ fn with_half(parts: Parts, slave: usize, half: Option<RomHalf>) -> Parts
     parts
 }
 
-/// A site that owns the EEPROM half of this slave, and nothing else.
-fn slave_site<D: Device + Copy>(
+/// A site that owns the EEPROM half of this slave, and nothing else. The device of the line lends it one.
+fn slave_site<D: Lends>(
     alloc: Global,
-    device: D,
+    whole: &mut D,
     sizes: &Vec<u16>,
     slave: usize,
     half: Option<RomHalf>,
@@ -92,13 +95,13 @@ fn slave_site<D: Device + Copy>(
         return Err(Fault::Unserved);
     }
     let parts = with_half(parts, slave, half);
-    site_of(alloc, parts, device)
+    site_of(alloc, parts, whole.lend(LinePart::Slave(slave)))
 }
 
 /// A site for each slave, which owns its EEPROM half alone.
-fn slave_sites<D: Device + Copy>(
+fn slave_sites<D: Lends>(
     alloc: Global,
-    device: D,
+    whole: &mut D,
     sizes: &Vec<u16>,
     halves: Vec<Option<RomHalf>>,
 ) -> Result<Vec<ShadowSite<D>>, Fault>
@@ -107,7 +110,7 @@ fn slave_sites<D: Device + Copy>(
     let mut sites = Vec::with_capacity(alloc, halves.len())?;
     for half in halves {
         let slave = sites.len();
-        let site = slave_site(alloc, device, sizes, slave, half)?;
+        let site = slave_site(alloc, whole, sizes, slave, half)?;
         sites.push(site)?;
     }
     Ok(sites)
@@ -134,10 +137,10 @@ fn processes(alloc: Global, halves: &[Option<RomHalf>]) -> Result<Vec<ProcessHal
     Ok(processes)
 }
 
-/// A site that owns this disk, and nothing else.
-fn disk_site<D: Device + Copy>(
+/// A site that owns this disk, and nothing else. The device of the line lends it one.
+fn disk_site<D: Lends>(
     alloc: Global,
-    device: D,
+    whole: &mut D,
     sizes: &Vec<u16>,
     disk: Option<Vec<u8>>,
 ) -> Result<ShadowSite<D>, Fault>
@@ -146,13 +149,13 @@ fn disk_site<D: Device + Copy>(
 {
     let mut parts = nothing(alloc, sizes)?;
     parts.disk = disk;
-    site_of(alloc, parts, device)
+    site_of(alloc, parts, whole.lend(LinePart::Disk))
 }
 
-/// A site that owns the process halves of these slaves, just switched on, and nothing else.
-fn cycle_site<D: Device + Copy>(
+/// A site that owns the process halves of these slaves, just switched on, and nothing else. The device of the line lends it one.
+fn cycle_site<D: Lends>(
     alloc: Global,
-    device: D,
+    whole: &mut D,
     sizes: &Vec<u16>,
     halves: &[Option<RomHalf>],
 ) -> Result<ShadowSite<D>, Fault> {
@@ -160,7 +163,7 @@ fn cycle_site<D: Device + Copy>(
     match nothing(alloc, sizes) {
         Ok(mut parts) => {
             parts.process = Some(processes);
-            site_of(alloc, parts, device)
+            site_of(alloc, parts, whole.lend(LinePart::Process))
         }
         Err(AllocError) => {
             drop(processes);
@@ -170,9 +173,9 @@ fn cycle_site<D: Device + Copy>(
 }
 
 /// A site that owns this disk alone, and one that owns the process halves of these slaves alone.
-fn disk_and_cycle<D: Device + Copy>(
+fn disk_and_cycle<D: Lends>(
     alloc: Global,
-    device: D,
+    whole: &mut D,
     sizes: &Vec<u16>,
     disk: Option<Vec<u8>>,
     halves: &[Option<RomHalf>],
@@ -180,8 +183,8 @@ fn disk_and_cycle<D: Device + Copy>(
     ensures disk { IfOk result (λ sites. HasDiskOf disk sites.0) }
     ensures new { IfOk result (λ sites. sites.0.seen.past ≡ []) }
 {
-    let cycle = cycle_site(alloc, device, sizes, halves)?;
-    match disk_site(alloc, device, sizes, disk) {
+    let cycle = cycle_site(alloc, whole, sizes, halves)?;
+    match disk_site(alloc, whole, sizes, disk) {
         Ok(disk) => Ok((disk, cycle)),
         Err(fault) => {
             drop(cycle);
@@ -190,10 +193,10 @@ fn disk_and_cycle<D: Device + Copy>(
     }
 }
 
-/// The sites of the line's parts, each with a copy of the device. The process halves are just switched on.
-fn sites_of<D: Device + Copy>(
+/// The sites of the line's parts, each with a device that the line's lends it. The process halves are just switched on.
+fn sites_of<D: Lends>(
     alloc: Global,
-    device: D,
+    whole: &mut D,
     line: Parts,
 ) -> Result<Sites<ShadowSite<D>>, Fault>
     ensures disk { IfOk result (λ sites. HasDiskOf line.disk sites.disk) }
@@ -208,8 +211,8 @@ fn sites_of<D: Device + Copy>(
         process,
     } = line;
     drop(process);
-    let (disk, cycle) = disk_and_cycle(alloc, device, &sizes, disk, &halves)?;
-    match slave_sites(alloc, device, &sizes, halves) {
+    let (disk, cycle) = disk_and_cycle(alloc, whole, &sizes, disk, &halves)?;
+    match slave_sites(alloc, whole, &sizes, halves) {
         Ok(slaves) => Ok(PerDevice {
             disk,
             slaves,
@@ -234,7 +237,7 @@ fn reaches(parts: &Parts, capacity: u32) -> bool
 }
 
 /// The sites, if each owns its part (`own_parts`); otherwise `Unserved`.
-fn whole_sites<D: Device + Copy>(sites: Sites<ShadowSite<D>>) -> Result<Sites<ShadowSite<D>>, Fault>
+fn whole_sites<D: Device + Drop>(sites: Sites<ShadowSite<D>>) -> Result<Sites<ShadowSite<D>>, Fault>
     ensures { IfOk result (λ same. (same ≡ sites) × OwnParts (λ (s : SiteValue). s.line) same.disk same.slaves.items same.cycle) }
 {
     if own_parts(&sites) {
@@ -245,25 +248,34 @@ fn whole_sites<D: Device + Copy>(sites: Sites<ShadowSite<D>>) -> Result<Sites<Sh
     }
 }
 
-/// Takes a line apart into sites, each with a copy of its device. The disk must reach to the end of a journal's area of `capacity` bytes.
-/// The process halves are just switched on.
+/// Takes a line apart into sites, to each of which its device lends one. Gives the sites, the device of the line, and what was told of that before
+/// it lent any. The disk must reach to the end of a journal's area of `capacity` bytes. The process halves are just switched on.
 ///
 /// # Errors
 ///
 /// `Unserved` where the site isn't a whole line with such a disk; `Memory`. The site is dropped.
-pub(crate) fn take_apart<D: Device + Copy>(
+pub(crate) fn take_apart<D: Lends>(
     alloc: Global,
     site: ShadowSite<D>,
     capacity: u32,
-) -> Result<Sites<ShadowSite<D>>, Fault>
-    ensures sites { IfOk result (λ sites. IsServable capacity site.seen.state sites) }
+) -> Result<(Sites<ShadowSite<D>>, D, PartTold<D::Told>), Fault>
+    ensures sites { IfOk result (λ apart. IsServable capacity site.seen.state apart.0) }
+    ensures told { IfOk result (λ apart. IsFollowed (Telling D.follows D.well D.tells apart.2) site.seen) }
     ensures followed { IsFollowed D.follows site.seen }
+    ensures count { length site.line.sizes ≡ length site.seen.state.halves }
 {
-    let (parts, device) = site.into_parts();
+    // Its contract says that there is a half for each slave.
+    let _slaves = site.slaves();
+    let has_stopped = site.has_stopped();
+    let (parts, mut whole) = site.into_parts();
+    let told = told_by(&mut whole, has_stopped);
     if !reaches(&parts, capacity) {
         drop(parts);
+        drop(whole);
+        drop(told);
         return Err(Fault::Unserved);
     }
-    let sites = sites_of(alloc, device, parts)?;
-    whole_sites(sites)
+    let sites = sites_of(alloc, &mut whole, parts)?;
+    let owned = whole_sites(sites)?;
+    Ok((owned, whole, told))
 }

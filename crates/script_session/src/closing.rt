@@ -44,7 +44,7 @@ pub(crate) struct AtDesk<S: Site> {
 
 /// Closes the desk with the submitter's share and receipts and the ends of the threads. Prints the totals if the commands were submitted.
 /// `room` is an empty list with room for the share.
-pub(crate) fn hand_in<T: Tickets, R: Refusals, C: Asked, O: Write, D: Device + Copy>(
+pub(crate) fn hand_in<T: Tickets, R: Refusals, C: Asked, O: Write, D: Device + Drop>(
     desk: Desk<T, R>,
     submitter: Submitter<'_, T, R, C, O>,
     room: Vec<Share<T, R>>,
@@ -131,7 +131,7 @@ pub(crate) type Told<D> = (
 );
 
 /// Closes the desk, and prints the totals if `has_totals`.
-pub(crate) fn close_desk<T: Tickets, R: Refusals, O: Write, D: Device + Copy>(
+pub(crate) fn close_desk<T: Tickets, R: Refusals, O: Write, D: Device + Drop>(
     desk: Desk<T, R>,
     shares: Vec<Share<T, R>>,
     receipts: Vec<Receipt>,
@@ -151,7 +151,7 @@ pub(crate) fn close_desk<T: Tickets, R: Refusals, O: Write, D: Device + Copy>(
 }
 
 /// Prints the totals of a closed desk, if `has_totals`.
-fn tell_closed<T: Tickets, R: Refusals, O: Write, D: Device + Copy>(
+fn tell_closed<T: Tickets, R: Refusals, O: Write, D: Device + Drop>(
     closed: Closed<T, R, ShadowSite<D>>,
     has_totals: bool,
     output: &mut O,
@@ -167,7 +167,7 @@ fn tell_closed<T: Tickets, R: Refusals, O: Write, D: Device + Copy>(
 }
 
 /// Gives the reason why a desk isn't closed, and prints the totals if `has_totals`.
-fn tell_open<T: Tickets, R: Refusals, O: Write, D: Device + Copy>(
+fn tell_open<T: Tickets, R: Refusals, O: Write, D: Device + Drop>(
     left: NotClosed<T, R, ShadowSite<D>>,
     has_totals: bool,
     output: &mut O,

@@ -12,6 +12,7 @@ mod submitter;
 mod submitting;
 mod threads;
 mod together;
+mod told;
 mod work;
 
 pub use closing::Ending;
@@ -19,4 +20,5 @@ pub use redoing::{Redone, redo_by_threads};
 pub use soundness::is_sound;
 pub use station_threads::CloseFault;
 pub use threads::{Left, NotServed, serve_by_threads};
+pub use told::{DeskTold, PartTold};
 pub use work::Work;

@@ -15,12 +15,12 @@ ghost use Rattle.script_session.specs.Redoing.{
 };
 
 use crate::closing::close_desk;
-use crate::soundness::{is_sound, judge_ends};
-use crate::threads::{Opened, Opening, open_desk, prepare, serve_sites};
+use crate::soundness::{disk_is_synced, judge_ends};
+use crate::threads::{Opened, Opening, Prepared, open_desk, prepare, serve_sites};
 use crate::together::put_together;
 use book_model::RomNext;
 use site_core::Site;
-use site_shadow::{Device, ShadowSite};
+use site_shadow::{Device, Lends, ShadowSite};
 use station_alone::Alone;
 use station_files::Fault;
 use station_jobs::{End, NoHook, RomEntry, SlaveLog};
@@ -57,7 +57,7 @@ impl<T: Tickets, R: Refusals> Client<T, R> for NoCommand {
 ///
 /// `Unserved` where the station's site can't be taken apart, what is put together in the end isn't a line with its disk and `slaves`
 /// slaves; `Memory`; the fault that has closed the book; or that of `judge_ends`. The site is dropped.
-pub fn redo_by_threads<D: Device + Copy + Send, W: Wait + Threads + Sync>(
+pub fn redo_by_threads<D: Lends + Send, W: Wait + Threads + Sync>(
     rt: &W,
     alloc: Global,
     alone: Alone<ShadowSite<D>>,
@@ -70,8 +70,7 @@ pub fn redo_by_threads<D: Device + Copy + Send, W: Wait + Threads + Sync>(
 {
     let capacity = alone.core().capacity();
     let (core, site) = alone.into_parts();
-    let began_soundly = is_sound(&site);
-    let (sites, room) = match prepare(alloc, site, capacity, slaves) {
+    let Prepared { sites, whole } = match prepare(alloc, site, capacity, slaves) {
         Ok(prepared) => prepared,
         Err(fault) => {
             drop(core);
@@ -80,8 +79,10 @@ pub fn redo_by_threads<D: Device + Copy + Send, W: Wait + Threads + Sync>(
     };
     let ends = redo_at_desk::<Brand, Brand, D, W>(rt, alloc, Opening::of(core), sites)?;
     let words = issues_of(ends.workers.as_slice());
-    let sound = judge_ends(began_soundly, &ends);
-    let site = put_together(alloc, room, slaves, ends)?;
+    let is_synced = disk_is_synced(&ends);
+    let (site, told) = put_together(alloc, whole, slaves, ends)?;
+    let sound = judge_ends(&told, is_synced);
+    drop(told);
     match sound {
         Ok(()) => Ok(Redone { site, words }),
         Err(fault) => {
@@ -95,7 +96,7 @@ pub fn redo_by_threads<D: Device + Copy + Send, W: Wait + Threads + Sync>(
 fn redo_at_desk<
     T: Tickets + Send + Sync,
     R: Refusals + Send + Sync,
-    D: Device + Copy + Send,
+    D: Device + Drop + Send,
     W: Wait + Threads + Sync,
 >(
     rt: &W,
@@ -122,7 +123,7 @@ fn redo_at_desk<
 fn redo_opened<
     T: Tickets + Send + Sync,
     R: Refusals + Send + Sync,
-    D: Device + Copy + Send,
+    D: Device + Drop + Send,
     W: Wait + Threads + Sync,
 >(
     rt: &W,
@@ -155,7 +156,7 @@ fn redo_opened<
 }
 
 /// Closes a desk without receipts, and gives the ends back.
-fn close_redone<T: Tickets, R: Refusals, D: Device + Copy>(
+fn close_redone<T: Tickets, R: Refusals, D: Device + Drop>(
     alloc: Global,
     desk: Desk<T, R>,
     shares: Vec<Share<T, R>>,
@@ -198,7 +199,7 @@ fn issues_in(jobs: &[RomEntry]) -> usize
 }
 
 /// The number of issues in the logs of these workers; `u64::MAX` where there are more.
-fn issues_of<D: Device + Copy>(workers: &[End<ShadowSite<D>, SlaveLog>]) -> u64
+fn issues_of<D: Device>(workers: &[End<ShadowSite<D>, SlaveLog>]) -> u64
     ensures { IsCount (issues_of workers.now) result }
 {
     let mut words: u64 = 0;

@@ -3,14 +3,15 @@
 ghost use Rattle.std.specs.Prelude.{◌≡◌, length, Ok, Some, IsTrue, OnOk};
 ghost use Rattle.std.specs.List.{AllByRecursion};
 ghost use Rattle.book_model.specs.declared.next.DiskNext.TheVariants as next;
-ghost use Rattle.script_session.specs.Parts.{AreFollowed, EndsSynced, IsWorkFollowed, Soundly};
+ghost use Rattle.script_session.specs.Parts.{AreSound, EndsSynced, Soundly};
 ghost use Rattle.station_line.specs.Site.{IsFollowed};
 
+use crate::told::{DeskTold, PartTold};
 use book_model::DiskNext;
 use site_core::Site;
 use site_shadow::{Device, ShadowSite};
 use station_files::Fault;
-use station_jobs::{DiskEntry, End, SlaveLog};
+use station_jobs::DiskEntry;
 use station_threads::Ends;
 
 /// Whether the site goes on, and nothing has failed that its device was asked.
@@ -23,51 +24,43 @@ pub fn is_sound<D: Device>(site: &ShadowSite<D>) -> bool
     !site.has_stopped() && site.is_followed()
 }
 
-/// Whether the parts of a line ended soundly whose site did so before: `began_soundly`.
+/// Whether the parts of a line ended soundly whose site did so before, by what is told of their devices. `is_synced` says whether the disk's log
+/// ends with a sync (`disk_is_synced`).
 ///
 /// # Errors
 ///
 /// `Unserved` where a site has stopped, or something has failed that a device was asked; else `Memory` where the disk's log doesn't end with a
 /// sync, since its jobs stopped for want of memory.
-pub(crate) fn judge_ends<D: Device + Copy>(
-    began_soundly: bool,
-    ends: &Ends<ShadowSite<D>>,
-) -> Result<(), Fault>
-    ensures began { OnOk result (IsTrue began_soundly) }
-    ensures followed { OnOk result (AreFollowed (Soundly D.follows D.well) ends.now) }
-    ensures synced { OnOk result (EndsSynced ends.now.flusher.log) }
+pub(crate) fn judge_ends<T>(told: &DeskTold<T>, is_synced: bool) -> Result<(), Fault>
+    ensures { OnOk result (AreSound told.now × IsTrue is_synced) }
 {
-    // Its contract says what led the site of the disk to its end.
-    let log = ends.flusher.log().as_slice();
-    if !began_soundly || !is_sound(ends.flusher.site()) || !are_sound(ends.workers.as_slice()) {
+    if !told.line.is_sound || !told.disk.is_sound || !are_sound(told.slaves.as_slice()) {
         return Err(Fault::Unserved);
     }
-    if ends_synced(log) {
+    if is_synced {
         Ok(())
     } else {
         Err(Fault::Memory)
     }
 }
 
-/// Whether this worker ended soundly.
-fn ended_soundly<D: Device + Copy>(end: &End<ShadowSite<D>, SlaveLog>) -> bool
-    ensures { IsTrue result → IsWorkFollowed (Soundly D.follows D.well) end.now }
+/// Whether all these parts ended soundly.
+fn are_sound<T>(parts: &[PartTold<T>]) -> bool
+    ensures { IsTrue result → AllByRecursion (λ part. IsTrue part.is_sound) parts.now }
 {
-    // Its contract says what led the site here.
-    let _log = end.log();
-    is_sound(end.site())
-}
-
-/// Whether all workers did.
-fn are_sound<D: Device + Copy>(workers: &[End<ShadowSite<D>, SlaveLog>]) -> bool
-    ensures { IsTrue result → AllByRecursion (IsWorkFollowed (Soundly D.follows D.well)) workers.now }
-{
-    for place in 0..workers.len() {
-        if !ended_soundly(&workers[place]) {
+    for place in 0..parts.len() {
+        if !parts[place].is_sound {
             return false;
         }
     }
     true
+}
+
+/// Whether the log of the disk's part is empty, or ends with a sync that succeeded.
+pub(crate) fn disk_is_synced<D: Device>(ends: &Ends<ShadowSite<D>>) -> bool
+    ensures { IsTrue result → EndsSynced ends.now.flusher.log }
+{
+    ends_synced(ends.flusher.log().as_slice())
 }
 
 /// Whether the log of a disk is empty, or ends with a sync that succeeded.

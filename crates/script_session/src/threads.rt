@@ -1,22 +1,35 @@
 //! Serves a line by threads.
 
-ghost use Rattle.std.specs.Prelude.{◌≡◌, ◌+◌, ◌≤◌, [], false, vec_capacity, IfErr, IfOk, IsTrue};
+ghost use Rattle.std.specs.Prelude.{◌≡◌, ◌+◌, ◌≤◌, [], false, length, vec_capacity, IfErr, IfOk, IsTrue, OnOk};
+ghost use Rattle.site_core.specs.State.{Seen};
 ghost use Rattle.script_session.specs.Asking.{no_counts};
 ghost use Rattle.script_session.specs.AtDesk.{EndsApart, LeavesSo, OpensDesk, ServesFollowed, ServesSites};
-ghost use Rattle.script_session.specs.Parts.{AreEndsOfParts, AreFollowed, IsLineOf, IsServable, IsTogether, OwnUpTo};
+ghost use Rattle.script_session.specs.Parts.{
+  AreEndsOfParts,
+  AreFollowed,
+  AreSound,
+  EndsSynced,
+  IsDeskTold,
+  IsLineOf,
+  IsRoom,
+  IsServable,
+  IsTogether,
+  OwnUpTo,
+  Telling,
+};
 ghost use Rattle.station_line.specs.Site.{IsFollowed};
 
 use crate::apart::take_apart;
 use crate::asked::Asked;
 use crate::closing::{AtDesk, Ending, hand_in};
-use crate::soundness::{is_sound, judge_ends};
+use crate::soundness::{disk_is_synced, judge_ends};
 use crate::submitter::Submitter;
-use crate::together::put_together;
+use crate::together::{OfSlaves, Whole, put_together};
+use crate::told::DeskTold;
 use crate::work::Work;
 use book_core::Core;
-use esc_model::RomHalf;
 use sii_edit::Command;
-use site_shadow::{Device, ShadowSite};
+use site_shadow::{Device, Lends, ShadowSite};
 use station_alone::Alone;
 use station_files::{ExitStatus, Fault};
 use station_jobs::NoHook;
@@ -29,9 +42,9 @@ use std::marker::{Brand, PhantomData};
 use std::sync::Wait;
 use std::thread::Threads;
 
-/// A line after it was served at a desk.
+/// A line after it was served at a desk. `T` is what its devices tell.
 #[derive(Drop)]
-pub struct Left<S> {
+pub struct Left<S, T> {
     /// The line, put together again.
     pub site: S,
     /// The commands where they were not submitted, and otherwise none.
@@ -42,6 +55,8 @@ pub struct Left<S> {
     /// failed that a device was asked, though the desk may have been told of nothing; `Memory` where the disk isn't synced, since jobs
     /// stopped for want of memory.
     pub sound: Result<(), Fault>,
+    /// What is told of the devices of the line and its parts.
+    pub told: DeskTold<T>,
 }
 
 /// Why a line was not served, or not put together again behind that.
@@ -75,25 +90,24 @@ impl NotServed {
 /// `Unserved` where the station's site can't be taken apart, or what is put together in the end isn't a line with its disk and `slaves`
 /// slaves; `Memory`. At the desk nothing fails but for want of memory. The site is dropped. A fault during the work is no error here:
 /// `Left::ending` has it.
-pub fn serve_by_threads<D: Device + Copy + Send, O: Write, W: Wait + Threads + Sync>(
+pub fn serve_by_threads<D: Lends + Send, O: Write, W: Wait + Threads + Sync>(
     rt: &W,
     alloc: Global,
     alone: Alone<ShadowSite<D>>,
     slaves: usize,
     work: Work,
     output: &mut O,
-) -> Result<Left<ShadowSite<D>>, NotServed>
+) -> Result<Left<ShadowSite<D>, D::Told>, NotServed>
     requires { alone.book.accepted ≡ [] }
     ensures line { IfOk result (λ left. IsLineOf slaves left.site.line) }
     ensures left { IfOk result (λ left. LeavesSo alone work.commands.items left.ending left.site) }
-    ensures parts { IfOk result (λ left. ServesFollowed D.follows D.well alone work.commands.items left) }
+    ensures parts { IfOk result (λ left. ServesFollowed D.follows D.well D.tells alone work.commands.items left) }
     ensures before { IsFollowed D.follows alone.seen }
     ensures failed { IfErr result (λ why. IsTrue why.is_begun → EndsApart D.follows alone work.commands.items) }
     ensures unserved { IfOk result (λ left. left.ending.is_driven ≡ false → left.unserved.items ≡ work.commands.items) }
 {
     let (core, site) = alone.into_parts();
-    let began_soundly = is_sound(&site);
-    let (sites, room) = match prepare(alloc, site, core.capacity(), slaves) {
+    let Prepared { sites, whole } = match prepare(alloc, site, core.capacity(), slaves) {
         Ok(prepared) => prepared,
         Err(fault) => {
             drop(core);
@@ -103,65 +117,82 @@ pub fn serve_by_threads<D: Device + Copy + Send, O: Write, W: Wait + Threads + S
     };
     let opening = Opening::of(core);
     match serve_at_desk::<Brand, Brand, Brand, D, O, W>(rt, alloc, opening, sites, work, output) {
-        Ok(at) => {
-            let sound = judge_ends(began_soundly, &at.ends);
-            put_back(alloc, room, slaves, at, sound)
-        }
+        Ok(at) => put_back(alloc, whole, slaves, at),
         Err(AllocError) => {
-            drop(room);
+            drop(whole);
             Err(NotServed::unbegun(Fault::Memory))
         }
     }
 }
 
-/// The sites of a line, and an empty list with room for the halves of its slaves.
-pub(crate) fn prepare<D: Device + Copy>(
+/// What a line is taken apart into: the sites of its parts, and what is kept to put it together again.
+#[derive(Drop)]
+pub(crate) struct Prepared<D: Device, T> {
+    pub(crate) sites: Sites<ShadowSite<D>>,
+    pub(crate) whole: Whole<D, T>,
+}
+
+/// Takes a line apart, and makes room to put it together again.
+pub(crate) fn prepare<D: Lends>(
     alloc: Global,
     site: ShadowSite<D>,
     capacity: u32,
     slaves: usize,
-) -> Result<(Sites<ShadowSite<D>>, Vec<Option<RomHalf>>), Fault>
-    ensures sites { IfOk result (λ prepared. IsServable capacity site.seen.state prepared.0) }
-    ensures room { IfOk result (λ prepared. prepared.1.items ≡ []) }
+) -> Result<Prepared<D, D::Told>, Fault>
+    ensures sites { IfOk result (λ prepared. IsServable capacity site.seen.state prepared.sites) }
+    ensures room { IfOk result (λ prepared. IsRoom prepared.whole.room) }
+    ensures told { IfOk result (λ prepared. IsFollowed (Telling D.follows D.well D.tells prepared.whole.told) site.seen) }
     ensures followed { IsFollowed D.follows site.seen }
+    ensures count { length site.line.sizes ≡ length site.seen.state.halves }
 {
-    let sites = take_apart(alloc, site, capacity)?;
-    match Vec::with_capacity(alloc, slaves) {
-        Ok(room) => Ok((sites, room)),
+    let (sites, device, told) = take_apart(alloc, site, capacity)?;
+    match OfSlaves::room(alloc, slaves) {
+        Ok(room) => Ok(Prepared {
+            sites,
+            whole: Whole { device, told, room },
+        }),
         Err(AllocError) => {
             drop(sites);
+            drop(device);
+            drop(told);
             Err(Fault::Memory)
         }
     }
 }
 
-/// Puts a line of `slaves` slaves together again, which a desk has served.
-fn put_back<D: Device + Copy>(
+/// Puts a line of `slaves` slaves together again, which a desk has served, with its device, and tells of the devices.
+fn put_back<D: Lends>(
     alloc: Global,
-    room: Vec<Option<RomHalf>>,
+    whole: Whole<D, D::Told>,
     slaves: usize,
     at: AtDesk<ShadowSite<D>>,
-    sound: Result<(), Fault>,
-) -> Result<Left<ShadowSite<D>>, NotServed>
-    requires { room.items ≡ [] }
+) -> Result<Left<ShadowSite<D>, D::Told>, NotServed>
+    requires { IsRoom whole.room }
     ensures line { IfOk result (λ left. IsLineOf slaves left.site.line) }
     ensures left { IfOk result (λ left. IsTogether at.ends left.site × (left.ending ≡ at.ending)) }
     ensures followed { AreFollowed D.follows at.ends }
     ensures unserved { IfOk result (λ left. left.unserved ≡ at.unserved) }
-    ensures sound { IfOk result (λ left. left.sound ≡ sound) }
+    ensures told { IfOk result (λ left. (opened : Seen) → IsFollowed (Telling D.follows D.well D.tells whole.told) opened
+        → IsDeskTold D.follows D.well D.tells opened left.told at.ends) }
+    ensures sound { IfOk result (λ left. OnOk left.sound (AreSound left.told × EndsSynced at.ends.flusher.log)) }
 {
     let AtDesk {
         ends,
         ending,
         unserved,
     } = at;
-    match put_together(alloc, room, slaves, ends) {
-        Ok(site) => Ok(Left {
-            site,
-            unserved,
-            ending,
-            sound,
-        }),
+    let is_synced = disk_is_synced(&ends);
+    match put_together(alloc, whole, slaves, ends) {
+        Ok((site, told)) => {
+            let sound = judge_ends(&told, is_synced);
+            Ok(Left {
+                site,
+                unserved,
+                ending,
+                sound,
+                told,
+            })
+        }
         Err(fault) => {
             drop(unserved);
             Err(NotServed {
@@ -178,7 +209,7 @@ fn serve_at_desk<
     T: Tickets + Send + Sync,
     R: Refusals + Send + Sync,
     C: Asked,
-    D: Device + Copy + Send,
+    D: Device + Drop + Send,
     O: Write,
     W: Wait + Threads + Sync,
 >(
@@ -210,7 +241,7 @@ fn serve_opened<
     T: Tickets + Send + Sync,
     R: Refusals + Send + Sync,
     C: Asked,
-    D: Device + Copy + Send,
+    D: Device + Drop + Send,
     O: Write,
     W: Wait + Threads + Sync,
 >(
@@ -311,7 +342,7 @@ pub(crate) fn open_desk<T: Tickets, R: Refusals>(
 pub(crate) fn serve_sites<
     T: Tickets + Send + Sync,
     R: Refusals + Send + Sync,
-    D: Device + Copy + Send,
+    D: Device + Drop + Send,
     K: Client<T, R>,
     W: Wait + Threads + Sync,
 >(

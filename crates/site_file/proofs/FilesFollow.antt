@@ -24,7 +24,9 @@ use Rattle.site_file.specs.declared.asking.LineFile.{LineFile}
 use Rattle.site_file.specs.declared.asking.LineFile.TheVariants.{Journal, Image}
 use Rattle.site_file.specs.declared.files.FileDevice.{FileDevice}
 use Rattle.site_file.specs.Calls.{Asked, asked, writes, syncs}
+use Rattle.site_file.specs.declared.asking.Log.{Log}
 use Rattle.site_file.specs.Asking.{HasLog, Asks}
+use Rattle.site_file.proofs.SeveralCalls.{asks_nothing, goes_on as log_goes_on}
 use Rattle.site_file.specs.Device as device
 use Rattle.site_file.specs.Files.{File, IsBytes, sound, image_of, BecomesBy, MayBeLeft}
 use Rattle.site_file.specs.Held.{of_file}
@@ -153,7 +155,7 @@ module _ {F : Type 0} (since : ℕ) (owned : LineFile → Bool) (begun : LineFil
       record {
         pieces = follows.pieces;
         last = follows.last;
-        has = subst (λ (n : ℕ). HasLog n (calls_of follows.pieces ++ follows.last)) (sym same) follows.has;
+        has = subst (λ (n : Log). HasLog n (calls_of follows.pieces ++ follows.last)) (sym same) follows.has;
         few = (let on : clock old ≤ clock new = Extends-clock old new extends in omega (arith, few, on));
         all = λ sound_yet going. absurd (over sound_yet going);
         leaves = λ place piece images bytes is left.
@@ -188,7 +190,7 @@ module _ {F : Type 0} (since : ℕ) (owned : LineFile → Bool) (begun : LineFil
       held name file is_owned becomes = follows.holds going not_stopped name file is_owned becomes
 
       log : HasLog later.asking.calls ((calls_of follows.pieces ++ follows.last) ++ calls)
-      log = asks.goes_on (calls_of follows.pieces ++ follows.last) follows.has
+      log = log_goes_on asks (calls_of follows.pieces ++ follows.last) follows.has
 
       holds_all : later.has_failed ≡ false → ¬ IsTrue new.is_stopped → (name : LineFile) (file : File) → IsTrue (owned name)
           → BecomesBy (of_file name ((calls_of follows.pieces ++ follows.last) ++ calls)) (begun name) file → Holds new.state name file
@@ -313,7 +315,7 @@ module _ {F : Type 0} (since : ℕ) (owned : LineFile → Bool) (begun : LineFil
       by true stopped failed is = stays old new d d refl (λ sound_yet going. absurd (let e : true ≡ false = sym failed ∙ sound_yet in cc)) goes.extends follows
       by false true failed is = stays old new d d refl (λ sound_yet going. going (goes.extends.stopped is)) goes.extends follows
       by false false failed is =
-          asks_more old new d d [] failed is (record { goes_on = λ log had. subst (λ (l : List Asked). HasLog d.asking.calls l) (sym (append-nil log)) had })
+          asks_more old new d d [] failed is (asks_nothing d.asking.calls)
           goes.extends
           (λ files images bytes holds left.
           let shown = left_at_first old.state owned files holds images left in (shown.0, Extends-now old new shown.0 goes.extends shown.1, shown.2))
@@ -404,7 +406,7 @@ module _ {F : Type 0} (since : ℕ) (owned : LineFile → Bool) (begun : LineFil
       → FilesFollow since owned begun d old → FilesFollow since owned begun later new
   write_step old new d later at bytes passing given inside running wrote passes (device.over failed stops same) follows =
       over since owned begun old new d later (ap (λ (x : FileDevice F). x.asking.calls) same)
-      (subst (λ (x : FileDevice F). IsTrue x.has_failed) (sym same) failed) (Extends-by old new wrote.middle given wrote.call) follows
+      (subst (λ (x : FileDevice F). IsTrue x.has_failed) (sym same) refl) (Extends-by old new wrote.middle given wrote.call) follows
   write_step old new d later at bytes passing given inside running wrote passes (device.passes going asks passed going_on) follows =
       write_asked old new d later at bytes given true inside running wrote going (λ done. passes passed) (λ e. absurd cc) asks follows
   write_step old new d later at bytes passing given inside running wrote passes (device.fails going asks fails failed) follows =
@@ -471,7 +473,7 @@ module _ {F : Type 0} (since : ℕ) (owned : LineFile → Bool) (begun : LineFil
       → FilesFollow since owned begun d old → FilesFollow since owned begun later new
   sync_step old new d later passing given running syncs_it passes (device.over failed stops same) follows =
       over since owned begun old new d later (ap (λ (x : FileDevice F). x.asking.calls) same)
-      (subst (λ (x : FileDevice F). IsTrue x.has_failed) (sym same) failed) (Extends-by old new [] given syncs_it.call) follows
+      (subst (λ (x : FileDevice F). IsTrue x.has_failed) (sym same) refl) (Extends-by old new [] given syncs_it.call) follows
   sync_step old new d later passing given running syncs_it passes (device.passes going asks passed going_on) follows =
       sync_asked old new d later given true running syncs_it going (λ done. passes passed) (λ e. absurd cc) asks follows
   sync_step old new d later passing given running syncs_it passes (device.fails going asks fails failed) follows =

@@ -1,5 +1,5 @@
 -- A device of files follows the site through each call.
-use Rattle.std.proofs.Common.{◌≡◌, ◌↔◌, ℕ, Bool, true, false, not, ◌||◌, List, [], Option, IsTrue, refl, sym, subst, ◌∙◌}
+use Rattle.std.proofs.Common.{◌≡◌, ◌↔◌, ℕ, Bool, true, false, not, ◌||◌, List, [], Option, IsTrue, refl, sym, ap, subst, ◌∙◌}
 use Rattle.esc_model.specs.declared.rest.WordWrite.{WordWrite}
 use Rattle.esc_model.specs.SlaveHalf.{SlaveHalf, in_flight}
 use Rattle.esc_model.specs.Datagrams.{served_datagram}
@@ -25,10 +25,13 @@ GoesOn-same seen = record {
   kept = λ going. record { bytes = refl; synced_length = refl; synced = λ at is. is; words = λ slave half here. (half, here, refl) };
 }
 
+pub failed_already : {F : Type 0} (d : FileDevice F) → IsTrue d.has_failed → record d { has_failed = true } ≡ d
+failed_already d failed = ap (λ (b : Bool). record d { has_failed = b }) (sym failed)
+
 -- A device that has failed is left as it is by each call.
 same_journal : {F : Type 0} (call : Call) (before after : FileDevice F) (result : Passing) → IsTrue before.has_failed → CallsJournal call before result after
     → after ≡ before
-same_journal call before after result failed (device.over is stops same) = same
+same_journal call before after result failed (device.over lacks stops same) = same ∙ failed_already before failed
 same_journal call before after result failed (device.passes going asks passed sound) = absurd (let e : true ≡ false = sym failed ∙ going in cc)
 same_journal call before after result failed (device.fails going asks fails now) = absurd (let e : true ≡ false = sym failed ∙ going in cc)
 
@@ -37,7 +40,7 @@ same_length before after result failed (device.calls one) = same_journal tells_l
 same_length before after result failed (device.differs going asks stops sound) = absurd (let e : true ≡ false = sym failed ∙ going in cc)
 
 same_read : {F : Type 0} (before after : FileDevice F) (result : Passing) → IsTrue before.has_failed → ReadsJournal before result after → after ≡ before
-same_read before after result failed (device.over is stops same) = same
+same_read before after result failed (device.over lacks stops same) = same ∙ failed_already before failed
 same_read before after result failed (device.compared going asks passed sound) = absurd (let e : true ≡ false = sym failed ∙ going in cc)
 same_read before after result failed (device.fails going asks fails now) = absurd (let e : true ≡ false = sym failed ∙ going in cc)
 

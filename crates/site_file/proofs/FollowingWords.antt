@@ -1,6 +1,5 @@
 -- The files behind a site follow it as a half becomes idle, and over any number of steps.
-use Rattle.std.proofs.Common.{◌≡◌, ◌⊎◌, Any, ℕ, zero, suc, Bool, true, false, List, [], ◌∷◌, ◌++◌, ◌==◌, ◌+◌, ◌<◌, ◌^◌, length, take, Some, None, slice_get, slice_set, IsTrue, if◌then◌else◌, refl, sym, ap, subst, ◌∙◌, inl, inr, arith, append_assoc}
-use Rattle.std.proofs.lemmas.List.{append-nil}
+use Rattle.std.proofs.Common.{◌≡◌, ◌⊎◌, ℕ, zero, suc, Bool, true, false, List, [], ◌∷◌, ◌++◌, ◌==◌, ◌+◌, ◌<◌, ◌^◌, length, take, Some, None, slice_get, slice_set, IsTrue, if◌then◌else◌, refl, sym, ap, subst, ◌∙◌, inl, inr, arith, append_assoc}
 use Rattle.std.specs.List.{AllByRecursion}
 use Rattle.std.proofs.lemmas.Bool.{eqb-true, eq-eqb}
 use Rattle.esc_model.specs.declared.rest.WordWrite.{WordWrite}
@@ -14,17 +13,20 @@ use Rattle.site_file.specs.declared.asking.LineFile.{LineFile}
 use Rattle.site_file.specs.declared.asking.LineFile.TheVariants.{Journal, Image}
 use Rattle.site_file.specs.declared.files.FileDevice.{FileDevice}
 use Rattle.site_file.specs.Calls.{Call, Asked, asked, tells_length, reads, writes, syncs}
+use Rattle.site_file.specs.declared.asking.Log.{Log}
 use Rattle.site_file.specs.Asking.{HasLog, Asks, AsksToRead, nothing, piece, WordCalls}
+use Rattle.site_file.proofs.SeveralCalls.{asks_nothing, asks_both, goes_on as log_goes_on}
 use Rattle.site_file.specs.Device as device
 use Rattle.site_file.specs.Files.{File, IsBytes, image_of, Becomes, BecomesBy, MayBeLeft, under_way}
 use Rattle.site_file.specs.Held.{is_same, of_file, with_file}
 use Rattle.site_file.specs.Laws.{IsFlying}
 use Rattle.site_file.specs.Following as following
 use Rattle.site_file.specs.Following.{ChangesNoFile, FitsWords, Step, Run, Follows}
+use Rattle.site_shadow.specs.Following as shadow
 use Rattle.site_shadow.specs.Following.{Extends, KeepsContents, begin_of, first_of}
 use Rattle.site_shadow.proofs.Keeping.{Extends-by}
 use Rattle.site_shadow.proofs.Towards.{now_left, Extends-now, Extends-first, towards_since}
-use Rattle.site_file.specs.AllFiles.{AreLeft, AreLeftBehind, LeadTo, calls_of, ShowOne, HoldsDisk, HoldsWords, Holds, FilesFollow, BeginsToFollow, FollowsOn, SiteIsFollowed}
+use Rattle.site_file.specs.AllFiles.{AreLeft, AreLeftBehind, calls_of, ShowOne, HoldsDisk, HoldsWords, Holds, FilesFollow, BeginsToFollow, FollowsOn, SiteIsFollowed}
 use Rattle.site_file.proofs.AllFiles.{earlier_or_later, left_of_each}
 use Rattle.site_file.proofs.PairsLeft.{IsLeftOfSlave, IsLeftOfPart, ShownPair, shown_pair}
 use Rattle.site_file.proofs.OneFile.{AllOf, is_same-true, of_file-append, of_file-same, of_file-other}
@@ -266,7 +268,7 @@ quiet_behind (call ∷ calls) others files images quiet (inr (mid, becomes, left
     inr (mid, becomes, quiet_behind calls others (with_file files call.file mid) images quiet left)
 
 -- what is asked as a file is read
-record Reads (old new : ℕ) : Type 0 where
+record Reads (old new : Log) : Type 0 where
   calls : List Asked
   asks : Asks old new calls
   quiet : AreQuiet calls
@@ -275,10 +277,10 @@ both_quiet : (calls others : List Asked) → AreQuiet calls → AreQuiet others 
 both_quiet [] others first second = second
 both_quiet (call ∷ calls) others first second = (first.0, both_quiet calls others first.1 second)
 
-reads_quietly : (file : LineFile) (old new : ℕ) → AsksToRead file old new → Reads old new
+reads_quietly : (file : LineFile) (old new : Log) → AsksToRead file old new → Reads old new
 reads_quietly file old new nothing = record {
   calls = [];
-  asks = record { goes_on = λ log had. subst (λ (l : List Asked). HasLog old l) (sym (append-nil log)) had };
+  asks = asks_nothing old;
   quiet = tt;
 }
 reads_quietly file old new (piece mid later at count done so_far once) =
@@ -286,10 +288,7 @@ reads_quietly file old new (piece mid later at count done so_far once) =
     let one : List Asked = asked file (reads at count) done ∷ [] in
     record {
       calls = before.calls ++ one;
-      asks = record {
-        goes_on = λ log had. subst (λ (l : List Asked). HasLog new l) (append_assoc log before.calls one)
-            (once.goes_on (log ++ before.calls) (before.asks.goes_on log had));
-      };
+      asks = asks_both before.calls one before.asks once;
       quiet = both_quiet before.calls one before.quiet (tt, tt);
     }
 
@@ -302,7 +301,7 @@ module _ {F : Type 0} (since : ℕ) (owned : LineFile → Bool) (begun : LineFil
       record {
         pieces = follows.pieces;
         last = follows.last ++ calls;
-        has = subst (λ (l : List Asked). HasLog after.asking.calls l) joined (asks.goes_on before follows.has);
+        has = subst (λ (l : List Asked). HasLog after.asking.calls l) joined (log_goes_on asks before follows.has);
         few = follows.few;
         all = λ going_on goes. follows.all going goes;
         leaves = follows.leaves;
@@ -322,17 +321,23 @@ module _ {F : Type 0} (since : ℕ) (owned : LineFile → Bool) (begun : LineFil
   same_device : (seen : Seen) (d after : FileDevice F) → after ≡ d → FilesFollow since owned begun d seen → FilesFollow since owned begun after seen
   same_device seen d after same follows = subst (λ (x : FileDevice F). FilesFollow since owned begun x seen) (sym same) follows
 
+  refuses : (seen : Seen) (d after : FileDevice F) → after ≡ record d { has_failed = true } → FilesFollow since owned begun d seen
+      → FilesFollow since owned begun after seen
+  refuses seen d after same follows =
+      over since owned begun seen seen d after (ap (λ (x : FileDevice F). x.asking.calls) same)
+      (subst (λ (x : FileDevice F). IsTrue x.has_failed) (sym same) refl) (record { goes = shadow.rests refl refl; stopped = λ is. is }) follows
+
   changes_no_file : (seen : Seen) (d after : FileDevice F) → ChangesNoFile d after → FilesFollow since owned begun d seen
       → FilesFollow since owned begun after seen
   changes_no_file seen d after (following.unasked same) follows = same_device seen d after same follows
-  changes_no_file seen d after (following.asks_length result (device.calls (device.over failed stops same))) follows = same_device seen d after same follows
+  changes_no_file seen d after (following.asks_length result (device.calls (device.over lacks stops same))) follows = refuses seen d after same follows
   changes_no_file seen d after (following.asks_length result (device.calls (device.passes going asks passed going_on))) follows =
       asks_quietly seen d after (asked Journal tells_length true ∷ []) asks (tt, tt) going follows
   changes_no_file seen d after (following.asks_length result (device.calls (device.fails going asks fails failed))) follows =
       asks_quietly seen d after (asked Journal tells_length false ∷ []) asks (tt, tt) going follows
   changes_no_file seen d after (following.asks_length result (device.differs going asks stops going_on)) follows =
       asks_quietly seen d after (asked Journal tells_length true ∷ []) asks (tt, tt) going follows
-  changes_no_file seen d after (following.reads_bytes result (device.over failed stops same)) follows = same_device seen d after same follows
+  changes_no_file seen d after (following.reads_bytes result (device.over lacks stops same)) follows = refuses seen d after same follows
   changes_no_file seen d after (following.reads_bytes result (device.compared going asks passed going_on)) follows =
       let read : Reads d.asking.calls after.asking.calls = reads_quietly Journal d.asking.calls after.asking.calls asks in
       asks_quietly seen d after read.calls read.asks read.quiet going follows

@@ -1,15 +1,15 @@
 -- What the files are behind a call of a device.
-use Rattle.std.proofs.Common.{◌≡◌, ℕ, Bool, true, false, List, [], ◌∷◌, ◌++◌, length, Some, None, if◌then◌else◌, refl, sym, ap, subst, ◌∙◌}
+use Rattle.std.proofs.Common.{◌≡◌, Bool, true, false, List, [], ◌∷◌, ◌++◌, if◌then◌else◌, refl, sym, ap, subst, ◌∙◌}
 use Rattle.esc_model.specs.declared.rest.WordWrite.{WordWrite}
-use Rattle.site_core.specs.Disk.{Disk}
-use Rattle.site_shadow.specs.declared.device.Passing.{Passing}
 use Rattle.site_file.specs.declared.asking.LineFile.{LineFile}
 use Rattle.site_file.specs.declared.asking.LineFile.TheVariants.{Journal, Image}
 use Rattle.site_file.specs.declared.files.FileDevice.{FileDevice}
 use Rattle.site_file.specs.Calls.{Call, Asked, asked, tells_length, reads, writes, syncs}
+use Rattle.site_file.specs.declared.asking.Log.{Log}
+use Rattle.site_file.proofs.SeveralCalls.{goes_on}
 use Rattle.site_file.specs.Asking.{Asks, AsksToRead, nothing, piece, WordCalls}
 use Rattle.site_file.specs.Device as device
-use Rattle.site_file.specs.Files.{File, sound, image_of, Becomes, BecomesBy}
+use Rattle.site_file.specs.Files.{File, Becomes, BecomesBy}
 use Rattle.site_file.specs.Held.{is_same, of_file, with_file, AreHeld}
 use Rattle.site_file.specs.DeviceLaws.{NewHolds, RestHolds, WriteHolds, SyncHolds, LengthHolds, ReadHolds}
 use Rattle.site_file.proofs.Journals.{write_follows, sync_follows}
@@ -18,12 +18,12 @@ use Rattle.site_file.proofs.Words.{one_file, word_is_durable, split}
 
 -- CALLS IN A ROW
 
-go_on : {begun held after : LineFile → File} {old new : ℕ} (calls : List Asked) → Asks old new calls
+go_on : {begun held after : LineFile → File} {old new : Log} (calls : List Asked) → Asks old new calls
     → ((name : LineFile) (mid later : File) → mid ≡ held name → BecomesBy (of_file name calls) mid later → later ≡ after name)
     → AreHeld begun old held → AreHeld begun new after
 go_on {begun} {held} {after} calls asks leads are = record {
   log = are.log ++ calls;
-  has = asks.goes_on are.log are.has;
+  has = goes_on asks are.log are.has;
   each = λ name later becomes.
       let apart : BecomesBy (of_file name are.log ++ of_file name calls) (begun name) later =
       subst (λ (l : List Asked). BecomesBy l (begun name) later) (of_file-append name are.log calls) becomes in
@@ -87,7 +87,7 @@ sync_holds F shadow old new begun held held_is (device.passes going asks passes 
     go_on calls asks (one_leads held Journal _ calls (refl, tt)
     (λ later becomes. sync_follows shadow later (subst (λ (f : File). BecomesBy calls f later) held_is becomes))) are
 
-length_asked : (begun held : LineFile → File) (old new : ℕ) (done : Bool) → Asks old new (asked Journal tells_length done ∷ [])
+length_asked : (begun held : LineFile → File) (old new : Log) (done : Bool) → Asks old new (asked Journal tells_length done ∷ [])
     → AreHeld begun old held → AreHeld begun new held
 length_asked begun held old new done asks are =
     go_on (asked Journal tells_length done ∷ []) asks (quiet_leads held tells_length done (λ old new becomes. becomes)) are
@@ -102,7 +102,7 @@ length_holds F old new result begun held (device.calls (device.fails going asks 
 length_holds F old new result begun held (device.differs going asks stops going_on) are =
     length_asked begun held old.asking.calls new.asking.calls true asks are
 
-read_asked : (begun held : LineFile → File) (old new : ℕ) → AsksToRead Journal old new → AreHeld begun old held → AreHeld begun new held
+read_asked : (begun held : LineFile → File) (old new : Log) → AsksToRead Journal old new → AreHeld begun old held → AreHeld begun new held
 read_asked begun held old new nothing are = are
 read_asked begun held old new (piece mid later at count done so_far once) are =
     go_on (asked Journal (reads at count) done ∷ []) once (quiet_leads held (reads at count) done (λ old new becomes. becomes))

@@ -1,6 +1,5 @@
 -- What a power cut leaves of the files at each moment of a call of a device.
-use Rattle.std.proofs.Common.{◌≡◌, ℕ, ◌*◌, ◌≤◌, Bool, true, false, List, [], ◌∷◌, ◌++◌, length, Some, None, refl, sym, ap, subst, ◌∙◌}
-use Rattle.std.proofs.lemmas.List.{append-nil}
+use Rattle.std.proofs.Common.{◌≡◌, ℕ, ◌*◌, ◌≤◌, Bool, true, false, List, [], ◌∷◌, length, Some, refl, sym, ap, subst}
 use Rattle.esc_model.specs.declared.rest.WordWrite.{WordWrite}
 use Rattle.esc_model.specs.SlaveHalf.{SlaveHalf, in_flight}
 use Rattle.site_core.specs.Disk.{Disk, StopImage, write_begun}
@@ -8,32 +7,31 @@ use Rattle.site_core.proofs.StopImages.{StopImage-write_begun}
 use Rattle.site_file.specs.declared.asking.LineFile.{LineFile}
 use Rattle.site_file.specs.declared.asking.LineFile.TheVariants.{Journal, Image}
 use Rattle.site_file.specs.declared.files.FileDevice.{FileDevice}
-use Rattle.site_file.specs.Calls.{Call, Asked, asked, writes, syncs}
-use Rattle.site_file.specs.Asking.{HasLog, Asks, WordCalls, WritesWord}
+use Rattle.site_file.specs.Calls.{Asked, asked, writes, syncs}
+use Rattle.site_file.specs.declared.asking.Log.{Log}
+use Rattle.site_file.specs.Asking.{Asks, WordCalls, WritesWord}
+use Rattle.site_file.proofs.SeveralCalls.{asks_nothing}
 use Rattle.site_file.specs.Device as device
 use Rattle.site_file.specs.Files.{File, IsBytes, sound, image_of, MayBeLeft}
-use Rattle.site_file.specs.Held.{is_same, of_file, LeavesOnly}
+use Rattle.site_file.specs.Held.{LeavesOnly}
 use Rattle.site_file.specs.Laws.{IsFlying, IsLeftOf}
 use Rattle.site_file.specs.DeviceLaws.{RestLeavesNoMore, WriteLeavesNoMore, SyncOfLeavesNoMore}
 use Rattle.site_file.proofs.Journals.{write_may_hold_anything, sync_leaves_no_more}
 use Rattle.site_file.proofs.OneFile.{AllOf, of_file-same, of_file-other, is_same-refl}
 use Rattle.site_file.proofs.Words.{one_file, left_of, word_may_hold_anything}
 
-asks_nothing : (moment : ℕ) → Asks moment moment []
-asks_nothing moment = record { goes_on = λ log had. subst (λ (l : List Asked). HasLog moment l) (sym (append-nil log)) had }
-
 -- nothing is asked
-none_asked : {Left : List ℕ → Type 0} (name : LineFile) (held : LineFile → File) (old new : ℕ) → new ≡ old
+none_asked : {Left : List ℕ → Type 0} (name : LineFile) (held : LineFile → File) (old new : Log) → new ≡ old
     → ((image : List ℕ) → IsBytes image → StopImage (held name).disk image → Left image) → LeavesOnly Left name held old new
 none_asked name held old new same left = record {
   calls = [];
-  asks = subst (λ (n : ℕ). Asks old n []) (sym same) (asks_nothing old);
+  asks = subst (λ (n : Log). Asks old n []) (sym same) (asks_nothing old);
   here = λ image bytes stop. left image bytes stop;
   others = λ other image is stop. stop;
 }
 
 -- one file is asked
-one_asked : {Left : List ℕ → Type 0} (name : LineFile) (held : LineFile → File) (old new : ℕ) (calls : List Asked) → Asks old new calls
+one_asked : {Left : List ℕ → Type 0} (name : LineFile) (held : LineFile → File) (old new : Log) (calls : List Asked) → Asks old new calls
     → AllOf name calls
     → ((image : List ℕ) → IsBytes image → MayBeLeft calls (held name) image → Left image) → LeavesOnly Left name held old new
 one_asked name held old new calls asks all left = record {
@@ -44,7 +42,7 @@ one_asked name held old new calls asks all left = record {
   others = λ other image is may. subst (λ (l : List Asked). MayBeLeft l (held other) image) (of_file-other other name calls all is) may;
 }
 
-rest_asked : (slave : ℕ) (half : SlaveHalf) (write other : WordWrite) (done : Bool) (held : LineFile → File) (old new : ℕ) → IsFlying half write
+rest_asked : (slave : ℕ) (half : SlaveHalf) (write other : WordWrite) (done : Bool) (held : LineFile → File) (old new : Log) → IsFlying half write
     → held (Image slave) ≡ image_of half.words → in_flight half.activity ≡ Some other → WritesWord (Image slave) other.word other.value old done new
     → LeavesOnly (IsLeftOf half) (Image slave) held old new
 rest_asked slave half write other done held old new flying held_is is wrote =
@@ -55,7 +53,7 @@ rest_asked slave half write other done held old new flying held_is is wrote =
     (λ image bytes may. word_may_hold_anything (Image slave) half write wrote.calls done image flying calls bytes
     (subst (λ (f : File). MayBeLeft wrote.calls f image) held_is may))
 
-rest_unasked : (slave : ℕ) (half : SlaveHalf) (write : WordWrite) (held : LineFile → File) (old new : ℕ) → IsFlying half write
+rest_unasked : (slave : ℕ) (half : SlaveHalf) (write : WordWrite) (held : LineFile → File) (old new : Log) → IsFlying half write
     → held (Image slave) ≡ image_of half.words → new ≡ old → LeavesOnly (IsLeftOf half) (Image slave) held old new
 rest_unasked slave half write held old new flying held_is same =
     none_asked (Image slave) held old new same (λ image bytes stop.
@@ -74,7 +72,7 @@ rest_leaves_no_more F slave half write old new result held flying held_is (devic
     rest_asked slave half write other false held old.asking.calls new.asking.calls flying held_is is wrote
 
 -- a write, done or failed
-write_asked : (shadow : Disk) (at : ℕ) (bytes : List ℕ) (done : Bool) (held : LineFile → File) (old new : ℕ) → at ≤ length shadow.bytes
+write_asked : (shadow : Disk) (at : ℕ) (bytes : List ℕ) (done : Bool) (held : LineFile → File) (old new : Log) → at ≤ length shadow.bytes
     → held Journal ≡ sound shadow → Asks old new (asked Journal (writes at bytes) done ∷ [])
     → LeavesOnly (StopImage (write_begun shadow at (length bytes))) Journal held old new
 write_asked shadow at bytes done held old new inside held_is asks =
@@ -92,7 +90,7 @@ write_leaves_no_more F shadow at bytes old new result held inside held_is (devic
     write_asked shadow at bytes false held old.asking.calls new.asking.calls inside held_is asks
 
 -- a sync, done or failed
-sync_asked : (shadow : Disk) (done : Bool) (held : LineFile → File) (old new : ℕ) → held Journal ≡ sound shadow
+sync_asked : (shadow : Disk) (done : Bool) (held : LineFile → File) (old new : Log) → held Journal ≡ sound shadow
     → Asks old new (asked Journal syncs done ∷ []) → LeavesOnly (StopImage shadow) Journal held old new
 sync_asked shadow done held old new held_is asks =
     one_asked Journal held old new (asked Journal syncs done ∷ []) asks (refl, tt) (λ image are may.

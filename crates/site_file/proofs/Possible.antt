@@ -1,10 +1,9 @@
 -- The definitions leave something to happen, and any word to be torn.
-use Rattle.std.proofs.Common.{◌≡◌, ℕ, ◌*◌, ◌/◌, ◌%◌, ◌<◌, ◌≤◌, Bool, true, false, List, [], ◌∷◌, length, slice_set, refl, subst, inl, arith}
-use Rattle.esc_model.specs.SlaveHalf.{SlaveHalf}
+use Rattle.std.proofs.Common.{ℕ, ◌*◌, ◌/◌, ◌%◌, ◌<◌, ◌≤◌, Bool, true, false, List, [], ◌∷◌, length, slice_set, refl, subst, inl, arith}
 use Rattle.sii_words.specs.Words.{bytes_of}
 use Rattle.site_core.specs.Disk.{Disk, StopImage, write_begun, written, synced, overlaid}
 use Rattle.site_core.proofs.Overlays.{overlaid-outside, length-overlaid}
-use Rattle.site_file.specs.Calls.{Call, Asked, tells_length, reads, writes, syncs}
+use Rattle.site_file.specs.Calls.{Call, tells_length, reads, writes, syncs}
 use Rattle.site_file.specs.Asking.{reaches_sync, unwritten}
 use Rattle.site_file.specs.Files.{File, KeepsSynced, Syncs, Becomes, BecomesBy, sound, image_of}
 use Rattle.site_file.specs.Laws.{SomethingBecomes, AnyWordMayBeLeft}

@@ -1,30 +1,31 @@
--- What a device has asked of the files of a line by a moment, which is the number of calls that it has made.
-use Rattle.std.specs.Prelude.{ℕ, Bool, true, false, List, [], ◌∷◌, ◌++◌}
+-- What a device has asked of the files of a line.
+use Rattle.std.specs.Prelude.{◌≡◌, ℕ, Bool, true, false, List, [], ◌∷◌, ◌++◌, Option, IfSome}
 use Rattle.site_file.specs.declared.asking.LineFile.{LineFile}
+use Rattle.site_file.specs.declared.asking.Log.{Log}
 use Rattle.site_file.specs.Calls.{Asked, asked, reads, writes_word, syncs}
 
--- By this moment a device has asked this of its files, in this order, and nothing else. No proof can open this name, since no value of a program
--- says what the system was asked: from one moment to the next it leads by the calls of `Asking` alone.
-pub HasLog : (moment : ℕ) → List Asked → Type 0
-HasLog moment log = Unit {0}
+-- Since its log began a device has asked this of its files, in this order, and nothing else.
+abbrev pub HasLog : Log → List Asked → Type 0
+HasLog calls log = calls.all ≡ calls.begun.value ++ log
 
--- Between two moments a device asks this of its files, in this order, and nothing else.
-pub record Asks (old new : ℕ) (calls : List Asked) : Type 0 where
-  pub goes_on : (log : List Asked) → HasLog old log → HasLog new (log ++ calls)
+-- This is told of what a device has asked: all since its log began, or nothing.
+abbrev pub TellsLog : Log → Option (List Asked) → Type 0
+TellsLog calls told = IfSome told (HasLog calls)
 
--- the two rules of these names, for the calls of `Asking`
-pub nothing_asked : HasLog 0 []
-unfolding HasLog
-nothing_asked = tt
+-- Then it asks its files this, in this order, and nothing else.
+pub record Asks (old new : Log) (calls : List Asked) : Type 0 where
+  pub all : new.all ≡ old.all ++ calls
+  pub begun : new.begun ≡ old.begun
 
-pub asked_once : (old new : ℕ) (call : Asked) → Asks old new (call ∷ [])
-unfolding HasLog
-asked_once old new call = record { goes_on = λ log had. tt }
+-- The log begins, and what was asked before is remembered.
+pub record Begins (old new : Log) : Type 0 where
+  pub all : new.all ≡ old.all
+  pub none : HasLog new []
 
 -- This file is read, in any number of pieces, and nothing else is asked.
-pub data AsksToRead (file : LineFile) (old : ℕ) : (new : ℕ) → Type 0 where
+pub data AsksToRead (file : LineFile) (old : Log) : (new : Log) → Type 0 where
   nothing : AsksToRead file old old
-  piece : (mid new at count : ℕ) (done : Bool) → AsksToRead file old mid → Asks mid new (asked file (reads at count) done ∷ [])
+  piece : (mid new : Log) (at count : ℕ) (done : Bool) → AsksToRead file old mid → Asks mid new (asked file (reads at count) done ∷ [])
       → AsksToRead file old new
 
 -- These calls write a word to a file, and then sync the file. One that fails is the last one.
@@ -33,7 +34,7 @@ pub data WordCalls (file : LineFile) (word value : ℕ) : (calls : List Asked) (
   unwritten : WordCalls file word value (asked file (writes_word word value) false ∷ []) false
 
 -- A word is written to a file, which is synced then, and nothing else is asked.
-pub record WritesWord (file : LineFile) (word value old : ℕ) (done : Bool) (new : ℕ) : Type 0 where
+pub record WritesWord (file : LineFile) (word value : ℕ) (old : Log) (done : Bool) (new : Log) : Type 0 where
   pub calls : List Asked
   pub asks : Asks old new calls
   pub are : WordCalls file word value calls done

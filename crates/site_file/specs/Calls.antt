@@ -1,20 +1,12 @@
 -- The calls that a device makes on the open files of a line.
-use Rattle.std.specs.Prelude.{ℕ, ◌*◌, Bool, List}
+use Rattle.std.specs.Prelude.{ℕ, ◌*◌, Bool}
 use Rattle.std.specs.Int.{w16, to_le_bytes}
 use Rattle.site_file.specs.declared.asking.LineFile.{LineFile}
-
 -- what is asked of a file (POSIX: fstat, pread, pwrite, fdatasync)
-pub data Call : Type 0 where
-  tells_length : Call
-  reads : (at count : ℕ) → Call
-  writes : (at : ℕ) (bytes : List ℕ) → Call
-  syncs : Call
-
+pub use Rattle.site_file.specs.declared.asking.Call.{Call}
+pub use Rattle.site_file.specs.declared.asking.Call.TheVariants.{TellsLength as tells_length, Reads as reads, Writes as writes, Syncs as syncs}
 -- one call: which file it was made on, what was asked, and whether it succeeded
-pub record Asked : Type 0 where
-  pub file : LineFile
-  pub call : Call
-  pub succeeded : Bool
+pub use Rattle.site_file.specs.declared.asking.Asked.{Asked}
 
 abbrev pub asked : LineFile → Call → Bool → Asked
 asked file call succeeded = record { file = file; call = call; succeeded = succeeded }

@@ -9,6 +9,7 @@ use Rattle.site_shadow.specs.declared.device.Resting.{Resting}
 use Rattle.site_shadow.specs.declared.device.Resting.TheVariants.{Well}
 use Rattle.site_file.specs.declared.asking.LineFile.{LineFile}
 use Rattle.site_file.specs.declared.asking.LineFile.TheVariants.{Journal, Image}
+use Rattle.site_file.specs.declared.asking.Log.{Log}
 use Rattle.site_file.specs.declared.files.FileDevice.{FileDevice}
 use Rattle.site_file.specs.Calls.{writes, syncs}
 use Rattle.site_file.specs.Asking.{HasLog}
@@ -19,7 +20,7 @@ use Rattle.site_file.specs.Laws.{IsFlying, IsLeftOf}
 
 -- A device that has asked nothing holds the files with which it began.
 abbrev pub NewHolds : Type 0
-NewHolds = (begun : LineFile → File) (moment : ℕ) → HasLog moment [] → AreHeld begun moment begun
+NewHolds = (begun : LineFile → File) (moment : Log) → HasLog moment [] → AreHeld begun moment begun
 
 -- A word comes to rest well: the image of its slave holds the words of the half at rest, all synced, and no other file has changed.
 abbrev pub RestHolds : Type 0 → Type 0

@@ -1,5 +1,6 @@
 pub mod Calls
 pub mod Asking
+pub mod Owned
 pub mod Device
 pub mod Following
 pub mod Files

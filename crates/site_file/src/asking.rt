@@ -1,14 +1,12 @@
 // The calls on the open files of a line. Each is noted: the contracts of `Asking` say what was asked of which file, and in which order. That a
 // call which is noted is the one that is made is read from the four functions that make them.
-ghost use Rattle.std.specs.Prelude.{◌≡◌, ◌≤◌, [], ◌∷◌, length, is_ok, slice_get, Some, IfSome, IfNone};
-ghost use Rattle.site_file.specs.declared.asking.LineFile.TheVariants as line_file;
-ghost use Rattle.site_file.specs.Calls.{asked, tells_length, reads, writes, syncs};
-ghost use Rattle.site_file.specs.Asking.{HasLog, Asks};
+ghost use Rattle.std.specs.Prelude.{◌≡◌, false, true, length, IfSome};
 
 use crate::access::RandomAccessFile;
-use crate::files::OpenFiles;
+use sii_words::History;
 use std::alloc::AllocError;
 use std::io;
+use std::snapshot::Snapshot;
 
 /// A file of a line.
 #[derive(Clone, Copy)]
@@ -19,11 +17,58 @@ pub enum LineFile {
     Image(usize),
 }
 
-/// An open file of a line, and which one it is.
+/// What is asked of an open file (POSIX: fstat, pread, pwrite, fdatasync). Places and lengths are in bytes.
 #[derive(Drop)]
+pub enum Call {
+    /// Its length.
+    TellsLength,
+    /// Bytes from a place on.
+    Reads {
+        /// The place.
+        at: u64,
+        /// The number of bytes.
+        count: usize,
+    },
+    /// To write bytes from a place on.
+    Writes {
+        /// The place.
+        at: u64,
+        /// The bytes. They take no memory.
+        bytes: History<u8>,
+    },
+    /// To make durable what was written.
+    Syncs,
+}
+
+/// One call: which file it was made on, what was asked, and whether it succeeded.
+#[derive(Drop)]
+pub struct Asked {
+    file: LineFile,
+    call: Call,
+    succeeded: bool,
+}
+
+/// All calls of a device so far, and those before its log began. In contracts alone: they take no memory.
+#[derive(Drop)]
+pub struct Log {
+    all: History<Asked>,
+    begun: Snapshot<History<Asked>>,
+}
+
+/// An open file of a line, and which one it is.
 pub struct NamedFile<'f, F> {
     name: LineFile,
     file: &'f F,
+}
+
+impl<'f, F> NamedFile<'f, F> {
+    /// The file with this name.
+    pub fn new(name: LineFile, file: &'f F) -> NamedFile<'f, F>
+        ensures name { result.name ≡ name }
+        ensures file { result.file.now ≡ file.now }
+    {
+        NamedFile { name, file }
+    }
 }
 
 impl<'f, F> Copy for NamedFile<'f, F> {}
@@ -38,73 +83,83 @@ impl<'f, F> Clone for NamedFile<'f, F> {
     }
 }
 
-/// The open files of a line, and the number of calls that were made on them since the log began, modulo 2^64: the moment.
+/// Notes what a device asks of its files.
 #[derive(Drop)]
-pub struct Asking<'f, F> {
-    files: &'f OpenFiles<F>,
-    calls: u64,
+pub struct Asking {
+    calls: Log,
+    /// Whether a call was made.
+    has_asked: bool,
+    /// Whether no call was made before the log began.
+    is_first: bool,
+    ghost told: { has_asked ≡ false → length calls.all ≡ 0 },
+    ghost first: { is_first ≡ true → length calls.begun.value ≡ 0 },
 }
 
-impl<'f, F> Copy for Asking<'f, F> {}
+impl Asking {
+    ghost use Rattle.std.specs.Prelude.{[], ◌∷◌, is_ok, is_some, not};
+    ghost use Rattle.site_file.specs.Calls.{asked, tells_length, reads, writes, syncs};
+    ghost use Rattle.site_file.specs.Asking.{HasLog, TellsLog, Asks, Begins};
 
-impl<'f, F> Clone for Asking<'f, F> {
-    ghost use Rattle.std.specs.Prelude.{⊤};
-
-    ghost is_infallible = { λ _. ⊤ };
-
-    fn clone(&self) -> Result<Self, AllocError> {
-        Ok(*self)
-    }
-}
-
-impl<'f, F> Asking<'f, F> {
-    /// No call has been made on these files yet.
-    #[tactic(auto, using(crate::specs::Asking::nothing_asked))]
-    pub fn of(files: &'f OpenFiles<F>) -> Asking<'f, F>
+    /// No call has been made yet.
+    pub fn new() -> Asking
         ensures log { HasLog result.calls [] }
-        ensures files { result.files.now ≡ files.now }
+        ensures nothing { result.calls.all ≡ [] }
+        ensures first { (result.is_first ≡ true) × (result.has_asked ≡ false) }
     {
-        Asking { files, calls: 0 }
-    }
-
-    /// The same files, with a log that begins here.
-    #[tactic(auto, using(crate::specs::Asking::nothing_asked))]
-    pub fn anew(&self) -> Asking<'f, F>
-        ensures log { HasLog result.calls [] }
-        ensures files { result.files.now ≡ self.now.files.now }
-    {
-        Asking::of(self.files)
-    }
-
-    /// The journal.
-    pub fn journal(&self) -> NamedFile<'f, F>
-        ensures name { result.name ≡ line_file.Journal }
-        ensures file { result.file.now ≡ self.now.files.now.journal }
-    {
-        NamedFile {
-            name: LineFile::Journal,
-            file: &self.files.journal,
+        let all = History::new();
+        let begun = Snapshot::of(&all);
+        Asking {
+            calls: Log { all, begun },
+            has_asked: false,
+            is_first: true,
         }
     }
 
-    /// The image of a slave, if there is one.
-    pub fn image(&self, slave: usize) -> Option<NamedFile<'f, F>>
-        ensures name { IfSome result (λ image. image.name ≡ line_file.Image slave) }
-        ensures file { IfSome result (λ image. slice_get self.now.files.now.images.items slave ≡ Some image.file.now) }
-        ensures none { IfNone result (length self.now.files.now.images.items ≤ slave) }
+    /// The log begins here. What was asked before is remembered.
+    pub fn begin(&mut self)
+        ensures begins { Begins self.old.calls self.new.calls }
+        ensures first { self.new.is_first ≡ not self.old.has_asked }
     {
-        let file = self.files.images.get(slave)?;
-        Some(NamedFile {
-            name: LineFile::Image(slave),
-            file,
-        })
+        self.is_first = !self.has_asked;
+        self.calls.begun = Snapshot::of(&self.calls.all);
     }
-}
 
-impl<'f, F: RandomAccessFile> Asking<'f, F> {
-    /// One more call is made.
-    fn count(&mut self) {
-        self.calls = self.calls.wrapping_add(1);
+    /// All that was asked. None where a call was made before the log began: then that is not all in it.
+    pub fn told(self) -> Option<History<Asked>>
+        ensures some { is_some result ≡ self.is_first }
+        ensures log { TellsLog self.calls result }
+        ensures all { IfSome result (λ log. log ≡ self.calls.all) }
+    {
+        if self.is_first {
+            Some(self.into_all())
+        } else {
+            drop(self);
+            None
+        }
+    }
+
+    /// Everything that was asked, also before the log began.
+    fn into_all(self) -> History<Asked>
+        ensures all { result ≡ self.calls.all }
+        ensures first { self.is_first ≡ true → HasLog self.calls result }
+    {
+        let Asking { calls, .. } = self;
+        let Log { all, begun: _ } = calls;
+        all
+    }
+
+    /// A call was made, and succeeded or failed.
+    fn note(&mut self, file: LineFile, call: Call, succeeded: bool)
+        ensures asks { Asks self.old.calls self.new.calls (asked file call succeeded ∷ []) }
+        ensures first { (self.new.is_first ≡ self.old.is_first) × (self.new.has_asked ≡ true) }
+    {
+        self.has_asked = true;
+        let made = Asked {
+            file,
+            call,
+            succeeded,
+        };
+        self.calls.all.note(&made);
     }
 
     /// Asks for the length of a file, in bytes.
@@ -112,11 +167,12 @@ impl<'f, F: RandomAccessFile> Asking<'f, F> {
     /// # Errors
     ///
     /// If the system can't tell it.
-    pub fn len(&mut self, of: NamedFile<'_, F>) -> io::Result<u64>
+    pub fn len<F: RandomAccessFile>(&mut self, of: NamedFile<'_, F>) -> io::Result<u64>
         ensures { Asks self.old.calls self.new.calls (asked of.entry.name tells_length (is_ok result) ∷ []) }
     {
-        self.count();
-        of.file.len()
+        let result = of.file.len();
+        self.note(of.name, Call::TellsLength, result.is_ok());
+        result
     }
 
     /// Fills `bytes` with those of a file from byte `at` on.
@@ -124,11 +180,18 @@ impl<'f, F: RandomAccessFile> Asking<'f, F> {
     /// # Errors
     ///
     /// If they can't be read, or the file ends before them.
-    pub fn read(&mut self, from: NamedFile<'_, F>, bytes: &mut [u8], at: u64) -> io::Result<()>
+    pub fn read<F: RandomAccessFile>(
+        &mut self,
+        from: NamedFile<'_, F>,
+        bytes: &mut [u8],
+        at: u64,
+    ) -> io::Result<()>
         ensures { Asks self.old.calls self.new.calls (asked from.entry.name (reads at (length bytes.old)) (is_ok result) ∷ []) }
     {
-        self.count();
-        from.file.read_exact_at(bytes, at)
+        let count = bytes.len();
+        let result = from.file.read_exact_at(bytes, at);
+        self.note(from.name, Call::Reads { at, count }, result.is_ok());
+        result
     }
 
     /// Writes all of `bytes` to a file from byte `at` on.
@@ -136,11 +199,21 @@ impl<'f, F: RandomAccessFile> Asking<'f, F> {
     /// # Errors
     ///
     /// If they can't be written. Some of them may have been written then.
-    pub fn write(&mut self, to: NamedFile<'_, F>, bytes: &[u8], at: u64) -> io::Result<()>
+    pub fn write<F: RandomAccessFile>(
+        &mut self,
+        to: NamedFile<'_, F>,
+        bytes: &[u8],
+        at: u64,
+    ) -> io::Result<()>
         ensures { Asks self.old.calls self.new.calls (asked to.entry.name (writes at bytes.now) (is_ok result) ∷ []) }
     {
-        self.count();
-        to.file.write_all_at(bytes, at)
+        let result = to.file.write_all_at(bytes, at);
+        let call = Call::Writes {
+            at,
+            bytes: noted(bytes),
+        };
+        self.note(to.name, call, result.is_ok());
+        result
     }
 
     /// Makes what was written to a file durable.
@@ -148,10 +221,22 @@ impl<'f, F: RandomAccessFile> Asking<'f, F> {
     /// # Errors
     ///
     /// If that failed. What was written since the last sync may be lost then.
-    pub fn sync(&mut self, of: NamedFile<'_, F>) -> io::Result<()>
+    pub fn sync<F: RandomAccessFile>(&mut self, of: NamedFile<'_, F>) -> io::Result<()>
         ensures { Asks self.old.calls self.new.calls (asked of.entry.name syncs (is_ok result) ∷ []) }
     {
-        self.count();
-        of.file.sync_data()
+        let result = of.file.sync_data();
+        self.note(of.name, Call::Syncs, result.is_ok());
+        result
     }
+}
+
+/// These bytes, as a history.
+fn noted(bytes: &[u8]) -> History<u8>
+    ensures { result ≡ bytes.now }
+{
+    let mut history = History::new();
+    for byte in bytes {
+        history.note(byte);
+    }
+    history
 }

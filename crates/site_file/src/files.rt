@@ -1,80 +1,71 @@
 //! The journal and the EEPROM images of a line as files.
-ghost use Rattle.std.specs.Prelude.{◌≡◌, ◌||◌, not, true, false, [], Some, None, OnOk, OnErr, IfSome, IfNone, IsTrue, if◌then◌else◌};
+ghost use Rattle.std.specs.Prelude.{◌≡◌, ◌||◌, not, true, false, [], Some, None, is_some, OnOk, OnErr, IfSome, IfNone, IsTrue, if◌then◌else◌};
 ghost use Rattle.esc_model.specs.SlaveHalf.{in_flight};
 ghost use Rattle.site_shadow.specs.declared.device.Passing.TheVariants.{Passes, Fails, Stops};
 ghost use Rattle.site_shadow.specs.declared.device.Resting.TheVariants.{Stays};
 ghost use Rattle.site_shadow.specs.declared.pattern.Pattern.TheVariants as patterns;
 ghost use Rattle.site_file.specs.declared.asking.LineFile.TheVariants as line_file;
 ghost use Rattle.site_file.specs.Calls.{writes, syncs};
-ghost use Rattle.site_file.specs.Asking.{HasLog, AsksToRead, WritesWord};
+ghost use Rattle.site_file.specs.Asking.{HasLog, Begins, AsksToRead, WritesWord};
+ghost use Rattle.site_file.specs.Owned.{LacksJournal};
 
 use crate::access::RandomAccessFile;
-use crate::asking::{Asking, NamedFile};
+use crate::asking::{Asked, Asking, NamedFile};
+use crate::owned::{OpenFiles, OwnedFiles};
 use ecat_frame::Frame;
 use esc_model::{RomHalf, WordWrite};
-use site_shadow::{Device, Passing, Pattern, Resting, ShadowSite};
-use std::alloc::AllocError;
-use std::io;
+use sii_words::History;
+use site_shadow::{Device, Lends, LinePart, Passing, Pattern, Resting, ShadowSite};
+use std::{io, mem};
 
 /// The number of bytes of the journal that are compared at a time.
 const PIECE: usize = 512;
 
-/// The open files of a line. The journal holds the disk's bytes. The image of a slave holds its words, the low byte of each first.
-#[derive(Drop)]
-pub struct OpenFiles<F> {
-    /// The journal's file.
-    pub journal: F,
-    /// The EEPROM image of each slave, in line order.
-    pub images: Vec<F>,
-}
-
 /// The open files of a line, as the device behind a shadow.
 ///
-/// At the start the files must hold what the shadow holds, synced, and nobody else may write them. A copy of the device works on the same
-/// files, so that each part of a line can have one.
+/// At the start the files must hold what the shadow holds, synced, and nobody else may write them. The device owns them. Each part of a line has a
+/// device of its own, which the files of that part go to until it is taken back.
 ///
 /// If the system reports an error, the call on the journal that met it fails with `Disk`, and the next call stops the site; an error on an
 /// image stops the site at once. A later sync that succeeds would prove nothing. The site also stops if the journal has other bytes than
-/// the shadow. What one copy of the device has met the others don't know.
+/// the shadow.
 ///
-/// Its contracts say what each call asks of which file, in which order, and that nothing else is asked: the log that the device has by a moment,
-/// `HasLog`. The log begins as the device is put behind its shadow; each part of a line asks its own file alone, so that the log of its copy is
-/// what the file was asked since then.
+/// Its contracts say what each call asks of which file, in which order, and that nothing else is asked: the log of the device, which begins as it is
+/// put behind its shadow (`HasLog`).
 #[derive(Drop)]
-pub struct FileDevice<'f, F> {
-    asking: Asking<'f, F>,
-    /// Whether a call of this copy on a file has failed, or it was put behind a shadow that had seen a call. From then on this copy asks nothing.
+pub struct FileDevice<F> {
+    held: OwnedFiles<F>,
+    asking: Asking,
+    /// Whether a call on a file has failed, or it was put behind a shadow that had seen a call. From then on it asks nothing.
     has_failed: bool,
 }
 
 /// A line and a disk in files.
-pub type FileSite<'f, F> = ShadowSite<FileDevice<'f, F>>;
+pub type FileSite<F> = ShadowSite<FileDevice<F>>;
 
-impl<'f, F> Copy for FileDevice<'f, F> {}
-
-impl<'f, F> Clone for FileDevice<'f, F> {
-    ghost use Rattle.std.specs.Prelude.{⊤};
-
-    ghost is_infallible = { λ _. ⊤ };
-
-    fn clone(&self) -> Result<Self, AllocError> {
-        Ok(*self)
-    }
+/// The files of a device that is done, and all that was asked of them since it was made.
+#[derive(Drop)]
+pub struct Finished<F> {
+    files: OwnedFiles<F>,
+    log: History<Asked>,
 }
 
-impl<'f, F: RandomAccessFile> FileDevice<'f, F> {
+impl<F: RandomAccessFile> FileDevice<F> {
     /// Makes the device of these files. They must hold what the shadow holds, synced.
-    pub fn new(files: &'f OpenFiles<F>) -> FileDevice<'f, F>
+    pub fn new(files: OpenFiles<F>) -> FileDevice<F>
         ensures nothing { HasLog result.asking.calls [] }
         ensures begins { result.has_failed ≡ false }
+        ensures journal { result.held.journal ≡ Some files.journal }
+        ensures images { result.held.images ≡ files.images }
     {
         FileDevice {
-            asking: Asking::of(files),
+            held: OwnedFiles::of(files),
+            asking: Asking::new(),
             has_failed: false,
         }
     }
 
-    /// Whether a call of this copy on a file has failed, or it was put behind a shadow that had seen a call.
+    /// Whether a call on a file has failed, or it was put behind a shadow that had seen a call.
     pub fn has_failed(&self) -> bool
         ensures { result ≡ self.now.has_failed }
     {
@@ -88,15 +79,13 @@ impl<'f, F: RandomAccessFile> FileDevice<'f, F> {
         self.has_failed || !is_new
     }
 
-    /// The journal, as long as no call has failed.
-    fn sound_journal(&self) -> Option<NamedFile<'f, F>>
-        ensures some { IfSome result (λ journal. (self.now.has_failed ≡ false) × (journal.name ≡ line_file.Journal)) }
-        ensures none { IfNone result (IsTrue self.now.has_failed) }
+    /// The journal isn't asked, and never will be.
+    fn refuse(&mut self) -> Passing
+        ensures stops { result ≡ Stops patterns.Old }
+        ensures failed { self.new ≡ record self.old { has_failed = true } }
     {
-        if self.has_failed {
-            return None;
-        }
-        Some(self.asking.journal())
+        self.has_failed = true;
+        Passing::Stops(Pattern::Old)
     }
 
     /// The outcome of a call on the journal. Remembers a failure.
@@ -123,10 +112,44 @@ impl<'f, F: RandomAccessFile> FileDevice<'f, F> {
     }
 }
 
+impl<F: Drop> FileDevice<F> {
+    /// The files, and all that was asked of them. None where the device was put behind a second shadow: then its log is not all.
+    pub fn finish(self) -> Option<Finished<F>>
+        ensures some { is_some result ≡ self.asking.is_first }
+        ensures files { IfSome result (λ finished. finished.files ≡ self.held) }
+        ensures log { IfSome result (λ finished. HasLog self.asking.calls finished.log) }
+        ensures all { IfSome result (λ finished. finished.log ≡ self.asking.calls.all) }
+    {
+        let FileDevice {
+            held,
+            asking,
+            has_failed: _,
+        } = self;
+        match asking.told() {
+            Some(log) => Some(Finished { files: held, log }),
+            None => {
+                drop(held);
+                None
+            }
+        }
+    }
+}
+
+/// The journal, if it is among these files and no call has failed.
+fn sound_journal<F>(held: &OwnedFiles<F>, has_failed: bool) -> Option<NamedFile<'_, F>>
+    ensures some { IfSome result (λ journal. (has_failed ≡ false) × (journal.name ≡ line_file.Journal)) }
+    ensures none { IfNone result (LacksJournal has_failed held.now) }
+{
+    if has_failed {
+        return None;
+    }
+    held.journal()
+}
+
 /// Writes a word to an image and syncs it. Returns whether both succeeded.
 #[tactic(auto, using(crate::proofs::SeveralCalls::word_unwritten, crate::proofs::SeveralCalls::word_written))]
 fn write_word<F: RandomAccessFile>(
-    asking: &mut Asking<'_, F>,
+    asking: &mut Asking,
     image: NamedFile<'_, F>,
     write: WordWrite,
 ) -> bool
@@ -158,7 +181,7 @@ fn compared(same: bool) -> Passing
 ///
 /// If they can't be read.
 fn has_bytes<F: RandomAccessFile>(
-    asking: &mut Asking<'_, F>,
+    asking: &mut Asking,
     file: NamedFile<'_, F>,
     at: usize,
     bytes: &[u8],
@@ -179,16 +202,17 @@ fn has_bytes<F: RandomAccessFile>(
     Ok(true)
 }
 
-impl<'f, F: RandomAccessFile> FileDevice<'f, F> {
+impl<F: RandomAccessFile> FileDevice<F> {
     ghost use Rattle.site_file.specs.Device.{CallsJournal, AsksLength, ReadsJournal, Rests};
     ghost use Rattle.site_file.specs.Following.{FitsWords};
 
     /// Asks the journal for its length.
     fn ask_length(&mut self, length: usize) -> Passing
+        ensures files { self.new.held ≡ self.old.held }
         ensures asks { AsksLength self.old result self.new }
     {
-        let Some(journal) = self.sound_journal() else {
-            return Passing::Stops(Pattern::Old);
+        let Some(journal) = sound_journal(&self.held, self.has_failed) else {
+            return self.refuse();
         };
         match self.asking.len(journal) {
             Ok(found) => compared(found == length as u64),
@@ -198,10 +222,11 @@ impl<'f, F: RandomAccessFile> FileDevice<'f, F> {
 
     /// Compares the journal with what the shadow holds.
     fn compare(&mut self, at: usize, held: &[u8]) -> Passing
+        ensures files { self.new.held ≡ self.old.held }
         ensures asks { ReadsJournal self.old result self.new }
     {
-        let Some(journal) = self.sound_journal() else {
-            return Passing::Stops(Pattern::Old);
+        let Some(journal) = sound_journal(&self.held, self.has_failed) else {
+            return self.refuse();
         };
         match has_bytes(&mut self.asking, journal, at, held) {
             Ok(same) => compared(same),
@@ -211,10 +236,11 @@ impl<'f, F: RandomAccessFile> FileDevice<'f, F> {
 
     /// Writes to the journal.
     fn write_journal(&mut self, at: usize, bytes: &[u8]) -> Passing
+        ensures files { self.new.held ≡ self.old.held }
         ensures asks { CallsJournal (writes at bytes.now) self.old result self.new }
     {
-        let Some(journal) = self.sound_journal() else {
-            return Passing::Stops(Pattern::Old);
+        let Some(journal) = sound_journal(&self.held, self.has_failed) else {
+            return self.refuse();
         };
         let written = self.asking.write(journal, bytes, at as u64);
         self.end_call(written)
@@ -222,10 +248,11 @@ impl<'f, F: RandomAccessFile> FileDevice<'f, F> {
 
     /// Syncs the journal.
     fn sync_journal(&mut self) -> Passing
+        ensures files { self.new.held ≡ self.old.held }
         ensures asks { CallsJournal syncs self.old result self.new }
     {
-        let Some(journal) = self.sound_journal() else {
-            return Passing::Stops(Pattern::Old);
+        let Some(journal) = sound_journal(&self.held, self.has_failed) else {
+            return self.refuse();
         };
         let synced = self.asking.sync(journal);
         self.end_call(synced)
@@ -233,6 +260,7 @@ impl<'f, F: RandomAccessFile> FileDevice<'f, F> {
 
     /// Writes a word in flight to its image and syncs it.
     fn rest_word(&mut self, slave: usize, half: &RomHalf) -> Resting
+        ensures files { self.new.held ≡ self.old.held }
         ensures asks { Rests slave (in_flight half.now.activity) self.old result self.new }
         ensures fits { FitsWords half.now }
     {
@@ -242,7 +270,7 @@ impl<'f, F: RandomAccessFile> FileDevice<'f, F> {
         if self.has_failed {
             return Resting::Stays;
         }
-        let Some(image) = self.asking.image(slave) else {
+        let Some(image) = self.held.image(slave) else {
             return self.stay();
         };
         if write_word(&mut self.asking, image, write) {
@@ -252,7 +280,7 @@ impl<'f, F: RandomAccessFile> FileDevice<'f, F> {
     }
 }
 
-impl<'f, F: RandomAccessFile> Device for FileDevice<'f, F> {
+impl<F: RandomAccessFile> Device for FileDevice<F> {
     ghost use Rattle.std.specs.Prelude.{[], ◌↔◌, ◌||◌, not};
     ghost use Rattle.site_core.specs.State.{Seen};
     ghost use Rattle.site_shadow.specs.Following.{Keeps, WriteKeeps, SyncKeeps, RestKeeps};
@@ -263,17 +291,19 @@ impl<'f, F: RandomAccessFile> Device for FileDevice<'f, F> {
 
     ghost well = { λ device. device.has_failed ≡ false };
 
-    /// The log of this copy begins here. Behind a shadow that has seen a call it would not know what the files hold: there each call fails.
+    /// The log begins here. Behind a shadow that has seen a call it would not know what the files hold: there each call fails.
     fn begin(&mut self, is_new: bool)
-        ensures nothing { HasLog self.new.asking.calls [] }
+        ensures begins { Begins self.old.asking.calls self.new.asking.calls }
+        ensures files { self.new.held ≡ self.old.held }
         ensures sound { self.new.has_failed ≡ (self.old.has_failed || not is_new) }
         ensures follows { (seen : Seen) → (IsTrue is_new ↔ seen.past ≡ []) → Follows self.new seen }
     {
-        self.asking = self.asking.anew();
+        self.asking.begin();
         self.has_failed = self.must_refuse(is_new);
     }
 
     fn len(&mut self, length: usize) -> Passing
+        ensures files { self.new.held ≡ self.old.held }
         ensures asks { AsksLength self.old result self.new }
         ensures follows { Keeps Follows self.old self.new }
     {
@@ -281,6 +311,7 @@ impl<'f, F: RandomAccessFile> Device for FileDevice<'f, F> {
     }
 
     fn read(&mut self, at: usize, held: &[u8]) -> Passing
+        ensures files { self.new.held ≡ self.old.held }
         ensures asks { ReadsJournal self.old result self.new }
         ensures follows { Keeps Follows self.old self.new }
     {
@@ -288,6 +319,7 @@ impl<'f, F: RandomAccessFile> Device for FileDevice<'f, F> {
     }
 
     fn write(&mut self, at: usize, bytes: &[u8]) -> Passing
+        ensures files { self.new.held ≡ self.old.held }
         ensures asks { CallsJournal (writes at bytes.now) self.old result self.new }
         ensures follows { WriteKeeps Follows at bytes.now self.old result self.new }
     {
@@ -295,6 +327,7 @@ impl<'f, F: RandomAccessFile> Device for FileDevice<'f, F> {
     }
 
     fn sync(&mut self) -> Passing
+        ensures files { self.new.held ≡ self.old.held }
         ensures asks { CallsJournal syncs self.old result self.new }
         ensures follows { SyncKeeps Follows self.old result self.new }
     {
@@ -316,6 +349,7 @@ impl<'f, F: RandomAccessFile> Device for FileDevice<'f, F> {
     /// Writes a word in flight to its image and syncs it; then the half becomes idle. Until then a power cut may leave anything in the
     /// word. If that fails, the half stays busy, and the site stops at once.
     fn rest(&mut self, slave: usize, half: &RomHalf, frame: &Frame, k: usize) -> Resting
+        ensures files { self.new.held ≡ self.old.held }
         ensures asks { Rests slave (in_flight half.now.activity) self.old result self.new }
         ensures follows { RestKeeps Follows slave half.now frame.now k self.old result self.new }
     {
@@ -360,4 +394,36 @@ impl<'f, F: RandomAccessFile> Device for FileDevice<'f, F> {
     ghost use Rattle.site_file.specs.Following.{follows_on};
 
     ghost goes_on = { follows_on };
+}
+
+impl<F: RandomAccessFile + Drop> Lends for FileDevice<F> {
+    ghost use Rattle.site_file.specs.Asking.{TellsLog};
+
+    type Told = Option<History<Asked>>;
+
+    ghost tells = { λ device told. TellsLog device.asking.calls told };
+
+    fn lend(&mut self, part: LinePart) -> FileDevice<F> {
+        FileDevice {
+            held: self.held.take(part),
+            asking: Asking::new(),
+            has_failed: self.has_failed,
+        }
+    }
+
+    fn take_back(&mut self, lent: FileDevice<F>) -> Option<History<Asked>> {
+        let FileDevice {
+            held,
+            asking,
+            has_failed,
+        } = lent;
+        self.held.put_back(held);
+        self.has_failed = self.has_failed || has_failed;
+        asking.told()
+    }
+
+    fn tell(&mut self) -> Option<History<Asked>> {
+        let asking = mem::replace(&mut self.asking, Asking::new());
+        asking.told()
+    }
 }

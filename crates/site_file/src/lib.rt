@@ -7,10 +7,13 @@ mod access;
 mod asking;
 mod files;
 mod laws;
+mod owned;
 
 pub use access::RandomAccessFile;
-pub use files::{FileDevice, FileSite, OpenFiles};
+pub use asking::{Asked, Call, LineFile};
+pub use files::{FileDevice, FileSite, Finished};
 pub use laws::{
     device_holds, device_leaves_no_more, each_log_has_a_file, files_follow, journal_follows,
     word_is_kept,
 };
+pub use owned::{OpenFiles, OwnedFiles};

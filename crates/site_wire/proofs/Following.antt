@@ -21,7 +21,7 @@ use Rattle.site_shadow.specs.Resting.{RestsAs}
 use Rattle.site_shadow.proofs.Towards.{Extends-first}
 use Rattle.site_shadow.proofs.GoingThrough.{get-set}
 use Rattle.site_file.specs.declared.files.FileDevice.{FileDevice}
-use Rattle.site_file.specs.Calls.{writes, syncs}
+use Rattle.site_file.specs.declared.asking.Call.TheVariants.{Writes as writes, Syncs as syncs}
 use Rattle.site_file.specs.Asking.{HasLog}
 use Rattle.site_file.specs.Device.{CallsJournal, AsksLength, ReadsJournal}
 use Rattle.site_wire.specs.Journal.{JournalFollows}

@@ -9,12 +9,14 @@ use Rattle.site_shadow.specs.declared.device.Passing.TheVariants.{Passes}
 use Rattle.site_shadow.specs.Following as shadow
 use Rattle.site_shadow.specs.Following.{Extends, GoesOn, IsTold}
 use Rattle.site_file.specs.declared.files.FileDevice.{FileDevice}
-use Rattle.site_file.specs.Calls.{Call, tells_length, writes, syncs}
+use Rattle.site_file.specs.declared.asking.Call.{Call}
+use Rattle.site_file.specs.declared.asking.Call.TheVariants.{TellsLength as tells_length, Writes as writes, Syncs as syncs}
 use Rattle.site_file.specs.Asking.{HasLog}
 use Rattle.site_file.specs.Device as device
 use Rattle.site_file.specs.Device.{CallsJournal, AsksLength, ReadsJournal}
 use Rattle.site_file.specs.Following as files
 use Rattle.site_file.specs.Following.{ChangesNoFile}
+use Rattle.site_file.proofs.Following.{failed_already}
 use Rattle.site_wire.specs.Journal as journal
 use Rattle.site_wire.specs.Journal.{JournalStep, JournalFollows, one_step}
 
@@ -34,7 +36,7 @@ module _ {F : Type 0} where
   -- A journal that has failed is left as it is by each call.
   same_call : (call : Call) (before after : FileDevice F) (result : Passing) → IsTrue before.has_failed → CallsJournal call before result after
       → after ≡ before
-  same_call call before after result failed (device.over is stops same) = same
+  same_call call before after result failed (device.over lacks stops same) = same ∙ failed_already before failed
   same_call call before after result failed (device.passes going asks passed sound) = absurd (let e : true ≡ false = sym failed ∙ going in cc)
   same_call call before after result failed (device.fails going asks fails now) = absurd (let e : true ≡ false = sym failed ∙ going in cc)
 
@@ -43,14 +45,14 @@ module _ {F : Type 0} where
   same_length before after result failed (device.differs going asks stops sound) = absurd (let e : true ≡ false = sym failed ∙ going in cc)
 
   same_read : (before after : FileDevice F) (result : Passing) → IsTrue before.has_failed → ReadsJournal before result after → after ≡ before
-  same_read before after result failed (device.over is stops same) = same
+  same_read before after result failed (device.over lacks stops same) = same ∙ failed_already before failed
   same_read before after result failed (device.compared going asks passed sound) = absurd (let e : true ≡ false = sym failed ∙ going in cc)
   same_read before after result failed (device.fails going asks fails now) = absurd (let e : true ≡ false = sym failed ∙ going in cc)
 
   -- One that has passed a call has not failed.
   pub call_sound : (call : Call) (before after : FileDevice F) (result : Passing) → CallsJournal call before result after → result ≡ Passes
       → after.has_failed ≡ false
-  call_sound call before after result (device.over is stops same) passed = absurd cc
+  call_sound call before after result (device.over lacks stops same) passed = absurd cc
   call_sound call before after result (device.passes going asks passed sound) is = sound
   call_sound call before after result (device.fails going asks fails now) passed = absurd cc
 
@@ -59,7 +61,7 @@ module _ {F : Type 0} where
   length_sound before after result (device.differs going asks stops sound) passed = sound
 
   pub read_sound : (before after : FileDevice F) (result : Passing) → ReadsJournal before result after → result ≡ Passes → after.has_failed ≡ false
-  read_sound before after result (device.over is stops same) passed = absurd cc
+  read_sound before after result (device.over lacks stops same) passed = absurd cc
   read_sound before after result (device.compared going asks compares sound) passed = sound
   read_sound before after result (device.fails going asks fails now) passed = absurd cc
 

@@ -1,6 +1,5 @@
 -- The journal's file behind a device on a wire follows the site's disk, step by step.
 use Rattle.std.proofs.Common.{◌≡◌, ℕ, Bool, true, false, List, [], length, IsTrue, refl, sym, ap, subst, ◌∙◌}
-use Rattle.std.proofs.lemmas.List.{append-nil}
 use Rattle.site_core.specs.Disk.{Disk}
 use Rattle.site_core.specs.State.{State, Seen, Moment, clock}
 use Rattle.site_shadow.specs.Following.{begin_of, first_of, Extends}
@@ -9,13 +8,12 @@ use Rattle.site_shadow.proofs.Towards.{Extends-first, Extends-now}
 use Rattle.site_file.specs.declared.asking.LineFile.{LineFile}
 use Rattle.site_file.specs.declared.asking.LineFile.TheVariants.{Journal, Image}
 use Rattle.site_file.specs.declared.files.FileDevice.{FileDevice}
-use Rattle.site_file.specs.Calls.{Asked}
-use Rattle.site_file.specs.Asking.{HasLog}
 use Rattle.site_file.specs.Following as files
 use Rattle.site_file.specs.Following.{Step}
 use Rattle.site_file.specs.Files.{File}
 use Rattle.site_file.specs.Held.{is_same}
 use Rattle.site_file.specs.AllFiles.{Holds, HoldsDisk, FilesFollow}
+use Rattle.site_file.proofs.SeveralCalls.{asks_nothing}
 use Rattle.site_file.proofs.FilesFollow.{stays, asks_more, left_at_first}
 use Rattle.site_file.proofs.FollowingWords.{begins_to_follow, follows_on, site_is_followed}
 use Rattle.site_wire.specs.Journal as journal
@@ -43,7 +41,7 @@ module _ {F : Type 0} (since : ℕ) (begun : LineFile → File) where
           stays since (is_same Journal) begun old new d d refl (λ sound_yet going. absurd (let e : true ≡ false = sym failed ∙ sound_yet in cc)) extends follows
       by false failed =
           asks_more since (is_same Journal) begun old new d d [] failed running
-          (record { goes_on = λ log had. subst (λ (l : List Asked). HasLog d.asking.calls l) (sym (append-nil log)) had }) extends
+          (asks_nothing d.asking.calls) extends
           (λ files_then images bytes holds left.
           let shown = left_at_first old.state (is_same Journal) files_then holds images left in (shown.0, Extends-now old new shown.0 extends shown.1, shown.2))
           (λ sound_yet going name mid file is_owned holds becomes. holds_on name mid file is_owned holds becomes) follows

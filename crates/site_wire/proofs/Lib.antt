@@ -23,3 +23,4 @@ mod Journal
 mod JournalFile
 mod Following
 mod DueTo
+pub mod Sent

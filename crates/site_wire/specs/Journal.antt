@@ -7,7 +7,7 @@ use Rattle.site_core.specs.Calls.{WritesDisk, SyncsDisk}
 use Rattle.site_shadow.specs.declared.device.Passing.{Passing}
 use Rattle.site_shadow.specs.Following.{Extends, GoesOn, IsTold}
 use Rattle.site_file.specs.declared.files.FileDevice.{FileDevice}
-use Rattle.site_file.specs.Calls.{writes, syncs}
+use Rattle.site_file.specs.declared.asking.Call.TheVariants.{Writes as writes, Syncs as syncs}
 use Rattle.site_file.specs.Asking.{HasLog}
 use Rattle.site_file.specs.Device.{CallsJournal}
 use Rattle.site_file.specs.Following.{ChangesNoFile}

@@ -26,8 +26,7 @@ use crate::sending::Sender;
 use ecat_frame::{Datagram, Frame};
 use esc_model::{RomHalf, WordWrite, station_address};
 use site_file::{FileDevice, RandomAccessFile};
-use site_shadow::{Device, Passing, Pattern, Resting, ShadowSite};
-use std::alloc::AllocError;
+use site_shadow::{Device, Lends, LinePart, Passing, Pattern, Resting, ShadowSite};
 use std::rt::Clock;
 use std::sync::Wait;
 use wire_frames::{ATTEMPTS, Last, NumberedWire, Pace, Sighting, Wire};
@@ -48,12 +47,12 @@ const LEFT: Pattern = Pattern::New;
 /// A slave that ends the write of a word in error is told to do it again, its error cleared before, for half a second; the shadow stays
 /// busy meanwhile. A word that the slave shows as written is read back before the shadow has it in place. Polls of a busy slave have pauses.
 ///
-/// Over a `SharedLine` each part of a line can have a copy. Once one of them has stopped, no other sends a frame.
+/// Over a `SharedLine` each part of a line can be lent a device. Once one of them has stopped, no other sends a frame.
 #[derive(Drop)]
 pub struct WireDevice<'f, L, F, C> {
     sender: Sender<L>,
     clock: &'f C,
-    journal: FileDevice<'f, F>,
+    journal: FileDevice<F>,
     /// What came back of the last frame. None where it wasn't sent, or didn't come back, or the slave writes its word again.
     returned: Option<Answer>,
     /// How the half rests before it takes the last frame.
@@ -95,33 +94,12 @@ impl SlaveWrite {
     }
 }
 
-impl<'f, L: Copy, F, C> Copy for WireDevice<'f, L, F, C> {}
-
-impl<'f, L: Copy, F, C> Clone for WireDevice<'f, L, F, C> {
-    ghost use Rattle.std.specs.Prelude.{⊤};
-
-    ghost is_infallible = { λ _. ⊤ };
-
-    fn clone(&self) -> Result<Self, AllocError> {
-        Ok(WireDevice {
-            sender: self.sender,
-            clock: self.clock,
-            journal: self.journal,
-            returned: self.returned,
-            resting: self.resting,
-            writes: self.writes,
-            is_unconfirmed: self.is_unconfirmed,
-            is_over: self.is_over,
-        })
-    }
-}
-
-impl<'f, W: Wire, F: RandomAccessFile, C: Clock> WireDevice<'f, LiveLine<W>, F, C> {
+impl<'f, W: Wire, F: RandomAccessFile + Drop, C: Clock> WireDevice<'f, LiveLine<W>, F, C> {
     /// The slaves on this wire, a clock for its pauses, and this journal, of whose device only the file of the journal is used.
     pub fn new(
         wire: NumberedWire<W>,
         clock: &'f C,
-        journal: FileDevice<'f, F>,
+        journal: FileDevice<F>,
     ) -> WireDevice<'f, LiveLine<W>, F, C> {
         WireDevice::on(LiveLine::new(wire), clock, journal)
     }
@@ -148,7 +126,7 @@ impl<'f, R: Wait, W: Wire, F: RandomAccessFile, C: Clock> WireDevice<
     pub fn shared(
         line: SharedLine<'f, R, W>,
         clock: &'f C,
-        journal: FileDevice<'f, F>,
+        journal: FileDevice<F>,
     ) -> WireDevice<'f, SharedLine<'f, R, W>, F, C> {
         WireDevice::on(line, clock, journal)
     }
@@ -179,7 +157,7 @@ fn next_of(shown: Shown, is_unconfirmed: bool) -> Next
 
 impl<'f, L: Reach, F: RandomAccessFile, C: Clock> WireDevice<'f, L, F, C> {
     /// The slaves on this line, and this journal.
-    fn on(line: L, clock: &'f C, journal: FileDevice<'f, F>) -> WireDevice<'f, L, F, C> {
+    fn on(line: L, clock: &'f C, journal: FileDevice<F>) -> WireDevice<'f, L, F, C> {
         WireDevice {
             sender: Sender::new(line),
             clock,
@@ -521,8 +499,8 @@ impl<'f, L: Reach, F: RandomAccessFile, C: Clock> Device for WireDevice<'f, L, F
     ghost use Rattle.std.specs.Prelude.{[], ◌↔◌, ◌||◌, not};
     ghost use Rattle.site_core.specs.State.{Seen};
     ghost use Rattle.site_shadow.specs.Following.{Keeps, WriteKeeps, SyncKeeps, RestKeeps};
-    ghost use Rattle.site_file.specs.Calls.{writes, syncs};
-    ghost use Rattle.site_file.specs.Asking.{HasLog};
+    ghost use Rattle.site_file.specs.declared.asking.Call.TheVariants.{Writes as writes, Syncs as syncs};
+    ghost use Rattle.site_file.specs.Asking.{Begins};
     ghost use Rattle.site_file.specs.Device.{CallsJournal, AsksLength, ReadsJournal};
     ghost use Rattle.site_wire.specs.Following.{WireFollows};
 
@@ -533,7 +511,7 @@ impl<'f, L: Reach, F: RandomAccessFile, C: Clock> Device for WireDevice<'f, L, F
     /// What is sent, and what the journal is asked, is noted from here on. Behind a shadow that has seen a call the device would not know what the
     /// slaves and the journal are: it sends and asks nothing.
     fn begin(&mut self, is_new: bool)
-        ensures nothing { HasLog self.new.journal.asking.calls [] }
+        ensures begins { Begins self.old.journal.asking.calls self.new.journal.asking.calls }
         ensures sound { self.new.journal.has_failed ≡ (self.old.journal.has_failed || not is_new) }
         ensures follows { (seen : Seen) → (IsTrue is_new ↔ seen.past ≡ []) → WireFollows self.new seen }
     {
@@ -650,4 +628,42 @@ impl<'f, L: Reach, F: RandomAccessFile, C: Clock> Device for WireDevice<'f, L, F
     ghost use Rattle.site_wire.specs.Following.{follows_on};
 
     ghost goes_on = { follows_on };
+}
+
+impl<'f, L: Reach + Copy + Drop, F: RandomAccessFile + Drop, C: Clock> Lends
+    for WireDevice<'f, L, F, C> {
+    ghost use Rattle.site_file.specs.Asking.{TellsLog};
+
+    /// What is told of the journal.
+    type Told = <FileDevice<F> as Lends>::Told;
+
+    ghost tells = { λ device told. TellsLog device.journal.asking.calls told };
+
+    /// The journal goes with the device of the disk.
+    fn lend(&mut self, part: LinePart) -> WireDevice<'f, L, F, C> {
+        WireDevice {
+            sender: self.sender,
+            clock: self.clock,
+            journal: self.journal.lend(part),
+            returned: None,
+            resting: Resting::Stays,
+            writes: self.writes,
+            is_unconfirmed: self.is_unconfirmed,
+            is_over: self.is_over,
+        }
+    }
+
+    fn take_back(&mut self, lent: WireDevice<'f, L, F, C>) -> <FileDevice<F> as Lends>::Told {
+        let WireDevice {
+            journal,
+            is_over,
+            ..
+        } = lent;
+        self.is_over = self.is_over || is_over;
+        self.journal.take_back(journal)
+    }
+
+    fn tell(&mut self) -> <FileDevice<F> as Lends>::Told {
+        self.journal.tell()
+    }
 }

@@ -33,14 +33,14 @@ fn open_images<S: Store>(
     alloc: Global,
     names: &[String],
     store: &mut S,
-) -> Result<Vec<S::File>, Fault>
+) -> Result<Vec<Option<S::File>>, Fault>
     ensures others { ChangesAmong (S.files store.old) (S.files store.new) (map (λ name. string_bytes name) names.now) }
     ensures failed { IfErr result IsOfStream }
 {
     let mut images = Vec::with_capacity(alloc, names.len())?;
     for slave in 0..names.len() {
         let image = store.open(names[slave].as_str())?;
-        images.push(image)?;
+        images.push(Some(image))?;
     }
     Ok(images)
 }

@@ -219,7 +219,7 @@ pub(crate) fn serve_recovery<H: Wait + Clock + AllocGlobal, S: Store, W: Write, 
         output: &mut *output,
         faults: &mut *faults,
     };
-    let ended = recover_line(watch, line, store, streams);
+    let ended = recover_line(watch, line, store, streams).map(|recovery| recovery.status);
     end_report(alloc, looked, ended, store, output, faults)
 }
 

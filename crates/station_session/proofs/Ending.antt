@@ -1,13 +1,14 @@
 -- What the files of a line hold after a run or a recovery.
 use Rattle.std.proofs.Common.{◌≡◌, ℕ, Bool, true, false, List, [], refl, sym, ◌∙◌, subst, inl, inr, Result, Ok, Err}
-use Rattle.std.specs.Prelude.{◌⊎◌, IsTrue, OnErr, OnOk, Option}
+use Rattle.std.specs.Prelude.{◌⊎◌, IfSome, IsTrue, OnErr, OnOk, Option, Some, None, is_some, unwrap_or}
 use Rattle.sii_edit.specs.declared.command.Command.{Command}
 use Rattle.site_core.specs.State.{State, Seen}
 use Rattle.site_core.specs.Times.{Follows}
 use Rattle.site_shadow.specs.Site.{SiteValue}
-use Rattle.site_file.specs.Calls.{Asked}
+use Rattle.site_file.specs.declared.asking.Asked.{Asked}
 use Rattle.kept_files.specs.KeptFiles.{FilesOf, BecomeOnly, HasContents, KeepsFiles}
-use Rattle.kept_files.proofs.OnFiles.{cut_leaves_kept, recovery_leaves_contents}
+use Rattle.kept_files.proofs.OnFiles.{cut_leaves_kept, keeps_unasked, recovery_leaves_contents}
+use Rattle.site_shadow.specs.Following.{first_of}
 use Rattle.kept_files.proofs.Extending.{first_stays}
 use Rattle.station_alone.specs.Keeping.{KeepsThroughout}
 use Rattle.station_alone.specs.Station.{Station}
@@ -25,7 +26,7 @@ use Rattle.station_line.specs.Judging.{HasJournal, IsRunApart}
 use Rattle.station_line.specs.Site.{files_of, HoldsSite}
 use Rattle.station_line.specs.Rounds.{ServesSo}
 use Rattle.station_line.specs.Opened.{is_old, Loads, StartsFrom}
-use Rattle.station_session.specs.Session.{BeginsCapture, EndsCaptured, EndsRecovery, EndsRun, EndsStation, RecoversFiles, RunsFiles, SavesRecovered}
+use Rattle.station_session.specs.Session.{BeginsCapture, EndsCaptured, EndsRecovery, EndsRun, EndsStation, RecoversFiles, RunsFiles, SavedSoundly, SavesRecovered}
 use Rattle.script_session.specs.Saving.{SavesRun, SavesServed}
 
 -- ---- a station that was opened
@@ -92,12 +93,12 @@ ends-run-opened old mid new line site on_files commands status opened same ends 
   saved = λ good. subst (λ (s : SiteValue). SavesRun false new line s commands status) same (ends.saved good);
 }
 
-pub ends-recovery-opened : (old mid new : Known) (line : LineFile) (site on_files : SiteValue) (status : ExitStatus) → ChangesAmong old mid (files_of line) → on_files ≡ site → EndsRecovery mid new line on_files.seen status → EndsRecovery old new line site.seen status
-ends-recovery-opened old mid new line site on_files status opened same ends = record {
+pub ends-recovery-opened : (old mid new : Known) (line : LineFile) (site on_files : SiteValue) (status : ExitStatus) (asked : Option (List Asked)) → ChangesAmong old mid (files_of line) → on_files ≡ site
+    → EndsRecovery mid new line on_files.seen status asked → EndsRecovery old new line site.seen status asked
+ends-recovery-opened old mid new line site on_files status asked opened same ends = record {
   others = λ other out. ends.others other out ∙ opened other out;
-  calls = ends.calls;
-  keeps = subst (λ (s : SiteValue). KeepsFiles s.seen.state ends.calls) same ends.keeps;
-  saved = λ done. subst (λ (s : SiteValue). SavesRecovered new line s.seen ends.calls) same (ends.saved done);
+  keeps = subst (λ (s : SiteValue). KeepsFiles s.seen.state (unwrap_or asked [])) same ends.keeps;
+  saved = λ done. let saved = ends.saved done in (saved.0, subst (λ (s : SiteValue). SavesRecovered new line s.seen (unwrap_or asked [])) same saved.1);
 }
 
 -- the other way of running isn't taken
@@ -109,9 +110,10 @@ run-cut is_cut way old new line site commands status is ends = subst (λ (b : Bo
 pub ends-unopened : (is_cut : Bool) (old new : Known) (line : LineFile) (site : SiteValue) (commands : List Command) (status : ExitStatus) → ChangesAmong old new (files_of line) → ¬ IsFaultless status → EndsRun is_cut old new line site commands status
 ends-unopened is_cut old new line site commands status others bad = record { others = others; saved = λ good. absurd (bad good) }
 
-pub ends-unrecovered : (old new : Known) (line : LineFile) (before : Seen) (calls : List Asked) (status : ExitStatus) → KeepsFiles before.state calls → ChangesAmong old new (files_of line) → ¬ IsFaultless status → EndsRecovery old new line before status
-ends-unrecovered old new line before calls status keeps others bad =
-    record { others = others; calls = calls; keeps = keeps; saved = λ done. absurd (bad (done-faultless status done)) }
+pub ends-unrecovered : (old new : Known) (line : LineFile) (before : Seen) (asked : Option (List Asked)) (status : ExitStatus) → KeepsFiles before.state (unwrap_or asked []) → ChangesAmong old new (files_of line) → ¬ IsFaultless status
+    → EndsRecovery old new line before status asked
+ends-unrecovered old new line before asked status keeps others bad =
+    record { others = others; keeps = keeps; saved = λ done. absurd (bad (done-faultless status done)) }
 
 -- ---- a station that was recovered
 
@@ -124,28 +126,38 @@ pub saved-still : (new : Known) (line : LineFile) (saved : Result (Unit {0}) Fau
 saved-still new line saved state one held bad good = on-saved (HoldsSite new line state) saved one held bad good
 
 -- what the files keep through the calls of a station
-pub keeps-files : (before now : Seen) (is_sound : Bool) (files : FilesOf now is_sound) → before.past ≡ [] → Follows before now → KeepsThroughout before now → KeepsFiles before.state files.calls
-keeps-files before now is_sound files new follows keeps = cut_leaves_kept before now is_sound files new (first_stays before now new follows) keeps
+pub keeps-files : (before now : Seen) (is_sound : Bool) (asked : Option (List Asked)) → IfSome asked (λ calls. FilesOf calls now is_sound) → before.past ≡ [] → Follows before now → KeepsThroughout before now
+    → KeepsFiles before.state (unwrap_or asked [])
+keeps-files before now is_sound (Some calls) files new follows keeps = cut_leaves_kept before now is_sound calls files new (first_stays before now new follows) keeps
+keeps-files before now is_sound None files new follows keeps = keeps_unasked before.state
 
-pub ends-recovered : (old new : Known) (line : LineFile) (before : Seen) (s : Station) (left : Seen) (is_sound : Bool) (saved : Result (Unit {0}) Fault) (one other final : ExitStatus) → HasRecovered s → BeginsRecovered before s → left ≡ s.seen
-    → before.past ≡ [] → Follows before s.seen → KeepsThroughout before s.seen → FilesOf left is_sound → OnOk saved (IsTrue is_sound)
-    → OnOk saved (HoldsSite new line left.state) → ChangesAmong old new (files_of line) → OnErr saved (¬ IsFaultless one) → (final ≡ Done → (one ≡ Done) × (other ≡ Done)) → EndsRecovery old new line before final
-ends-recovered old new line before s left is_sound saved one other final is_recovered begins is none follows keeps known sound held others bad done_too =
-    let files : FilesOf s.seen is_sound = subst (λ (x : Seen). FilesOf x is_sound) is known in
+-- the contents in them behind a complete recovery
+recovered-contents : (s : Station) (is_sound : Bool) (asked : Option (List Asked)) → IfSome asked (λ calls. FilesOf calls s.seen is_sound) → HasRecovered s → IsTrue is_sound → IsTrue (is_some asked)
+    → BecomeOnly (HasContents s.book) (first_of s.seen) (unwrap_or asked [])
+recovered-contents s is_sound (Some calls) files recovered sound some = recovery_leaves_contents s is_sound calls files recovered sound
+recovered-contents s is_sound None files recovered sound some = absurd cc
+
+pub ends-recovered : (old new : Known) (line : LineFile) (before : Seen) (s : Station) (left : Seen) (asked : Option (List Asked)) (saved : Result (Unit {0}) Fault) (one other final : ExitStatus) → HasRecovered s → BeginsRecovered before s → left ≡ s.seen
+    → before.past ≡ [] → Follows before s.seen → KeepsThroughout before s.seen → SavedSoundly left saved asked
+    → OnOk saved (HoldsSite new line left.state) → ChangesAmong old new (files_of line) → OnErr saved (¬ IsFaultless one) → (final ≡ Done → (one ≡ Done) × (other ≡ Done)) → EndsRecovery old new line before final asked
+ends-recovered old new line before s left asked saved one other final is_recovered begins is none follows keeps known held others bad done_too =
+    let files : IfSome asked (λ calls. FilesOf calls s.seen known.is_sound) = subst (λ (x : Seen). IfSome asked (λ (calls : List Asked). FilesOf calls x known.is_sound)) is known.leave in
     record {
       others = others;
-      calls = files.calls;
-      keeps = keeps-files before s.seen is_sound files none follows keeps;
+      keeps = keeps-files before s.seen known.is_sound asked files none follows keeps;
       saved = λ done.
           let good : IsFaultless one = done-faultless one (done_too done).0 in
-          record {
-            s = s;
-            recovered = is_recovered;
-            begins = begins;
-            held = subst (λ (x : Seen). HoldsSite new line x.state) is (on-saved (HoldsSite new line left.state) saved one held bad good);
-            contents = subst (λ (x : State). BecomeOnly (HasContents s.book) x files.calls) (first_stays before s.seen none follows)
-                (recovery_leaves_contents s is_sound files is_recovered (on-saved (IsTrue is_sound) saved one sound bad good));
-          };
+          let sound = on-saved (IsTrue known.is_sound × IsTrue (is_some asked)) saved one known.sound bad good in (
+            sound.1,
+            record {
+              s = s;
+              recovered = is_recovered;
+              begins = begins;
+              held = subst (λ (x : Seen). HoldsSite new line x.state) is (on-saved (HoldsSite new line left.state) saved one held bad good);
+              contents = subst (λ (x : State). BecomeOnly (HasContents s.book) x (unwrap_or asked [])) (first_stays before s.seen none follows)
+                  (recovered-contents s known.is_sound asked files is_recovered sound.0 sound.1);
+            },
+          );
     }
 
 -- ---- a capture
@@ -175,8 +187,8 @@ runs leads is_cut capture old loaded new name script line site commands status g
     let P : Known → Type 0 = λ files. EndsCaptured is_cut capture files new line site commands status in
     record { line = line; site = site; loaded = given; apart = apart; journal = journal; commands = commands; spelt = spelt; ends = subst P same ends }
 
-pub recovers : (leads : Leads) (old loaded new : Known) (name : List ℕ) (line : LineFile) (site : SiteValue) (status : ExitStatus) → Loads old name line site → IsLineApart leads line name → HasJournal site.line.sizes site.seen.state.disk.bytes → loaded ≡ old
-    → EndsRecovery loaded new line site.seen status → RecoversFiles leads old new name status
-recovers leads old loaded new name line site status given apart journal same ends =
-    let P : Known → Type 0 = λ files. EndsRecovery files new line site.seen status in
+pub recovers : (leads : Leads) (old loaded new : Known) (name : List ℕ) (line : LineFile) (site : SiteValue) (status : ExitStatus) (asked : Option (List Asked)) → Loads old name line site → IsLineApart leads line name → HasJournal site.line.sizes site.seen.state.disk.bytes → loaded ≡ old
+    → EndsRecovery loaded new line site.seen status asked → RecoversFiles leads old new name status asked
+recovers leads old loaded new name line site status asked given apart journal same ends =
+    let P : Known → Type 0 = λ files. EndsRecovery files new line site.seen status asked in
     record { line = line; site = site; loaded = given; apart = apart; journal = journal; ends = subst P same ends }

@@ -1,5 +1,15 @@
--- Whether the files hold what a site holds.
-use Rattle.std.proofs.Common.{◌≡◌, Bool, true, false, not, Result, Ok, Err, OnOk, IsTrue, refl, sym, ◌∙◌}
+-- Whether the files hold what a site holds, and what is told of them.
+use Rattle.std.proofs.Common.{◌≡◌, Bool, true, false, not, List, Result, Ok, Err, OnOk, IsTrue, refl, sym, ◌∙◌}
+use Rattle.std.specs.Prelude.{IfSome, Option, Some, None}
+use Rattle.std.specs.Option.{option_map}
+use Rattle.site_core.specs.State.{Seen}
+use Rattle.site_file.specs.declared.files.Finished.{Finished}
+use Rattle.site_file.specs.declared.asking.Asked.{Asked}
+use Rattle.site_file.specs.declared.files.FileDevice.{FileDevice}
+use Rattle.site_file.specs.Asking.{HasLog}
+use Rattle.site_file.specs.Following.{Follows}
+use Rattle.kept_files.specs.KeptFiles.{FilesOf}
+use Rattle.kept_files.proofs.OnFiles.{site_has_files}
 
 not_true : (b : Bool) → not b ≡ true → b ≡ false
 not_true false is = refl
@@ -14,3 +24,19 @@ sound_by is_sound had_stopped stopped had_failed failed stop_is going fail_is so
 pub saved_so : {T E : Type 0} (saved : Result T E) (is_sound : Bool) → is_sound ≡ true → OnOk saved (IsTrue is_sound)
 saved_so (Ok kept) is_sound is = is
 saved_so (Err fault) is_sound is = tt
+
+-- all that was asked of files, if it is told
+abbrev pub log_of : {F : Type 0} → Option (Finished F) → Option (List Asked)
+log_of files = option_map (λ done. done.log) files
+
+pub told_of : {F : Type 0} (files : Option (Finished F)) (now : Seen) (is_sound : Bool) → IfSome files (λ done. FilesOf done.log now is_sound)
+    → IfSome (log_of files) (λ calls. FilesOf calls now is_sound)
+told_of (Some done) now is_sound told = told
+told_of None now is_sound told = tt
+
+-- what is told of the files of a site, by its device
+pub told_files : (F : Type 0) (device : FileDevice F) (files : Option (Finished F)) (now : Seen) (is_sound : Bool) → Follows device now
+    → (IsTrue is_sound → (device.has_failed ≡ false) × ¬ IsTrue now.is_stopped) → IfSome files (λ done. HasLog device.asking.calls done.log)
+    → IfSome files (λ done. FilesOf done.log now is_sound)
+told_files F device (Some done) now is_sound follows sound log = site_has_files F device done.log now is_sound follows log sound
+told_files F device None now is_sound follows sound log = tt

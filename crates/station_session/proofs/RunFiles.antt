@@ -1,7 +1,8 @@
 -- What a power cut leaves in the files of a run.
 use Rattle.std.proofs.Common.{◌≡◌, ◌∙◌, ℕ, ◌+◌, zero, suc, eq-eqb, Bool, true, false, List, [], ◌∷◌, Some, slice_get, IsTrue, Result, Ok, Err, refl}
 use Rattle.std.proofs.Common.{sym, ap, subst, inl, inr, arith}
-use Rattle.std.specs.Prelude.{◌⊎◌, OnOk}
+use Rattle.std.proofs.lemmas.List.{append_cancel_left}
+use Rattle.std.specs.Prelude.{◌⊎◌, IfSome, None, OnOk, Option}
 use Rattle.std.specs.List.{AllByRecursion}
 use Rattle.sii_edit.specs.declared.command.Command.{Command}
 use Rattle.esc_model.specs.SlaveHalf.{SlaveHalf}
@@ -15,6 +16,8 @@ use Rattle.site_shadow.specs.Unsynced.{of_bytes}
 use Rattle.site_file.specs.declared.asking.LineFile.{LineFile as FileName}
 use Rattle.site_file.specs.declared.asking.LineFile.TheVariants.{Journal as JournalFile, Image}
 use Rattle.site_file.specs.declared.files.FileDevice.{FileDevice}
+use Rattle.site_file.specs.declared.asking.Asked.{Asked}
+use Rattle.site_file.specs.Asking.{HasLog, TellsLog}
 use Rattle.site_file.specs.Following as files
 use Rattle.site_file.specs.Held.{is_same}
 use Rattle.site_file.specs.Files.{File, image_of}
@@ -29,10 +32,11 @@ use Rattle.station_alone.specs.Keeping.{KeptFor}
 use Rattle.station_alone.specs.Opening.{BeginsSession}
 use Rattle.station_jobs.specs.declared.log.SlaveLog.{SlaveLog}
 use Rattle.station_jobs.specs.Ends.{Stay}
-use Rattle.kept_files.specs.KeptFiles.{KeepsOn, KeepsOnServing, KeptBehind, has_file}
+use Rattle.station_jobs.specs.Flushing.{IsFlushed}
+use Rattle.kept_files.specs.KeptFiles.{KeptBehind, has_file}
 use Rattle.kept_files.specs.Cuts.{IsKeptPair}
 use Rattle.kept_files.specs.DeskFiles.{DeskOnFiles, PartOnFiles}
-use Rattle.kept_files.proofs.OnFiles.{site_keeps_on, site_keeps_serving}
+use Rattle.kept_files.proofs.OnFiles.{device_kept, device_served, site_keeps_on, site_keeps_serving}
 use Rattle.kept_files.proofs.Extending.{first_stays}
 use Rattle.kept_files.proofs.AtDeskOnFiles.{part_has_its_file, device_of_part, flushed_follows, worked_follows, cut_leaves_kept_parts}
 use Rattle.station_threads.specs.Parts.{IsEndOfSlave}
@@ -44,11 +48,15 @@ use Rattle.station_files.specs.declared.faults.ExitStatus.{ExitStatus}
 use Rattle.station_files.specs.declared.faults.Fault.{Fault}
 use Rattle.script_session.specs.declared.closing.Ending.{Ending}
 use Rattle.script_session.specs.AtDesk.{DeskServes, EndsApart, EndsFollowed, ServesParts, seen_of}
-use Rattle.script_session.specs.Parts.{AreFollowed, BeginsWith, EndsWith, IsTogether, IsWorkFollowed, Soundly}
+use Rattle.script_session.specs.declared.told.DeskTold.{DeskTold}
+use Rattle.script_session.specs.declared.told.PartTold.{PartTold}
+use Rattle.script_session.specs.Parts.{AreFollowed, AreSound, AreToldOf, BeginsWith, EndsWith, IsDeskTold, IsTogether, IsWorkFollowed, Soundly, Telling}
 use Rattle.script_session.proofs.LeftLaws.{first, opened-on, placed-back}
 use Rattle.script_session.proofs.SlaveLaws.{placed-at}
 use Rattle.station_session.specs.RunFiles.{BeginsPart, DeskGoes, GoesAlone, GoesBehind, GoesFollowed, HoldTogether, IsLeftBy, KeepsAtDesk, KeepsParts}
 use Rattle.station_session.specs.RunFiles.{OfDevices, OfFiles, RunsFollowed, KeepsRunFiles, RunKeepsFiles, Says, ServesFollowedBy, ServesOn}
+use Rattle.station_session.specs.declared.told.RunTold.{RunTold}
+use Rattle.station_session.specs.RunFiles.{DeskTells, HaveAsked, IsTold, KeepsAsTold, KeepsDeskAsTold, ServesAsTold, TellsOf, line_told}
 use Rattle.station_session.specs.RunFiles.{ServesSome, unbegun, apart, served, unopened, opened, unrecovered, recovered}
 use Rattle.station_line.specs.Opened.{GoesKept, Loads}
 use Rattle.station_line.specs.Rounds.{Goes}
@@ -70,33 +78,43 @@ HasFileDevice F {D} follows = (device : D) (seen : Seen) → follows device seen
 
 -- by devices that keep this
 module _ (F : Type 0) {D : Type 0} (follows : D → Seen → Type 0) (to_file : HasFileDevice F follows) where
-  goes_on_files : (before now : Seen) → before.past ≡ [] → GoesFollowed follows before now → KeepsOn F before now
-  goes_on_files before now new stage =
-      let device = to_file stage.followed.0 now stage.followed.1 in
-      site_keeps_on F device.0 before now device.1 new (first_stays before now new stage.goes.goes_on) stage.goes.keeps
-
-  serves_on_files : (commands : List Command) (before now : Seen) → before.past ≡ [] → ServesOn follows commands before now
-      → KeepsOnServing F commands before now
-  serves_on_files commands before now new serves =
-      let device = to_file serves.followed.0 now serves.followed.1 in
-      site_keeps_serving F device.0 commands before now device.1 new (first_stays before now new serves.goes_on) serves.keeps
-
   module _ (station : Station) (synced : station.seen.state.disk ≡ of_bytes station.seen.state.disk.bytes) (commands : List Command) (ending : Ending)
-      (parts : DeskServes station commands ending) (followed : AreFollowed follows parts.ends) where
+      (parts : DeskServes station commands ending)
+      (flushed : IsFlushed parts.ends.flusher.log parts.ends.flusher.start.seen parts.ends.flusher.site.seen)
+      (disk : IsFollowed follows parts.ends.flusher.site.seen)
+      (works : (slave : ℕ) (end : Stay SiteValue SlaveLog) → slice_get parts.ends.workers.items slave ≡ Some end → IsWorkFollowed follows end) where
     journal_part : PartOnFiles F (is_same JournalFile) parts.ends.flusher.start.seen parts.ends.flusher.site.seen
     journal_part =
         let start = parts.ends.flusher.start.seen in
         let end = parts.ends.flusher.site.seen in
-        let device = to_file followed.followed.0 end followed.followed.1 in
-        part_has_its_file F (is_same JournalFile) start end device.0 (ap (λ (s : SiteValue). s.seen.past) parts.of_sites.flusher ∙ parts.apart.new) (flushed_follows parts.ends.flusher.log start end followed.flushed) device.1
+        let device = to_file disk.0 end disk.1 in
+        part_has_its_file F (is_same JournalFile) start end device.0 (ap (λ (s : SiteValue). s.seen.past) parts.of_sites.flusher ∙ parts.apart.new) (flushed_follows parts.ends.flusher.log start end flushed) device.1
+
+    journal_device : journal_part.device ≡ (to_file disk.0 parts.ends.flusher.site.seen disk.1).0
+    unfolding journal_part
+    journal_device =
+        let start = parts.ends.flusher.start.seen in
+        let end = parts.ends.flusher.site.seen in
+        let device = to_file disk.0 end disk.1 in
+        device_of_part F (is_same JournalFile) start end device.0 (ap (λ (s : SiteValue). s.seen.past) parts.of_sites.flusher ∙ parts.apart.new) (flushed_follows parts.ends.flusher.log start end flushed) device.1
 
     image_part : (slave : ℕ) (end : Stay SiteValue SlaveLog) → slice_get parts.ends.workers.items slave ≡ Some end → PartOnFiles F (is_same (Image slave)) end.start.seen end.site.seen
     image_part slave end here =
-        let work = at-place (IsWorkFollowed follows) parts.ends.workers.items slave end followed.workers here in
+        let work = works slave end here in
         let device = to_file work.followed.0 end.site.seen work.followed.1 in
         let worker = placed-back (λ place (x : SiteValue) (e : Stay SiteValue SlaveLog). IsEndOfSlave place x e) 0 parts.sites.slaves.items parts.ends.workers.items slave end parts.of_sites.workers here in
         let half = placed-back BeginsWith 0 station.seen.state.halves parts.sites.slaves.items slave worker.0 parts.apart.slaves worker.1 in
         part_has_its_file F (is_same (Image slave)) end.start.seen end.site.seen device.0 (ap (λ (s : SiteValue). s.seen.past) worker.2.start ∙ half.2.new) (worked_follows end.log.slave end.log.jobs end.start.seen end.site.seen work.worked) device.1
+
+    image_device : (slave : ℕ) (end : Stay SiteValue SlaveLog) (here : slice_get parts.ends.workers.items slave ≡ Some end)
+        → (image_part slave end here).device ≡ (to_file (works slave end here).followed.0 end.site.seen (works slave end here).followed.1).0
+    unfolding image_part
+    image_device slave end here =
+        let work = works slave end here in
+        let device = to_file work.followed.0 end.site.seen work.followed.1 in
+        let worker = placed-back (λ place (x : SiteValue) (e : Stay SiteValue SlaveLog). IsEndOfSlave place x e) 0 parts.sites.slaves.items parts.ends.workers.items slave end parts.of_sites.workers here in
+        let half = placed-back BeginsWith 0 station.seen.state.halves parts.sites.slaves.items slave worker.0 parts.apart.slaves worker.1 in
+        device_of_part F (is_same (Image slave)) end.start.seen end.site.seen device.0 (ap (λ (s : SiteValue). s.seen.past) worker.2.start ∙ half.2.new) (worked_follows end.log.slave end.log.jobs end.start.seen end.site.seen work.worked) device.1
 
     desk : DeskOnFiles F seen_of parts.ends.flusher parts.ends.workers.items
     desk = record { journal = journal_part; images = image_part }
@@ -137,35 +155,25 @@ module _ (F : Type 0) {D : Type 0} (follows : D → Seen → Type 0) (to_file : 
 
     -- where no call of a device has failed and no site has stopped, and the disk is synced, the files hold what is put together
     module _ (site : SiteValue) (together : IsTogether parts.ends site)
-        (no_failure : (device : D) (seen : Seen) (f : follows device seen)
-        → ((to_file device seen f).0.has_failed ≡ false) × (seen.is_stopped ≡ false))
+        (no_failure : ((to_file disk.0 parts.ends.flusher.site.seen disk.1).0.has_failed ≡ false) × (parts.ends.flusher.site.seen.is_stopped ≡ false))
+        (no_failures : (slave : ℕ) (end : Stay SiteValue SlaveLog) (is : slice_get parts.ends.workers.items slave ≡ Some end)
+        → ((to_file (works slave end is).followed.0 end.site.seen (works slave end is).followed.1).0.has_failed ≡ false) × (end.site.seen.is_stopped ≡ false))
         (all_synced : parts.ends.flusher.site.seen.state.disk ≡ of_bytes parts.ends.flusher.site.seen.state.disk.bytes) where
       going : (stopped : Bool) → stopped ≡ false → ¬ IsTrue stopped
       going stopped is stops = let never : false ≡ true = sym is ∙ stops in absurd cc
 
       journal_together : (file : File) → IsLeftBy journal_part JournalFile file → Holds site.seen.state JournalFile file
-      unfolding journal_part
       journal_together file left =
-          let start = parts.ends.flusher.start.seen in
           let end = parts.ends.flusher.site.seen in
-          let device = to_file followed.followed.0 end followed.followed.1 in
-          let well = no_failure followed.followed.0 end followed.followed.1 in
-          let same = device_of_part F (is_same JournalFile) start end device.0 (ap (λ (s : SiteValue). s.seen.past) parts.of_sites.flusher ∙ parts.apart.new) (flushed_follows parts.ends.flusher.log start end followed.flushed) device.1 in
           let held : HoldsDisk end.state.disk file =
-          (journal_part.follow left.begun left.held).holds (ap (λ (d : FileDevice F). d.has_failed) same ∙ well.0) (going end.is_stopped well.1) JournalFile file refl left.became in
+          (journal_part.follow left.begun left.held).holds (ap (λ (d : FileDevice F). d.has_failed) journal_device ∙ no_failure.0) (going end.is_stopped no_failure.1) JournalFile file refl left.became in
           subst (λ (d : Disk). HoldsDisk d file) (all_synced ∙ sym together.disk) held
 
       image_together : (slave : ℕ) (end : Stay SiteValue SlaveLog) (is : slice_get parts.ends.workers.items slave ≡ Some end) (file : File) → IsLeftBy (image_part slave end is) (Image slave) file → Holds site.seen.state (Image slave) file
-      unfolding image_part
       image_together slave end is file left =
-          let work = at-place (IsWorkFollowed follows) parts.ends.workers.items slave end followed.workers is in
-          let device = to_file work.followed.0 end.site.seen work.followed.1 in
-          let worker = placed-back (λ place (x : SiteValue) (e : Stay SiteValue SlaveLog). IsEndOfSlave place x e) 0 parts.sites.slaves.items parts.ends.workers.items slave end parts.of_sites.workers is in
-          let half = placed-back BeginsWith 0 station.seen.state.halves parts.sites.slaves.items slave worker.0 parts.apart.slaves worker.1 in
-          let well = no_failure work.followed.0 end.site.seen work.followed.1 in
-          let same = device_of_part F (is_same (Image slave)) end.start.seen end.site.seen device.0 (ap (λ (s : SiteValue). s.seen.past) worker.2.start ∙ half.2.new) (worked_follows end.log.slave end.log.jobs end.start.seen end.site.seen work.worked) device.1 in
+          let well = no_failures slave end is in
           let held : HoldsWords end.site.seen.state.halves slave file =
-          ((image_part slave end is).follow left.begun left.held).holds (ap (λ (d : FileDevice F). d.has_failed) same ∙ well.0) (going end.site.seen.is_stopped well.1) (Image slave) file (eq-eqb slave slave refl) left.became in
+          ((image_part slave end is).follow left.begun left.held).holds (ap (λ (d : FileDevice F). d.has_failed) (image_device slave end is) ∙ well.0) (going end.site.seen.is_stopped well.1) (Image slave) file (eq-eqb slave slave refl) left.became in
           let back = placed-at EndsWith 0 parts.ends.workers.items site.seen.state.halves slave end together.halves is in
           let same_place : 0 + slave ≡ slave = omega arith in
           let half_is = same-half end.site.seen.state.halves slave held.half back.0 held.here (subst (λ (k : ℕ). slice_get end.site.seen.state.halves k ≡ Some back.0) same_place back.2) in
@@ -175,58 +183,193 @@ module _ (F : Type 0) {D : Type 0} (follows : D → Seen → Type 0) (to_file : 
       unfolding desk journal_part
       hold_together = record { journal = journal_together; images = image_together }
 
+-- each end is of a worker whose device is told of
+told-work : {D T : Type 0} (follows : D → Seen → Type 0) (well : D → Type 0) (tells : D → T → Type 0) (told : List (PartTold T)) (workers : List (Stay SiteValue SlaveLog))
+    → AreToldOf follows well tells told workers → (slave : ℕ) (end : Stay SiteValue SlaveLog) → slice_get workers slave ≡ Some end
+    → (part : PartTold T) × (slice_get told slave ≡ Some part) × IsWorkFollowed (Telling follows well tells part) end
+told-work follows well tells [] [] all slave end here = absurd cc
+told-work follows well tells [] (e ∷ workers) all slave end here = absurd all
+told-work follows well tells (t ∷ told) [] all slave end here = absurd all
+told-work follows well tells (t ∷ told) (e ∷ workers) all zero end here =
+    let same : e ≡ end = cc in (t, refl, subst (IsWorkFollowed (Telling follows well tells t)) same all.0)
+told-work follows well tells (t ∷ told) (e ∷ workers) all (suc slave) end here = told-work follows well tells told workers all.1 slave end here
+
+-- all of these parts are sound, so this one is
+sound-at : {T : Type 0} (told : List (PartTold T)) (slave : ℕ) (part : PartTold T) → AllByRecursion (λ (one : PartTold T). IsTrue one.is_sound) told
+    → slice_get told slave ≡ Some part → IsTrue part.is_sound
+sound-at told slave part all here = at-place (λ one. IsTrue one.is_sound) told slave part all here
+
+-- the calls of a device, by what is told of it
+told-calls : (F : Type 0) (device kept : FileDevice F) (calls : List Asked) (told : Option (List Asked)) → kept ≡ device → HasLog kept.asking.calls calls
+    → TellsLog device.asking.calls told → IfSome told (λ asked. asked ≡ calls)
+told-calls F device kept calls None same log tells = tt
+told-calls F device kept calls (Some asked) same log tells =
+    append_cancel_left device.asking.calls.begun.value asked calls (sym tells ∙ subst (λ (d : FileDevice F). HasLog d.asking.calls calls) same log)
+
+-- what a device tells of its log, its device of files has asked
+abbrev pub TellsFile : (F : Type 0) → {D : Type 0} → (follows : D → Seen → Type 0) → HasFileDevice F follows → (D → Option (List Asked) → Type 0) → Type 0
+TellsFile F {D} follows to_file tells =
+    (device : D) (seen : Seen) (f : follows device seen) (told : Option (List Asked)) → tells device told → TellsLog (to_file device seen f).0.asking.calls told
+
+-- by devices that keep this and tell of it
+module _ (F : Type 0) {D : Type 0} (follows : D → Seen → Type 0) (to_file : HasFileDevice F follows) (tells : D → Option (List Asked) → Type 0) (tells_file : TellsFile F follows to_file tells) where
+  is-told : (device : D) (seen : Seen) (f : follows device seen) (kept : FileDevice F) (calls : List Asked) (told : Option (Option (List Asked)))
+      → kept ≡ (to_file device seen f).0 → HasLog kept.asking.calls calls → IfSome told (tells device) → IsTold told (λ asked. asked ≡ calls)
+  is-told device seen f kept calls None same log none = tt
+  is-told device seen f kept calls (Some told) same log tell = told-calls F (to_file device seen f).0 kept calls told same log (tells_file device seen f told tell)
+
+  goes_on_files : (told : Option (Option (List Asked))) (before now : Seen) → before.past ≡ [] → GoesFollowed (TellsOf follows tells told) before now
+      → KeepsAsTold F told before now
+  goes_on_files told before now new stage =
+      let device = to_file stage.followed.0 now stage.followed.1.0 in
+      let first = first_stays before now new stage.goes.goes_on in
+      let keeps = site_keeps_on F device.0 before now device.1 new first stage.goes.keeps in
+      record {
+        keeps = keeps;
+        asked = is-told stage.followed.0 now stage.followed.1.0 keeps.device keeps.calls told (device_kept F device.0 before now device.1 new first stage.goes.keeps) keeps.log stage.followed.1.1;
+      }
+
+  serves_on_files : (told : Option (Option (List Asked))) (commands : List Command) (before now : Seen) → before.past ≡ []
+      → ServesOn (TellsOf follows tells told) commands before now → ServesAsTold F told commands before now
+  serves_on_files told commands before now new serves =
+      let device = to_file serves.followed.0 now serves.followed.1.0 in
+      let first = first_stays before now new serves.goes_on in
+      let keeps = site_keeps_serving F device.0 commands before now device.1 new first serves.keeps in
+      record {
+        keeps = keeps;
+        asked = is-told serves.followed.0 now serves.followed.1.0 keeps.device keeps.calls told (device_served F device.0 commands before now device.1 new first serves.keeps) keeps.log serves.followed.1.1;
+      }
+
 -- a device that keeps this, and of which nothing has failed on a site that goes on
-module _ (F : Type 0) {D : Type 0} (follows : D → Seen → Type 0) (well : D → Type 0) (to_file : HasFileDevice F follows) (well_file : (device : D) (seen : Seen) (f : follows device seen) → well device → (to_file device seen f).0.has_failed ≡ false) where
+module _ (F : Type 0) {D : Type 0} (follows : D → Seen → Type 0) (well : D → Type 0) (tells : D → Option (List Asked) → Type 0) (to_file : HasFileDevice F follows) (tells_file : TellsFile F follows to_file tells)
+    (well_file : (device : D) (seen : Seen) (f : follows device seen) → well device → (to_file device seen f).0.has_failed ≡ false) where
   soundly_file : HasFileDevice F (Soundly follows well)
   soundly_file device seen soundly = to_file device seen soundly.0
 
+  keeps_followed : (station : Station) → station.seen.state.disk ≡ of_bytes station.seen.state.disk.bytes → (commands : List Command) (ending : Ending)
+      (parts : DeskServes station commands ending) → AreFollowed follows parts.ends → KeepsParts F station parts.ends
+  keeps_followed station synced commands ending parts followed =
+      keeps_parts F follows to_file station synced commands ending parts followed.flushed followed.followed
+      (λ slave end is. at-place (IsWorkFollowed follows) parts.ends.workers.items slave end followed.workers is)
+
+  -- where nothing is told
   keeps_desk : (station : Station) → station.seen.state.disk ≡ of_bytes station.seen.state.disk.bytes → (commands : List Command) (ending : Ending) (site : SiteValue) (sound : Result (Unit {0}) Fault) (parts : ServesParts station commands ending site)
       → EndsFollowed follows well station sound parts.desk.ends → KeepsAtDesk F station sound parts.desk.ends site
   unfolding soundly_file keeps_parts
-  keeps_desk station synced commands ending site (Ok done) parts followed = record {
-    parts = keeps_parts F (Soundly follows well) soundly_file station synced commands ending parts.desk followed.parts;
-    together =
-        hold_together F (Soundly follows well) soundly_file station synced commands ending parts.desk followed.parts site parts.together
-        (λ device seen f. (well_file device seen f.0 f.1, f.2)) followed.synced;
-  }
-  keeps_desk station synced commands ending site (Err fault) parts followed =
-      record { parts = keeps_parts F follows to_file station synced commands ending parts.desk followed; together = tt }
+  keeps_desk station synced commands ending site (Ok done) parts followed =
+      let ends = parts.desk.ends in
+      let works : (slave : ℕ) (end : Stay SiteValue SlaveLog) → slice_get ends.workers.items slave ≡ Some end → IsWorkFollowed (Soundly follows well) end =
+      λ slave end is. at-place (IsWorkFollowed (Soundly follows well)) ends.workers.items slave end followed.parts.workers is in
+      record {
+        parts = keeps_parts F (Soundly follows well) soundly_file station synced commands ending parts.desk followed.parts.flushed followed.parts.followed works;
+        together =
+            hold_together F (Soundly follows well) soundly_file station synced commands ending parts.desk followed.parts.flushed followed.parts.followed works site parts.together
+            (well_file followed.parts.followed.0 ends.flusher.site.seen followed.parts.followed.1.0 followed.parts.followed.1.1, followed.parts.followed.1.2)
+            (λ slave end is. let w = works slave end is in (well_file w.followed.0 end.site.seen w.followed.1.0 w.followed.1.1, w.followed.1.2)) followed.synced;
+      }
+  keeps_desk station synced commands ending site (Err fault) parts followed = record { parts = keeps_followed station synced commands ending parts.desk followed; together = tt }
 
-  alone_on_files : (commands : List Command) (left : Seen) (status : ExitStatus) → left.past ≡ []
-      → GoesAlone (OfDevices follows well) commands left status → GoesAlone (OfFiles F) commands left status
-  alone_on_files commands left status new (unrecovered last stage bad) = unrecovered last (goes_on_files F follows to_file left last new stage) bad
-  alone_on_files commands left status new (recovered accepted last among serves) = recovered accepted last among
-      (serves_on_files F follows to_file accepted left last new serves)
+  -- where the devices are told of
+  module _ (station : Station) (synced : station.seen.state.disk ≡ of_bytes station.seen.state.disk.bytes) (commands : List Command) (ending : Ending) (site : SiteValue) (parts : ServesParts station commands ending site)
+      (told : DeskTold (Option (List Asked))) (tellings : IsDeskTold follows well tells station.seen told parts.desk.ends) where
+    told_disk : IsFollowed follows parts.desk.ends.flusher.site.seen
+    told_disk = (tellings.disk.0, tellings.disk.1.0)
 
-  behind_on_files : (is_driven : Bool) (sound : Result (Unit {0}) Fault) (commands : List Command) (left : Seen) (status : ExitStatus)
-      → left.past ≡ [] → GoesBehind (OfDevices follows well) is_driven sound commands left status
-      → GoesBehind (OfFiles F) is_driven sound commands left status
-  behind_on_files true (Ok done) commands left status new goes = (goes.0, goes_on_files F follows to_file left goes.0 new goes.1)
-  behind_on_files false (Ok done) commands left status new goes = alone_on_files commands left status new goes
-  behind_on_files true (Err fault) commands left status new goes = goes
-  behind_on_files false (Err fault) commands left status new goes = goes
+    told_works : (slave : ℕ) (end : Stay SiteValue SlaveLog) → slice_get parts.desk.ends.workers.items slave ≡ Some end → IsWorkFollowed follows end
+    told_works slave end is =
+        let w = told-work follows well tells told.slaves.items parts.desk.ends.workers.items tellings.slaves slave end is in
+        record { worked = w.2.worked; followed = (w.2.followed.0, w.2.followed.1.0) }
 
-  desk_on_files : (station : Station) → station.seen.state.disk ≡ of_bytes station.seen.state.disk.bytes
-      → (commands : List Command) (status : ExitStatus) → ServesFollowedBy follows well station commands status
-      → DeskGoes (OfFiles F) station commands status
-  desk_on_files station synced commands status (unbegun bad) = unbegun bad
-  desk_on_files station synced commands status (apart ending desk followed bad) =
-      apart ending desk (keeps_parts F follows to_file station synced commands ending desk followed) bad
-  desk_on_files station synced commands status (served ending site sound parts followed closes) =
-      served ending site sound parts (keeps_desk station synced commands ending site sound parts followed)
-      (λ closed. behind_on_files ending.is_driven sound commands site.seen status parts.together.new (closes closed))
+    keeps_told : KeepsParts F station parts.desk.ends
+    keeps_told = keeps_parts F follows to_file station synced commands ending parts.desk tellings.flushed told_disk told_works
 
-  pub run_on_files : (before : Seen) (commands : List Command) (status : ExitStatus) → before.past ≡ [] → RunsFollowed follows well before commands status → RunKeepsFiles F before commands status
-  run_on_files before commands status new (unopened last stage bad) = unopened last (goes_on_files F follows to_file before last new stage) bad
-  run_on_files before commands status new (opened station stage synced goes) =
-      opened station (goes_on_files F follows to_file before station.seen new stage) synced (desk_on_files station synced commands status goes)
+    have_asked : HaveAsked told parts.desk.ends keeps_told.desk
+    unfolding keeps_told keeps_parts desk told_disk told_works
+    have_asked = record {
+      journal = subst (λ (d : FileDevice F). TellsLog d.asking.calls told.disk.told)
+          (sym (journal_device F follows to_file station synced commands ending parts.desk tellings.flushed told_disk told_works))
+          (tells_file tellings.disk.0 parts.desk.ends.flusher.site.seen tellings.disk.1.0 told.disk.told tellings.disk.1.1);
+      images = λ slave end is.
+          let w = told-work follows well tells told.slaves.items parts.desk.ends.workers.items tellings.slaves slave end is in (
+            w.0,
+            w.1,
+            subst (λ (d : FileDevice F). TellsLog d.asking.calls w.0.told)
+                (sym (image_device F follows to_file station synced commands ending parts.desk tellings.flushed told_disk told_works slave end is))
+                (tells_file w.2.followed.0 end.site.seen w.2.followed.1.0 w.0.told w.2.followed.1.1),
+          );
+    }
+
+    told_together : AreSound told → parts.desk.ends.flusher.site.seen.state.disk ≡ of_bytes parts.desk.ends.flusher.site.seen.state.disk.bytes
+        → HoldTogether parts.desk.ends keeps_told.desk site
+    unfolding keeps_told keeps_parts desk told_disk told_works
+    told_together sound all_synced =
+        let ends = parts.desk.ends in
+        let here = tellings.disk.1.2 sound.disk in
+        hold_together F follows to_file station synced commands ending parts.desk tellings.flushed told_disk told_works site parts.together
+        (well_file tellings.disk.0 ends.flusher.site.seen tellings.disk.1.0 here.0, here.1)
+        (λ slave end is.
+        let w = told-work follows well tells told.slaves.items ends.workers.items tellings.slaves slave end is in
+        let there = w.2.followed.1.2 (sound-at told.slaves.items slave w.0 sound.slaves w.1) in
+        (well_file w.2.followed.0 end.site.seen w.2.followed.1.0 there.0, there.1)) all_synced
+
+    keeps_as_told : (sound : Result (Unit {0}) Fault) → OnOk sound (AreSound told) → EndsFollowed follows well station sound parts.desk.ends
+        → KeepsDeskAsTold F (Some told) station sound parts.desk.ends site
+    keeps_as_told (Ok done) are followed =
+        record { keeps = record { parts = keeps_told; together = told_together are followed.synced }; asked = have_asked }
+    keeps_as_told (Err fault) are followed = record { keeps = record { parts = keeps_told; together = tt }; asked = have_asked }
+
+  desk_as_told : (told : Option (DeskTold (Option (List Asked)))) (station : Station) → station.seen.state.disk ≡ of_bytes station.seen.state.disk.bytes → (commands : List Command) (ending : Ending) (site : SiteValue)
+      (sound : Result (Unit {0}) Fault) (parts : ServesParts station commands ending site) → DeskTells follows well tells told station sound parts.desk.ends
+      → KeepsDeskAsTold F told station sound parts.desk.ends site
+  desk_as_told None station synced commands ending site sound parts tell =
+      record { keeps = keeps_desk station synced commands ending site sound parts tell.followed; asked = tt }
+  desk_as_told (Some told) station synced commands ending site sound parts tell =
+      keeps_as_told station synced commands ending site parts told tell.tell.0 sound tell.tell.1 tell.followed
+
+  module _ (told : RunTold (Option (List Asked))) where
+    alone_on_files : (commands : List Command) (left : Seen) (status : ExitStatus) → left.past ≡ []
+        → GoesAlone (OfDevices follows well tells told) commands left status → GoesAlone (OfFiles F told) commands left status
+    alone_on_files commands left status new (unrecovered last stage bad) = unrecovered last
+        (goes_on_files F follows to_file tells tells_file told.behind left last new stage) bad
+    alone_on_files commands left status new (recovered accepted last among serves) = recovered accepted last among
+        (serves_on_files F follows to_file tells tells_file told.behind accepted left last new serves)
+
+    behind_on_files : (is_driven : Bool) (sound : Result (Unit {0}) Fault) (commands : List Command) (left : Seen) (status : ExitStatus)
+        → left.past ≡ [] → GoesBehind (OfDevices follows well tells told) is_driven sound commands left status
+        → GoesBehind (OfFiles F told) is_driven sound commands left status
+    behind_on_files true (Ok done) commands left status new goes = (goes.0, goes_on_files F follows to_file tells tells_file told.behind left goes.0 new goes.1)
+    behind_on_files false (Ok done) commands left status new goes = alone_on_files commands left status new goes
+    behind_on_files true (Err fault) commands left status new goes = goes
+    behind_on_files false (Err fault) commands left status new goes = goes
+
+    desk_on_files : (station : Station) → station.seen.state.disk ≡ of_bytes station.seen.state.disk.bytes
+        → (commands : List Command) (status : ExitStatus) → ServesFollowedBy follows well tells station commands status told
+        → DeskGoes (OfFiles F told) station commands status
+    desk_on_files station synced commands status (unbegun bad) = unbegun bad
+    desk_on_files station synced commands status (apart ending desk followed bad) =
+        apart ending desk (keeps_followed station synced commands ending desk followed) bad
+    desk_on_files station synced commands status (served ending site sound parts tell closes) =
+        served ending site sound parts (desk_as_told told.desk station synced commands ending site sound parts tell)
+        (λ closed. behind_on_files ending.is_driven sound commands site.seen status parts.together.new (closes closed))
+
+    pub run_on_files : (before : Seen) (commands : List Command) (status : ExitStatus) → before.past ≡ [] → RunsFollowed follows well tells before commands status told
+        → RunKeepsFiles F before commands status told
+    run_on_files before commands status new (unopened last stage bad) =
+        unopened last (goes_on_files F follows to_file tells tells_file (line_told told.desk told.opening) before last new stage) bad
+    run_on_files before commands status new (opened station stage synced goes) =
+        opened station (goes_on_files F follows to_file tells tells_file (line_told told.desk told.opening) before station.seen new stage) synced
+        (desk_on_files station synced commands status goes)
 
 -- ---- the run
 
+-- the station wasn't opened
+pub told-opening : {T : Type 0} (tellings : Option (DeskTold T)) (opening : Option T) (told : T) → tellings ≡ None → opening ≡ Some told → line_told tellings opening ≡ Some told
+told-opening {T} tellings opening told none some = ap (λ (d : Option (DeskTold T)). line_told d opening) none ∙ some
+
 -- the same site, with another device
-pub kept_as : (F : Type 0) (site other : SiteValue) (commands : List Command) (status : ExitStatus) → other ≡ site → RunKeepsFiles F other.seen commands status
-    → RunKeepsFiles F site.seen commands status
-kept_as F site other commands status same kept = subst (λ (s : SiteValue). RunKeepsFiles F s.seen commands status) same kept
+pub kept_as : (F : Type 0) (site other : SiteValue) (commands : List Command) (status : ExitStatus) (told : RunTold (Option (List Asked))) → other ≡ site
+    → RunKeepsFiles F other.seen commands status told → RunKeepsFiles F site.seen commands status told
+kept_as F site other commands status told same kept = subst (λ (s : SiteValue). RunKeepsFiles F s.seen commands status told) same kept
 
 -- where a fault is told of one status, so it is of the final one
 alone_told : (says : Says) (commands : List Command) (left : Seen) (one final : ExitStatus) → (¬ IsFaultless one → ¬ IsFaultless final)
@@ -244,7 +387,7 @@ behind_told says false (Err fault) commands left one final worse goes = worse go
 
 -- the parts ended soundly, and this is what went behind the desk, where the commands were submitted there and where they weren't
 pub behind_driven : (says : Says) (is_driven : Bool) (sound : Result (Unit {0}) Fault) (commands : List Command) (left : Seen) (status : ExitStatus)
-    → sound ≡ Ok tt → is_driven ≡ true → (last : Seen) × says.stage left last
+    → sound ≡ Ok tt → is_driven ≡ true → (last : Seen) × says.behind left last
     → GoesBehind says is_driven sound commands left status
 behind_driven says is_driven sound commands left status is driven goes =
     subst (λ (r : Result (Unit {0}) Fault). GoesBehind says is_driven r commands left status) (sym is)
@@ -259,7 +402,7 @@ behind_alone says is_driven sound commands left status is undriven goes =
 
 -- the recovery failed
 pub behind_failed : (says : Says) (is_driven : Bool) (sound : Result (Unit {0}) Fault) (commands : List Command) (left : Seen) (status : ExitStatus)
-    → sound ≡ Ok tt → ¬ IsFaultless status → (last : Seen) → says.stage left last
+    → sound ≡ Ok tt → ¬ IsFaultless status → (last : Seen) → says.behind left last
     → GoesBehind says is_driven sound commands left status
 behind_failed says true sound commands left status is bad last stage = behind_driven says true sound commands left status is refl (last, stage)
 behind_failed says false sound commands left status is bad last stage = behind_alone says false sound commands left status is refl
@@ -310,35 +453,36 @@ serves_behind follows before r accepted s goes begins serves followed = record {
   followed = followed;
 }
 
-pub goes_alone : {D : Type 0} (follows : D → Seen → Type 0) (well : D → Type 0) (before : Seen) (r : Station) (commands : List Command)
-    (status : ExitStatus) → GoesKept before r.seen → BeginsSession before r → ServesSome follows commands r
-    → GoesAlone (OfDevices follows well) commands before status
-goes_alone follows well before r commands status goes begins some =
-    recovered some.accepted some.last.seen some.among (serves_behind follows before r some.accepted some.last goes begins some.goes some.followed)
+pub goes_alone : {D T : Type 0} (follows : D → Seen → Type 0) (well : D → Type 0) (tells : D → T → Type 0) (told : RunTold T) (before : Seen) (r : Station)
+    (commands : List Command) (status : ExitStatus) → GoesKept before r.seen → BeginsSession before r → ServesSome (TellsOf follows tells told.behind) commands r
+    → GoesAlone (OfDevices follows well tells told) commands before status
+goes_alone follows well tells told before r commands status goes begins some =
+    recovered some.accepted some.last.seen some.among
+    (serves_behind (TellsOf follows tells told.behind) before r some.accepted some.last goes begins some.goes some.followed)
 
 -- what a line was not served with, by what `serve_by_threads` tells
-pub not_served : {D : Type 0} (follows : D → Seen → Type 0) (well : D → Type 0) (station : Station) (commands : List Command) (begun : Bool)
-    (status : ExitStatus) → ¬ IsFaultless status → (IsTrue begun → EndsApart follows station commands)
-    → ServesFollowedBy follows well station commands status
-not_served follows well station commands true status bad left = let e = left refl in apart e.ending e.desk e.followed bad
-not_served follows well station commands false status bad left = unbegun bad
+pub not_served : {D T : Type 0} (follows : D → Seen → Type 0) (well : D → Type 0) (tells : D → T → Type 0) (told : RunTold T) (station : Station)
+    (commands : List Command) (begun : Bool) (status : ExitStatus) → ¬ IsFaultless status → (IsTrue begun → EndsApart follows station commands)
+    → ServesFollowedBy follows well tells station commands status told
+not_served follows well tells told station commands true status bad left = let e = left refl in apart e.ending e.desk e.followed bad
+not_served follows well tells told station commands false status bad left = unbegun bad
 
-desk_told : (F : Type 0) (station : Station) (commands : List Command) (one final : ExitStatus) → ¬ IsFaultless final
-    → DeskGoes (OfFiles F) station commands one
-    → DeskGoes (OfFiles F) station commands final
-desk_told F station commands one final bad (unbegun was) = unbegun bad
-desk_told F station commands one final bad (apart ending desk keeps was) = apart ending desk keeps bad
-desk_told F station commands one final bad (served ending site sound parts desk closes) =
-    served ending site sound parts desk (λ closed. behind_told (OfFiles F) ending.is_driven sound commands site.seen one final (λ was. bad)
+desk_told : (F : Type 0) (told : RunTold (Option (List Asked))) (station : Station) (commands : List Command) (one final : ExitStatus) → ¬ IsFaultless final
+    → DeskGoes (OfFiles F told) station commands one → DeskGoes (OfFiles F told) station commands final
+desk_told F told station commands one final bad (unbegun was) = unbegun bad
+desk_told F told station commands one final bad (apart ending desk keeps was) = apart ending desk keeps bad
+desk_told F told station commands one final bad (served ending site sound parts desk closes) =
+    served ending site sound parts desk (λ closed. behind_told (OfFiles F told) ending.is_driven sound commands site.seen one final (λ was. bad)
     (closes closed))
 
 -- a fault of the capture ends the run as a fault, or the status stays
-pub told_as : (F : Type 0) (before : Seen) (commands : List Command) (one final : ExitStatus) → (final ≡ one) ⊎ (¬ IsFaultless final) → RunKeepsFiles F before commands one → RunKeepsFiles F before commands final
-told_as F before commands one final (inl same) kept = subst (λ (s : ExitStatus). RunKeepsFiles F before commands s) (sym same) kept
-told_as F before commands one final (inr bad) (unopened last stage was) = unopened last stage bad
-told_as F before commands one final (inr bad) (opened station stage synced goes) = opened station stage synced
-    (desk_told F station commands one final bad goes)
+pub told_as : (F : Type 0) (before : Seen) (commands : List Command) (one final : ExitStatus) (told : RunTold (Option (List Asked))) → (final ≡ one) ⊎ (¬ IsFaultless final)
+    → RunKeepsFiles F before commands one told → RunKeepsFiles F before commands final told
+told_as F before commands one final told (inl same) kept = subst (λ (s : ExitStatus). RunKeepsFiles F before commands s told) (sym same) kept
+told_as F before commands one final told (inr bad) (unopened last stage was) = unopened last stage bad
+told_as F before commands one final told (inr bad) (opened station stage synced goes) = opened station stage synced
+    (desk_told F told station commands one final bad goes)
 
-pub runs_kept : (F : Type 0) (old : Known) (name script : List ℕ) (line : LineFile) (site : SiteValue) (commands : List Command) (status : ExitStatus) → Loads old name line site → SpellsCommands old script commands → RunKeepsFiles F site.seen commands status
-    → KeepsRunFiles F old name script status
-runs_kept F known name script line site commands status loaded spelt kept = record { line = line; site = site; loaded = loaded; commands = commands; spelt = spelt; kept = kept }
+pub runs_kept : (F : Type 0) (old : Known) (name script : List ℕ) (line : LineFile) (site : SiteValue) (commands : List Command) (status : ExitStatus) (told : RunTold (Option (List Asked))) → Loads old name line site
+    → SpellsCommands old script commands → RunKeepsFiles F site.seen commands status told → KeepsRunFiles F old name script status told
+runs_kept F known name script line site commands status told loaded spelt kept = record { line = line; site = site; loaded = loaded; commands = commands; spelt = spelt; kept = kept }

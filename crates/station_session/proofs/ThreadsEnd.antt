@@ -25,7 +25,7 @@ use Rattle.station_session.proofs.Ending.{saved-still}
 pub ends-unserved : (is_cut : Bool) (files : Known) (line : LineFile) (opened : Station) (commands : List Command) (status : ExitStatus) → ¬ IsFaultless status → EndsStation is_cut files files line opened commands status
 ends-unserved is_cut files line opened commands status bad = record { others = λ other out. refl; saved = λ good. absurd (bad good) }
 
-pub ends-left : (old new : Known) (line : LineFile) (opened : Station) (commands : List Command) (left : Left SiteValue) (status : ExitStatus) → LeavesSo opened commands left.ending left.site
+pub ends-left : {T : Type 0} (old new : Known) (line : LineFile) (opened : Station) (commands : List Command) (left : Left SiteValue T) (status : ExitStatus) → LeavesSo opened commands left.ending left.site
     → (left.ending.is_driven ≡ false → left.unserved.items ≡ commands) → ChangesAmong old new (files_of line)
     → (IsFaultless status → SavesLeft new line left status) → EndsStation false old new line opened commands status
 ends-left old new line opened commands left status served same others saved = record {
@@ -62,7 +62,7 @@ not-closed closed why told one failed closes bad good =
     absurd cc
 
 -- The status of the answers, that of what is told and that of saving are at most that of the run.
-pub saves-left : (files : Known) (line : LineFile) (left : Left SiteValue) (one saved both final : ExitStatus) → OnErr left.ending.told (¬ IsFaultless one)
+pub saves-left : {T : Type 0} (files : Known) (line : LineFile) (left : Left SiteValue T) (one saved both final : ExitStatus) → OnErr left.ending.told (¬ IsFaultless one)
     → (IsFaultless saved → SavesBehind files line left.site.seen left.ending.is_driven left.unserved.items saved) → (both ≡ Done → (one ≡ Done) × (saved ≡ Done)) → (IsFaultless both → IsFaultless one × IsFaultless saved)
     → (final ≡ Done → (left.ending.status ≡ Done) × (both ≡ Done)) → (IsFaultless final → IsFaultless left.ending.status × IsFaultless both) → IsFaultless final → SavesLeft files line left final
 saves-left files line left one saved both final bad keeps both_done both_good final_done final_good good =

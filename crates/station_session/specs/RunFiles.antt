@@ -1,6 +1,7 @@
 -- A run on the files of a line: what a power cut leaves in them as the station is opened, while its desk is at work, and as the line is recovered
 -- behind it.
-use Rattle.std.specs.Prelude.{◌≡◌, ℕ, Bool, true, false, List, ◌++◌, Result, Ok, Err, OnOk, Some, slice_get, IsTrue}
+use Rattle.std.specs.Prelude.{◌≡◌, ℕ, Bool, true, false, List, ◌++◌, Result, Ok, Err, OnOk, Option, Some, None, is_some, IfSome, IsSomeAnd, slice_get, IsTrue}
+use Rattle.std.specs.List.{AllByRecursion}
 use Rattle.sii_edit.specs.declared.command.Command.{Command}
 use Rattle.site_core.specs.State.{Pair, Seen}
 use Rattle.site_core.specs.Times.{Follows as SiteFollows}
@@ -8,6 +9,8 @@ use Rattle.site_shadow.specs.Site.{SiteValue}
 use Rattle.site_shadow.specs.Unsynced.{of_bytes}
 use Rattle.site_file.specs.declared.asking.LineFile.{LineFile as FileName}
 use Rattle.site_file.specs.declared.asking.LineFile.TheVariants.{Journal, Image}
+use Rattle.site_file.specs.declared.asking.Asked.{Asked}
+use Rattle.site_file.specs.Asking.{TellsLog}
 use Rattle.site_file.specs.Files.{BecomesBy, File, IsBytes}
 use Rattle.site_file.specs.Held.{of_file}
 use Rattle.site_file.specs.AllFiles.{calls_of, Holds, Shows}
@@ -30,18 +33,22 @@ use Rattle.station_files.specs.declared.faults.Fault.{Fault}
 use Rattle.station_line.specs.Opened.{GoesKept}
 use Rattle.script_session.specs.declared.closing.Ending.{Ending}
 use Rattle.script_session.specs.AtDesk.{BeginsAs, DeskServes, EndsFollowed, ServesParts, seen_of}
-use Rattle.script_session.specs.Parts.{AreFollowed}
+use Rattle.script_session.specs.declared.told.DeskTold.{DeskTold}
+use Rattle.script_session.specs.declared.told.PartTold.{PartTold}
+use Rattle.script_session.specs.Parts.{AreFollowed, AreSound, IsDeskTold}
+use Rattle.station_session.specs.declared.told.RunTold.{RunTold}
 use Rattle.station_line.specs.Rounds.{AreAmong, Goes}
 use Rattle.station_line.specs.Site.{IsFollowed}
 use Rattle.station_line.specs.Opened.{Loads}
 
 -- ---- how far a run comes
 
--- What is said of a run: of a site before it was opened or recovered and behind that; of a site before it was recovered and then accepted these
--- commands on one thread, and behind that; of a station and the ends of a desk's threads; and of these, of whether the parts ended soundly, and of
--- the site that was put together.
+-- What is said of a run: of a site before the station was opened on it and behind that; of a site before it was recovered behind a desk and behind
+-- that; of one before it was recovered and then accepted these commands on one thread, and behind that; of a station and the ends of a desk's
+-- threads; and of these, of whether the parts ended soundly, and of the site that was put together.
 pub record Says : Type 1 where
-  pub stage : Seen → Seen → Type 0
+  pub opening : Seen → Seen → Type 0
+  pub behind : Seen → Seen → Type 0
   pub serving : List Command → Seen → Seen → Type 0
   pub parts : Station → Ends SiteValue → Type 0
   pub desk : Station → Result (Unit {0}) Fault → Ends SiteValue → SiteValue → Type 0
@@ -49,13 +56,13 @@ pub record Says : Type 1 where
 -- The commands weren't submitted at a desk that was closed. Behind it the line was recovered, and some of them were accepted on one thread; or the
 -- recovery failed.
 pub data GoesAlone (says : Says) (commands : List Command) (left : Seen) (status : ExitStatus) : Type 0 where
-  unrecovered : (last : Seen) → says.stage left last → ¬ IsFaultless status → GoesAlone says commands left status
+  unrecovered : (last : Seen) → says.behind left last → ¬ IsFaultless status → GoesAlone says commands left status
   recovered : (accepted : List Command) (last : Seen) → AreAmong accepted commands → says.serving accepted left last
       → GoesAlone says commands left status
 
 -- A recovery went behind a closed desk, and then the commands if they weren't submitted there; or the parts didn't end soundly, and a fault is told.
 abbrev pub GoesBehind : Says → (is_driven : Bool) → (sound : Result (Unit {0}) Fault) → List Command → (left : Seen) → ExitStatus → Type 0
-GoesBehind says true (Ok done) commands left status = (last : Seen) × says.stage left last
+GoesBehind says true (Ok done) commands left status = (last : Seen) × says.behind left last
 GoesBehind says false (Ok done) commands left status = GoesAlone says commands left status
 GoesBehind says is_driven (Err fault) commands left status = ¬ IsFaultless status
 
@@ -73,8 +80,8 @@ pub data DeskGoes (says : Says) (station : Station) (commands : List Command) (s
 
 -- The station was opened, perhaps behind a recovery, with its disk synced, and its line served so; or it couldn't be opened.
 pub data RunGoes (says : Says) (before : Seen) (commands : List Command) (status : ExitStatus) : Type 0 where
-  unopened : (last : Seen) → says.stage before last → ¬ IsFaultless status → RunGoes says before commands status
-  opened : (station : Station) → says.stage before station.seen → station.seen.state.disk ≡ of_bytes station.seen.state.disk.bytes
+  unopened : (last : Seen) → says.opening before last → ¬ IsFaultless status → RunGoes says before commands status
+  opened : (station : Station) → says.opening before station.seen → station.seen.state.disk ≡ of_bytes station.seen.state.disk.bytes
       → DeskGoes says station commands status → RunGoes says before commands status
 
 -- ---- by devices
@@ -99,22 +106,40 @@ pub record ServesSome {D : Type 0} (follows : D → Seen → Type 0) (commands :
   pub goes : Goes accepted opened last
   pub followed : IsFollowed follows last.seen
 
--- what devices that keep this say of a run
-abbrev pub OfDevices : {D : Type 0} → (D → Seen → Type 0) → (D → Type 0) → Says
-OfDevices follows well = record {
-  stage = GoesFollowed follows;
-  serving = ServesOn follows;
+-- what is told of the line's device as the station was opened: by the desk, if one has served its parts
+abbrev pub line_told : {T : Type 0} → Option (DeskTold T) → Option T → Option T
+line_told (Some desk) other = Some desk.line.told
+line_told None other = other
+
+-- A device keeps this of a site, and what is told, if something is, is told of it.
+abbrev pub TellsOf : {D T : Type 0} → (D → Seen → Type 0) → (D → T → Type 0) → Option T → D → Seen → Type 0
+TellsOf follows tells told device seen = follows device seen × IfSome told (tells device)
+
+-- Devices have followed the parts of a line at a desk; and what is told of them, if something is, they tell.
+pub record DeskTells {D T : Type 0} (follows : D → Seen → Type 0) (well : D → Type 0) (tells : D → T → Type 0) (told : Option (DeskTold T))
+    (station : Station) (sound : Result (Unit {0}) Fault) (ends : Ends SiteValue) : Type 0 where
+  pub followed : EndsFollowed follows well station sound ends
+  pub tell : IfSome told (λ desk. IsDeskTold follows well tells station.seen desk ends × OnOk sound (AreSound desk))
+
+-- what devices that keep this say of a run of which this is told
+abbrev pub OfDevices : {D T : Type 0} → (D → Seen → Type 0) → (D → Type 0) → (D → T → Type 0) → RunTold T → Says
+OfDevices follows well tells told = record {
+  opening = GoesFollowed (TellsOf follows tells (line_told told.desk told.opening));
+  behind = GoesFollowed (TellsOf follows tells told.behind);
+  serving = ServesOn (TellsOf follows tells told.behind);
   parts = λ station ends. AreFollowed follows ends;
-  desk = λ station sound ends site. EndsFollowed follows well station sound ends;
+  desk = λ station sound ends site. DeskTells follows well tells told.desk station sound ends;
 }
 
 -- A run, with devices that keep this of its sites.
-abbrev pub RunsFollowed : {D : Type 0} → (D → Seen → Type 0) → (D → Type 0) → Seen → List Command → ExitStatus → Type 0
-RunsFollowed follows well before commands status = RunGoes (OfDevices follows well) before commands status
+abbrev pub RunsFollowed : {D T : Type 0} → (D → Seen → Type 0) → (D → Type 0) → (D → T → Type 0) → Seen → List Command → ExitStatus → RunTold T
+    → Type 0
+RunsFollowed follows well tells before commands status told = RunGoes (OfDevices follows well tells told) before commands status
 
 -- The same of an open station.
-abbrev pub ServesFollowedBy : {D : Type 0} → (D → Seen → Type 0) → (D → Type 0) → Station → List Command → ExitStatus → Type 0
-ServesFollowedBy follows well station commands status = DeskGoes (OfDevices follows well) station commands status
+abbrev pub ServesFollowedBy : {D T : Type 0} → (D → Seen → Type 0) → (D → Type 0) → (D → T → Type 0) → Station → List Command → ExitStatus
+    → RunTold T → Type 0
+ServesFollowedBy follows well tells station commands status told = DeskGoes (OfDevices follows well tells told) station commands status
 
 -- ---- on files
 
@@ -154,20 +179,70 @@ pub record KeepsAtDesk (F : Type 0) (station : Station) (sound : Result (Unit {0
   pub parts : KeepsParts F station ends
   pub together : OnOk sound (HoldTogether ends parts.desk site)
 
--- what the files of a run keep
-abbrev pub OfFiles : Type 0 → Says
-OfFiles F = record { stage = KeepsOn F; serving = KeepsOnServing F; parts = KeepsParts F; desk = KeepsAtDesk F }
+-- What is told of the calls of a device, if something is.
+abbrev pub IsTold : Option (Option (List Asked)) → (List Asked → Type 0) → Type 0
+IsTold told so = IfSome told (λ asked. IfSome asked so)
+
+-- As `KeepsOn`, by the calls that are told.
+pub record KeepsAsTold (F : Type 0) (told : Option (Option (List Asked))) (before now : Seen) : Type 0 where
+  pub keeps : KeepsOn F before now
+  pub asked : IsTold told (λ calls. calls ≡ keeps.calls)
+
+-- As `KeepsOnServing`, by the calls that are told.
+pub record ServesAsTold (F : Type 0) (told : Option (Option (List Asked))) (commands : List Command) (before now : Seen) : Type 0 where
+  pub keeps : KeepsOnServing F commands before now
+  pub asked : IsTold told (λ calls. calls ≡ keeps.calls)
+
+-- The devices behind the parts of a desk have asked their files what is told of them.
+pub record HaveAsked {F : Type 0} (told : DeskTold (Option (List Asked))) (ends : Ends SiteValue)
+    (desk : DeskOnFiles F seen_of ends.flusher ends.workers.items) : Type 0 where
+  pub journal : TellsLog desk.journal.device.asking.calls told.disk.told
+  pub images : (slave : ℕ) (end : Stay SiteValue SlaveLog) (is : slice_get ends.workers.items slave ≡ Some end)
+      → (part : PartTold (Option (List Asked))) × (slice_get told.slaves.items slave ≡ Some part)
+      × TellsLog (desk.images slave end is).device.asking.calls part.told
+
+-- As `KeepsAtDesk`, by the calls that are told.
+pub record KeepsDeskAsTold (F : Type 0) (told : Option (DeskTold (Option (List Asked)))) (station : Station) (sound : Result (Unit {0}) Fault)
+    (ends : Ends SiteValue) (site : SiteValue) : Type 0 where
+  pub keeps : KeepsAtDesk F station sound ends site
+  pub asked : IfSome told (λ desk. HaveAsked desk ends keeps.parts.desk)
+
+-- what the files of a run keep of which this is told
+abbrev pub OfFiles : Type 0 → RunTold (Option (List Asked)) → Says
+OfFiles F told = record {
+  opening = KeepsAsTold F (line_told told.desk told.opening);
+  behind = KeepsAsTold F told.behind;
+  serving = ServesAsTold F told.behind;
+  parts = KeepsParts F;
+  desk = KeepsDeskAsTold F told.desk;
+}
 
 -- What a power cut has left in the files of a run is kept, as far as the run came, however it ended: as the station was opened, at its desk, and in
--- what went behind the desk, each since the log of its device began. Each begins with the files as the one before left them.
-abbrev pub RunKeepsFiles : (F : Type 0) → (before : Seen) → List Command → ExitStatus → Type 0
-RunKeepsFiles F before commands status = RunGoes (OfFiles F) before commands status
+-- what went behind the desk, each since the log of its device began. Each begins with the files as the one before left them. The logs are those
+-- that the run tells.
+abbrev pub RunKeepsFiles : (F : Type 0) → (before : Seen) → List Command → ExitStatus → RunTold (Option (List Asked)) → Type 0
+RunKeepsFiles F before commands status told = RunGoes (OfFiles F told) before commands status
 
 -- The line and the script were read, and what a power cut has left in the line's files as the commands were run on them is kept so.
-pub record KeepsRunFiles (F : Type 0) (old : Known) (name script : List ℕ) (status : ExitStatus) : Type 0 where
+pub record KeepsRunFiles (F : Type 0) (old : Known) (name script : List ℕ) (status : ExitStatus) (told : RunTold (Option (List Asked))) : Type 0 where
   pub line : LineFile
   pub site : SiteValue
   pub loaded : Loads old name line site
   pub commands : List Command
   pub spelt : SpellsCommands old script commands
-  pub kept : RunKeepsFiles F site.seen commands status
+  pub kept : RunKeepsFiles F site.seen commands status told
+
+-- The log of the device of a part is told.
+abbrev pub HasLogTold : PartTold (Option (List Asked)) → Type 0
+HasLogTold part = IsTrue (is_some part.told)
+
+-- The logs of the line's device before it was taken apart, and of the device of each part are told.
+pub record AreLogsTold (told : DeskTold (Option (List Asked))) : Type 0 where
+  pub line : HasLogTold told.line
+  pub disk : HasLogTold told.disk
+  pub slaves : AllByRecursion HasLogTold told.slaves.items
+
+-- The logs of the line's device as the station was opened, of the devices at the desk, and of the line's behind it are told.
+pub record IsAllTold (told : RunTold (Option (List Asked))) : Type 0 where
+  pub desk : IsSomeAnd told.desk AreLogsTold
+  pub behind : IsSomeAnd told.behind (λ log. IsTrue (is_some log))

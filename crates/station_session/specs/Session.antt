@@ -1,10 +1,10 @@
 -- `run` and `recover`: what is read from the files of a line, how the station starts, and what the files hold in the end.
-use Rattle.std.specs.Prelude.{◌≡◌, Bool, List, Option, None, Some, ℕ, ⊤}
+use Rattle.std.specs.Prelude.{◌≡◌, Bool, List, [], Option, None, Some, is_some, unwrap_or, ℕ, ⊤, Result, IfSome, OnOk, IsTrue}
 use Rattle.sii_edit.specs.declared.command.Command.{Command}
 use Rattle.site_core.specs.State.{Seen}
 use Rattle.site_shadow.specs.Site.{SiteValue}
-use Rattle.site_file.specs.Calls.{Asked}
-use Rattle.kept_files.specs.KeptFiles.{BecomeOnly, HasContents, KeepsFiles}
+use Rattle.site_file.specs.declared.asking.Asked.{Asked}
+use Rattle.kept_files.specs.KeptFiles.{BecomeOnly, FilesOf, HasContents, KeepsFiles}
 use Rattle.site_journal.specs.declared.fault.ReadFault.TheVariants as read
 use Rattle.station_alone.specs.declared.fault.OpenFault.{OpenFault}
 use Rattle.station_alone.specs.declared.fault.OpenFault.TheVariants as why
@@ -12,6 +12,7 @@ use Rattle.station_alone.specs.Station.{Station}
 use Rattle.station_alone.specs.Recovery.{HasRecovered, BeginsRecovered}
 use Rattle.station_text.specs.declared.line_file.LineFile.{LineFile}
 use Rattle.station_files.specs.Faults.{IsFaultless}
+use Rattle.station_files.specs.declared.faults.Fault.{Fault}
 use Rattle.station_files.specs.Files.{Known, ChangesOnly, ChangesAmong}
 use Rattle.station_files.specs.FileNames.{IsLineApart}
 use Rattle.station_files.specs.Locations.{Leads}
@@ -40,22 +41,28 @@ pub record SavesRecovered (files : Known) (line : LineFile) (before : Seen) (cal
   pub held : HoldsSite files line s.seen.state
   pub contents : BecomeOnly (HasContents s.book) before.state calls
 
--- No other files than the line's changed. Whatever the status is: by what was asked of the open files, a power cut at any moment has left in them,
--- all at once, only what is kept for each machine for which it was kept before. If the status is `Done`, they hold the recovered state.
-pub record EndsRecovery (old new : Known) (line : LineFile) (before : Seen) (status : ExitStatus) : Type 0 where
+-- What was asked of the files of a line since they held the state in which its site began: a power cut at any moment of it has left in them what it
+-- may have left of the site. It is known where the line was saved, and then they hold its state.
+pub record SavedSoundly (now : Seen) (saved : Result (Unit {0}) Fault) (asked : Option (List Asked)) : Type 0 where
+  pub is_sound : Bool
+  pub leave : IfSome asked (λ calls. FilesOf calls now is_sound)
+  pub sound : OnOk saved (IsTrue is_sound × IsTrue (is_some asked))
+
+-- No other files than the line's changed. Whatever the status is: by all that was asked of the open files, a power cut at any moment has left in
+-- them, all at once, only what is kept for each machine for which it was kept before. If the status is `Done`, they hold the recovered state.
+pub record EndsRecovery (old new : Known) (line : LineFile) (before : Seen) (status : ExitStatus) (asked : Option (List Asked)) : Type 0 where
   pub others : ChangesAmong old new (files_of line)
-  pub calls : List Asked
-  pub keeps : KeepsFiles before.state calls
-  pub saved : status ≡ Done → SavesRecovered new line before calls
+  pub keeps : KeepsFiles before.state (unwrap_or asked [])
+  pub saved : status ≡ Done → IsTrue (is_some asked) × SavesRecovered new line before (unwrap_or asked [])
 
 -- The line was read, its files stand apart, its journal is one, and it was recovered as far as the status says.
-pub record RecoversFiles (leads : Leads) (old new : Known) (name : List ℕ) (status : ExitStatus) : Type 0 where
+pub record RecoversFiles (leads : Leads) (old new : Known) (name : List ℕ) (status : ExitStatus) (asked : Option (List Asked)) : Type 0 where
   pub line : LineFile
   pub site : SiteValue
   pub loaded : Loads old name line site
   pub apart : IsLineApart leads line name
   pub journal : HasJournal site.line.sizes site.seen.state.disk.bytes
-  pub ends : EndsRecovery old new line site.seen status
+  pub ends : EndsRecovery old new line site.seen status asked
 
 -- No other files than the line's changed. If no fault ended the work, they hold the state of the served station.
 pub record EndsStation (is_cut : Bool) (old new : Known) (line : LineFile) (opened : Station) (commands : List Command)

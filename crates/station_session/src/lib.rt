@@ -9,11 +9,13 @@ mod recovery;
 mod run;
 mod streams;
 mod threads;
+mod told;
 mod watch;
 
 pub use capture::{begin_capture, end_capture};
 pub use fused::Fuse;
-pub use recovery::recover_line;
+pub use recovery::{Recovery, recover_line};
 pub use run::{Ran, RunNames, run_script};
 pub use streams::Streams;
+pub use told::{FileLog, FilesTold, RunTold};
 pub use watch::Watch;

@@ -3,11 +3,13 @@ ghost use Rattle.std.specs.Prelude.{◌≡◌, Bool, is_some, length, IfSome, Is
 ghost use Rattle.kept_files.specs.KeptFiles.{FilesOf};
 ghost use Rattle.site_shadow.specs.Line.{halves_of};
 ghost use Rattle.station_files.specs.Files.{ChangesAmong};
+ghost use Rattle.std.specs.Option.{option_map};
 ghost use Rattle.station_line.specs.Site.{files_of, HoldsSite};
+ghost use Rattle.station_session.specs.Session.{SavedSoundly};
 
 use line_watch::Watched;
 use site_core::Site;
-use site_file::{FileDevice, RandomAccessFile};
+use site_file::{FileDevice, Finished, RandomAccessFile};
 use site_shadow::{Parts, ShadowSite};
 use station_files::{Fault, Store};
 use station_line::save_parts;
@@ -17,45 +19,73 @@ use std::io::Write;
 use std::rt::Clock;
 
 /// A line on its open files, whose work counts for a progress.
-pub(crate) type WatchedSite<'p, 'f, F, T, R> = ShadowSite<Watched<'p, FileDevice<'f, F>, T, R>>;
+pub(crate) type WatchedSite<'p, F, T, R> = ShadowSite<Watched<'p, FileDevice<F>, T, R>>;
 
-/// Takes a site on files apart. Returns its parts, and whether the files hold them: no call on a file has failed, and the site goes on.
-pub(crate) fn take_apart<F: RandomAccessFile, T: Write, R: Clock>(
-    site: WatchedSite<'_, '_, F, T, R>,
-) -> (Parts, bool)
-    ensures halves { halves_of result.0.halves.items ≡ site.entry.seen.state.halves }
-    ensures disk { IfSome result.0.disk (λ bytes. bytes.items ≡ site.entry.seen.state.disk.bytes) }
-    ensures has_disk { is_some result.0.disk ≡ site.entry.line.has_disk }
-    ensures files { FilesOf site.entry.seen result.1 }
+/// A site on files that was taken apart.
+#[derive(Drop)]
+pub(crate) struct Apart<F> {
+    pub(crate) parts: Parts,
+    /// Whether the files hold the parts: no call on a file has failed, and the site goes on.
+    pub(crate) is_sound: bool,
+    /// The files, with all that was asked of them. None where their device had stood behind another site before.
+    pub(crate) files: Option<Finished<F>>,
+}
+
+/// Takes a site on files apart.
+pub(crate) fn take_apart<F: RandomAccessFile + Drop, T: Write, R: Clock>(
+    site: WatchedSite<'_, F, T, R>,
+) -> Apart<F>
+    ensures halves { halves_of result.parts.halves.items ≡ site.entry.seen.state.halves }
+    ensures disk { IfSome result.parts.disk (λ bytes. bytes.items ≡ site.entry.seen.state.disk.bytes) }
+    ensures has_disk { is_some result.parts.disk ≡ site.entry.line.has_disk }
+    ensures files { IfSome result.files (λ files. FilesOf files.log site.entry.seen result.is_sound) }
 {
     let has_stopped = site.has_stopped();
     let (parts, watched) = site.into_parts();
-    let is_sound = !has_stopped && !watched.device().has_failed();
-    (parts, is_sound)
+    let device = watched.into_device();
+    let is_sound = !has_stopped && !device.has_failed();
+    Apart {
+        parts,
+        is_sound,
+        files: device.finish(),
+    }
+}
+
+/// What saving a line on files came to, and its files.
+#[derive(Drop)]
+pub(crate) struct Saved<F> {
+    pub(crate) saved: Result<(), Fault>,
+    /// The files, with all that was asked of them. None where their device had stood behind another site before.
+    pub(crate) files: Option<Finished<F>>,
 }
 
 /// Saves what a line on files holds: writes the bytes of the disk to the journal's file, and the words of each slave to its image file.
 ///
-/// # Errors
-///
-/// `Stopped` where a call on a file has failed, or the site has stopped, before any file is written; then as for `save_site`.
+/// The result is `Stopped` where a call on a file has failed, or the site has stopped, before any file is written; then as for `save_site`.
 pub(crate) fn save_sound<S: Store, T: Write, R: Clock>(
     alloc: Global,
     line: &LineFile,
-    site: WatchedSite<'_, '_, S::File, T, R>,
+    site: WatchedSite<'_, S::File, T, R>,
     store: &mut S,
-) -> Result<(), Fault>
+) -> Saved<S::File>
     requires disk { IsTrue site.line.has_disk }
     requires slaves { length site.line.sizes ≡ length line.now.images.items }
-    ensures saved { OnOk result (HoldsSite (S.files store.new) line.now site.entry.seen.state) }
+    ensures saved { OnOk result.saved (HoldsSite (S.files store.new) line.now site.entry.seen.state) }
     ensures others { ChangesAmong (S.files store.old) (S.files store.new) (files_of line.now) }
-    ensures files { (is_sound : Bool) × FilesOf site.entry.seen is_sound × OnOk result (IsTrue is_sound) }
+    ensures files { SavedSoundly site.entry.seen result.saved (option_map (λ files. files.log) result.files) }
 {
     let _count = site.slaves();
-    let (parts, is_sound) = take_apart(site);
-    if !is_sound {
+    let Apart {
+        parts,
+        is_sound,
+        files,
+    } = take_apart(site);
+    if !is_sound || files.is_none() {
         drop(parts);
-        return Err(Fault::Stopped);
+        return Saved {
+            saved: Err(Fault::Stopped),
+            files,
+        };
     }
     let Parts {
         sizes: _,
@@ -64,5 +94,8 @@ pub(crate) fn save_sound<S: Store, T: Write, R: Clock>(
         process: _,
     } = parts;
     let journal = disk.unwrap();
-    save_parts(alloc, line, &journal, &halves, store)
+    Saved {
+        saved: save_parts(alloc, line, &journal, &halves, store),
+        files,
+    }
 }

@@ -1,14 +1,15 @@
 //! The subcommand `recover`.
 ghost use Rattle.std.specs.Prelude.{◌≡◌, IfErr, IfOk, OnErr};
+ghost use Rattle.std.specs.Option.{option_map};
 ghost use Rattle.station_line.specs.Refusals.{RefusesRecovery};
 ghost use Rattle.station_session.specs.Session.{EndsRecovery, RecoversFiles};
 ghost use Rattle.station_line.specs.Opened.{IsFresh};
 
-use crate::on_files::{WatchedSite, save_sound, take_apart};
+use crate::on_files::{Apart, Saved, WatchedSite, save_sound, take_apart};
 use crate::streams::Streams;
 use crate::watch::Watch;
 use line_watch::{Cleared, Watched};
-use site_file::FileDevice;
+use site_file::{FileDevice, Finished};
 use station_alone::{Recovered, recover};
 use station_files::{ExitStatus, Fault, Store, report_fault, status_of, worse};
 use station_line::{Session, load_session, of_journal, of_open, open_files, write_recovered};
@@ -18,7 +19,16 @@ use std::io::Write;
 use std::rt::Clock;
 use std::sync::Wait;
 
-/// Recovers the line whose line file is `name`, on its files, and prints what was recovered. Returns the exit status.
+/// How a recovery ended.
+#[derive(Drop)]
+pub struct Recovery<F> {
+    /// The exit status.
+    pub status: ExitStatus,
+    /// The open files of the line, with all that was asked of them. None where one of them couldn't be opened, and so none was asked anything.
+    pub files: Option<Finished<F>>,
+}
+
+/// Recovers the line whose line file is `name`, on its files, and prints what was recovered. Returns the exit status, and the files that were open.
 ///
 /// The files are read in this order: line file, images of the slaves, journal. After any later fault, which is printed, the files hold what
 /// was written so far, and another recovery completes it. What a power cut leaves in the open files at any moment, all of them together, is kept
@@ -35,8 +45,9 @@ pub fn recover_line<S: Store, W: Write, E: Write, T: Write, R: Wait + Clock + Al
     name: &str,
     store: &mut S,
     streams: Streams<'_, W, E>,
-) -> Result<ExitStatus, Fault>
-    ensures recovered { IfOk result (RecoversFiles S.leads (S.files store.old) (S.files store.new) name.now) }
+) -> Result<Recovery<S::File>, Fault>
+    ensures recovered { IfOk result (λ recovery. RecoversFiles S.leads (S.files store.old) (S.files store.new) name.now recovery.status
+        (option_map (λ files. files.log) recovery.files)) }
     ensures refused { IfErr result (RefusesRecovery (S.files store.old) S.leads name.now) }
     ensures same { OnErr result (S.files store.new ≡ S.files store.old) }
 {
@@ -57,9 +68,10 @@ fn recover_session<S: Store, W: Write, E: Write, T: Write, R: Wait + Clock + All
     session: Session<S::Lock>,
     store: &mut S,
     streams: Streams<'_, W, E>,
-) -> ExitStatus
+) -> Recovery<S::File>
     requires fresh { IsFresh session.line session.site }
-    ensures { EndsRecovery (S.files store.old) (S.files store.new) session.line session.site.seen result }
+    ensures { EndsRecovery (S.files store.old) (S.files store.new) session.line session.site.seen result.status
+        (option_map (λ files. files.log) result.files) }
 {
     let Watch { rt, progress } = watch;
     let Streams { output, faults } = streams;
@@ -72,9 +84,9 @@ fn recover_session<S: Store, W: Write, E: Write, T: Write, R: Wait + Clock + All
     } = session;
     match open_files(rt.alloc(), &line, store) {
         Ok(files) => {
-            let device = Watched::new(FileDevice::new(&files), progress, rt);
+            let device = Watched::new(FileDevice::new(files), progress, rt);
             let site = site.with_device(device);
-            let status = recover_site(
+            let recovery = recover_site(
                 rt.alloc(),
                 &line,
                 site,
@@ -83,11 +95,14 @@ fn recover_session<S: Store, W: Write, E: Write, T: Write, R: Wait + Clock + All
                 &mut Cleared::new(faults, progress, rt),
             );
             watch.erase();
-            status
+            recovery
         }
         Err(fault) => {
             drop(site);
-            report_fault(fault, faults)
+            Recovery {
+                status: report_fault(fault, faults),
+                files: None,
+            }
         }
     }
 }
@@ -96,25 +111,33 @@ fn recover_session<S: Store, W: Write, E: Write, T: Write, R: Wait + Clock + All
 fn recover_site<S: Store, W: Write, E: Write, T: Write, R: Clock>(
     alloc: Global,
     line: &LineFile,
-    site: WatchedSite<'_, '_, S::File, T, R>,
+    site: WatchedSite<'_, S::File, T, R>,
     store: &mut S,
     output: &mut W,
     faults: &mut E,
-) -> ExitStatus
+) -> Recovery<S::File>
     requires { IsFresh line.now site }
-    ensures { EndsRecovery (S.files store.old) (S.files store.new) line.now site.entry.seen result }
+    ensures { EndsRecovery (S.files store.old) (S.files store.new) line.now site.entry.seen result.status
+        (option_map (λ files. files.log) result.files) }
 {
     match recover(alloc, site) {
         Ok((alone, recovered)) => {
             let (core, left) = alone.into_parts();
             drop(core);
-            let saved = status_of(save_sound(alloc, line, left, store), faults);
-            worse(saved, print_recovered(recovered, output, faults))
+            let Saved { saved, files } = save_sound(alloc, line, left, store);
+            let saved = status_of(saved, faults);
+            Recovery {
+                status: worse(saved, print_recovered(recovered, output, faults)),
+                files,
+            }
         }
         Err((left, fault)) => {
-            // Its contract says what the files hold, also now.
-            let _left = take_apart(left);
-            report_fault(of_open(fault), faults)
+            let Apart { parts, files, .. } = take_apart(left);
+            drop(parts);
+            Recovery {
+                status: report_fault(of_open(fault), faults),
+                files,
+            }
         }
     }
 }

@@ -3,18 +3,19 @@ ghost use Rattle.std.specs.Prelude.{◌≡◌, is_some, option_map, false, IfErr
 ghost use Rattle.station_files.specs.Faults.{IsFaultless};
 ghost use Rattle.station_line.specs.Opened.{is_old, IsFresh};
 ghost use Rattle.station_line.specs.Refusals.{RefusesRun};
-ghost use Rattle.station_session.specs.RunFiles.{KeepsRunFiles, RunKeepsFiles, RunsFollowed};
+ghost use Rattle.station_session.specs.RunFiles.{IsAllTold, KeepsRunFiles, RunKeepsFiles, RunsFollowed};
 ghost use Rattle.station_session.specs.Session.{EndsCaptured, EndsRun, RunsFiles};
 
 use crate::capture::{begin_capture, end_capture};
 use crate::fused::{Fuse, run_fused};
 use crate::streams::Streams;
 use crate::threads::run_threads;
+use crate::told::{FileLog, FilesTold, RunTold, Served, with_all_told};
 use crate::watch::Watch;
 use line_watch::{Capture, Captured, Cleared, Watched};
 use sii_edit::Command;
 use site_file::{FileDevice, OpenFiles};
-use site_shadow::{Device, ShadowSite};
+use site_shadow::{Device, Lends, ShadowSite};
 use station_files::{ExitStatus, Fault, Store, report_fault};
 use station_line::{Given, Session, load, of_open, open_files, open_station};
 use station_text::LineFile;
@@ -34,13 +35,29 @@ pub struct RunNames<'a> {
     pub capture: Option<&'a str>,
 }
 
-/// How far a run came, and its exit status.
-#[derive(Clone, Copy)]
+/// How far a run came, its exit status, and what was asked of the files of its line.
+#[derive(Drop)]
 pub struct Ran {
     /// Whether it began. If not, a file of the line couldn't be opened, or the capture couldn't begin, and nothing was asked of these files.
     pub is_begun: bool,
     /// The exit status.
     pub status: ExitStatus,
+    /// What was asked of the files.
+    pub told: FilesTold,
+}
+
+impl Ran {
+    /// A run that wasn't begun, or one in memory.
+    fn without_files(is_begun: bool, status: ExitStatus) -> Ran
+        ensures begun { result.is_begun ≡ is_begun }
+        ensures status { result.status ≡ status }
+    {
+        Ran {
+            is_begun,
+            status,
+            told: RunTold::nothing(),
+        }
+    }
 }
 
 /// A line to be opened, and the commands for it.
@@ -53,7 +70,7 @@ struct Ready<D: Device> {
 }
 
 /// Runs a script on a line: submits its commands in order, serves them by threads on the line's files, and prints the answer to each command
-/// and the totals. Returns how far it came, and the exit status.
+/// and the totals. Returns how far it came, the exit status, and all that was asked of the line's files.
 ///
 /// The files are read in this order: line file, images of the slaves, journal, script, images that the script names. After any later fault,
 /// which is printed, the files hold what was written so far, and a recovery completes it.
@@ -87,7 +104,8 @@ pub fn run_script<
         (S.files store.old) (S.files store.new) names.entry.line.now names.entry.script.now ran.status) }
     ensures begun { IfOk result (λ ran. IsFaultless ran.status → IsTrue ran.is_begun) }
     ensures kept { is_some fuse ≡ false → IfOk result (λ ran. IsTrue ran.is_begun
-        → KeepsRunFiles S.File (S.files store.old) names.entry.line.now names.entry.script.now ran.status) }
+        → KeepsRunFiles S.File (S.files store.old) names.entry.line.now names.entry.script.now ran.status ran.told) }
+    ensures told { is_some fuse ≡ false → IfOk result (λ ran. IsFaultless ran.status → IsAllTold ran.told) }
     ensures refused { IfErr result (RefusesRun (S.files store.old) S.leads (option_map (λ given. given.now) names.entry.capture)
         names.entry.line.now names.entry.script.now) }
     ensures same { OnErr result (S.files store.new ≡ S.files store.old) }
@@ -123,17 +141,16 @@ fn run_captured<
     ensures ends { EndsCaptured (is_some fuse) (option_map (λ given. given.now) capture.entry) (S.files store.old) (S.files store.new)
         given.session.line given.session.site given.commands.items result.status }
     ensures begun { IsFaultless result.status → IsTrue result.is_begun }
-    ensures kept { is_some fuse ≡ false → IsTrue result.is_begun → RunKeepsFiles S.File given.session.site.seen given.commands.items result.status }
+    ensures kept { is_some fuse ≡ false → IsTrue result.is_begun
+        → RunKeepsFiles S.File given.session.site.seen given.commands.items result.status result.told }
+    ensures told { is_some fuse ≡ false → IsFaultless result.status → IsAllTold result.told }
 {
     let Streams { output, faults } = streams;
     let begun = match begin_capture(capture, store) {
         Ok(begun) => begun,
         Err(fault) => {
             drop(given);
-            return Ran {
-                is_begun: false,
-                status: report_fault(fault, faults),
-            };
+            return Ran::without_files(false, report_fault(fault, faults));
         }
     };
     let lent = Streams {
@@ -141,9 +158,15 @@ fn run_captured<
         faults: &mut *faults,
     };
     let ran = run_given(watch, given, fuse, begun.as_ref(), store, lent);
+    let Ran {
+        is_begun,
+        status,
+        told,
+    } = ran;
     Ran {
-        is_begun: ran.is_begun,
-        status: end_capture(begun, ran.status, faults),
+        is_begun,
+        status: end_capture(begun, status, faults),
+        told,
     }
 }
 
@@ -167,27 +190,27 @@ fn run_given<
     ensures ends { EndsRun (is_some fuse) (S.files store.old) (S.files store.new) given.session.line given.session.site given.commands.items
         result.status }
     ensures begun { IsFaultless result.status → IsTrue result.is_begun }
-    ensures kept { is_some fuse ≡ false → IsTrue result.is_begun → RunKeepsFiles S.File given.session.site.seen given.commands.items result.status }
+    ensures kept { is_some fuse ≡ false → IsTrue result.is_begun
+        → RunKeepsFiles S.File given.session.site.seen given.commands.items result.status result.told }
+    ensures told { is_some fuse ≡ false → IsFaultless result.status → IsAllTold result.told }
 {
     match fuse {
-        Some(fuse) => Ran {
-            is_begun: true,
-            status: run_fused(watch.rt, given, fuse, capture, store, streams),
-        },
+        Some(fuse) => {
+            let status = run_fused(watch.rt, given, fuse, capture, store, streams);
+            Ran::without_files(true, status)
+        }
         None => match open_files(watch.rt.alloc(), &given.session.line, store) {
             Ok(files) => {
-                let status = run_opened(watch, given, &files, capture, store, streams);
+                let served = run_opened(watch, given, files, capture, store, streams);
                 Ran {
                     is_begun: true,
-                    status,
+                    status: served.status,
+                    told: served.told,
                 }
             }
             Err(fault) => {
                 drop(given);
-                Ran {
-                    is_begun: false,
-                    status: report_fault(fault, streams.faults),
-                }
+                Ran::without_files(false, report_fault(fault, streams.faults))
             }
         },
     }
@@ -204,15 +227,16 @@ fn run_opened<
 >(
     watch: Watch<'a, T, R>,
     given: Given<S::Lock>,
-    files: &'a OpenFiles<S::File>,
+    files: OpenFiles<S::File>,
     capture: Option<&'a Capture<S::File>>,
     store: &mut S,
     streams: Streams<'_, W, E>,
-) -> ExitStatus
+) -> Served<FileLog>
     requires fresh { IsFresh given.session.line given.session.site }
     requires old { given.session.is_old ≡ is_old given.session.site.seen.state.disk.bytes }
-    ensures ends { EndsRun false (S.files store.old) (S.files store.new) given.session.line given.session.site given.commands.items result }
-    ensures kept { RunKeepsFiles S.File given.session.site.seen given.commands.items result }
+    ensures ends { EndsRun false (S.files store.old) (S.files store.new) given.session.line given.session.site given.commands.items result.status }
+    ensures kept { RunKeepsFiles S.File given.session.site.seen given.commands.items result.status result.told }
+    ensures told { IsFaultless result.status → IsAllTold result.told }
 {
     let Watch { rt, progress } = watch;
     let Streams { output, faults } = streams;
@@ -231,37 +255,33 @@ fn run_opened<
         is_old,
         commands,
     };
-    let status = run_site(
+    let mut faults = Cleared::new(faults, progress, rt);
+    let served = run_site(
         rt,
         &line,
         ready,
         store,
         &mut Cleared::new(output, progress, rt),
-        &mut Cleared::new(faults, progress, rt),
+        &mut faults,
     );
+    let served = with_all_told(served, &mut faults);
     watch.erase();
-    status
+    served
 }
 
 /// Opens the station on this line, and serves the commands by threads.
-fn run_site<
-    D: Device + Copy + Send,
-    S: Store,
-    W: Write,
-    E: Write,
-    R: Wait + Threads + AllocGlobal + Sync,
->(
+fn run_site<D: Lends + Send, S: Store, W: Write, E: Write, R: Wait + Threads + AllocGlobal + Sync>(
     rt: &R,
     line: &LineFile,
     ready: Ready<D>,
     store: &mut S,
     output: &mut W,
     faults: &mut E,
-) -> ExitStatus
+) -> Served<D::Told>
     requires fresh { IsFresh line.now ready.site }
     requires old { ready.is_old ≡ is_old ready.site.seen.state.disk.bytes }
-    ensures ends { EndsRun false (S.files store.old) (S.files store.new) line.now ready.site ready.commands.items result }
-    ensures goes { RunsFollowed D.follows D.well ready.site.seen ready.commands.items result }
+    ensures ends { EndsRun false (S.files store.old) (S.files store.new) line.now ready.site ready.commands.items result.status }
+    ensures goes { RunsFollowed D.follows D.well D.tells ready.site.seen ready.commands.items result.status result.told }
 {
     let Ready {
         site,
@@ -274,11 +294,13 @@ fn run_site<
             run_threads(rt, line, alone, commands, store, streams)
         },
         Err((left, fault)) => {
-            // What its device followed, it followed up to here.
-            let (parts, _device) = left.into_parts();
+            let (parts, mut device) = left.into_parts();
             drop(parts);
             drop(commands);
-            report_fault(of_open(fault), faults)
+            Served {
+                status: report_fault(of_open(fault), faults),
+                told: RunTold::of_opening(device.tell()),
+            }
         }
     }
 }

@@ -120,7 +120,7 @@ ends_behind is_driven result old new line commands before r status recovered beg
     (λ ended. SavesBehind new line before is_driven commands ended × (ended ≡ Done → status ≡ Done)) result old new line
     (λ ended behind. (record { r = r; recovered = recovered; begins = begins; holds = behind.0 }, behind.1)) ends
 
-pub ends_left : (result : Result ExitStatus WireFault) (old new : Known) (line : LineFile) (left : Left SiteValue)
+pub ends_left : {T : Type 0} (result : Result ExitStatus WireFault) (old new : Known) (line : LineFile) (left : Left SiteValue T)
     → left.ending.told ≡ Ok tt
     → Ends (λ ended. SavesBehind new line left.site.seen left.ending.is_driven left.unserved.items ended × (ended ≡ Done → left.ending.status ≡ Done))
     result old new line
@@ -142,7 +142,7 @@ saves_led follows (Err fault) new line slaves before r is_driven recovered leads
 
 -- ---- the line is served by threads
 
-at_desk : (new : Known) (line : LineFile) (opened : Station) (commands : List Command) (left : Left SiteValue) (status : ExitStatus)
+at_desk : {T : Type 0} (new : Known) (line : LineFile) (opened : Station) (commands : List Command) (left : Left SiteValue T) (status : ExitStatus)
     → LeavesSo opened commands left.ending left.site → (left.ending.is_driven ≡ false → left.unserved.items ≡ commands)
     → SavesLeft new line left status → Serves false new line opened commands status
 at_desk new line opened commands left status leaves same saves = record {
@@ -154,15 +154,15 @@ at_desk new line opened commands left status leaves same saves = record {
   behind = behind-unserved left.ending.is_driven new line left.site.seen left.unserved.items commands status same saves.behind;
 }
 
-pub ends_at_desk : {D : Type 0} (follows : D → Seen → Type 0) (well : D → Type 0) (result : Result ExitStatus WireFault) (old new : Known) (line : LineFile)
-    (slaves : ℕ) (opened : Station) (commands : List Command) (left : Left SiteValue) → LeavesSo opened commands left.ending left.site
-    → (left.ending.is_driven ≡ false → left.unserved.items ≡ commands) → ServesFollowed follows well opened commands left
+pub ends_at_desk : {D T : Type 0} (follows : D → Seen → Type 0) (well : D → Type 0) (tells : D → T → Type 0) (result : Result ExitStatus WireFault) (old new : Known) (line : LineFile)
+    (slaves : ℕ) (opened : Station) (commands : List Command) (left : Left SiteValue T) → LeavesSo opened commands left.ending left.site
+    → (left.ending.is_driven ≡ false → left.unserved.items ≡ commands) → ServesFollowed follows well tells opened commands left
     → OnOk result (left.sound ≡ Ok tt)
     → OnOk result (IsTrue left.ending.is_driven → SavesFollowed (LedOn (Soundly follows well) slaves left.site.seen) new line)
     → Ends (λ status. SavesLeft new line left status) result old new line
     → Ends (SavesDesk (LedAtDesk (Soundly follows well) slaves opened) new line opened commands) result old new line
 unfolding at_desk
-ends_at_desk follows well (Ok status) old new line slaves opened commands left leaves same serves sound followed ends = record {
+ends_at_desk follows well tells (Ok status) old new line slaves opened commands left leaves same serves sound followed ends = record {
   others = ends.others;
   unsaved = tt;
   saved = record {
@@ -174,13 +174,13 @@ ends_at_desk follows well (Ok status) old new line slaves opened commands left l
           recovered = led.recovered;
           held = led.held;
           way = record {
-            leads = record { left = left.site; served = served_soundly follows well opened commands left serves sound; behind = led.way.leads };
+            leads = record { left = left.site; served = served_soundly follows well tells opened commands left serves sound; behind = led.way.leads };
             ends = led.way.ends;
           };
         };
   };
 }
-ends_at_desk follows well (Err fault) old new line slaves opened commands left leaves same serves sound followed ends =
+ends_at_desk follows well tells (Err fault) old new line slaves opened commands left leaves same serves sound followed ends =
     record { others = ends.others; unsaved = ends.unsaved; saved = tt }
 
 -- ---- the station is opened

@@ -15,7 +15,7 @@ use line_changes::Before;
 use script_session::is_sound;
 use sii_words::Plant;
 use site_file::FileDevice;
-use site_shadow::{Device, ShadowSite};
+use site_shadow::{Device, Lends, ShadowSite};
 use site_wire::{LiveLine, LockedLine, WireDevice};
 use station_alone::Recovered;
 use station_files::{Fault, Store};
@@ -139,19 +139,14 @@ fn recover_opened<
         journal,
     } = found;
     let files = open_journal(rt.alloc(), line, store)?;
-    let device = WireDevice::shared(locked.shared(rt), rt, FileDevice::new(&files));
+    let device = WireDevice::shared(locked.shared(rt), rt, FileDevice::new(files));
     let site = site_of(rt.alloc(), slaves, journal, device)?;
     recover_site(rt, line, site, store, output)
 }
 
 /// Recovers a line, and saves what its slaves hold to their image files. `Unserved` where something has failed that the device was asked, though
 /// the recovery was told of nothing.
-fn recover_site<
-    R: Wait + Threads + AllocGlobal + Sync,
-    D: Device + Copy + Send,
-    S: Store,
-    O: Write,
->(
+fn recover_site<R: Wait + Threads + AllocGlobal + Sync, D: Lends + Send, S: Store, O: Write>(
     rt: &R,
     line: &LineFile,
     site: ShadowSite<D>,

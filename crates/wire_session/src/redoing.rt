@@ -9,7 +9,7 @@ ghost use Rattle.wire_session.specs.Slaves.{LedBehindDesk, LedThroughout};
 ghost use Rattle.wire_session.specs.Redoing.{BeginsAgain, CountsAll, RecoversBehind, RecoversByThreads, RedoesOpened};
 
 use script_session::{Redone, redo_by_threads};
-use site_shadow::{Device, ShadowSite};
+use site_shadow::{Device, Lends, ShadowSite};
 use station_alone::{Alone, Found, Recovered, recover};
 use station_files::Fault;
 use station_line::of_open;
@@ -25,7 +25,7 @@ use std::thread::Threads;
 /// # Errors
 ///
 /// As for `Alone::open_counted`, `redo_by_threads` and `recover`. The site is dropped.
-pub(crate) fn recover_by_threads<R: Wait + Threads + AllocGlobal + Sync, D: Device + Copy + Send>(
+pub(crate) fn recover_by_threads<R: Wait + Threads + AllocGlobal + Sync, D: Lends + Send>(
     rt: &R,
     site: ShadowSite<D>,
     slaves: usize,
@@ -48,7 +48,7 @@ pub(crate) fn recover_by_threads<R: Wait + Threads + AllocGlobal + Sync, D: Devi
 }
 
 /// Has threads redo what is live in the journal of this station, in which the open found this much, and recovers the line behind them.
-fn redo_opened<R: Wait + Threads + AllocGlobal + Sync, D: Device + Copy + Send>(
+fn redo_opened<R: Wait + Threads + AllocGlobal + Sync, D: Lends + Send>(
     rt: &R,
     alone: Alone<ShadowSite<D>>,
     found: Found,
@@ -67,7 +67,7 @@ fn redo_opened<R: Wait + Threads + AllocGlobal + Sync, D: Device + Copy + Send>(
 }
 
 /// Recovers a line on which threads have issued `sent` words.
-fn recover_behind<D: Device + Copy>(
+fn recover_behind<D: Device + Drop>(
     alloc: Global,
     site: ShadowSite<D>,
     found: Found,

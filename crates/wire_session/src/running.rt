@@ -20,7 +20,7 @@ use script_session::Work;
 use sii_edit::Command;
 use sii_words::Plant;
 use site_file::FileDevice;
-use site_shadow::{Device, ShadowSite};
+use site_shadow::{Lends, ShadowSite};
 use site_wire::{LiveLine, LockedLine, WireDevice};
 use station_files::{ExitStatus, Script, Store, load_script_files};
 use station_line::{is_old, of_open, open_station, site_of};
@@ -231,13 +231,13 @@ fn run_opened<
     } = found;
     let files = open_journal(rt.alloc(), line, store)?;
     let was_old = is_old(&journal);
-    let device = WireDevice::shared(locked.shared(rt), rt, FileDevice::new(&files));
+    let device = WireDevice::shared(locked.shared(rt), rt, FileDevice::new(files));
     let site = site_of(rt.alloc(), slaves, journal, device)?;
     run_site(rt, line, Start { site, was_old }, work, store, output)
 }
 
 /// Opens the station on this line, and serves the commands by threads.
-fn run_site<R: Wait + Threads + AllocGlobal + Sync, D: Device + Copy + Send, S: Store, O: Write>(
+fn run_site<R: Wait + Threads + AllocGlobal + Sync, D: Lends + Send, S: Store, O: Write>(
     rt: &R,
     line: &LineFile,
     start: Start<ShadowSite<D>>,

@@ -11,7 +11,7 @@ ghost use Rattle.wire_session.specs.Slaves.{IsFollowedLine, LedAtDesk, LedOn, Sa
 
 use script_session::{Ending, Left, Work, is_sound, serve_by_threads};
 use sii_edit::Command;
-use site_shadow::{Device, ShadowSite};
+use site_shadow::{Device, Lends, ShadowSite};
 use station_alone::{Alone, recover};
 use station_files::{ExitStatus, Fault, Store, worse};
 use station_line::{of_open, save_site, serve_commands};
@@ -37,7 +37,7 @@ struct DeskLeft {
 /// the commands are served on this one. The station must not have accepted a command yet.
 pub(crate) fn run_threads<
     R: Wait + Threads + AllocGlobal + Sync,
-    D: Device + Copy + Send,
+    D: Lends + Send,
     S: Store,
     O: Write,
 >(
@@ -59,10 +59,10 @@ pub(crate) fn run_threads<
 }
 
 /// Recovers and saves a line that was served, unless the work ended with a fault. Then the image files are as they were.
-fn end_threads<D: Device + Copy, S: Store, O: Write>(
+fn end_threads<D: Lends, S: Store, O: Write>(
     alloc: Global,
     line: &LineFile,
-    left: Left<ShadowSite<D>>,
+    left: Left<ShadowSite<D>, D::Told>,
     store: &mut S,
     output: &mut O,
 ) -> Result<ExitStatus, WireFault>
@@ -79,7 +79,9 @@ fn end_threads<D: Device + Copy, S: Store, O: Write>(
         unserved,
         ending,
         sound,
+        told: of_devices,
     } = left;
+    drop(of_devices);
     let Ending {
         is_driven,
         status,
@@ -115,7 +117,7 @@ fn both_of(told: Result<(), Fault>, sound: Result<(), Fault>) -> Result<(), Faul
 
 /// Recovers the line, and saves what its slaves hold. If the commands were not submitted yet, they are served between the two. Gives the
 /// status of all answers.
-fn save_behind<D: Device + Copy, S: Store, O: Write>(
+fn save_behind<D: Device + Drop, S: Store, O: Write>(
     alloc: Global,
     line: &LineFile,
     site: ShadowSite<D>,
@@ -141,7 +143,7 @@ fn save_behind<D: Device + Copy, S: Store, O: Write>(
 }
 
 /// Saves what the slaves of a recovered line hold. If the commands were not submitted yet, they are served first.
-fn save_recovered<D: Device + Copy, S: Store, O: Write>(
+fn save_recovered<D: Device + Drop, S: Store, O: Write>(
     alloc: Global,
     line: &LineFile,
     alone: Alone<ShadowSite<D>>,
@@ -176,7 +178,7 @@ fn save_recovered<D: Device + Copy, S: Store, O: Write>(
 }
 
 /// Serves the commands on an open station on this thread, and saves what the slaves hold unless a fault came.
-fn run_alone<D: Device + Copy, S: Store, O: Write>(
+fn run_alone<D: Device + Drop, S: Store, O: Write>(
     alloc: Global,
     line: &LineFile,
     mut alone: Alone<ShadowSite<D>>,
@@ -204,7 +206,7 @@ fn run_alone<D: Device + Copy, S: Store, O: Write>(
 
 /// Saves what the slaves hold, and gives the status of the answers. `Unserved` where the site has stopped, or something has failed that its device
 /// was asked, though the station was told of nothing; then nothing is written.
-fn save_served<D: Device + Copy, S: Store>(
+fn save_served<D: Device + Drop, S: Store>(
     alloc: Global,
     line: &LineFile,
     site: ShadowSite<D>,

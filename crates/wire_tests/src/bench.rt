@@ -45,10 +45,9 @@ impl RandomAccessFile for NoFile {
     }
 }
 
-/// A clock, and the files of a line that has none.
+/// A clock.
 #[derive(Drop)]
 pub(crate) struct Bench {
-    files: OpenFiles<NoFile>,
     pub(crate) clock: PracticeClock,
 }
 
@@ -175,12 +174,8 @@ pub(crate) const FATES: &[Fate] = &[
 ];
 
 impl Bench {
-    pub(crate) fn new(alloc: Global) -> Bench {
+    pub(crate) fn new() -> Bench {
         Bench {
-            files: OpenFiles {
-                journal: NoFile,
-                images: Vec::new(alloc),
-            },
             clock: PracticeClock::new(),
         }
     }
@@ -348,7 +343,11 @@ pub(crate) fn work_on<W: Wire>(
 ) -> (NumberedWire<W>, Outcome)
     requires { AreWhole parts }
 {
-    let device = WireDevice::new(wire, &bench.clock, FileDevice::new(&bench.files));
+    let files = OpenFiles {
+        journal: NoFile,
+        images: Vec::new(alloc),
+    };
+    let device = WireDevice::new(wire, &bench.clock, FileDevice::new(files));
     let mut site = ShadowSite::of_parts(alloc, parts, device);
     let (count, is_done) = match *act {
         Act::Nothing => (0, true),
@@ -419,7 +418,7 @@ fn work_with<'f>(
 
 /// What comes of a run. None: the line isn't brought up, or memory was refused.
 pub(crate) fn came_of(alloc: Global, run: &Run) -> Option<Ran> {
-    let bench = Bench::new(alloc);
+    let bench = Bench::new();
     let wire = wire_of(alloc, &bench, run.slaves, None)?;
     let (mut wire, first) = work_with(alloc, &bench, wire, &run.trouble, &run.act)?;
     if let Some(behind) = run.behind {

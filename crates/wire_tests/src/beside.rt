@@ -229,7 +229,7 @@ struct Ran {
 
 // Writes the words beside a master with these habits, and then beside a prompt one. None: memory was refused.
 fn came_of(alloc: Global, habits: Habits) -> Option<Ran> {
-    let bench = Bench::new(alloc);
+    let bench = Bench::new();
     let wire = lent(alloc, &bench, &[KEPT, OTHER], habits, false)?;
     let (mut wire, first) = write_on(alloc, &bench, wire);
     let master = wire.wire();
@@ -309,7 +309,7 @@ const FOUND: &[(&[Slave], bool, Findings)] = &[
 
 // Whether this is found beside a master. None: memory was refused.
 fn is_found(alloc: Global, slaves: &[Slave], is_forced: bool, findings: &Findings) -> Option<bool> {
-    let bench = Bench::new(alloc);
+    let bench = Bench::new();
     let mut wire = lent(alloc, &bench, slaves, PROMPT, is_forced)?;
     Some(finds(alloc, &bench, &mut wire, &Sizes::unknown(), findings))
 }

@@ -128,7 +128,7 @@ pub(crate) fn course_of(
         mishap: line.mishap,
         cut: None,
     };
-    let bench = Bench::new(alloc);
+    let bench = Bench::new();
     let mut wire = wire_of(alloc, &bench, line.slaves, line.cable)?;
     plan(&mut wire, &trouble);
     let is_so = finds(alloc, &bench, &mut wire, sizes, findings);

@@ -1,16 +1,17 @@
-use Rattle.std.proofs.Common.{◌∙◌, ap, arith, refl, sym, subst, length, List, IsTrue, Result}
-use Rattle.std.specs.Prelude.{OnOk}
+use Rattle.std.proofs.Common.{◌∙◌, ap, arith, refl, sym, subst, length, List, Result}
+use Rattle.std.specs.Prelude.{IsTrue}
 use Rattle.site_core.specs.Line.{Line}
 use Rattle.site_core.specs.State.{Seen}
 use Rattle.book_model.specs.Book.{Book}
 use Rattle.station_files.specs.declared.faults.Fault.{Fault}
-use Rattle.script_session.specs.Parts.{AreFollowed, EndsSynced, IsApart, Soundly}
+use Rattle.script_session.specs.AtDesk.{EndsFollowed}
+use Rattle.script_session.specs.Parts.{AreSound, IsApart}
 use Rattle.site_shadow.specs.Site.{SiteValue}
 use Rattle.station_jobs.specs.declared.log.SlaveLog.{SlaveLog}
 use Rattle.station_jobs.specs.Ends.{Stay}
 use Rattle.script_session.specs.Redoing.{IsCount, issues_of}
 use Rattle.script_session.proofs.RedoLaws.{redone}
-use Rattle.script_session.proofs.SoundLaws.{parts_followed}
+use Rattle.script_session.proofs.SoundLaws.{followed_ends, on_ok}
 use Rattle.script_session.proofs.redoing.redo_by_threads.Goals as goal
 
 pub redo_at_desk-requires-clause-opening : goal.redo_at_desk-requires-clause-opening
@@ -27,7 +28,7 @@ returns-in-Ok-sound-clause-redone g c =
     let parts = c.into_parts-core in
     let desk = c.in_ok-ends.ensures in
     let words = c.issues_of-words.result in
-    redone c.args.alone c.in-Ok.prepared.0 c.in_ok-ends.ends c.in_ok-site.site words c.requires c.core.ensures.stands c.of.result.core parts.result.1.seen
+    redone c.args.alone c.in-Ok.prepared.sites c.in_ok-ends.ends c.in_ok-site.site words c.requires c.core.ensures.stands c.of.result.core parts.result.1.seen
     (c.of.ensures.core ∙ parts.ensures.book) parts.ensures.seen c.in-Ok.ensures.sites.apart desk.of_sites desk.closes c.in_ok-site.ensures.together.0
     (subst (λ (l : List (Stay SiteValue SlaveLog)). IsCount (issues_of l) words) c.as_slice.ensures.value c.issues_of-words.ensures)
 
@@ -35,20 +36,23 @@ pub returns-in-Ok-sound-clause-followed : goal.returns-in-Ok-sound-clause-follow
 returns-in-Ok-sound-clause-followed g c =
     let parts = c.into_parts-core in
     let sound = c.judge_ends-sound in
+    let sites = c.in-Ok.prepared.sites in
+    let ends = c.in_ok-ends.ends in
+    let put = c.in_ok-site in
     let follows = g.D.Device.follows in
     let well = g.D.Device.well in
-    let judged = subst (λ (r : Result (Unit {0}) Fault). OnOk r (IsTrue c.is_sound-began_soundly.result)) c.in-Ok-sound.is sound.ensures.began in
     record {
       served = record {
-        sites = c.in-Ok.prepared.0;
-        apart = subst (λ (s : Seen). IsApart s.state c.in-Ok.prepared.0) parts.ensures.seen c.in-Ok.ensures.sites.apart;
-        ends = c.in_ok-ends.ends;
+        sites = sites;
+        apart = subst (λ (s : Seen). IsApart s.state sites) parts.ensures.seen c.in-Ok.ensures.sites.apart;
+        ends = ends;
         of_sites = c.in_ok-ends.ensures.of_sites;
-        together = c.in_ok-site.ensures.together.0;
+        together = put.ensures.together.0;
       };
-      followed = parts_followed follows well c.args.alone parts.result.1.seen c.in-Ok.prepared.0 c.in_ok-ends.ends parts.ensures.seen
-          c.in-Ok.ensures.sites.apart c.in_ok-ends.ensures.of_sites (c.is_sound-began_soundly.ensures.followed judged)
-          (ap (λ (l : Line). length l.sizes) (sym parts.ensures.line) ∙ c.is_sound-began_soundly.ensures.count)
-          (subst (λ (r : Result (Unit {0}) Fault). OnOk r (AreFollowed (Soundly follows well) c.in_ok-ends.ends)) c.in-Ok-sound.is sound.ensures.followed)
-          (subst (λ (r : Result (Unit {0}) Fault). OnOk r (EndsSynced c.in_ok-ends.ends.flusher.log)) c.in-Ok-sound.is sound.ensures.synced);
+      followed = subst (λ (r : Result (Unit {0}) Fault). EndsFollowed follows well c.args.alone r ends) c.in-Ok-sound.is
+          (followed_ends follows well g.D.Lends.tells c.args.alone parts.result.1.seen sites ends put.told sound.result parts.ensures.seen
+          c.in-Ok.ensures.sites.apart c.in_ok-ends.ensures.of_sites (put.ensures.told parts.result.1.seen c.in-Ok.ensures.told)
+          (ap (λ (l : Line). length l.sizes) (sym parts.ensures.line) ∙ c.prepare.ensures.count)
+          (on_ok sound.result (λ (both : AreSound put.told × IsTrue c.disk_is_synced-is_synced.result).
+          (both.0, c.disk_is_synced-is_synced.ensures both.1)) sound.ensures) c.put_together.ensures.followed);
     }

@@ -2,7 +2,6 @@ use Rattle.std.proofs.Common.{◌∙◌, ap, arith, length, refl, sym}
 use Rattle.site_core.specs.Line.{Line}
 use Rattle.book_model.specs.Book.{Book}
 use Rattle.script_session.proofs.DeskLaws.{ends-apart, served-at-desk, serves-parts}
-use Rattle.script_session.proofs.SoundLaws.{followed_ends, on_ok}
 use Rattle.script_session.proofs.threads.serve_by_threads.Goals as goal
 
 pub serve_at_desk-requires-clause-opening : goal.serve_at_desk-requires-clause-opening
@@ -18,7 +17,7 @@ pub returns-in-Ok-serve_at_desk-clause-left : goal.returns-in-Ok-serve_at_desk-c
 returns-in-Ok-serve_at_desk-clause-left g c =
     let parts = c.into_parts-core in
     let desk = c.in-Ok-serve_at_desk in
-    served-at-desk c.args.alone c.args.work.commands.items c.of-opening.result.core parts.result.1.seen c.in-Ok.prepared.0 desk.at c.put_back.result
+    served-at-desk c.args.alone c.args.work.commands.items c.of-opening.result.core parts.result.1.seen c.in-Ok.prepared.sites desk.at c.put_back.result
     (c.of-opening.ensures.core ∙ parts.ensures.book) parts.ensures.seen c.in-Ok.ensures.sites.apart desk.ensures.of_sites c.put_back.ensures.left
     desk.ensures.ending
 
@@ -26,23 +25,18 @@ pub returns-in-Ok-serve_at_desk-clause-parts : goal.returns-in-Ok-serve_at_desk-
 returns-in-Ok-serve_at_desk-clause-parts g c =
     let parts = c.into_parts-core in
     let desk = c.in-Ok-serve_at_desk in
-    let sound = c.judge_ends-sound in
-    let follows = g.D.Device.follows in
-    let well = g.D.Device.well in
-    serves-parts c.args.alone c.args.work.commands.items c.of-opening.result.core parts.result.1.seen c.in-Ok.prepared.0 desk.at
-    (c.of-opening.ensures.core ∙ parts.ensures.book) parts.ensures.seen c.in-Ok.ensures.sites.apart desk.ensures.of_sites desk.ensures.ending follows
-    well sound.result
-    c.put_back.result c.put_back.ensures.left c.put_back.ensures.sound
-    (followed_ends follows well c.args.alone parts.result.1.seen c.in-Ok.prepared.0 desk.at.ends sound.result parts.ensures.seen
-    c.in-Ok.ensures.sites.apart desk.ensures.of_sites (on_ok sound.result c.is_sound-began_soundly.ensures.followed sound.ensures.began)
-    (ap (λ (l : Line). length l.sizes) (sym parts.ensures.line) ∙ c.is_sound-began_soundly.ensures.count) sound.ensures.followed sound.ensures.synced
-    c.put_back.ensures.followed)
+    let prepared = c.in-Ok in
+    let back = c.put_back in
+    serves-parts c.args.alone c.args.work.commands.items c.of-opening.result.core parts.result.1.seen prepared.prepared.sites desk.at
+    (c.of-opening.ensures.core ∙ parts.ensures.book) parts.ensures.seen prepared.ensures.sites.apart desk.ensures.of_sites desk.ensures.ending
+    g.D.Device.follows g.D.Device.well g.D.Lends.tells prepared.prepared.whole.told back.result back.ensures.left back.ensures.told back.ensures.sound
+    prepared.ensures.told (ap (λ (l : Line). length l.sizes) (sym parts.ensures.line) ∙ c.prepare.ensures.count) back.ensures.followed
 
 pub returns-in-Ok-serve_at_desk-clause-failed : goal.returns-in-Ok-serve_at_desk-clause-failed
 returns-in-Ok-serve_at_desk-clause-failed g c =
     let parts = c.into_parts-core in
     let desk = c.in-Ok-serve_at_desk in
-    ends-apart c.args.alone c.args.work.commands.items c.of-opening.result.core parts.result.1.seen c.in-Ok.prepared.0 desk.at
+    ends-apart c.args.alone c.args.work.commands.items c.of-opening.result.core parts.result.1.seen c.in-Ok.prepared.sites desk.at
     (c.of-opening.ensures.core ∙ parts.ensures.book) parts.ensures.seen c.in-Ok.ensures.sites.apart desk.ensures.of_sites desk.ensures.ending
     g.D.Device.follows
     c.put_back.result c.put_back.ensures.followed

@@ -1,4 +1,4 @@
-use Rattle.std.proofs.Common.{rules, arith}
+use Rattle.std.proofs.Common.{rules}
 use Rattle.site_file.specs.Asking.{nothing, piece}
 use Rattle.site_file.proofs.files.has_bytes.Goals as goal
 

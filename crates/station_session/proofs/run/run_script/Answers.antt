@@ -1,14 +1,8 @@
 use Rattle.std.proofs.Common.{Bor, List, ℕ}
 use Rattle.std.specs.Prelude.{is_some, option_map}
-use Rattle.station_line.proofs.Opened.{is_fresh}
 use Rattle.station_session.proofs.Ending.{runs}
 use Rattle.station_session.proofs.RunFiles.{runs_kept}
 use Rattle.station_session.proofs.run.run_script.Goals as goal
-
-pub run_captured-requires-clause-fresh : goal.run_captured-requires-clause-fresh
-run_captured-requires-clause-fresh g c κs lives =
-    let given = c.in-Ok.given in
-    is_fresh (g.S.Store.files c.args.store.now) c.args.names.line.now given.session.line given.session.site c.in-Ok.ensures.loaded
 
 pub returns-in-Ok-clause-ran : goal.returns-in-Ok-clause-ran
 returns-in-Ok-clause-ran g c =
@@ -18,4 +12,4 @@ returns-in-Ok-clause-ran g c =
 pub returns-in-Ok-clause-kept : goal.returns-in-Ok-clause-kept
 returns-in-Ok-clause-kept g c none begun =
     let given = c.in-Ok.given in
-    runs_kept _ (g.S.Store.files c.args.store.now) c.args.names.line.now c.args.names.script.now given.session.line given.session.site given.commands.items c.run_captured.result.status c.in-Ok.ensures.loaded c.in-Ok.ensures.spelt (c.run_captured.ensures.kept none begun)
+    runs_kept _ (g.S.Store.files c.args.store.now) c.args.names.line.now c.args.names.script.now given.session.line given.session.site given.commands.items c.run_captured.result.status c.run_captured.result.told c.in-Ok.ensures.loaded c.in-Ok.ensures.spelt (c.run_captured.ensures.kept none begun)

@@ -1,7 +1,9 @@
 use Rattle.std.proofs.Common.{◌≡◌, false, length, ap, sym}
+use denote.Param.Send.{sendable}
 use Rattle.site_core.specs.State.{Seen}
 use Rattle.script_session.specs.Parts.{Soundly}
 use Rattle.site_wire.specs.Following.{WireFollows}
+use Rattle.site_wire.proofs.Sent.{shared-send, wire-device-send}
 use Rattle.wire_session.specs.Slaves.{EndsFollowed, SlavesHold}
 use Rattle.wire_session.proofs.SlavesHeld.{slaves_hold}
 use Rattle.station_line.specs.Site.{switched_on}
@@ -9,6 +11,9 @@ use Rattle.wire_session.specs.Recovery.{SavesRecovered}
 use Rattle.wire_session.proofs.Endings.{ends_unmade}
 use Rattle.wire_session.proofs.Recovering.{recovers_opened}
 use Rattle.wire_session.proofs.recovery.recover_opened.Goals as goal
+
+pub recover_site-requires-send-D : goal.recover_site-requires-send-D
+recover_site-requires-send-D g c κs lives = search (wire-device-send, shared-send, sendable) depth 40
 
 pub returns-in_err-site : goal.returns-in_err-site
 returns-in_err-site g c =

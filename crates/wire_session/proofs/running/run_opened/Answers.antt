@@ -1,7 +1,9 @@
 use Rattle.std.proofs.Common.{◌≡◌, false, length, ap, sym}
+use denote.Param.Send.{sendable}
 use Rattle.site_core.specs.State.{Seen}
 use Rattle.script_session.specs.Parts.{Soundly}
 use Rattle.site_wire.specs.Following.{WireFollows}
+use Rattle.site_wire.proofs.Sent.{shared-send, wire-device-send}
 use Rattle.station_files.specs.declared.faults.ExitStatus.{ExitStatus}
 use Rattle.station_line.proofs.Opened.{old-by}
 use Rattle.wire_session.specs.Running.{SavesFound}
@@ -10,6 +12,9 @@ use Rattle.wire_session.proofs.SlavesHeld.{slaves_hold}
 use Rattle.wire_session.proofs.Endings.{ends_unmade}
 use Rattle.wire_session.proofs.RunEnds.{ends_found}
 use Rattle.wire_session.proofs.running.run_opened.Goals as goal
+
+pub run_site-requires-send-D : goal.run_site-requires-send-D
+run_site-requires-send-D g c κs lives = search (wire-device-send, shared-send, sendable) depth 40
 
 pub run_site-requires-clause-old : goal.run_site-requires-clause-old
 run_site-requires-clause-old g c κs lives =

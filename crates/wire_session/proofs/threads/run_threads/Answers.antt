@@ -13,6 +13,6 @@ end_threads-requires-clause-told g c κs lives = c.in-Ok.ensures.left.told
 
 pub returns-in-Ok : goal.returns-in-Ok
 returns-in-Ok g c =
-    ends_at_desk g.D.Device.follows g.D.Device.well c.end_threads.result (g.S.Store.files c.args.store.now) (g.S.Store.files c.end_threads.new.store)
+    ends_at_desk g.D.Device.follows g.D.Device.well g.D.Lends.tells c.end_threads.result (g.S.Store.files c.args.store.now) (g.S.Store.files c.end_threads.new.store)
     c.args.line.now (length c.args.line.now.images.items) c.args.alone c.args.work.commands.items c.in-Ok.left c.in-Ok.ensures.left
     c.in-Ok.ensures.unserved c.in-Ok.ensures.parts c.end_threads.ensures.sound c.end_threads.ensures.followed c.end_threads.ensures.ends

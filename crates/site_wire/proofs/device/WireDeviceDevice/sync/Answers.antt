@@ -1,4 +1,4 @@
-use Rattle.site_file.specs.Calls.{syncs}
+use Rattle.site_file.specs.declared.asking.Call.TheVariants.{Syncs as syncs}
 use Rattle.site_file.specs.Device.{CallsJournal}
 use Rattle.site_wire.proofs.Journal.{handed_on}
 use Rattle.site_wire.proofs.Following.{sync_keeps}

@@ -1,4 +1,4 @@
-use Rattle.site_file.specs.Calls.{writes}
+use Rattle.site_file.specs.declared.asking.Call.TheVariants.{Writes as writes}
 use Rattle.site_file.specs.Device.{CallsJournal}
 use Rattle.site_wire.proofs.Journal.{handed_on}
 use Rattle.site_wire.proofs.Following.{write_keeps}

@@ -1,9 +1,0 @@
-use Rattle.std.proofs.Common.{◌≡◌, ◌++◌}
-use Rattle.std.specs.List.{AllByRecursion}
-use Rattle.std.specs.Vec.Iter.{into_iter_items}
-use Rattle.script_session.specs.Parts.{AreHalvesOf, IsWorkFollowed}
-use Rattle.script_session.proofs.together.halves_at.Given as goal
-
-abbrev pub invariant-loop-end : goal.invariant-loop-end
-invariant-loop-end g l = (l.yielded ++ into_iter_items l.end-iterator ≡ into_iter_items l.initial.end-iterator) × AreHalvesOf l.yielded l.halves
-    × AllByRecursion (IsWorkFollowed g.D.Device.follows) l.yielded

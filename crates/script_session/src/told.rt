@@ -1,0 +1,50 @@
+//! What is told of the devices of a line that was served at a desk.
+
+ghost use Rattle.std.specs.Prelude.{◌≡◌};
+ghost use Rattle.site_core.specs.State.{Seen};
+ghost use Rattle.script_session.specs.Parts.{Telling};
+
+use site_shadow::{Device, Lends};
+
+/// What is told of the device of a part, and whether the part ended soundly: its site goes on, and nothing has failed that the device was asked.
+#[derive(Drop)]
+pub struct PartTold<T> {
+    /// What is told of the device.
+    pub told: T,
+    /// Whether the part ended soundly.
+    pub is_sound: bool,
+}
+
+/// What is told of the devices of a line that was served at a desk.
+#[derive(Drop)]
+pub struct DeskTold<T> {
+    /// Of the line's device, before the line was taken apart.
+    pub line: PartTold<T>,
+    /// Of the disk's device.
+    pub disk: PartTold<T>,
+    /// Of each slave's device, in order.
+    pub slaves: Vec<PartTold<T>>,
+}
+
+/// What this device tells, which was behind a site that had stopped or not. It is then as one that has asked nothing yet.
+pub(crate) fn told_by<D: Lends>(device: &mut D, has_stopped: bool) -> PartTold<D::Told>
+    ensures { (seen : Seen) → D.follows device.old seen → has_stopped ≡ seen.is_stopped
+        → Telling D.follows D.well D.tells result device.old seen }
+{
+    let is_sound = !has_stopped && device.is_well();
+    PartTold {
+        told: device.tell(),
+        is_sound,
+    }
+}
+
+/// What the device of the line tells of this one, which was behind a part's site that had stopped or not, and is taken back.
+pub(crate) fn taken_back<D: Lends>(whole: &mut D, lent: D, has_stopped: bool) -> PartTold<D::Told>
+    ensures { (seen : Seen) → D.follows lent seen → has_stopped ≡ seen.is_stopped → Telling D.follows D.well D.tells result lent seen }
+{
+    let is_sound = !has_stopped && lent.is_well();
+    PartTold {
+        told: whole.take_back(lent),
+        is_sound,
+    }
+}
