@@ -22,7 +22,7 @@ use Rattle.script_session.proofs.ToldLaws.{line_soundly, parts_soundly}
 use Rattle.station_line.specs.Site.{IsFollowed}
 use Rattle.sii_edit.specs.declared.command.Command.{Command}
 use Rattle.script_session.specs.declared.threads.Left.{Left}
-use Rattle.script_session.specs.AtDesk.{EndsFollowed, IsServedFollowed, PartsFollowed, ServesFollowed}
+use Rattle.script_session.specs.AtDesk.{EndsFollowed, IsServedTold, PartsFollowed, ServesFollowed}
 
 -- ---- the disk
 
@@ -121,7 +121,7 @@ followed_ends follows well tells opened seen sites ends told (Err fault) of_seen
 
 -- the parts that were served and ended soundly
 pub served_soundly : {D T : Type 0} (follows : D → Seen → Type 0) (well : D → Type 0) (tells : D → T → Type 0) (opened : Station) (commands : List Command) (left : Left SiteValue T) → ServesFollowed follows well tells opened commands left → left.sound ≡ Ok tt
-    → IsServedFollowed (Soundly follows well) opened left.site
+    → IsServedTold follows well tells opened left.told left.site
 served_soundly follows well tells opened commands left serves sound = record {
   served = record {
     sites = serves.parts.desk.sites;
@@ -131,4 +131,6 @@ served_soundly follows well tells opened commands left serves sound = record {
     together = serves.parts.together;
   };
   followed = subst (λ (r : Result (Unit {0}) Fault). EndsFollowed follows well opened r serves.parts.desk.ends) sound serves.followed;
+  devices = serves.told;
+  sound = subst (λ (r : Result (Unit {0}) Fault). OnOk r (AreSound left.told)) sound serves.sound;
 }

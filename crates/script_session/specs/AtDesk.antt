@@ -35,6 +35,7 @@ use Rattle.script_session.specs.declared.closing.AtDesk.{AtDesk}
 use Rattle.script_session.specs.declared.closing.Ending.{Ending}
 use Rattle.script_session.specs.declared.threads.Opening.{Opening}
 use Rattle.script_session.specs.declared.threads.Left.{Left}
+use Rattle.script_session.specs.declared.told.DeskTold.{DeskTold}
 use Rattle.script_session.specs.Asking.{commands_of, GivesUp}
 use Rattle.script_session.specs.Parts.{Sites, IsApart, AreEndsOfParts, AreFollowed, AreSound, IsDeskTold, IsTogether, Soundly}
 use Rattle.station_line.specs.Site.{IsFollowed}
@@ -184,10 +185,13 @@ pub record PartsFollowed {D : Type 0} (follows : D → Seen → Type 0) (opened 
   pub parts : AreFollowed follows ends
   pub synced : ends.flusher.site.seen.state.disk ≡ of_bytes ends.flusher.site.seen.state.disk.bytes
 
--- The parts were served so, and devices have kept this of them.
-pub record IsServedFollowed {D : Type 0} (follows : D → Seen → Type 0) (opened : Station) (site : SiteValue) : Type 0 where
+-- The parts were served so, devices have kept this of them, and this is told of the devices: each part ended soundly.
+pub record IsServedTold {D T : Type 0} (follows : D → Seen → Type 0) (well : D → Type 0) (tells : D → T → Type 0) (opened : Station)
+    (told : DeskTold T) (site : SiteValue) : Type 0 where
   pub served : PartsAreServed opened site
-  pub followed : PartsFollowed follows opened served.ends
+  pub followed : PartsFollowed (Soundly follows well) opened served.ends
+  pub devices : IsDeskTold follows well tells opened.seen told served.ends
+  pub sound : AreSound told
 
 -- Behind each part a device keeps this of the part's site. Where the parts ended soundly, nothing has failed that these devices were asked, and no
 -- site has stopped.

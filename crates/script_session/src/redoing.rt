@@ -2,8 +2,8 @@
 
 ghost use Rattle.std.specs.Prelude.{◌≡◌, ◌≤◌, ◌+◌, ◌∷◌, [], vec_capacity, IfErr, IfOk};
 ghost use Rattle.script_session.specs.Asking.{no_counts};
-ghost use Rattle.script_session.specs.AtDesk.{Closes, IsServedFollowed, OpensDesk};
-ghost use Rattle.script_session.specs.Parts.{AreEndsOfParts, IsLineOf, OwnUpTo, Soundly};
+ghost use Rattle.script_session.specs.AtDesk.{Closes, IsServedTold, OpensDesk};
+ghost use Rattle.script_session.specs.Parts.{AreEndsOfParts, IsLineOf, OwnUpTo};
 ghost use Rattle.script_session.specs.Redoing.{
   IsCount,
   IsOpenedHere,
@@ -18,6 +18,7 @@ use crate::closing::close_desk;
 use crate::soundness::{disk_is_synced, judge_ends};
 use crate::threads::{Opened, Opening, Prepared, open_desk, prepare, serve_sites};
 use crate::together::put_together;
+use crate::told::DeskTold;
 use book_model::RomNext;
 use site_core::Site;
 use site_shadow::{Device, Lends, ShadowSite};
@@ -31,11 +32,13 @@ use std::marker::Brand;
 use std::sync::Wait;
 use std::thread::Threads;
 
-/// A line on which threads have redone what was live in its journal.
+/// A line on which threads have redone what was live in its journal. `T` is what its devices tell.
 #[derive(Drop)]
-pub struct Redone<S> {
+pub struct Redone<S, T> {
     /// The line, put together again.
     pub site: S,
+    /// What is told of the devices of the line and its parts.
+    pub told: DeskTold<T>,
     /// Number of issues: words sent to slaves, each counted as often as it was sent. `u64::MAX` where there were more.
     pub words: u64,
 }
@@ -62,11 +65,11 @@ pub fn redo_by_threads<D: Lends + Send, W: Wait + Threads + Sync>(
     alloc: Global,
     alone: Alone<ShadowSite<D>>,
     slaves: usize,
-) -> Result<Redone<ShadowSite<D>>, Fault>
+) -> Result<Redone<ShadowSite<D>, D::Told>, Fault>
     requires { IsOpenedHere alone }
     ensures line { IfOk result (λ redone. IsLineOf slaves redone.site.line) }
     ensures redone { IfOk result (λ redone. IsRedone alone redone.words redone.site) }
-    ensures followed { IfOk result (λ redone. IsServedFollowed (Soundly D.follows D.well) alone redone.site) }
+    ensures told { IfOk result (λ redone. IsServedTold D.follows D.well D.tells alone redone.told redone.site) }
 {
     let capacity = alone.core().capacity();
     let (core, site) = alone.into_parts();
@@ -82,11 +85,11 @@ pub fn redo_by_threads<D: Lends + Send, W: Wait + Threads + Sync>(
     let is_synced = disk_is_synced(&ends);
     let (site, told) = put_together(alloc, whole, slaves, ends)?;
     let sound = judge_ends(&told, is_synced);
-    drop(told);
     match sound {
-        Ok(()) => Ok(Redone { site, words }),
+        Ok(()) => Ok(Redone { site, told, words }),
         Err(fault) => {
             drop(site);
+            drop(told);
             Err(fault)
         }
     }

@@ -27,7 +27,7 @@ pub struct DeskTold<T> {
 }
 
 /// What this device tells, which was behind a site that had stopped or not. It is then as one that has asked nothing yet.
-pub(crate) fn told_by<D: Lends>(device: &mut D, has_stopped: bool) -> PartTold<D::Told>
+pub fn told_by<D: Lends>(device: &mut D, has_stopped: bool) -> PartTold<D::Told>
     ensures { (seen : Seen) → D.follows device.old seen → has_stopped ≡ seen.is_stopped
         → Telling D.follows D.well D.tells result device.old seen }
 {

@@ -398,12 +398,18 @@ impl<F: RandomAccessFile> Device for FileDevice<F> {
 
 impl<F: RandomAccessFile + Drop> Lends for FileDevice<F> {
     ghost use Rattle.site_file.specs.Asking.{TellsLog};
+    ghost use Rattle.site_file.specs.Owned.{PutsBack, Takes};
 
     type Told = Option<History<Asked>>;
 
     ghost tells = { λ device told. TellsLog device.asking.calls told };
 
-    fn lend(&mut self, part: LinePart) -> FileDevice<F> {
+    fn lend(&mut self, part: LinePart) -> FileDevice<F>
+        ensures files { Takes part self.old.held result.held self.new.held }
+        ensures nothing { (result.asking.calls.all ≡ []) × HasLog result.asking.calls [] }
+        ensures failed { result.has_failed ≡ self.old.has_failed }
+        ensures same { (self.new.asking ≡ self.old.asking) × (self.new.has_failed ≡ self.old.has_failed) }
+    {
         FileDevice {
             held: self.held.take(part),
             asking: Asking::new(),
@@ -411,7 +417,12 @@ impl<F: RandomAccessFile + Drop> Lends for FileDevice<F> {
         }
     }
 
-    fn take_back(&mut self, lent: FileDevice<F>) -> Option<History<Asked>> {
+    fn take_back(&mut self, lent: FileDevice<F>) -> Option<History<Asked>>
+        ensures tells { TellsLog lent.asking.calls result }
+        ensures files { PutsBack self.old.held lent.held self.new.held }
+        ensures failed { self.new.has_failed ≡ (self.old.has_failed || lent.has_failed) }
+        ensures same { self.new.asking ≡ self.old.asking }
+    {
         let FileDevice {
             held,
             asking,
@@ -422,7 +433,12 @@ impl<F: RandomAccessFile + Drop> Lends for FileDevice<F> {
         asking.told()
     }
 
-    fn tell(&mut self) -> Option<History<Asked>> {
+    fn tell(&mut self) -> Option<History<Asked>>
+        ensures tells { TellsLog self.old.asking.calls result }
+        ensures files { self.new.held ≡ self.old.held }
+        ensures nothing { (self.new.asking.calls.all ≡ []) × HasLog self.new.asking.calls [] }
+        ensures failed { self.new.has_failed ≡ self.old.has_failed }
+    {
         let asking = mem::replace(&mut self.asking, Asking::new());
         asking.told()
     }

@@ -1,5 +1,5 @@
 //! The open files that a device owns.
-ghost use Rattle.std.specs.Prelude.{◌≡◌, false, is_some, Some, IfSome, IfNone};
+ghost use Rattle.std.specs.Prelude.{◌≡◌, false, is_some, Some, None, IfSome, IfNone, slice_get, slice_set};
 ghost use Rattle.site_file.specs.declared.asking.LineFile.TheVariants as line_file;
 
 use crate::asking::{LineFile, NamedFile};
@@ -82,8 +82,12 @@ impl<F> OwnedFiles<F> {
 }
 
 impl<F: Drop> OwnedFiles<F> {
+    ghost use Rattle.site_file.specs.Owned.{file_at, lent_image, PutsBack, Takes};
+
     /// Takes the files of a part away.
-    pub(crate) fn take(&mut self, part: LinePart) -> OwnedFiles<F> {
+    pub(crate) fn take(&mut self, part: LinePart) -> OwnedFiles<F>
+        ensures { Takes part self.old result self.new }
+    {
         let none = Vec::new(*self.images.allocator());
         match part {
             LinePart::Disk => OwnedFiles {
@@ -105,14 +109,20 @@ impl<F: Drop> OwnedFiles<F> {
     }
 
     /// Takes the image of a slave away, if it is there.
-    fn take_image(&mut self, slave: usize) -> Option<LentImage<F>> {
+    fn take_image(&mut self, slave: usize) -> Option<LentImage<F>>
+        ensures image { result ≡ lent_image slave (file_at (slice_get self.old.images.items slave)) }
+        ensures left { self.new.images.items ≡ slice_set self.old.images.items slave None }
+        ensures same { (self.new.journal ≡ self.old.journal) × (self.new.lent ≡ self.old.lent) }
+    {
         let place = self.images.get_mut(slave)?;
         let file = place.take()?;
         Some(LentImage { slave, file })
     }
 
     /// Puts the files of a part back.
-    pub(crate) fn put_back(&mut self, part: OwnedFiles<F>) {
+    pub(crate) fn put_back(&mut self, part: OwnedFiles<F>)
+        ensures { PutsBack self.old part self.new }
+    {
         let OwnedFiles {
             journal,
             images,
@@ -128,7 +138,10 @@ impl<F: Drop> OwnedFiles<F> {
     }
 
     /// Puts the image of a slave back.
-    fn put_image(&mut self, slave: usize, file: F) {
+    fn put_image(&mut self, slave: usize, file: F)
+        ensures image { self.new.images.items ≡ slice_set self.old.images.items slave (Some file) }
+        ensures same { (self.new.journal ≡ self.old.journal) × (self.new.lent ≡ self.old.lent) }
+    {
         if slave < self.images.len() {
             self.images[slave] = Some(file);
         }

@@ -28,17 +28,19 @@ use Rattle.site_wire.specs.Journal.{JournalFollows}
 use Rattle.site_wire.specs.Following.{SendsNothing, CarriesFrame, IsBehind, SlavesFollow, SlavesFollowed, WireFollows, still_follows}
 use Rattle.site_wire.proofs.Journal.{length_follows, length_sound, read_follows, read_sound, write_follows, call_sound, sync_follows, rest_follows, journal_begins}
 use Rattle.site_wire.specs.declared.device.WireDevice.{WireDevice}
-use Rattle.site_wire.specs.Sent.{Exchanged, HasSent, nothing_sent}
+use Rattle.site_wire.specs.declared.sending.Exchange.{Exchange}
+use Rattle.site_wire.specs.Sent.{Exchanged, HasSent, exchanges}
 use Rattle.site_wire.specs.RealSlaves.{Lives, ends}
 use Rattle.site_wire.proofs.Living.{Between, lives_parts, lives_station, lives_untouched}
 use Rattle.site_wire.proofs.Carrying.{carries_behind}
+use Rattle.site_wire.proofs.Sends.{nothing_sent}
 
 module _ {L F C : Type 0} where
   -- a device that has sent nothing more
   same_slaves : (before after : WireDevice L F C) → SendsNothing before after → (seen : Seen) → SlavesFollowed before seen → SlavesFollowed after seen
   same_slaves before after nothing seen follows = record {
     log = follows.log;
-    has = subst (λ (n : ℕ). HasSent n follows.log) (sym nothing.moment) follows.has;
+    has = ap exchanges nothing.sent ∙ follows.has;
     follow = λ going running. follows.follow (nothing.over going) running;
   }
 
@@ -108,33 +110,42 @@ begins_to_follow state slave first half real later at_first at_now station_is be
     let same : first ≡ half = (let e : Some first ≡ Some half = sym at_first ∙ at_now in cc) in
     subst (λ (h : SlaveHalf). IsBehind h real) same behind
 
-slaves_begin : {L F C : Type 0} (device : WireDevice L F C) (seen : Seen) → device.sender.moment ≡ 0 → (device.is_over ≡ false → seen.past ≡ [])
+slaves_begin : {L F C : Type 0} (device : WireDevice L F C) (seen : Seen) → (device.is_over ≡ false → device.sender.log.all ≡ []) → (device.is_over ≡ false → seen.past ≡ [])
     → SlavesFollowed device seen
 slaves_begin device seen none new = record {
-  log = [];
-  has = subst (λ (n : ℕ). HasSent n []) (sym none) nothing_sent;
+  log = exchanges device.sender.log.all;
+  has = refl;
   follow = λ going running.
-      subst (λ (begun : State). SlavesFollow [] begun.halves seen.state.halves) (sym (begun_first (new going))) (begins_to_follow seen.state);
+      subst (λ (sent : List Exchange). SlavesFollow (exchanges sent) (first_of seen).halves seen.state.halves) (sym (none going))
+      (subst (λ (begun : State). SlavesFollow (exchanges []) begun.halves seen.state.halves) (sym (begun_first (new going))) (subst (λ (log : List Exchanged). SlavesFollow log seen.state.halves seen.state.halves) (sym nothing_sent) (begins_to_follow seen.state)));
 }
   where
     begun_first : seen.past ≡ [] → first_of seen ≡ seen.state
     begun_first new = ap (λ (past : List Moment). begin_of past seen.state) new
 
-pub begins : {L F C : Type 0} (device : WireDevice L F C) (was_over had_failed is_new : Bool) (seen : Seen) → device.sender.moment ≡ 0
+pub begins : {L F C : Type 0} (device : WireDevice L F C) (was_over had_failed is_unsent is_new : Bool) (seen : Seen) → (is_unsent ≡ true → device.sender.log.all ≡ [])
     → HasLog device.journal.asking.calls [] → device.journal.has_failed ≡ (had_failed || not is_new)
-    → device.is_over ≡ (was_over || device.journal.has_failed) → (IsTrue is_new ↔ seen.past ≡ []) → WireFollows device seen
-begins device was_over had_failed is_new seen none unasked failed over told = record {
-  slaves = slaves_begin device seen none (λ going. told.0 (is_first had_failed is_new (sym failed ∙ sound going)));
+    → device.is_over ≡ ((was_over || device.journal.has_failed) || not is_unsent) → (IsTrue is_new ↔ seen.past ≡ []) → WireFollows device seen
+begins device was_over had_failed is_unsent is_new seen none unasked failed over told = record {
+  slaves = slaves_begin device seen (λ going. none (is_it is_unsent (neither (was_over || device.journal.has_failed) (not is_unsent) (sym over ∙ going)))) (λ going. told.0 (is_first had_failed is_new (sym failed ∙ sound going)));
   journal = journal_begins device.journal had_failed is_new seen unasked failed told;
   sound = sound;
 }
   where
+    is_it : (is : Bool) → not is ≡ false → is ≡ true
+    is_it true e = refl
+    is_it false e = absurd cc
+
+    front : (was is : Bool) → (was || is) ≡ false → was ≡ false
+    front true is e = absurd cc
+    front false is e = refl
+
     neither : (was is : Bool) → (was || is) ≡ false → is ≡ false
     neither true is e = absurd cc
     neither false is e = e
 
     sound : device.is_over ≡ false → device.journal.has_failed ≡ false
-    sound going = neither was_over device.journal.has_failed (sym over ∙ going)
+    sound going = neither was_over device.journal.has_failed (front (was_over || device.journal.has_failed) (not is_unsent) (sym over ∙ going))
 
     is_first : (was is : Bool) → (was || not is) ≡ false → IsTrue is
     is_first true is e = absurd cc
@@ -167,7 +178,7 @@ only_datagram frame k d e one at = by k (ap (λ (f : List Pdu). slice_get f k) (
     by (suc k) is = absurd cc
 
 module _ {L F C : Type 0} (slave : ℕ) (half : SlaveHalf) (frame : List Pdu) (k : ℕ) (before after : WireDevice L F C) (result : Resting)
-    (carried : CarriesFrame slave half frame before.sender.moment after.sender.moment after.is_over after.resting)
+    (carried : CarriesFrame slave half frame before.sender.log.all after.sender.log.all after.is_over after.resting)
     (was_going : before.is_over ≡ false) (is : after.is_over ≡ false → result ≡ after.resting) (same : after.journal ≡ before.journal) where
   module _ (old new : Seen) (rested : SlaveHalf) (d : Pdu) (here : slice_get old.state.halves slave ≡ Some half) (at : slice_get frame k ≡ Some d)
       (so : RestsAs result half rested) (state : new.state ≡ with_half old.state slave (served_datagram rested d).half) (log : List Exchanged)
@@ -212,7 +223,7 @@ module _ {L F C : Type 0} (slave : ℕ) (half : SlaveHalf) (frame : List Pdu) (k
   rest_keeps old new rested d running here at so state extends follows = record {
     slaves = record {
       log = follows.slaves.log ++ carried.calls;
-      has = carried.sends.goes_on follows.slaves.log follows.slaves.has;
+      has = carried.sends.goes_on ∙ ap (λ (log : List Exchanged). log ++ carried.calls) follows.slaves.has;
       follow = λ going still.
           subst (λ (begun : State). SlavesFollow (follows.slaves.log ++ carried.calls) begun.halves new.state.halves) (sym (Extends-first old new extends))
           (follow_on old new rested d here at so state follows.slaves.log going (first_of old).halves
@@ -225,7 +236,7 @@ module _ {L F C : Type 0} (slave : ℕ) (half : SlaveHalf) (frame : List Pdu) (k
 -- a half that rests while the device is over: the slaves may be anything
 module _ {L F C : Type 0} (slave : ℕ) (half : SlaveHalf) (frame : List Pdu) (k : ℕ) (before after : WireDevice L F C) (result : Resting)
     (over : IsTrue after.is_over) (same : after.journal ≡ before.journal) where
-  over_keeps : ((log : List Exchanged) → HasSent before.sender.moment log → (later : List Exchanged) × HasSent after.sender.moment later)
+  over_keeps : ((log : List Exchanged) → HasSent before.sender.log.all log → (later : List Exchanged) × HasSent after.sender.log.all later)
       → RestKeeps WireFollows slave half frame k before result after
   over_keeps sends old new rested d running here at so state extends follows =
       let sent = sends follows.slaves.log follows.slaves.has in
@@ -235,9 +246,9 @@ module _ {L F C : Type 0} (slave : ℕ) (half : SlaveHalf) (frame : List Pdu) (k
         sound = λ going. absurd (let e : true ≡ false = sym over ∙ going in cc);
       }
 
-  pub over_before : after.sender.moment ≡ before.sender.moment → RestKeeps WireFollows slave half frame k before result after
-  over_before none = over_keeps (λ log has. (log, subst (λ (n : ℕ). HasSent n log) (sym none) has))
+  pub over_before : after.sender.log.all ≡ before.sender.log.all → RestKeeps WireFollows slave half frame k before result after
+  over_before none = over_keeps (λ log has. (log, ap exchanges none ∙ has))
 
-  pub over_behind : CarriesFrame slave half frame before.sender.moment after.sender.moment after.is_over after.resting
+  pub over_behind : CarriesFrame slave half frame before.sender.log.all after.sender.log.all after.is_over after.resting
       → RestKeeps WireFollows slave half frame k before result after
-  over_behind carried = over_keeps (λ log has. (log ++ carried.calls, carried.sends.goes_on log has))
+  over_behind carried = over_keeps (λ log has. (log ++ carried.calls, carried.sends.goes_on ∙ ap (λ (l : List Exchanged). l ++ carried.calls) has))

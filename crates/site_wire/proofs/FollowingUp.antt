@@ -15,6 +15,7 @@ use Rattle.site_wire.specs.Due.{WritesControl}
 use Rattle.site_wire.specs.Known.{IsKnown}
 use Rattle.site_wire.specs.Answering.{found_of}
 use Rattle.site_wire.specs.declared.answers.Answer.{Answer}
+use Rattle.site_wire.specs.declared.sending.Exchange.{Exchange}
 use Rattle.site_wire.specs.Sent.{Exchanged, exchanged, Sends}
 use Rattle.site_wire.specs.Following.{IsOwnTo, SendsOwn, TellsWord, ReadsBack, RestsBy, stays, read_back, rests_with, FollowsUp, Carries, waits, known, passes, follows_up, SendsFor, IsDueTo, CarriesFrame}
 use Rattle.site_wire.proofs.Living.{lives_parts, lives_station}
@@ -31,27 +32,27 @@ tells_later slave word value first second tells real later near lives =
 
 module _ (slave : ℕ) (half : SlaveHalf) (write : WordWrite) where
   -- the word stays in flight
-  pub up_nothing : (moment : ℕ) (how : Resting) → how ≡ resting.Stays → FollowsUp slave half write moment moment how
-  up_nothing moment how is = subst (FollowsUp slave half write moment moment) (sym is)
-      (record { calls = []; sends = sends_none moment; own = All-nil (IsOwnTo slave half); rests = stays })
+  pub up_nothing : (sent : List Exchange) (how : Resting) → how ≡ resting.Stays → FollowsUp slave half write sent sent how
+  up_nothing sent how is = subst (FollowsUp slave half write sent sent) (sym is)
+      (record { calls = []; sends = sends_none sent; own = All-nil (IsOwnTo slave half); rests = stays })
 
-  pub up_own : (old new : ℕ) (how : Resting) → how ≡ resting.Stays → SendsOwn slave half old new → FollowsUp slave half write old new how
+  pub up_own : (old new : List Exchange) (how : Resting) → how ≡ resting.Stays → SendsOwn slave half old new → FollowsUp slave half write old new how
   up_own old new how is own = subst (FollowsUp slave half write old new) (sym is)
       (record { calls = own.calls; sends = own.sends; own = own.own; rests = stays })
 
-  pub up_unread : (old new : ℕ) (result : Option ℕ) (how : Resting) → how ≡ resting.Stays → ReadsBack slave half write.word old new result
+  pub up_unread : (old new : List Exchange) (result : Option ℕ) (how : Resting) → how ≡ resting.Stays → ReadsBack slave half write.word old new result
       → FollowsUp slave half write old new how
   up_unread old new result how is back = subst (FollowsUp slave half write old new) (sym is)
       (record { calls = back.calls; sends = back.sends; own = back.own; rests = stays })
 
   -- it ends as it was read back
-  pub up_read : (old new value : ℕ) (result : Option ℕ) (how : Resting) → result ≡ Some value → how ≡ rests_with write value
+  pub up_read : (old new : List Exchange) (value : ℕ) (result : Option ℕ) (how : Resting) → result ≡ Some value → how ≡ rests_with write value
       → ReadsBack slave half write.word old new result → FollowsUp slave half write old new how
   up_read old new value result how is ends back = subst (FollowsUp slave half write old new) (sym ends)
       (record { calls = back.calls; sends = back.sends; own = back.own; rests = read_back value (back.tells value is) })
 
   -- the word that was to be written was read back
-  pub up_well : (old new : ℕ) (result : Option ℕ) → result ≡ Some write.value → ReadsBack slave half write.word old new result
+  pub up_well : (old new : List Exchange) (result : Option ℕ) → result ≡ Some write.value → ReadsBack slave half write.word old new result
       → FollowsUp slave half write old new resting.Well
   up_well old new result is back = up_read old new write.value result resting.Well is well back
     where
@@ -62,7 +63,7 @@ module _ (slave : ℕ) (half : SlaveHalf) (write : WordWrite) where
       ]
 
   -- the one behind the other
-  pub up_then : (old mid new : ℕ) (result : Option ℕ) (how : Resting) → ReadsBack slave half write.word old mid result → FollowsUp slave half write mid new how
+  pub up_then : (old mid new : List Exchange) (result : Option ℕ) (how : Resting) → ReadsBack slave half write.word old mid result → FollowsUp slave half write mid new how
       → FollowsUp slave half write old new how
   up_then old mid new result how back up = record {
     calls = back.calls ++ up.calls;
@@ -86,11 +87,11 @@ module _ (slave : ℕ) (half : SlaveHalf) (d : Pdu) where
   ToThis call = station_of call.sent.address ≡ station slave
 
   -- a busy half takes nothing
-  pub for_nothing : (moment : ℕ) (is_over : Bool) (how : Resting) → how ≡ resting.Stays → IsTrue (is_busy half.activity) → WritesControl d
-      → SendsFor slave half d moment moment is_over how
-  for_nothing moment is_over how is busy writes = record {
+  pub for_nothing : (sent : List Exchange) (is_over : Bool) (how : Resting) → how ≡ resting.Stays → IsTrue (is_busy half.activity) → WritesControl d
+      → SendsFor slave half d sent sent is_over how
+  for_nothing sent is_over how is busy writes = record {
     calls = [];
-    sends = sends_none moment;
+    sends = sends_none sent;
     to = All-nil ToThis;
     carries = λ going. subst (Carries slave half d []) (sym is) (waits busy writes);
   }
@@ -101,7 +102,7 @@ module _ (slave : ℕ) (half : SlaveHalf) (d : Pdu) where
   came None none = absurd cc
 
   -- the datagram, and nothing behind it
-  pub for_once : (old new : ℕ) (answer : Option Answer) (is_over : Bool) (how : Resting) → how ≡ resting.Stays → station_of d.address ≡ station slave
+  pub for_once : (old new : List Exchange) (answer : Option Answer) (is_over : Bool) (how : Resting) → how ≡ resting.Stays → station_of d.address ≡ station slave
       → Sends old new (exchanged d (option_map found_of answer) ∷ []) → (is_over ≡ false → IsSome answer)
       → (IsTrue (is_busy half.activity) → ¬ WritesControl d) → ¬ IsKnown half d → (is_over ≡ false → in_flight half.activity ≡ None)
       → SendsFor slave half d old new is_over how
@@ -117,7 +118,7 @@ module _ (slave : ℕ) (half : SlaveHalf) (d : Pdu) where
   }
 
   -- the datagram, and what follows it up
-  pub for_word : (old mid new : ℕ) (answer : Answer) (write : WordWrite) (is_over : Bool) (how : Resting) → station_of d.address ≡ station slave
+  pub for_word : (old mid new : List Exchange) (answer : Answer) (write : WordWrite) (is_over : Bool) (how : Resting) → station_of d.address ≡ station slave
       → Sends old mid (exchanged d (Some (found_of answer)) ∷ []) → ¬ WritesControl d → in_flight half.activity ≡ Some write
       → FollowsUp slave half write mid new how → SendsFor slave half d old new is_over how
   for_word old mid new answer write is_over how to sends quiet flying up = record {
@@ -132,25 +133,25 @@ module _ (slave : ℕ) (half : SlaveHalf) (d : Pdu) where
 
 module _ (slave number : ℕ) (half : SlaveHalf) (frame : List Pdu) (same : number ≡ slave) where
   -- nothing is sent for the datagram
-  by_itself : (d : Pdu) (moment : ℕ) (is_over : Bool) (how : Resting) → IsDueTo number half frame d → Carries slave half d [] how
-      → CarriesFrame slave half frame moment moment is_over how
-  by_itself d moment is_over how due carries = record {
+  by_itself : (d : Pdu) (sent : List Exchange) (is_over : Bool) (how : Resting) → IsDueTo number half frame d → Carries slave half d [] how
+      → CarriesFrame slave half frame sent sent is_over how
+  by_itself d sent is_over how due carries = record {
     calls = [];
-    sends = sends_none moment;
+    sends = sends_none sent;
     to = All-nil (λ (call : Exchanged). station_of call.sent.address ≡ station slave);
     carries = λ going. (d, subst (λ (n : ℕ). IsDueTo n half frame d) same due, carries);
   }
 
-  pub frame_known : (d : Pdu) (moment : ℕ) (is_over : Bool) → IsDueTo number half frame d → IsKnown half d
-      → CarriesFrame slave half frame moment moment is_over resting.Well
-  frame_known d moment is_over due is = by_itself d moment is_over resting.Well due (known is)
+  pub frame_known : (d : Pdu) (sent : List Exchange) (is_over : Bool) → IsDueTo number half frame d → IsKnown half d
+      → CarriesFrame slave half frame sent sent is_over resting.Well
+  frame_known d sent is_over due is = by_itself d sent is_over resting.Well due (known is)
 
-  pub frame_ignored : (d : Pdu) (moment : ℕ) (is_over : Bool) → IsDueTo number half frame d → IsTrue (is_busy half.activity) × WritesControl d
-      → CarriesFrame slave half frame moment moment is_over resting.Stays
-  frame_ignored d moment is_over due is = by_itself d moment is_over resting.Stays due (waits is.0 is.1)
+  pub frame_ignored : (d : Pdu) (sent : List Exchange) (is_over : Bool) → IsDueTo number half frame d → IsTrue (is_busy half.activity) × WritesControl d
+      → CarriesFrame slave half frame sent sent is_over resting.Stays
+  frame_ignored d sent is_over due is = by_itself d sent is_over resting.Stays due (waits is.0 is.1)
 
   -- it is sent
-  pub frame_sent : (d : Pdu) (old new : ℕ) (is_over : Bool) (how : Resting) → IsDueTo number half frame d → SendsFor number half d old new is_over how
+  pub frame_sent : (d : Pdu) (old new : List Exchange) (is_over : Bool) (how : Resting) → IsDueTo number half frame d → SendsFor number half d old new is_over how
       → CarriesFrame slave half frame old new is_over how
   frame_sent d old new is_over how due sent =
       subst (λ (n : ℕ). CarriesFrame n half frame old new is_over how) same (record {
@@ -161,10 +162,10 @@ module _ (slave number : ℕ) (half : SlaveHalf) (frame : List Pdu) (same : numb
       })
 
 -- the site is over
-pub frame_over : (slave : ℕ) (half : SlaveHalf) (frame : List Pdu) (old new : ℕ) (is_over : Bool) (how : Resting) → new ≡ old → is_over ≡ true
+pub frame_over : (slave : ℕ) (half : SlaveHalf) (frame : List Pdu) (old new : List Exchange) (is_over : Bool) (how : Resting) → new ≡ old → is_over ≡ true
     → CarriesFrame slave half frame old new is_over how
 frame_over slave half frame old new is_over how same over =
-    subst (λ (n : ℕ). CarriesFrame slave half frame old n is_over how) (sym same) (record {
+    subst (λ (s : List Exchange). CarriesFrame slave half frame old s is_over how) (sym same) (record {
       calls = [];
       sends = sends_none old;
       to = All-nil (λ (call : Exchanged). station_of call.sent.address ≡ station slave);

@@ -24,6 +24,7 @@ use Rattle.site_wire.specs.declared.amending.Tried.TheVariants as tried
 use Rattle.site_wire.specs.Following.{IsOwnTo, SendsOwn, EndsWell, Polls, TellsWord, TellsPair, TriesPair, ReadsBack}
 use Rattle.site_wire.specs.Likeness.{IsLike}
 use Rattle.site_wire.specs.RealSlaves.{Serves, Answered, Lives}
+use Rattle.site_wire.specs.declared.sending.Exchange.{Exchange}
 use Rattle.site_wire.specs.Sent.{Exchanged, exchanged, Sends}
 use Rattle.site_wire.proofs.Living.{servings_keep, lives_station, lives_keep, lives_parts, lives_once}
 use Rattle.site_wire.proofs.Showing.{same_flags, ShowsStatus, shows_status, status_in, reads_only, read_replied, status_shown}
@@ -331,7 +332,7 @@ tells_pair slave word held near small taken counted polls all ends fetched pair 
 
 -- ONE TRY
 
-module _ (slave word held : ℕ) (half : SlaveHalf) (near : slave < 64) (old mid : ℕ) (taken : Option Pdu)
+module _ (slave word held : ℕ) (half : SlaveHalf) (near : slave < 64) (old mid : List Exchange) (taken : Option Pdu)
     (asks_it : Sends old mid (exchanged (words_order slave word held) taken ∷ [])) where
   -- it doesn't come back
   pub tried_asking : (result : Option Tried) → ((pair : List ℕ) → result ≡ Some (tried.Read pair) → ⊥) → TriesPair slave half word old mid result
@@ -342,7 +343,7 @@ module _ (slave word held : ℕ) (half : SlaveHalf) (near : slave < 64) (old mid
     tells = λ pair is. absurd (never pair is);
   }
 
-  module _ (polled : ℕ) (shown_is : Option Shown) (polls : Polls slave mid polled shown_is) where
+  module _ (polled : List Exchange) (shown_is : Option Shown) (polls : Polls slave mid polled shown_is) where
     -- the calls up to the last poll
     abbrev calls_polled : List Exchanged
     calls_polled = exchanged (words_order slave word held) taken ∷ polls.calls
@@ -361,7 +362,7 @@ module _ (slave word held : ℕ) (half : SlaveHalf) (near : slave < 64) (old mid
     tried_polling result never = record { calls = calls_polled; sends = sends_polled; own = own_polled; tells = λ pair is. absurd (never pair is) }
 
     -- two words are fetched
-    pub tried_fetching : (new : ℕ) (fetched : Option Pdu) → Sends polled new (exchanged (fetch_order slave) fetched ∷ []) → (result : Option Tried)
+    pub tried_fetching : (new : List Exchange) (fetched : Option Pdu) → Sends polled new (exchanged (fetch_order slave) fetched ∷ []) → (result : Option Tried)
         → ((pair : List ℕ) → result ≡ Some (tried.Read pair) → TellsPair slave word pair (calls_polled ++ exchanged (fetch_order slave) fetched ∷ []))
         → TriesPair slave half word old new result
     tried_fetching new fetched sends result tells = record {
@@ -374,7 +375,7 @@ module _ (slave word held : ℕ) (half : SlaveHalf) (near : slave < 64) (old mid
 
     -- and told
     pub tried_reading : (small : word < 2 ^ 16) (came : Pdu) → taken ≡ Some came → came.counter ≡ 1 → shown_is ≡ Some shown.Well
-        → (new : ℕ) (fetched : Option Pdu) (found : Pdu) (pair : List ℕ) → fetched ≡ Some found → ShowsPair found pair
+        → (new : List Exchange) (fetched : Option Pdu) (found : Pdu) (pair : List ℕ) → fetched ≡ Some found → ShowsPair found pair
         → Sends polled new (exchanged (fetch_order slave) fetched ∷ []) → TriesPair slave half word old new (Some (tried.Read pair))
     tried_reading small came taken_is counted well new fetched found pair fetched_is shows sends =
         tried_fetching new fetched sends (Some (tried.Read pair)) (λ other is.
@@ -413,7 +414,7 @@ tells_word slave word value pair even odd before calls tells real later at lives
     let told = tells parts.mid later (lives_station before real parts.mid parts.before ∙ at) parts.behind in
     (told.0, word_of later.words pair word value even odd told.1 told.2)
 
-module _ (slave : ℕ) (half : SlaveHalf) (word old mid new : ℕ) where
+module _ (slave : ℕ) (half : SlaveHalf) (word : ℕ) (old mid new : List Exchange) where
   -- a try sends what is a device's own
   pub own_tried : (result : Option Tried) → SendsOwn slave half old mid → TriesPair slave half word mid new result → SendsOwn slave half old new
   own_tried result before tries = record {
@@ -423,7 +424,7 @@ module _ (slave : ℕ) (half : SlaveHalf) (word old mid new : ℕ) where
   }
 
 -- no word is told
-pub reads_nothing : (slave : ℕ) (half : SlaveHalf) (word old new : ℕ) (result : Option ℕ) → result ≡ None → SendsOwn slave half old new
+pub reads_nothing : (slave : ℕ) (half : SlaveHalf) (word : ℕ) (old new : List Exchange) (result : Option ℕ) → result ≡ None → SendsOwn slave half old new
     → ReadsBack slave half word old new result
 reads_nothing slave half word old new result none sends = record {
   calls = sends.calls;
@@ -433,7 +434,7 @@ reads_nothing slave half word old new result none sends = record {
 }
 
 -- A try told two words, and of them the one that was to be read is told.
-pub reads_word : (slave : ℕ) (half : SlaveHalf) (word value old mid new : ℕ) (pair : List ℕ) (result : Option Tried) → result ≡ Some (tried.Read pair)
+pub reads_word : (slave : ℕ) (half : SlaveHalf) (word value : ℕ) (old mid new : List Exchange) (pair : List ℕ) (result : Option Tried) → result ≡ Some (tried.Read pair)
     → (word % 2 ≡ 0 → value ≡ word_at pair 0) → (word % 2 ≡ 1 → value ≡ word_at pair 2) → SendsOwn slave half old mid
     → TriesPair slave half (word - word % 2) mid new result → ReadsBack slave half word old new (Some value)
 reads_word slave half word value old mid new pair result read even odd before tries =

@@ -1,5 +1,6 @@
--- What is sent between two moments, put together of its parts; and what a device sends of its own.
+-- What is sent, put together of its parts; and what a device sends of its own.
 use Rattle.std.proofs.Common.{◌≡◌, inl, inr, ℕ, ◌^◌, ◌<◌, List, [], ◌∷◌, ◌++◌, slice_index_or, Option, Some, refl, sym, ap, subst, ◌∙◌, arith, append-nil, append_assoc}
+use Rattle.std.specs.Option.{option_map}
 use Rattle.std.specs.Int.{w16, w32, to_le_bytes}
 use Rattle.std.specs.List.{All}
 use Rattle.std.proofs.lemmas.List.Elements.{All-cons, All-nil, All-append}
@@ -11,7 +12,10 @@ use Rattle.esc_model.specs.SlaveHalf.{SlaveHalf, in_flight}
 use Rattle.esc_model.specs.declared.rest.WordWrite.{WordWrite}
 use Rattle.esc_model.proofs.Addressing.{register_is}
 use Rattle.site_wire.specs.Due.{clears, reads, writes}
-use Rattle.site_wire.specs.Sent.{Exchanged, exchanged, HasSent, Sends}
+use Rattle.site_wire.specs.declared.answers.Answer.{Answer}
+use Rattle.site_wire.specs.declared.sending.Exchange.{Exchange}
+use Rattle.site_wire.specs.Answering.{found_of}
+use Rattle.site_wire.specs.Sent.{Exchanged, exchanged, each_exchanged, exchanges, Notes, Sends}
 use Rattle.site_wire.specs.Answers.{shown_status}
 use Rattle.site_wire.specs.Answering.{shown_by}
 use Rattle.site_wire.specs.declared.answers.Shown.{Shown}
@@ -21,14 +25,36 @@ use Rattle.site_wire.specs.Following.{IsOwnTo, SendsOwn, Polls}
 
 -- PARTS
 
+-- one frame more
+exchanges_more : (sent : List Exchange) (exchange : Exchange) → exchanges (sent ++ exchange ∷ []) ≡ exchanges sent ++ each_exchanged exchange.frame.value exchange.answer.value
+unfolding exchanges
+exchanges_more [] exchange = append-nil (each_exchanged exchange.frame.value exchange.answer.value)
+exchanges_more (first ∷ sent) exchange =
+    ap (λ (later : List Exchanged). each_exchanged first.frame.value first.answer.value ++ later) (exchanges_more sent exchange)
+    ∙ sym (append_assoc (each_exchanged first.frame.value first.answer.value) (exchanges sent) (each_exchanged exchange.frame.value exchange.answer.value))
+
+-- a frame of one datagram
+pub sent_once : (old new : List Exchange) (frame : List Pdu) (answer : Option Answer) → Notes old frame answer new → (d : Pdu) → frame ≡ d ∷ []
+    → Sends old new (exchanged d (option_map found_of answer) ∷ [])
+unfolding each_exchanged
+sent_once old new frame answer notes d one = record {
+  goes_on = ap exchanges notes.noted ∙ exchanges_more old notes.exchange
+      ∙ ap (λ (f : List Pdu). exchanges old ++ each_exchanged f notes.exchange.answer.value) (notes.frame_is ∙ one)
+      ∙ ap (λ (a : Option Answer). exchanges old ++ each_exchanged (d ∷ []) a) notes.answer_is;
+}
+
+pub nothing_sent : exchanges [] ≡ []
+unfolding exchanges
+nothing_sent = refl
+
 -- nothing is sent
-pub sends_none : (moment : ℕ) → Sends moment moment []
-sends_none moment = record { goes_on = λ log had. subst (HasSent moment) (sym (append-nil log)) had }
+pub sends_none : (sent : List Exchange) → Sends sent sent []
+sends_none sent = record { goes_on = sym (append-nil (exchanges sent)) }
 
 -- the one behind the other
-pub sends_then : (old mid new : ℕ) (first second : List Exchanged) → Sends old mid first → Sends mid new second → Sends old new (first ++ second)
+pub sends_then : (old mid new : List Exchange) (first second : List Exchanged) → Sends old mid first → Sends mid new second → Sends old new (first ++ second)
 sends_then old mid new first second before behind = record {
-  goes_on = λ log had. subst (HasSent new) (append_assoc log first second) (behind.goes_on (log ++ first) (before.goes_on log had));
+  goes_on = behind.goes_on ∙ ap (λ (log : List Exchanged). log ++ second) before.goes_on ∙ append_assoc (exchanges old) first second;
 }
 
 -- OF ITS OWN
@@ -82,14 +108,14 @@ module _ (slave : ℕ) (half : SlaveHalf) where
   both_own first second before behind = All-append (IsOwnTo slave half) first second before behind
 
   -- nothing is sent
-  pub own_none : (moment : ℕ) → SendsOwn slave half moment moment
-  own_none moment = record { calls = []; sends = sends_none moment; own = All-nil (IsOwnTo slave half) }
+  pub own_none : (sent : List Exchange) → SendsOwn slave half sent sent
+  own_none sent = record { calls = []; sends = sends_none sent; own = All-nil (IsOwnTo slave half) }
 
-  pub own_once : (old new : ℕ) (call : Exchanged) → Sends old new (call ∷ []) → IsOwnTo slave half call → SendsOwn slave half old new
+  pub own_once : (old new : List Exchange) (call : Exchanged) → Sends old new (call ∷ []) → IsOwnTo slave half call → SendsOwn slave half old new
   own_once old new call sends own = record { calls = call ∷ []; sends = sends; own = one_own call own }
 
   -- the one behind the other
-  pub own_then : (old mid new : ℕ) → SendsOwn slave half old mid → SendsOwn slave half mid new → SendsOwn slave half old new
+  pub own_then : (old mid new : List Exchange) → SendsOwn slave half old mid → SendsOwn slave half mid new → SendsOwn slave half old new
   own_then old mid new first second = record {
     calls = first.calls ++ second.calls;
     sends = sends_then old mid new first.calls second.calls first.sends second.sends;
@@ -117,7 +143,7 @@ pub record WellBy (answer : Option Pdu) : Type 0 where
   pub well : shown_by (shown_status found) ≡ shown.Well
 
 -- one more poll
-pub polls_more : (slave old mid new : ℕ) (before after : Option Shown) (answer : Option Pdu) → Polls slave old mid before
+pub polls_more : (slave : ℕ) (old mid new : List Exchange) (before after : Option Shown) (answer : Option Pdu) → Polls slave old mid before
     → Sends mid new (exchanged (poll_order slave) answer ∷ []) → (after ≡ Some shown.Well → WellBy answer) → Polls slave old new after
 polls_more slave old mid new before after answer polls sends well = record {
   calls = polls.calls ++ exchanged (poll_order slave) answer ∷ [];

@@ -31,4 +31,4 @@ module _ (F : RattleType) (file : IsSend F) where
 
 module _ (a : NamedLft) (L F C : RattleType) (line : IsSend L) (file : IsSend F) (clock-sync : IsSync C) where
   pub wire-device-send : IsSend (WireDevice.the_row a L F C)
-  wire-device-send = search (journal-send, answer.the_field_send, write.the_field_send, crosses, sendable) depth 40
+  wire-device-send = search (journal-send, send-History, answer.the_field_send, write.the_field_send, crosses, sendable) depth 40

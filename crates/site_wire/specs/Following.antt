@@ -18,6 +18,7 @@ use Rattle.site_wire.specs.Known.{IsKnown}
 use Rattle.site_wire.specs.Amending.{IsAmended}
 use Rattle.site_wire.specs.Answers.{shown_status}
 use Rattle.site_wire.specs.Answering.{shown_by}
+use Rattle.site_wire.specs.declared.sending.Exchange.{Exchange}
 use Rattle.site_wire.specs.Sent.{Exchanged, exchanged, HasSent, Sends}
 use Rattle.site_wire.specs.RealSlaves.{Lives}
 use Rattle.site_wire.specs.Journal.{JournalFollows, journal_on}
@@ -34,8 +35,8 @@ pub record IsOwnTo (slave : ℕ) (half : SlaveHalf) (call : Exchanged) : Type 0 
   pub to : station_of call.sent.address ≡ station slave
   pub own : (call.sent.command ≡ 4) ⊎ ((call.sent.command ≡ 5) × IsOwn half call.sent)
 
--- Between these moments nothing else is sent.
-pub record SendsOwn (slave : ℕ) (half : SlaveHalf) (old new : ℕ) : Type 0 where
+-- From the one to the other nothing else is sent.
+pub record SendsOwn (slave : ℕ) (half : SlaveHalf) (old new : List Exchange) : Type 0 where
   pub calls : List Exchanged
   pub sends : Sends old new calls
   pub own : All (IsOwnTo slave half) calls
@@ -49,7 +50,7 @@ pub record EndsWell (calls : List Exchanged) : Type 0 where
   pub well : shown_by (shown_status found) ≡ shown.Well
 
 -- A slave is polled, any number of times.
-pub record Polls (slave old new : ℕ) (result : Option Shown) : Type 0 where
+pub record Polls (slave : ℕ) (old new : List Exchange) (result : Option Shown) : Type 0 where
   pub calls : List Exchanged
   pub sends : Sends old new calls
   pub polls : All (λ call. call.sent ≡ poll_order slave) calls
@@ -66,14 +67,14 @@ TellsPair slave word pair calls = (real later : SlaveHalf) → real.station ≡ 
     → (later.activity ≡ Idle) × (slice_index later.words word ≡ word_at pair 0) × (slice_index later.words (word + 1) ≡ word_at pair 2)
 
 -- One try to read a word and the next one: the bytes that are told are the slave's.
-pub record TriesPair (slave : ℕ) (half : SlaveHalf) (word old new : ℕ) (result : Option Tried) : Type 0 where
+pub record TriesPair (slave : ℕ) (half : SlaveHalf) (word : ℕ) (old new : List Exchange) (result : Option Tried) : Type 0 where
   pub calls : List Exchanged
   pub sends : Sends old new calls
   pub own : All (IsOwnTo slave half) calls
   pub tells : (pair : List ℕ) → result ≡ Some (tried.Read pair) → TellsPair slave word pair calls
 
 -- A word is read back: the value that is told is the slave's.
-pub record ReadsBack (slave : ℕ) (half : SlaveHalf) (word old new : ℕ) (result : Option ℕ) : Type 0 where
+pub record ReadsBack (slave : ℕ) (half : SlaveHalf) (word : ℕ) (old new : List Exchange) (result : Option ℕ) : Type 0 where
   pub calls : List Exchanged
   pub sends : Sends old new calls
   pub own : All (IsOwnTo slave half) calls
@@ -89,7 +90,7 @@ pub data RestsBy (slave : ℕ) (write : WordWrite) (calls : List Exchanged) : Re
   read_back : (value : ℕ) → TellsWord slave write.word value calls → RestsBy slave write calls (rests_with write value)
 
 -- A slave whose half has this word in flight is told it again or read back, as an answer shows.
-pub record FollowsUp (slave : ℕ) (half : SlaveHalf) (write : WordWrite) (old new : ℕ) (resting : Resting) : Type 0 where
+pub record FollowsUp (slave : ℕ) (half : SlaveHalf) (write : WordWrite) (old new : List Exchange) (resting : Resting) : Type 0 where
   pub calls : List Exchanged
   pub sends : Sends old new calls
   pub own : All (IsOwnTo slave half) calls
@@ -108,8 +109,8 @@ pub data Carries (slave : ℕ) (half : SlaveHalf) (d : Pdu) : List Exchanged →
       → in_flight half.activity ≡ Some write → All (IsOwnTo slave half) calls → RestsBy slave write calls resting
       → Carries slave half d (exchanged d (Some found) ∷ calls) resting
 
--- Between these moments a device sends to the slave at this place alone, and unless its site is over then, it carries the datagram.
-pub record SendsFor (slave : ℕ) (half : SlaveHalf) (d : Pdu) (old new : ℕ) (is_over : Bool) (resting : Resting) : Type 0 where
+-- From the one to the other a device sends to the slave at this place alone, and unless its site is over then, it carries the datagram.
+pub record SendsFor (slave : ℕ) (half : SlaveHalf) (d : Pdu) (old new : List Exchange) (is_over : Bool) (resting : Resting) : Type 0 where
   pub calls : List Exchanged
   pub sends : Sends old new calls
   pub to : All (λ call. station_of call.sent.address ≡ station slave) calls
@@ -124,7 +125,7 @@ pub record IsDueTo (slave : ℕ) (half : SlaveHalf) (frame : List Pdu) (d : Pdu)
   pub bytes : All (λ (byte : ℕ). byte < 256) d.content
 
 -- the same of a frame, which is due to this slave unless the site is over
-pub record CarriesFrame (slave : ℕ) (half : SlaveHalf) (frame : List Pdu) (old new : ℕ) (is_over : Bool) (resting : Resting) : Type 0 where
+pub record CarriesFrame (slave : ℕ) (half : SlaveHalf) (frame : List Pdu) (old new : List Exchange) (is_over : Bool) (resting : Resting) : Type 0 where
   pub calls : List Exchanged
   pub sends : Sends old new calls
   pub to : All (λ call. station_of call.sent.address ≡ station slave) calls
@@ -132,7 +133,7 @@ pub record CarriesFrame (slave : ℕ) (half : SlaveHalf) (frame : List Pdu) (old
 
 -- Nothing is sent, and the device goes on only where it did.
 pub record SendsNothing {L F C : Type 0} (old new : WireDevice L F C) : Type 0 where
-  pub moment : new.sender.moment ≡ old.sender.moment
+  pub sent : new.sender.log.all ≡ old.sender.log.all
   pub over : new.is_over ≡ false → old.is_over ≡ false
 
 -- WHAT REAL SLAVES ARE BEHIND IT
@@ -152,7 +153,7 @@ SlavesFollow log begun now = (slave : ℕ) (first half real later : SlaveHalf) �
 -- The slaves have followed the site behind a device on a wire: unless it or the site has stopped.
 pub record SlavesFollowed {L F C : Type 0} (device : WireDevice L F C) (seen : Seen) : Type 0 where
   pub log : List Exchanged
-  pub has : HasSent device.sender.moment log
+  pub has : HasSent device.sender.log.all log
   pub follow : device.is_over ≡ false → seen.is_stopped ≡ false → SlavesFollow log (first_of seen).halves seen.state.halves
 
 -- they go on where no half changes

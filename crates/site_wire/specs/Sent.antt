@@ -1,6 +1,10 @@
--- What a device has sent to the slaves of its line by a moment, and what came back. The moment is the number of datagrams that it has sent.
-use Rattle.std.specs.Prelude.{ℕ, List, [], ◌∷◌, ◌++◌, Option}
+-- What a device has sent to the slaves of its line, and what came back.
+use Rattle.std.specs.Prelude.{◌≡◌, List, [], ◌∷◌, ◌++◌, map, Option}
+use Rattle.std.specs.Option.{option_map}
 use Rattle.ecat_frame.specs.Frame.{Pdu}
+use Rattle.site_wire.specs.declared.answers.Answer.{Answer}
+use Rattle.site_wire.specs.declared.sending.Exchange.{Exchange}
+use Rattle.site_wire.specs.Answering.{found_of}
 
 -- A datagram that was sent until it came back, three times at most; and what came back, if anything did.
 pub record Exchanged : Type 0 where
@@ -10,20 +14,26 @@ pub record Exchanged : Type 0 where
 abbrev pub exchanged : Pdu → Option Pdu → Exchanged
 exchanged sent answer = record { sent = sent; answer = answer }
 
--- By this moment a device has sent this, in this order, and nothing else. No proof can open this name, since no value of a program says what
--- went out on a wire: from one moment to the next it leads by `Sender::pass` alone.
-pub HasSent : (moment : ℕ) → List Exchanged → Type 0
-HasSent moment log = Unit {0}
+-- the datagrams of a frame, each with what came back of the frame
+unfoldable pub each_exchanged : List Pdu → Option Answer → List Exchanged
+each_exchanged frame answer = map (λ d. exchanged d (option_map found_of answer)) frame
 
--- Between two moments a device sends this, in this order, and nothing else.
-pub record Sends (old new : ℕ) (calls : List Exchanged) : Type 0 where
-  pub goes_on : (log : List Exchanged) → HasSent old log → HasSent new (log ++ calls)
+-- the datagrams of these frames, in order, and what came back
+unfoldable pub exchanges : List Exchange → List Exchanged
+exchanges [] = []
+exchanges (exchange ∷ later) = each_exchanged exchange.frame.value exchange.answer.value ++ exchanges later
 
--- the two rules of these names
-pub nothing_sent : HasSent 0 []
-unfolding HasSent
-nothing_sent = tt
+-- Where a device has sent these frames, it has sent this, in this order, and nothing else.
+abbrev pub HasSent : List Exchange → List Exchanged → Type 0
+HasSent sent log = exchanges sent ≡ log
 
-pub sent_once : (old new : ℕ) (call : Exchanged) → Sends old new (call ∷ [])
-unfolding HasSent
-sent_once old new call = record { goes_on = λ log had. tt }
+-- This frame, and what came back of it, is noted.
+pub record Notes (old : List Exchange) (frame : List Pdu) (answer : Option Answer) (new : List Exchange) : Type 0 where
+  pub exchange : Exchange
+  pub noted : new ≡ old ++ exchange ∷ []
+  pub frame_is : exchange.frame.value ≡ frame
+  pub answer_is : exchange.answer.value ≡ answer
+
+-- From the one to the other a device sends this, in this order, and nothing else.
+pub record Sends (old new : List Exchange) (calls : List Exchanged) : Type 0 where
+  pub goes_on : exchanges new ≡ exchanges old ++ calls

@@ -85,7 +85,7 @@ fn write_frame(slave: u16, write: WordWrite) -> Frame
 #[tactic(auto, using(crate::proofs::Due::clear_due, crate::proofs::ForEeprom::clear_eeprom))]
 fn clear<L: Reach>(line: &mut Sender<L>, slave: u16, half: &RomHalf) -> Option<Answer>
     requires { slave < 64 }
-    ensures { SendsOwn slave half.now line.old.moment line.new.moment }
+    ensures { SendsOwn slave half.now line.old.log.all line.new.log.all }
 {
     line.pass(half, &clear_frame(slave))
 }
@@ -100,7 +100,7 @@ pub(crate) fn issue_again<L: Reach>(
     requires slave { slave < 64 }
     requires flying { in_flight half.now.activity ≡ Some write }
     requires inside { write.word < length half.now.words }
-    ensures { SendsOwn slave half.now line.old.moment line.new.moment }
+    ensures { SendsOwn slave half.now line.old.log.all line.new.log.all }
 {
     let _cleared = clear(line, slave, half)?;
     let answer = line.pass(half, &write_frame(slave, write))?;
@@ -117,7 +117,7 @@ fn wait_idle<L: Reach, C: Clock>(
     half: &RomHalf,
 ) -> Option<Shown>
     requires { slave < 64 }
-    ensures { Polls slave line.old.moment line.new.moment result }
+    ensures { Polls slave line.old.log.all line.new.log.all result }
 {
     let poll = frame_for(slave, Command::Fprd, CONTROL, &[0, 0]);
     let mut pace = Pace::of_polls();
@@ -148,7 +148,7 @@ fn try_pair<L: Reach, C: Clock>(
 ) -> Option<Tried>
     requires slave { slave < 64 }
     requires inside { word + 1 < length half.now.words }
-    ensures { TriesPair slave half.now word line.old.moment line.new.moment result }
+    ensures { TriesPair slave half.now word line.old.log.all line.new.log.all result }
 {
     let taken = line.pass(half, &read_frame(slave, word, held))?;
     let shown = wait_idle(line, clock, slave, half)?;
@@ -189,7 +189,7 @@ pub(crate) fn read_back<L: Reach, C: Clock>(
     write: WordWrite,
 ) -> Option<u16>
     requires { slave < 64 }
-    ensures { ReadsBack slave half.now write.word line.old.moment line.new.moment result }
+    ensures { ReadsBack slave half.now write.word line.old.log.all line.new.log.all result }
 {
     let first = write.word - write.word % 2;
     if usize::from(first) + 1 >= half.words().len() {

@@ -22,10 +22,11 @@ use crate::answers::{Answer, Comparison, Shown, compared_with, state_shown};
 use crate::faults::{Difference, StopReason};
 use crate::fitting::{is_fit, is_for_eeprom, is_ignored, is_known, only_datagram};
 use crate::reach::{LiveLine, Reach, SharedLine};
-use crate::sending::Sender;
+use crate::sending::{Exchange, Sender};
 use ecat_frame::{Datagram, Frame};
 use esc_model::{RomHalf, WordWrite, station_address};
-use site_file::{FileDevice, RandomAccessFile};
+use sii_words::History;
+use site_file::{Asked, FileDevice, RandomAccessFile};
 use site_shadow::{Device, Lends, LinePart, Passing, Pattern, Resting, ShadowSite};
 use std::rt::Clock;
 use std::sync::Wait;
@@ -170,11 +171,14 @@ impl<'f, L: Reach, F: RandomAccessFile, C: Clock> WireDevice<'f, L, F, C> {
         }
     }
 
-    /// Whether nothing may be sent: the site is over, or the journal refuses, as it does behind a shadow that has seen a call.
+    /// Whether nothing may be sent: the site is over, or the journal refuses, as it does behind a shadow that has seen a call; or something was sent
+    /// before, so that what is told would not be what was sent behind this site alone.
     fn must_refuse(&self) -> bool
-        ensures { result ≡ (self.now.is_over || self.now.journal.has_failed) }
+        ensures refuses { result ≡ ((self.now.is_over || self.now.journal.has_failed) || not self.now.sender.log.is_empty) }
+        ensures unsent { self.now.sender.log.is_empty ≡ true → self.now.sender.log.all ≡ [] }
     {
-        self.is_over || self.journal.has_failed()
+        let is_unsent = self.sender.is_unsent();
+        self.is_over || self.journal.has_failed() || !is_unsent
     }
 
     /// Why the site has stopped, if it has.
@@ -191,7 +195,7 @@ impl<'f, L: Reach, F: RandomAccessFile, C: Clock> WireDevice<'f, L, F, C> {
     fn stop(&mut self, reason: StopReason, about: Option<(u16, Last)>)
         ensures over { self.new.is_over ≡ true }
         ensures rests { self.new.resting ≡ self.old.resting }
-        ensures moment { self.new.sender.moment ≡ self.old.sender.moment }
+        ensures sent { self.new.sender.log.all ≡ self.old.sender.log.all }
         ensures journal { self.new.journal ≡ self.old.journal }
     {
         self.is_over = true;
@@ -216,7 +220,7 @@ impl<'f, L: Reach, F: RandomAccessFile, C: Clock> WireDevice<'f, L, F, C> {
     fn compare(&mut self, slave: usize, half: &RomHalf, answer: &Frame) -> Option<Difference>
         ensures agrees { result ≡ None → IfSome self.old.returned (λ found. AgreesWith half.now answer.now found) }
         ensures over { self.new.is_over ≡ self.old.is_over }
-        ensures moment { self.new.sender.moment ≡ self.old.sender.moment }
+        ensures sent { self.new.sender.log.all ≡ self.old.sender.log.all }
         ensures journal { self.new.journal ≡ self.old.journal }
     {
         let found = self.returned?;
@@ -258,7 +262,7 @@ impl<'f, L: Reach, F: RandomAccessFile, C: Clock> WireDevice<'f, L, F, C> {
         ensures set { slave < 64 → self.new.is_unconfirmed ≡ slice_set self.old.is_unconfirmed slave is_unconfirmed }
         ensures over { self.new.is_over ≡ self.old.is_over }
         ensures rests { self.new.resting ≡ self.old.resting }
-        ensures moment { self.new.sender.moment ≡ self.old.sender.moment }
+        ensures sent { self.new.sender.log.all ≡ self.old.sender.log.all }
         ensures journal { self.new.journal ≡ self.old.journal }
     {
         if slave < 64 {
@@ -268,7 +272,7 @@ impl<'f, L: Reach, F: RandomAccessFile, C: Clock> WireDevice<'f, L, F, C> {
 
     /// Sends the frame, unless its datagram tells nothing new, or the half is busy and takes nothing of it, and notes how the half rests then.
     fn carry(&mut self, slave: usize, half: &RomHalf, frame: &Frame)
-        ensures carries { CarriesFrame slave half.now frame.now self.old.sender.moment self.new.sender.moment self.new.is_over self.new.resting }
+        ensures carries { CarriesFrame slave half.now frame.now self.old.sender.log.all self.new.sender.log.all self.new.is_over self.new.resting }
         ensures known { (d : Pdu) → frame.now ≡ d ∷ [] → IsKnown half.now d → self.new.is_over ≡ false
             → self.new ≡ record self.old { returned = None; resting = resting.Well } }
         ensures journal { self.new.journal ≡ self.old.journal }
@@ -297,7 +301,7 @@ impl<'f, L: Reach, F: RandomAccessFile, C: Clock> WireDevice<'f, L, F, C> {
         requires news { ¬ IsKnown half.now (pdu sent) }
         requires stays { self.old.resting ≡ resting.Stays }
         requires to { station_of (pdu sent).address ≡ station slave }
-        ensures sends { SendsFor slave half.now (pdu sent.entry) self.old.sender.moment self.new.sender.moment self.new.is_over self.new.resting }
+        ensures sends { SendsFor slave half.now (pdu sent.entry) self.old.sender.log.all self.new.sender.log.all self.new.is_over self.new.resting }
         ensures journal { self.new.journal ≡ self.old.journal }
     {
         self.prepare(usize::from(slave), half);
@@ -314,7 +318,7 @@ impl<'f, L: Reach, F: RandomAccessFile, C: Clock> WireDevice<'f, L, F, C> {
     /// An idle half begins anew; of a busy one a pause comes first.
     fn prepare(&mut self, place: usize, half: &RomHalf)
         requires { place < 64 }
-        ensures moment { self.new.sender.moment ≡ self.old.sender.moment }
+        ensures sent { self.new.sender.log.all ≡ self.old.sender.log.all }
         ensures rests { self.new.resting ≡ self.old.resting }
         ensures journal { self.new.journal ≡ self.old.journal }
     {
@@ -335,7 +339,7 @@ impl<'f, L: Reach, F: RandomAccessFile, C: Clock> WireDevice<'f, L, F, C> {
         requires quiet { IsTrue (is_busy half.now.activity) → ¬ WritesControl (pdu sent) }
         requires news { ¬ IsKnown half.now (pdu sent) }
         ensures rests { self.new.resting ≡ self.old.resting }
-        ensures sends { Sends self.old.sender.moment self.new.sender.moment
+        ensures sends { Sends self.old.sender.log.all self.new.sender.log.all
             (exchanged (pdu sent.entry) (option_map found_of self.new.returned) ∷ []) }
         ensures over { self.new.is_over ≡ false → IsSome self.new.returned }
         ensures journal { self.new.journal ≡ self.old.journal }
@@ -351,7 +355,7 @@ impl<'f, L: Reach, F: RandomAccessFile, C: Clock> WireDevice<'f, L, F, C> {
         requires inside { write.word < length half.now.words }
         requires stays { self.old.resting ≡ resting.Stays }
         ensures busy { shown_by (shown_status (found_of answer)) ≡ shown_as.Busy → self.new.resting ≡ resting.Stays }
-        ensures up { FollowsUp slave half.now write self.old.sender.moment self.new.sender.moment self.new.resting }
+        ensures up { FollowsUp slave half.now write self.old.sender.log.all self.new.sender.log.all self.new.resting }
         ensures journal { self.new.journal ≡ self.old.journal }
     {
         let is_unconfirmed = self.is_unconfirmed[usize::from(slave)];
@@ -373,7 +377,7 @@ impl<'f, L: Reach, F: RandomAccessFile, C: Clock> WireDevice<'f, L, F, C> {
         requires flying { in_flight half.now.activity ≡ Some write }
         requires inside { write.word < length half.now.words }
         requires stays { self.old.resting ≡ resting.Stays }
-        ensures up { FollowsUp slave half.now write self.old.sender.moment self.new.sender.moment self.new.resting }
+        ensures up { FollowsUp slave half.now write self.old.sender.log.all self.new.sender.log.all self.new.resting }
         ensures journal { self.new.journal ≡ self.old.journal }
     {
         let found = self.read_back(slave, half, write);
@@ -388,7 +392,7 @@ impl<'f, L: Reach, F: RandomAccessFile, C: Clock> WireDevice<'f, L, F, C> {
     fn read_back(&mut self, slave: u16, half: &RomHalf, write: WordWrite) -> Option<u16>
         requires slave { slave < 64 }
         ensures rests { self.new.resting ≡ self.old.resting }
-        ensures back { ReadsBack slave half.now write.word self.old.sender.moment self.new.sender.moment result }
+        ensures back { ReadsBack slave half.now write.word self.old.sender.log.all self.new.sender.log.all result }
         ensures journal { self.new.journal ≡ self.old.journal }
     {
         let found = read_back(&mut self.sender, self.clock, slave, half, write);
@@ -403,7 +407,7 @@ impl<'f, L: Reach, F: RandomAccessFile, C: Clock> WireDevice<'f, L, F, C> {
         requires flying { in_flight half.now.activity ≡ Some write }
         requires inside { write.word < length half.now.words }
         requires stays { self.old.resting ≡ resting.Stays }
-        ensures up { FollowsUp slave half.now write self.old.sender.moment self.new.sender.moment self.new.resting }
+        ensures up { FollowsUp slave half.now write self.old.sender.log.all self.new.sender.log.all self.new.resting }
         ensures journal { self.new.journal ≡ self.old.journal }
     {
         let place = usize::from(slave);
@@ -426,7 +430,7 @@ impl<'f, L: Reach, F: RandomAccessFile, C: Clock> WireDevice<'f, L, F, C> {
     fn end_in_error(&mut self, slave: u16, half: &RomHalf, write: WordWrite, answer: Answer)
         requires slave { slave < 64 }
         requires stays { self.old.resting ≡ resting.Stays }
-        ensures up { FollowsUp slave half.now write self.old.sender.moment self.new.sender.moment self.new.resting }
+        ensures up { FollowsUp slave half.now write self.old.sender.log.all self.new.sender.log.all self.new.resting }
         ensures journal { self.new.journal ≡ self.old.journal }
     {
         self.returned = None;
@@ -508,15 +512,14 @@ impl<'f, L: Reach, F: RandomAccessFile, C: Clock> Device for WireDevice<'f, L, F
 
     ghost well = { λ device. device.is_over ≡ false };
 
-    /// What is sent, and what the journal is asked, is noted from here on. Behind a shadow that has seen a call the device would not know what the
-    /// slaves and the journal are: it sends and asks nothing.
+    /// What the journal is asked is noted from here on, as is what is sent. Behind a shadow that has seen a call the device would not know what the
+    /// slaves and the journal are: it sends and asks nothing. Nor does it where it has sent anything before.
     fn begin(&mut self, is_new: bool)
         ensures begins { Begins self.old.journal.asking.calls self.new.journal.asking.calls }
         ensures sound { self.new.journal.has_failed ≡ (self.old.journal.has_failed || not is_new) }
         ensures follows { (seen : Seen) → (IsTrue is_new ↔ seen.past ≡ []) → WireFollows self.new seen }
     {
         self.journal.begin(is_new);
-        self.sender.begin();
         self.is_over = self.must_refuse();
     }
 
@@ -630,19 +633,32 @@ impl<'f, L: Reach, F: RandomAccessFile, C: Clock> Device for WireDevice<'f, L, F
     ghost goes_on = { follows_on };
 }
 
+/// What a device on a wire tells of its calls.
+#[derive(Drop)]
+pub struct WireTold {
+    /// All that the journal's file was asked, in order. None where its device stood behind two sites.
+    pub journal: Option<History<Asked>>,
+    /// All that was sent to the slaves, in order, and what came back.
+    pub sent: History<Exchange>,
+}
+
 impl<'f, L: Reach + Copy + Drop, F: RandomAccessFile + Drop, C: Clock> Lends
     for WireDevice<'f, L, F, C> {
-    ghost use Rattle.site_file.specs.Asking.{TellsLog};
+    ghost use Rattle.site_file.specs.Owned.{PutsBack, Takes};
+    ghost use Rattle.site_wire.specs.Told.{TellsWire};
 
-    /// What is told of the journal.
-    type Told = <FileDevice<F> as Lends>::Told;
+    type Told = WireTold;
 
-    ghost tells = { λ device told. TellsLog device.journal.asking.calls told };
+    ghost tells = { TellsWire };
 
     /// The journal goes with the device of the disk.
-    fn lend(&mut self, part: LinePart) -> WireDevice<'f, L, F, C> {
+    fn lend(&mut self, part: LinePart) -> WireDevice<'f, L, F, C>
+        ensures files { Takes part self.old.journal.held result.journal.held self.new.journal.held }
+        ensures sent { (result.sender.log.all ≡ []) × (self.new.sender ≡ self.old.sender) }
+        ensures over { (result.is_over ≡ self.old.is_over) × (self.new.is_over ≡ self.old.is_over) }
+    {
         WireDevice {
-            sender: self.sender,
+            sender: Sender::new(self.sender.line),
             clock: self.clock,
             journal: self.journal.lend(part),
             returned: None,
@@ -653,17 +669,34 @@ impl<'f, L: Reach + Copy + Drop, F: RandomAccessFile + Drop, C: Clock> Lends
         }
     }
 
-    fn take_back(&mut self, lent: WireDevice<'f, L, F, C>) -> <FileDevice<F> as Lends>::Told {
+    fn take_back(&mut self, lent: WireDevice<'f, L, F, C>) -> WireTold
+        ensures tells { TellsWire lent.entry result }
+        ensures files { PutsBack self.old.journal.held lent.entry.journal.held self.new.journal.held }
+        ensures over { self.new.is_over ≡ (self.old.is_over || lent.entry.is_over) }
+        ensures sent { self.new.sender.log.all ≡ self.old.sender.log.all }
+    {
         let WireDevice {
+            sender,
             journal,
             is_over,
             ..
         } = lent;
         self.is_over = self.is_over || is_over;
-        self.journal.take_back(journal)
+        WireTold {
+            journal: self.journal.take_back(journal),
+            sent: sender.into_sent(),
+        }
     }
 
-    fn tell(&mut self) -> <FileDevice<F> as Lends>::Told {
-        self.journal.tell()
+    fn tell(&mut self) -> WireTold
+        ensures tells { TellsWire self.old result }
+        ensures files { self.new.journal.held ≡ self.old.journal.held }
+        ensures over { self.new.is_over ≡ self.old.is_over }
+        ensures sent { self.new.sender.log.all ≡ [] }
+    {
+        WireTold {
+            journal: self.journal.tell(),
+            sent: self.sender.tell(),
+        }
     }
 }

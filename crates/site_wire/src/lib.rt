@@ -14,10 +14,11 @@ mod ordering;
 mod reach;
 mod sending;
 
-pub use device::{SharedSite, WireDevice, WireSite};
+pub use device::{SharedSite, WireDevice, WireSite, WireTold};
 pub use faults::{Difference, StopReason};
 pub use laws::{
     agreed_is_possible, amending_is_possible, defined_slave_serves, journal_follows,
     possible_leaves_no_more, stop_leaves_no_more,
 };
 pub use reach::{LiveLine, LockedLine, Reach, SharedLine};
+pub use sending::Exchange;

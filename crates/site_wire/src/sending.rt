@@ -1,64 +1,138 @@
 // What a device sends to the slaves of its line. Each datagram is noted: the contract of `Sender::pass` says what was sent and what came back, and
 // in which order. That a datagram which is noted is the one that is sent is read from that function, and that the answer is the one that came, of
 // this datagram, from `LiveLine::pass`, `SharedLine::pass` and `Answer::read`.
-ghost use Rattle.std.specs.Prelude.{◌≡◌, ◌∷◌, []};
+ghost use Rattle.std.specs.Prelude.{◌≡◌, ◌∷◌, [], true, length};
 ghost use Rattle.std.specs.List.{All};
 ghost use Rattle.std.specs.Option.{option_map};
 ghost use Rattle.ecat_frame.specs.Frame.{Pdu};
 ghost use Rattle.wire_frames.specs.Sending.{IsForEeprom};
 ghost use Rattle.site_wire.specs.Due.{IsDue};
 ghost use Rattle.site_wire.specs.Answering.{found_of};
-ghost use Rattle.site_wire.specs.Sent.{exchanged, Sends};
+ghost use Rattle.site_wire.specs.Sent.{exchanged, Notes, Sends};
 
 use crate::answers::Answer;
 use crate::reach::Reach;
 use ecat_frame::Frame;
 use esc_model::RomHalf;
-use std::alloc::AllocError;
+use sii_words::History;
+use std::mem;
+use std::snapshot::Snapshot;
 
-/// A line, and the number of datagrams that were sent on it since a device was put behind its site, modulo 2^64: the moment.
+/// A frame of one datagram that was sent until it came back, three times at most, and what came back, if anything did. In contracts alone: it takes
+/// no memory.
+#[derive(Drop)]
+pub struct Exchange {
+    frame: Snapshot<Frame>,
+    answer: Snapshot<Option<Answer>>,
+}
+
+/// All that was sent on a line, in order.
+#[derive(Drop)]
+struct SentLog {
+    /// In contracts alone: it takes no memory.
+    all: History<Exchange>,
+    /// Whether it is empty.
+    is_empty: bool,
+    ghost empty: { is_empty ≡ true → length all ≡ 0 },
+}
+
+/// A line, and what was sent on it.
 #[derive(Drop)]
 pub(crate) struct Sender<L> {
     pub(crate) line: L,
-    moment: u64,
+    log: SentLog,
 }
 
-impl<L: Copy> Copy for Sender<L> {}
+impl SentLog {
+    /// Nothing was sent yet.
+    fn new() -> SentLog
+        ensures { result.all ≡ [] }
+    {
+        SentLog {
+            all: History::new(),
+            is_empty: true,
+        }
+    }
 
-impl<L: Copy> Clone for Sender<L> {
-    ghost use Rattle.std.specs.Prelude.{⊤};
+    /// Whether nothing was sent.
+    fn is_empty(&self) -> bool
+        ensures is { result ≡ self.now.is_empty }
+        ensures empty { result ≡ true → self.now.all ≡ [] }
+    {
+        self.is_empty
+    }
 
-    ghost is_infallible = { λ _. ⊤ };
+    /// Notes that this frame was sent, and what came back.
+    fn note(&mut self, frame: &Frame, answer: &Option<Answer>)
+        ensures { Notes self.old.all frame.now answer.now self.new.all }
+    {
+        self.is_empty = false;
+        let exchange = Exchange {
+            frame: Snapshot::of(frame),
+            answer: Snapshot::of(answer),
+        };
+        self.all.note(&exchange);
+    }
 
-    fn clone(&self) -> Result<Self, AllocError> {
-        Ok(*self)
+    /// All of it.
+    fn into_all(self) -> History<Exchange>
+        ensures { result ≡ self.all }
+    {
+        let SentLog { all, .. } = self;
+        all
     }
 }
 
 impl<L> Sender<L> {
     /// Nothing has been sent on this line yet.
-    pub(crate) fn new(line: L) -> Sender<L> {
-        Sender { line, moment: 0 }
+    pub(crate) fn new(line: L) -> Sender<L>
+        ensures sent { result.log.all ≡ [] }
+        ensures line { result.line ≡ line }
+    {
+        Sender {
+            line,
+            log: SentLog::new(),
+        }
     }
 
-    /// What is sent is noted from here on.
-    pub(crate) fn begin(&mut self)
-        ensures { self.new.moment ≡ 0 }
+    /// Whether nothing was sent.
+    pub(crate) fn is_unsent(&self) -> bool
+        ensures is { result ≡ self.now.log.is_empty }
+        ensures empty { result ≡ true → self.now.log.all ≡ [] }
     {
-        self.moment = 0;
+        self.log.is_empty()
+    }
+
+    /// All that was sent. It is then as one that has sent nothing yet.
+    pub(crate) fn tell(&mut self) -> History<Exchange>
+        ensures told { result ≡ self.old.log.all }
+        ensures sent { self.new.log.all ≡ [] }
+    {
+        let log = mem::replace(&mut self.log, SentLog::new());
+        log.into_all()
+    }
+}
+
+impl<L: Drop> Sender<L> {
+    /// All that was sent.
+    pub(crate) fn into_sent(self) -> History<Exchange>
+        ensures { result ≡ self.log.all }
+    {
+        let Sender { log, .. } = self;
+        log.into_all()
     }
 }
 
 impl<L: Reach> Sender<L> {
     /// Sends a frame of one datagram, as `Reach::pass` does.
-    #[tactic(auto, using(crate::specs::Sent::sent_once))]
     pub(crate) fn pass(&mut self, half: &RomHalf, frame: &Frame) -> Option<Answer>
         requires due { IsDue half.now frame.now }
         requires eeprom { All IsForEeprom frame.now }
         ensures { (d : Pdu) → frame.now ≡ d ∷ []
-            → Sends self.old.moment self.new.moment (exchanged d (option_map found_of result) ∷ []) }
+            → Sends self.old.log.all self.new.log.all (exchanged d (option_map found_of result) ∷ []) }
     {
-        self.moment = self.moment.wrapping_add(1);
-        self.line.pass(half, frame)
+        let answer = self.line.pass(half, frame);
+        self.log.note(frame, &answer);
+        answer
     }
 }

@@ -268,10 +268,10 @@ fn do_task<
         Task::Init { line, asked } => {
             all_done(init_on_wire(rt, &mut wire, line, asked, store, output))
         }
-        Task::Run(order) => run_script(rt, wire, order, store, output),
+        Task::Run(order) => run_script(rt, wire, order, store, output).into_ended(),
         Task::Plan { order, form } => { plan_on_wire(rt, &mut wire, order, form, store, output) }
         Task::Recover { line, asked } => {
-            all_done(recover_line(rt, wire, line, asked, store, output))
+            all_done(recover_line(rt, wire, line, asked, store, output).into_ended())
         }
         Task::Slaves(practice) => {
             serve_slaves(rt, rt.alloc(), practice, wire.wire(), store, output)?;

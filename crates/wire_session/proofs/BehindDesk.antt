@@ -10,11 +10,12 @@ use Rattle.station_alone.specs.Station.{Station}
 use Rattle.station_alone.specs.Opening.{BeginsSession, OpensCounted}
 use Rattle.station_alone.specs.Recovery.{BeginsRecovered}
 use Rattle.station_alone.specs.declared.opening.Found.{Found}
-use Rattle.station_alone.specs.declared.recovery.Recovered.{Recovered}
 use Rattle.script_session.specs.Parts.{IsLineOf}
-use Rattle.script_session.specs.AtDesk.{IsServedFollowed}
+use Rattle.script_session.specs.declared.told.DeskTold.{DeskTold}
+use Rattle.script_session.specs.AtDesk.{IsServedTold}
 use Rattle.script_session.specs.Redoing.{IsRedone, KeepsLine}
 use Rattle.script_session.proofs.RedoLaws.{begins-still}
+use Rattle.wire_session.specs.declared.redoing.ByThreads.{ByThreads}
 use Rattle.wire_session.specs.Slaves.{LedBehindDesk, LedThroughout}
 use Rattle.wire_session.specs.Redoing.{BeginsAgain, RecoversBehind, RecoversByThreads, RedoesOpened}
 
@@ -30,40 +31,39 @@ begins-before before opened s begins behind machine kept =
 
 -- ---- for either result of a call
 
--- the station and the counts that it gives
-abbrev Came : Type 0
-Came = Station × Recovered
-
-module _ {E : Type 0} where
-  pub line-behind : (result : Result Came E) (slaves : ℕ) (line : Line) → IsLineOf slaves line → IfOk result (λ r. r.0.line ≡ line) → IfOk result (λ r. IsLineOf slaves r.0.line)
+module _ {E T : Type 0} where
+  pub line-behind : (result : Result (ByThreads Station T) E) (slaves : ℕ) (line : Line) → IsLineOf slaves line → IfOk result (λ r. r.alone.line ≡ line) → IfOk result (λ r. IsLineOf slaves r.alone.line)
   line-behind (Ok r) slaves line is same = subst (λ (l : Line). IsLineOf slaves l) (sym same) is
   line-behind (Err fault) slaves line is same = tt
 
-  pub again-behind : (result : Result Came E) (opened : Station) (left : Seen) → KeepsLine opened left.state → IfOk result (λ r. BeginsRecovered left r.0) → IfOk result (λ r. BeginsAgain opened r.0)
-  again-behind (Ok r) opened left keeps begins = again opened r.0 left keeps begins
+  pub again-behind : (result : Result (ByThreads Station T) E) (opened : Station) (left : Seen) → KeepsLine opened left.state → IfOk result (λ r. BeginsRecovered left r.alone) → IfOk result (λ r. BeginsAgain opened r.alone)
+  again-behind (Ok r) opened left keeps begins = again opened r.alone left keeps begins
   again-behind (Err fault) opened left keeps begins = tt
 
-  pub counts-behind : (result : Result Came E) (opened : Station) (found : Found) (left : SiteValue) (sent : ℕ) → IsRedone opened sent left → IfOk result (λ r. RecoversBehind left found sent r.1 r.0)
-      → IfOk result (λ r. RedoesOpened opened found r.1 r.0)
+  pub counts-behind : (result : Result (ByThreads Station T) E) (opened : Station) (found : Found) (left : SiteValue) (sent : ℕ) → IsRedone opened sent left → IfOk result (λ r. RecoversBehind left found sent r.recovered r.alone)
+      → IfOk result (λ r. RedoesOpened opened found r.recovered r.alone)
   counts-behind (Ok r) opened found left sent redone behind = record { left = left; sent = sent; redone = redone; behind = behind }
   counts-behind (Err fault) opened found left sent redone behind = tt
 
-  pub begins-opened : (result : Result Came E) (before : Seen) (opened : Station) → BeginsSession before opened → IfOk result (λ r. BeginsAgain opened r.0) → IfOk result (λ r. BeginsRecovered before r.0)
-  begins-opened (Ok r) before opened begins behind = begins-before before opened r.0 begins behind
+  pub begins-opened : (result : Result (ByThreads Station T) E) (before : Seen) (opened : Station) → BeginsSession before opened → IfOk result (λ r. BeginsAgain opened r.alone) → IfOk result (λ r. BeginsRecovered before r.alone)
+  begins-opened (Ok r) before opened begins behind = begins-before before opened r.alone begins behind
   begins-opened (Err fault) before opened begins behind = tt
 
-  pub counts-opened : (result : Result Came E) (site : SiteValue) (opened : Station) (found : Found) → OpensCounted site.line site.seen opened found → IfOk result (λ r. RedoesOpened opened found r.1 r.0)
-      → IfOk result (λ r. RecoversByThreads site r.1 r.0)
+  pub counts-opened : (result : Result (ByThreads Station T) E) (site : SiteValue) (opened : Station) (found : Found) → OpensCounted site.line site.seen opened found → IfOk result (λ r. RedoesOpened opened found r.recovered r.alone)
+      → IfOk result (λ r. RecoversByThreads site r.recovered r.alone)
   counts-opened (Ok r) site opened found opens redoes = record { opened = opened; found = found; opens = opens; redoes = redoes }
   counts-opened (Err fault) site opened found opens redoes = tt
 
-  pub followed-behind : {D : Type 0} (follows : D → Seen → Type 0) (result : Result Came E) (opened : Station) (left : SiteValue) → IsServedFollowed follows opened left
-      → IfOk result (λ r. Follows left.seen r.0.seen) → IfOk result (λ r. LedBehindDesk follows opened r.0.seen)
-  followed-behind follows (Ok r) opened left redone behind = record { left = left; served = redone; behind = behind }
-  followed-behind follows (Err fault) opened left redone behind = tt
+  pub told-behind : {D : Type 0} (follows : D → Seen → Type 0) (well : D → Type 0) (tells : D → T → Type 0) (result : Result (ByThreads Station T) E) (opened : Station) (told : DeskTold T) (left : SiteValue)
+      → IsServedTold follows well tells opened told left → IfOk result (λ r. Follows left.seen r.alone.seen) → IfOk result (λ r. r.told ≡ told)
+      → IfOk result (λ r. LedBehindDesk follows well tells r.told opened r.alone.seen)
+  told-behind follows well tells (Ok r) opened told left redone behind same =
+      record { left = left; served = subst (λ (t : DeskTold T). IsServedTold follows well tells opened t left) (sym same) redone; behind = behind }
+  told-behind follows well tells (Err fault) opened told left redone behind same = tt
 
-  pub followed-opened : {D : Type 0} (follows : D → Seen → Type 0) (result : Result Came E) (site : SiteValue) (opened : Station) (found : Found)
-      → OpensCounted site.line site.seen opened found → IfOk result (λ r. LedBehindDesk follows opened r.0.seen) → IfOk result (λ r. LedThroughout follows site r.0.seen)
-  followed-opened follows (Ok r) site opened found opens behind =
+  pub told-opened : {D : Type 0} (follows : D → Seen → Type 0) (well : D → Type 0) (tells : D → T → Type 0) (result : Result (ByThreads Station T) E) (site : SiteValue) (opened : Station) (found : Found)
+      → OpensCounted site.line site.seen opened found → IfOk result (λ r. LedBehindDesk follows well tells r.told opened r.alone.seen)
+      → IfOk result (λ r. LedThroughout follows well tells r.told site r.alone.seen)
+  told-opened follows well tells (Ok r) site opened found opens behind =
       record { opened = opened; line = opens.1.line; opens = opens.1.quiet.follows; behind = behind }
-  followed-opened follows (Err fault) site opened found opens behind = tt
+  told-opened follows well tells (Err fault) site opened found opens behind = tt

@@ -1,5 +1,5 @@
 -- How the work on a line on a wire ends: what was written before it, and what is told behind it.
-use Rattle.std.proofs.Common.{◌≡◌, [], ◌∷◌, Result, Ok, Err, IsErrAnd, inl, inr, sym, subst, ◌∙◌, arith}
+use Rattle.std.proofs.Common.{◌≡◌, [], ◌∷◌, Result, Ok, Err, IsErrAnd, inl, inr, ap, sym, subst, ◌∙◌, arith}
 use Rattle.std.specs.Prelude.{IfErr, string_bytes}
 use Rattle.std.proofs.lemmas.List.Elements.{Contains-append_left}
 use Rattle.std.proofs.lemmas.Result.{IfOk-weaker}
@@ -9,7 +9,10 @@ use Rattle.station_files.specs.LineFiles.{names_of}
 use Rattle.station_line.specs.Site.{files_of}
 use Rattle.wire_faults.specs.declared.faults.WireFault.{WireFault}
 use Rattle.wire_faults.specs.Faults.{IsOfStream}
-use Rattle.wire_session.specs.Ending.{Ends, LeavesImages}
+use Rattle.station_files.specs.declared.faults.Fault.{Fault}
+use Rattle.station_files.specs.Faults as station
+use Rattle.wire_faults.specs.declared.faults.WireFault.TheVariants as wire
+use Rattle.wire_session.specs.Ending.{Ends, LeavesImages, MayFail}
 use Rattle.wire_session.specs.Reporting.{IsExplained, IsReported}
 
 -- ---- what follows from what
@@ -24,6 +27,12 @@ ends_weaker saves says result old new line follows ends =
 pub unsaved_by : {T : Type 0} (result : Result T WireFault) (old new : Known) (line : LineFile) → IfErr result IsOfStream → LeavesImages result old new line
 unsaved_by (Ok value) old new line failed = tt
 unsaved_by (Err fault) old new line failed = λ apart. absurd (apart failed)
+
+-- a fault with which files are saved
+pub may_fail : (T : Type 0) (fault : Fault) (old new : Known) (line : LineFile) → MayFail old new fault
+    → LeavesImages {T = T} (Err (wire.Station fault)) old new line
+may_fail T fault old new line (inl same) = λ apart. λ other not. ap (λ (files : Known). files other) same
+may_fail T fault old new line (inr failed) = λ apart. absurd (apart failed)
 
 -- ---- the journal is opened
 
@@ -56,6 +65,13 @@ pub ends_unmade : {T : Type 0} (saves : T → Type 0) (result : Result T WireFau
 ends_unmade saves (Ok value) old new line only failed = absurd failed
 ends_unmade saves (Err fault) old new line only failed =
     record { others = among_only old new line only; unsaved = λ apart. absurd (apart failed); saved = tt }
+
+-- a fault of a file or of memory
+pub ends_refused : {T : Type 0} (saves : T → Type 0) (result : Result T WireFault) (fault : Fault) (old new : Known) (line : LineFile)
+    → ChangesOnly old new (string_bytes line.journal) → station.IsOfStream fault → result ≡ Err (wire.Station fault) → Ends saves result old new line
+ends_refused {T} saves result fault old new line only failed is =
+    subst (λ (r : Result T WireFault). Ends saves r old new line) (sym is)
+    (record { others = among_only old new line only; unsaved = λ apart. absurd (apart failed); saved = tt })
 
 -- ---- what is told behind the work
 

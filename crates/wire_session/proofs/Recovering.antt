@@ -1,6 +1,6 @@
 -- What the files hold after a recovery on a wire.
-use Rattle.std.proofs.Common.{◌≡◌, ℕ, List, Result, Ok, Err, inl, inr, subst}
-use Rattle.std.specs.Prelude.{⊤, IfErr, OnOk, string_bytes}
+use Rattle.std.proofs.Common.{◌≡◌, ℕ, List, Result, Ok, Err, inl, inr, sym, subst}
+use Rattle.std.specs.Prelude.{⊤, IfErr, IsSomeAnd, OnOk, string_bytes}
 use Rattle.site_core.specs.State.{State, Seen}
 use Rattle.site_shadow.specs.Site.{SiteValue}
 use Rattle.station_alone.specs.Station.{Station}
@@ -12,32 +12,49 @@ use Rattle.station_files.specs.Locations.{Leads}
 use Rattle.station_line.specs.Site.{IsSiteOf, files_of, switched_on, HoldsSite}
 use Rattle.wire_faults.specs.declared.faults.WireFault.{WireFault}
 use Rattle.wire_faults.specs.declared.faults.WireFault.TheVariants as wire
-use Rattle.wire_faults.specs.Faults.{IsOfStream}
 use Rattle.station_line.specs.Init as bench
 use Rattle.station_line.specs.Init.{Formats}
 use Rattle.station_files.specs.declared.faults.Fault.TheVariants.{Exists}
+use Rattle.site_wire.specs.declared.device.WireTold.{WireTold}
 use Rattle.wire_scan.specs.Opening.{IsFound}
+use Rattle.wire_session.specs.declared.told.Worked.{Worked}
 use Rattle.wire_session.specs.Recovery.{BeginsJournal, RefusesInit, EndsRecovery, Recovers, SavesRecovered}
 use Rattle.wire_session.specs.Slaves.{SlavesHold}
-use Rattle.wire_session.proofs.Endings.{ends_behind_open, unsaved_by}
+use Rattle.station_files.specs.declared.faults.Fault.{Fault}
+use Rattle.wire_session.specs.Reporting.{IsPrinted}
+use Rattle.wire_session.specs.Ending.{LeavesImages, MayFail}
+use Rattle.wire_session.proofs.Endings.{ends_behind_open, may_fail}
 
 -- ---- the line is recovered
 
 saved_by : (Hold : Station → Type 0) (result : Result (Unit {0}) WireFault) (new : Known) (line : LineFile) (before : Seen) (s : Station) (state : State)
-    → HasRecovered s → BeginsRecovered before s → Hold s → state ≡ s.seen.state → OnOk result (HoldsSite new line state)
+    → HasRecovered s → BeginsRecovered before s → OnOk result (Hold s) → state ≡ s.seen.state → OnOk result (HoldsSite new line state)
     → OnOk result (SavesRecovered Hold new line before)
 saved_by Hold (Ok done) new line before s state is_recovered begins slaves is held =
     record { s = s; recovered = is_recovered; begins = begins; held = subst (λ (x : State). HoldsSite new line x) is held; slaves = slaves }
 saved_by Hold (Err fault) new line before s state is_recovered begins slaves is held = tt
 
 pub ends_recovered : (Hold : Station → Type 0) (result : Result (Unit {0}) WireFault) (old new : Known) (line : LineFile) (before : Seen) (s : Station) (state : State)
-    → HasRecovered s → BeginsRecovered before s → Hold s → state ≡ s.seen.state
-    → OnOk result (HoldsSite new line state) → ChangesAmong old new (files_of line) → IfErr result IsOfStream → EndsRecovery Hold result old new line before
+    → HasRecovered s → BeginsRecovered before s → OnOk result (Hold s) → state ≡ s.seen.state
+    → OnOk result (HoldsSite new line state) → ChangesAmong old new (files_of line) → LeavesImages result old new line → EndsRecovery Hold result old new line before
 ends_recovered Hold result old new line before s state is_recovered begins slaves is held others failed = record {
   others = others;
-  unsaved = unsaved_by result old new line failed;
+  unsaved = failed;
   saved = saved_by Hold result new line before s state is_recovered begins slaves is held;
 }
+
+-- what is said of what was saved, once it is printed
+pub printed : (P : Type 0) (saved : Result (Unit {0}) Fault) (result : Result (Unit {0}) WireFault) → IsPrinted saved result → OnOk saved P → OnOk result P
+printed P (Ok done) (Ok told) is holds = holds
+printed P (Ok done) (Err fault) is holds = tt
+printed P (Err fault) result is holds = subst (λ (r : Result (Unit {0}) WireFault). OnOk r P) (sym is) tt
+
+pub printed_leaves : (saved : Result (Unit {0}) Fault) (result : Result (Unit {0}) WireFault) (old new : Known) (line : LineFile) → IsPrinted saved result
+    → IfErr saved (MayFail old new) → LeavesImages result old new line
+printed_leaves (Ok done) (Ok told) old new line is may = tt
+printed_leaves (Ok done) (Err fault) old new line is may = λ apart. absurd (apart is)
+printed_leaves (Err fault) result old new line is may =
+    subst (λ (r : Result (Unit {0}) WireFault). LeavesImages r old new line) (sym is) (may_fail (Unit {0}) fault old new line may)
 
 -- ---- the journal is opened
 
@@ -57,10 +74,10 @@ recovers_opened Before After result old mid new line plant bytes site only made 
 
 -- ---- the whole
 
-pub recovers : (result : Result (Unit {0}) WireFault) (leads : Leads) (old found new : Known) (name : List ℕ) (line : LineFile) (plant : List (List ℕ)) (bytes : List ℕ) → IsFound old name line plant bytes → IsLineApart leads line name → found ≡ old
-    → EndsRecovery (SlavesHold plant) result found new line (switched_on plant bytes) → Recovers result leads old new name
-recovers result leads old found new name line plant bytes given apart same ends =
-    let P : Known → Type 0 = λ files. EndsRecovery (SlavesHold plant) result files new line (switched_on plant bytes) in
+pub recovers : (worked : Worked (Unit {0}) WireTold) (leads : Leads) (old found new : Known) (name : List ℕ) (line : LineFile) (plant : List (List ℕ)) (bytes : List ℕ) → IsFound old name line plant bytes → IsLineApart leads line name → found ≡ old
+    → EndsRecovery (λ s. IsSomeAnd worked.told (SlavesHold plant s)) worked.ended found new line (switched_on plant bytes) → Recovers worked leads old new name
+recovers worked leads old found new name line plant bytes given apart same ends =
+    let P : Known → Type 0 = λ files. EndsRecovery (λ s. IsSomeAnd worked.told (SlavesHold plant s)) worked.ended files new line (switched_on plant bytes) in
     inr (record { line = line; plant = plant; bytes = bytes; found = given; apart = apart; ends = subst P same ends })
 
 -- ---- init

@@ -1,6 +1,6 @@
 -- What the files hold after a run on a wire.
-use Rattle.std.proofs.Common.{◌≡◌, ℕ, Bool, true, false, List, ◌∷◌, ◌++◌, length, None, Result, Ok, Err, inr, sym, subst}
-use Rattle.std.specs.Prelude.{IfOk, IsTrue, OnOk, string_bytes}
+use Rattle.std.proofs.Common.{◌≡◌, ℕ, Bool, true, false, List, ◌∷◌, ◌++◌, length, None, Option, Some, Result, Ok, Err, inr, sym, subst}
+use Rattle.std.specs.Prelude.{IfOk, IsSomeAnd, IsTrue, OnOk, string_bytes}
 use Rattle.sii_edit.specs.declared.command.Command.{Command}
 use Rattle.site_core.specs.State.{State, Seen}
 use Rattle.site_core.specs.Times.{Follows}
@@ -17,20 +17,23 @@ use Rattle.station_files.specs.declared.faults.ExitStatus.TheVariants.{Done}
 use Rattle.station_files.specs.declared.faults.Fault.{Fault}
 use Rattle.station_line.specs.Rounds.{ServesSo}
 use Rattle.script_session.specs.declared.threads.Left.{Left}
-use Rattle.script_session.specs.Parts.{Soundly}
-use Rattle.script_session.specs.AtDesk.{LeavesSo, ServesFollowed}
+use Rattle.script_session.specs.declared.told.DeskTold.{DeskTold}
+use Rattle.script_session.specs.AtDesk.{IsServedTold, LeavesSo, ServesFollowed}
 use Rattle.script_session.proofs.DeskLaws.{served-told}
 use Rattle.script_session.proofs.SoundLaws.{served_soundly}
 use Rattle.station_line.specs.Site.{IsSiteOf, files_of, HoldsSite}
 use Rattle.station_line.specs.Judging.{IsRunApart}
 use Rattle.station_line.specs.Opened.{is_old, StartsFrom}
-use Rattle.script_session.specs.Saving.{HoldsBehind, SavesBehind, SavesLeft, SavesRun, SavesServed, Serves}
+use Rattle.script_session.specs.Saving.{HoldsBehind, SavesBehind, SavesLeft, SavesServed, Serves}
 use Rattle.script_session.proofs.SavingLaws.{behind-unserved}
 use Rattle.wire_faults.specs.declared.faults.WireFault.{WireFault}
 use Rattle.wire_scan.specs.Opening.{IsFound}
 use Rattle.wire_session.specs.Ending.{Ends, LeavesImages}
 use Rattle.wire_session.specs.Running.{EndsAlone, EndsFound, RunsScript, SavesDesk, SavesFound, SavesSite}
-use Rattle.wire_session.specs.Slaves.{EndsFollowed, IsFollowedLine, LedAtDesk, LedOn, SavesFollowed, SlavesHold}
+use Rattle.site_wire.specs.declared.device.WireTold.{WireTold}
+use Rattle.wire_session.specs.declared.told.LineTold.{LineTold}
+use Rattle.wire_session.specs.declared.told.Worked.{Worked}
+use Rattle.wire_session.specs.Slaves.{EndsTold, IsToldLine, LedAtDesk, LedOn, SavesFollowed, SlavesHold}
 use Rattle.wire_session.proofs.Endings.{ends_behind_open, ends_weaker}
 
 -- the line was saved
@@ -132,13 +135,13 @@ ends_left result old new line left told ends =
     (λ ended saves. record { worst = saves.1; told = told; behind = saves.0 }) ends
 
 -- the files hold the recovered line, and a device has followed it to there
-pub saves_led : {D : Type 0} (follows : D → Seen → Type 0) (result : Result ExitStatus WireFault) (new : Known) (line : LineFile) (slaves : ℕ) (before : Seen)
+pub saves_led : {D T : Type 0} (follows : D → Seen → Type 0) (well : D → Type 0) (tells : D → T → Type 0) (told : T) (result : Result ExitStatus WireFault) (new : Known) (line : LineFile) (slaves : ℕ) (before : Seen)
     (r : Station) (is_driven : Bool) → HasRecovered r → Follows before r.seen → OnOk result (IsTrue is_driven → HoldsSite new line r.seen.state)
-    → OnOk result (IsTrue is_driven → IsFollowedLine follows slaves r.seen)
-    → OnOk result (IsTrue is_driven → SavesFollowed (LedOn follows slaves before) new line)
-saves_led follows (Ok status) new line slaves before r is_driven recovered leads held ends =
+    → OnOk result (IsTrue is_driven → IsToldLine follows well tells told slaves r.seen)
+    → OnOk result (IsTrue is_driven → SavesFollowed (LedOn follows well tells told slaves before) new line)
+saves_led follows well tells told (Ok status) new line slaves before r is_driven recovered leads held ends =
     λ driven. record { s = r; recovered = recovered; held = held driven; way = record { leads = leads; ends = ends driven } }
-saves_led follows (Err fault) new line slaves before r is_driven recovered leads held ends = tt
+saves_led follows well tells told (Err fault) new line slaves before r is_driven recovered leads held ends = tt
 
 -- ---- the line is served by threads
 
@@ -155,14 +158,14 @@ at_desk new line opened commands left status leaves same saves = record {
 }
 
 pub ends_at_desk : {D T : Type 0} (follows : D → Seen → Type 0) (well : D → Type 0) (tells : D → T → Type 0) (result : Result ExitStatus WireFault) (old new : Known) (line : LineFile)
-    (slaves : ℕ) (opened : Station) (commands : List Command) (left : Left SiteValue T) → LeavesSo opened commands left.ending left.site
+    (slaves : ℕ) (opened : Station) (commands : List Command) (left : Left SiteValue T) (told : LineTold T) → LeavesSo opened commands left.ending left.site
     → (left.ending.is_driven ≡ false → left.unserved.items ≡ commands) → ServesFollowed follows well tells opened commands left
-    → OnOk result (left.sound ≡ Ok tt)
-    → OnOk result (IsTrue left.ending.is_driven → SavesFollowed (LedOn (Soundly follows well) slaves left.site.seen) new line)
+    → OnOk result (left.sound ≡ Ok tt) → told.desk ≡ left.told
+    → OnOk result (IsTrue left.ending.is_driven → SavesFollowed (LedOn follows well tells told.behind slaves left.site.seen) new line)
     → Ends (λ status. SavesLeft new line left status) result old new line
-    → Ends (SavesDesk (LedAtDesk (Soundly follows well) slaves opened) new line opened commands) result old new line
+    → Ends (SavesDesk (LedAtDesk follows well tells slaves opened told) new line opened commands) result old new line
 unfolding at_desk
-ends_at_desk follows well tells (Ok status) old new line slaves opened commands left leaves same serves sound followed ends = record {
+ends_at_desk {D} {T} follows well tells (Ok status) old new line slaves opened commands left told leaves same serves sound desk followed ends = record {
   others = ends.others;
   unsaved = tt;
   saved = record {
@@ -174,24 +177,35 @@ ends_at_desk follows well tells (Ok status) old new line slaves opened commands 
           recovered = led.recovered;
           held = led.held;
           way = record {
-            leads = record { left = left.site; served = served_soundly follows well tells opened commands left serves sound; behind = led.way.leads };
+            leads = record {
+              left = left.site;
+              served = subst (λ (t : DeskTold T). IsServedTold follows well tells opened t left.site) (sym desk)
+                  (served_soundly follows well tells opened commands left serves sound);
+              behind = led.way.leads;
+            };
             ends = led.way.ends;
           };
         };
   };
 }
-ends_at_desk follows well tells (Err fault) old new line slaves opened commands left leaves same serves sound followed ends =
+ends_at_desk {D} {T} follows well tells (Err fault) old new line slaves opened commands left told leaves same serves sound desk followed ends =
     record { others = ends.others; unsaved = ends.unsaved; saved = tt }
 
 -- ---- the station is opened
 
-pub ends_opened : {D : Type 0} (follows : D → Seen → Type 0) (result : Result ExitStatus WireFault) (old new : Known) (line : LineFile) (slaves : ℕ)
+-- what is said of what is told, if anything is
+pub told_weaker : {A : Type 0} {P Q : A → Type 0} (told : Option A) → ((a : A) → P a → Q a) → IsSomeAnd told P → IsSomeAnd told Q
+told_weaker (Some a) follows says = follows a says
+told_weaker None follows says = absurd says
+
+pub ends_opened : {D T : Type 0} (follows : D → Seen → Type 0) (well : D → Type 0) (tells : D → T → Type 0) (told : Option (LineTold T)) (result : Result ExitStatus WireFault) (old new : Known) (line : LineFile) (slaves : ℕ)
     (site : SiteValue) (was_old : Bool) (opened : Station) (commands : List Command) → was_old ≡ is_old site.seen.state.disk.bytes
     → StartsFrom was_old site opened → opened.line ≡ site.line → Follows site.seen opened.seen
-    → Ends (SavesDesk (LedAtDesk follows slaves opened) new line opened commands) result old new line
-    → Ends (SavesSite (EndsFollowed follows site slaves) new line site commands) result old new line
-ends_opened follows result old new line slaves site was_old opened commands by_version starts same opens ends =
-    ends_weaker (SavesDesk (LedAtDesk follows slaves opened) new line opened commands) (SavesSite (EndsFollowed follows site slaves) new line site commands)
+    → Ends (SavesDesk (λ last. IsSomeAnd told (λ t. LedAtDesk follows well tells slaves opened t last)) new line opened commands) result old new line
+    → Ends (SavesSite (λ last. IsSomeAnd told (λ t. EndsTold follows well tells site slaves t last)) new line site commands) result old new line
+ends_opened follows well tells told result old new line slaves site was_old opened commands by_version starts same opens ends =
+    ends_weaker (SavesDesk (λ last. IsSomeAnd told (λ t. LedAtDesk follows well tells slaves opened t last)) new line opened commands)
+    (SavesSite (λ last. IsSomeAnd told (λ t. EndsTold follows well tells site slaves t last)) new line site commands)
     result old new line
     (λ status saves. record {
       saves = record { opened = opened; starts = subst (λ (b : Bool). StartsFrom b site opened) by_version starts; serves = saves.serves };
@@ -201,19 +215,19 @@ ends_opened follows result old new line slaves site was_old opened commands by_v
             s = led.s;
             recovered = led.recovered;
             held = led.held;
-            way = record { leads = record { opened = opened; line = same; opens = opens; behind = led.way.leads }; ends = led.way.ends };
+            way = told_weaker told (λ t way. record { leads = record { opened = opened; line = same; opens = opens; behind = way.leads }; ends = way.ends }) led.way;
           };
     }) ends
 
 -- ---- the journal is opened
 
-pub ends_found : (Way : Seen → Type 0) (result : Result ExitStatus WireFault) (old mid new : Known) (line : LineFile) (plant : List (List ℕ))
+pub ends_found : (Way : Seen → Type 0) (worked : Worked ExitStatus WireTold) (old mid new : Known) (line : LineFile) (plant : List (List ℕ))
     (bytes : List ℕ) (site : SiteValue) (commands : List Command) → ChangesOnly old mid (string_bytes line.journal) → IsSiteOf plant bytes site
-    → ((s : Station) → HasRecovered s → Way s.seen → SlavesHold plant s)
-    → Ends (SavesSite Way new line site commands) result mid new line → EndsFound result old new line plant bytes commands
-ends_found Way result old mid new line plant bytes site commands only made hold ends =
-    ends_behind_open (SavesSite Way new line site commands) (λ status. SavesFound new line plant bytes commands status)
-    result old mid new line only
+    → ((s : Station) → HasRecovered s → Way s.seen → IsSomeAnd worked.told (SlavesHold plant s))
+    → Ends (SavesSite Way new line site commands) worked.ended mid new line → EndsFound worked old new line plant bytes commands
+ends_found Way worked old mid new line plant bytes site commands only made hold ends =
+    ends_behind_open (SavesSite Way new line site commands) (λ status. SavesFound new line plant bytes commands worked.told status)
+    worked.ended old mid new line only
     (λ status saves. record {
       site = site;
       made = made;
@@ -228,12 +242,12 @@ pub found_behind : (old mid : Known) (name : List ℕ) (line : LineFile) (plant 
     → IsFound mid name line plant bytes → IsFound old name line plant bytes
 found_behind old mid name line plant bytes same found = subst (λ (files : Known). IsFound files name line plant bytes) same found
 
-pub runs : (result : Result ExitStatus WireFault) (leads : Leads) (old found new : Known) (name script : List ℕ) (line : LineFile)
+pub runs : (worked : Worked ExitStatus WireTold) (leads : Leads) (old found new : Known) (name script : List ℕ) (line : LineFile)
     (plant : List (List ℕ)) (bytes : List ℕ) (commands : List Command) → IsFound old name line plant bytes
     → SpellsCommands old script commands → IsRunApart old leads None line name script → found ≡ old
-    → EndsFound result found new line plant bytes commands → RunsScript result leads old new name script
-runs result leads old found new name script line plant bytes commands given spelt apart same ends =
-    let P : Known → Type 0 = λ files. EndsFound result files new line plant bytes commands in
+    → EndsFound worked found new line plant bytes commands → RunsScript worked leads old new name script
+runs worked leads old found new name script line plant bytes commands given spelt apart same ends =
+    let P : Known → Type 0 = λ files. EndsFound worked files new line plant bytes commands in
     inr (record {
       line = line;
       plant = plant;

@@ -1,5 +1,6 @@
 -- Real slaves hold the contents of a station whose line was recovered on a wire.
-use Rattle.std.proofs.Common.{◌≡◌, ℕ, zero, suc, ◌+◌, ◌<◌, false, List, [], ◌∷◌, ◌++◌, length, map, get_or, inl, Some, slice_get, refl, sym, ap, subst, ◌∙◌, arith}
+use Rattle.std.proofs.Common.{◌≡◌, ℕ, zero, suc, ◌+◌, ◌<◌, false, List, [], ◌∷◌, ◌++◌, length, map, get_or, inl, Option, Some, IsTrue, Result, Ok, Err, slice_get, refl, sym, ap, subst, ◌∙◌, arith}
+use Rattle.std.specs.Prelude.{OnOk}
 use Rattle.std.specs.List.{AllByRecursion}
 use Rattle.std.proofs.lemmas.List.{length-map}
 use Rattle.std.proofs.lemmas.Option.{slice_get_within, slice_get-get_or}
@@ -12,7 +13,9 @@ use Rattle.site_core.specs.Times.{Follows}
 use Rattle.site_core.proofs.StopImages.{StopImage-same}
 use Rattle.site_shadow.specs.Site.{SiteValue}
 use Rattle.site_wire.specs.Likeness.{IsLike}
-use Rattle.site_wire.specs.Sent.{Exchanged}
+use Rattle.site_wire.specs.Sent.{Exchanged, exchanges}
+use Rattle.site_wire.specs.Told.{TellsWire}
+use Rattle.site_wire.specs.declared.device.WireTold.{WireTold}
 use Rattle.site_wire.specs.RealSlaves.{Lives}
 use Rattle.site_wire.specs.Following.{IsBehind, WireFollows}
 use Rattle.site_wire.specs.declared.device.WireDevice.{WireDevice}
@@ -25,11 +28,14 @@ use Rattle.station_alone.specs.Recovery.{HasRecovered}
 use Rattle.station_jobs.specs.declared.log.SlaveLog.{SlaveLog}
 use Rattle.station_jobs.specs.Ends.{Stay}
 use Rattle.station_threads.specs.Parts.{IsEndOfSlave}
-use Rattle.script_session.specs.Parts.{BeginsWith, EndsWith, IsWorkFollowed, Soundly}
+use Rattle.script_session.specs.declared.told.PartTold.{PartTold}
+use Rattle.script_session.specs.Parts.{AreToldOf, BeginsWith, EndsWith, Telling}
+use Rattle.station_jobs.specs.Working.{IsWorked}
 use Rattle.station_line.specs.Site.{IsFollowed, powered_up_from, switched_on}
-use Rattle.script_session.specs.AtDesk.{IsServedFollowed}
+use Rattle.script_session.specs.AtDesk.{IsServedTold}
 use Rattle.script_session.proofs.SlaveLaws.{placed-at}
-use Rattle.wire_session.specs.Slaves.{EndsFollowed, WasSent, SlavesHold}
+use Rattle.wire_session.specs.declared.told.LineTold.{LineTold}
+use Rattle.wire_session.specs.Slaves.{EndsTold, IsToldLine, KeepsTold, SlavesHold, sent_by, sent_to}
 
 -- PLACES
 
@@ -44,11 +50,43 @@ powered_at at (first ∷ plant) zero words here =
 powered_at at (first ∷ plant) (suc slave) words here =
     subst (λ (n : ℕ). slice_get (powered_up_from (at + 1) plant) slave ≡ Some (powered_up words n)) (omega arith) (powered_at (at + 1) plant slave words here)
 
-worker_at : {D : Type 0} (follows : D → Seen → Type 0) (ends : List (Stay SiteValue SlaveLog)) (k : ℕ) (end : Stay SiteValue SlaveLog)
-    → AllByRecursion (IsWorkFollowed follows) ends → slice_get ends k ≡ Some end → IsWorkFollowed follows end
-worker_at follows [] k end all here = absurd cc
-worker_at follows (e ∷ ends) zero end all here = let same : e ≡ end = cc in subst (IsWorkFollowed follows) same all.0
-worker_at follows (e ∷ ends) (suc k) end all here = worker_at follows ends k end all.1 here
+-- where the one holds in any case
+pub in_each : {V E : Type 0} {P : Type 0} (result : Result V E) → P → OnOk result P
+in_each (Ok value) holds = holds
+in_each (Err fault) holds = tt
+
+-- what is told of a part that ended soundly, and of whose device it is told
+record ToldAt {D T : Type 0} (follows : D → Seen → Type 0) (well : D → Type 0) (tells : D → T → Type 0) (told : List (PartTold T)) (k : ℕ)
+    (end : Stay SiteValue SlaveLog) : Type 0 where
+  part : PartTold T
+  here : slice_get told k ≡ Some part
+  worked : IsWorked end.log.slave end.log.jobs end.start.seen end.site.seen
+  followed : IsFollowed (KeepsTold follows well tells part.told) end.site.seen
+
+module _ {D T : Type 0} (follows : D → Seen → Type 0) (well : D → Type 0) (tells : D → T → Type 0) where
+  -- a device that ended soundly
+  keeps_told : (part : PartTold T) (seen : Seen) → IsTrue part.is_sound → IsFollowed (Telling follows well tells part) seen
+      → IsFollowed (KeepsTold follows well tells part.told) seen
+  keeps_told part seen sound is = let both = is.1.2 sound in (is.0, ((is.1.0, both.0, both.1), is.1.1))
+
+  -- a site whose device has told this, and has ended soundly
+  pub told_line : (part : PartTold T) (device : D) (seen : Seen) (slaves : ℕ) → Telling follows well tells part device seen → IsTrue part.is_sound
+      → slaves ≡ length seen.state.halves → IsToldLine follows well tells part.told slaves seen
+  told_line part device seen slaves telling sound count = record { ends = keeps_told part seen sound (device, telling); count = count }
+
+  told_at : (told : List (PartTold T)) (ends : List (Stay SiteValue SlaveLog)) (k : ℕ) (end : Stay SiteValue SlaveLog)
+      → AreToldOf follows well tells told ends → AllByRecursion (λ (part : PartTold T). IsTrue part.is_sound) told → slice_get ends k ≡ Some end
+      → ToldAt follows well tells told k end
+  told_at [] [] k end are sound here = absurd cc
+  told_at [] (e ∷ ends) k end are sound here = absurd are
+  told_at (part ∷ told) [] k end are sound here = absurd are
+  told_at (part ∷ told) (e ∷ ends) zero end are sound here =
+      let same : e ≡ end = cc in
+      subst (ToldAt follows well tells (part ∷ told) zero) same
+      (record { part = part; here = refl; worked = are.0.worked; followed = keeps_told part e.site.seen sound.0 are.0.followed })
+  told_at (part ∷ told) (e ∷ ends) (suc k) end are sound here =
+      let later = told_at told ends k end are.1 sound.1 here in
+      record { part = later.part; here = later.here; worked = later.worked; followed = later.followed }
 
 -- WHAT A POWER CUT LEAVES
 
@@ -108,64 +146,46 @@ goes_then slave a b c first second one two real later at behind lives =
     let mid = one real parts.mid at behind parts.before in
     two parts.mid later (sym mid.amended.station ∙ lives_station first real parts.mid parts.before ∙ behind.amended.station ∙ at) mid parts.behind
 
--- what one device sent to a slave
-record OneLog (slave : ℕ) (first half : SlaveHalf) : Type 0 where
-  log : List Exchanged
-  sent : WasSent log
-  goes : GoesOn slave first half log
-
--- what one device after the other sent to it
-record ThreeLogs (slave : ℕ) (first half : SlaveHalf) : Type 0 where
-  opening : List Exchanged
-  was_opened : WasSent opening
-  redoing : List Exchanged
-  was_redone : WasSent redoing
-  ending : List Exchanged
-  was_ended : WasSent ending
-  goes : GoesOn slave first half (opening ++ redoing ++ ending)
-
-joined : (slave : ℕ) (a b c d : SlaveHalf) → OneLog slave a b → OneLog slave b c → OneLog slave c d → ThreeLogs slave a d
-joined slave a b c d one two three = record {
-  opening = one.log;
-  was_opened = one.sent;
-  redoing = two.log;
-  was_redone = two.sent;
-  ending = three.log;
-  was_ended = three.sent;
-  goes = goes_then slave a c d (one.log ++ two.log) three.log (goes_then slave a b c one.log two.log one.goes two.goes) three.goes;
-}
+-- three devices one after the other
+goes_thrice : (slave : ℕ) (a b c d : SlaveHalf) (first second third : List Exchanged) → GoesOn slave a b first → GoesOn slave b c second → GoesOn slave c d third
+    → GoesOn slave a d (first ++ second ++ third)
+goes_thrice slave a b c d first second third one two three =
+    goes_then slave a c d (first ++ second) third (goes_then slave a b c first second one two) three
 
 module _ {L F C : Type 0} where
-  abbrev sound : WireDevice L F C → Seen → Type 0
-  sound = Soundly WireFollows (λ device. device.is_over ≡ false)
+  abbrev well : WireDevice L F C → Type 0
+  well device = device.is_over ≡ false
+
+  abbrev tells : WireDevice L F C → WireTold → Type 0
+  tells = TellsWire
 
   -- one device, from the first call of its site on
-  one_device : (slave : ℕ) (before now : Seen) (first half : SlaveHalf) → before.past ≡ [] → Follows before now → IsFollowed sound now
-      → slice_get before.state.halves slave ≡ Some first → slice_get now.state.halves slave ≡ Some half → OneLog slave first half
-  one_device slave before now first half new goes followed at_first at_now =
+  one_device : (slave : ℕ) (before now : Seen) (first half : SlaveHalf) (told : WireTold) → before.past ≡ [] → Follows before now
+      → IsFollowed (KeepsTold {D = WireDevice L F C} WireFollows well tells told) now
+      → slice_get before.state.halves slave ≡ Some first → slice_get now.state.halves slave ≡ Some half → GoesOn slave first half (exchanges told.sent)
+  one_device slave before now first half told new goes followed at_first at_now =
       let device = followed.0 in
-      let follows : WireFollows device now = followed.1.0 in
-      record {
-        log = follows.slaves.log;
-        sent = record { moment = device.sender.moment; sent = follows.slaves.has };
-        goes = λ real later station_is behind lives.
-            follows.slaves.follow followed.1.1 followed.1.2 slave first half real later
-            (ap (λ state. slice_get state.halves slave) (first_stays before now new goes) ∙ at_first) at_now station_is behind lives;
-      }
+      let follows : WireFollows device now = followed.1.0.0 in
+      let log : exchanges told.sent ≡ follows.slaves.log = ap exchanges followed.1.1.sent ∙ follows.slaves.has in
+      λ real later station_is behind lives.
+      follows.slaves.follow followed.1.0.1 followed.1.0.2 slave first half real later
+      (ap (λ state. slice_get state.halves slave) (first_stays before now new goes) ∙ at_first) at_now station_is behind
+      (subst (λ (l : List Exchanged). Lives l real later) log lives)
 
-  module _ (site : SiteValue) (slaves : ℕ) (s : Station) (new : site.seen.past ≡ []) (followed : EndsFollowed sound site slaves s.seen) where
+  module _ (site : SiteValue) (slaves : ℕ) (s : Station) (told : LineTold WireTold) (new : site.seen.past ≡ [])
+      (followed : EndsTold {D = WireDevice L F C} WireFollows well tells site slaves told s.seen) where
     abbrev opened : Station
     opened = followed.leads.opened
 
     abbrev left : SiteValue
     left = followed.leads.behind.left
 
-    abbrev served : IsServedFollowed sound opened left
+    abbrev served : IsServedTold {D = WireDevice L F C} WireFollows well tells opened told.desk left
     served = followed.leads.behind.served
 
-    three_logs : (slave : ℕ) (first half : SlaveHalf) → slice_get site.seen.state.halves slave ≡ Some first → slice_get s.seen.state.halves slave ≡ Some half
-        → slave < length opened.seen.state.halves → ThreeLogs slave first half
-    three_logs slave first half at_first at_last inside =
+    three_devices : (slave : ℕ) (first half : SlaveHalf) → slice_get site.seen.state.halves slave ≡ Some first → slice_get s.seen.state.halves slave ≡ Some half
+        → slave < length opened.seen.state.halves → GoesOn slave first half (sent_to slave told)
+    three_devices slave first half at_first at_last inside =
         let parts = served.served in
         let at_opened = slice_get-get_or opened.seen.state.halves slave (powered_up [] 0) inside in
         let mid = get_or opened.seen.state.halves slave (powered_up [] 0) in
@@ -173,21 +193,23 @@ module _ {L F C : Type 0} where
         let end = placed-at (λ place (x : SiteValue) (e : Stay SiteValue SlaveLog). IsEndOfSlave place x e) 0 parts.sites.slaves.items parts.ends.workers.items slave begun.0
         parts.of_sites.workers begun.1 in
         let back = placed-at EndsWith 0 parts.ends.workers.items left.seen.state.halves slave end.0 parts.together.halves end.1 in
-        let work = worker_at sound parts.ends.workers.items slave end.0 served.followed.parts.workers end.1 in
-        let one = one_device slave site.seen opened.seen first mid new followed.leads.opens served.followed.before at_first at_opened in
+        let work = told_at WireFollows well tells told.desk.slaves.items parts.ends.workers.items slave end.0 served.devices.slaves served.sound.slaves end.1 in
+        let before = keeps_told WireFollows well tells told.desk.line opened.seen served.sound.line served.devices.before in
+        let one = one_device slave site.seen opened.seen first mid told.desk.line.told new followed.leads.opens before at_first at_opened in
         let from_first : 0 + slave ≡ slave = omega arith in
         let start_is : end.0.start ≡ begun.0 = end.2.start in
-        let two = one_device slave end.0.start.seen end.0.site.seen mid back.0
+        let two = one_device slave end.0.start.seen end.0.site.seen mid back.0 work.part.told
         (ap (λ (x : SiteValue). x.seen.past) start_is ∙ begun.2.new) (worked_follows end.0.log.slave end.0.log.jobs end.0.start.seen end.0.site.seen work.worked)
         work.followed (ap (λ (x : SiteValue). slice_get x.seen.state.halves slave) start_is
         ∙ subst (λ (n : ℕ). slice_get begun.0.seen.state.halves n ≡ Some mid) from_first begun.2.has)
         (subst (λ (n : ℕ). slice_get end.0.site.seen.state.halves n ≡ Some back.0) from_first back.2) in
-        let three = one_device slave left.seen s.seen back.0 half parts.together.new followed.leads.behind.behind followed.ends.ends back.1 at_last in
-        joined slave first mid back.0 half one two three
+        let three = one_device slave left.seen s.seen back.0 half told.behind parts.together.new followed.leads.behind.behind followed.ends.ends back.1 at_last in
+        subst (λ (part : Option (PartTold WireTold)). GoesOn slave first half (exchanges told.desk.line.told.sent ++ sent_by part ++ exchanges told.behind.sent)) (sym work.here)
+        (goes_thrice slave first mid back.0 half (exchanges told.desk.line.told.sent) (exchanges work.part.told.sent) (exchanges told.behind.sent) one two three)
 
     -- each slave that was found with these words holds the contents
     pub slaves_hold : (plant : List (List ℕ)) (bytes : List ℕ) → site.seen ≡ switched_on plant bytes → site.line.sizes ≡ map length plant → slaves ≡ length plant
-        → HasRecovered s → SlavesHold plant s
+        → HasRecovered s → SlavesHold plant s told
     slaves_hold plant bytes found sizes count recovered slave words here =
         let within : slave < length plant = slice_get_within plant slave words here in
         let inside : slave < length opened.seen.state.halves =
@@ -198,15 +220,7 @@ module _ {L F C : Type 0} where
         let at_last = slice_get-get_or s.seen.state.halves slave (powered_up [] 0) last in
         let at_first : slice_get site.seen.state.halves slave ≡ Some (powered_up words (station slave)) =
         ap (λ (seen : Seen). slice_get seen.state.halves slave) found ∙ powered_at 0x1001 plant slave words here in
-        let logs = three_logs slave (powered_up words (station slave)) half at_first at_last inside in
-        record {
-          opening = logs.opening;
-          opened = logs.was_opened;
-          redoing = logs.redoing;
-          redone = logs.was_redone;
-          ending = logs.ending;
-          ended = logs.was_ended;
-          holds = λ real later like lives.
-              holds_contents s slave half later recovered at_last
-              (logs.goes real later refl (like_behind (powered_up words (station slave)) real refl like) lives);
-        }
+        let goes = three_devices slave (powered_up words (station slave)) half at_first at_last inside in
+        λ real later like lives.
+        holds_contents s slave half later recovered at_last
+        (goes real later refl (like_behind (powered_up words (station slave)) real refl like) lives)

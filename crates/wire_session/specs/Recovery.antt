@@ -1,5 +1,5 @@
 -- `init` and `recover` on a wire: what the files hold in the end.
-use Rattle.std.specs.Prelude.{◌≡◌, ◌⊎◌, ℕ, List, Result, IsErr, ⊤}
+use Rattle.std.specs.Prelude.{◌≡◌, ◌⊎◌, ℕ, List, Result, IsErr, IsSomeAnd, ⊤}
 use Rattle.site_core.specs.State.{Seen}
 use Rattle.station_text.specs.declared.line_file.LineFile.{LineFile}
 use Rattle.station_files.specs.Files.{Known}
@@ -13,6 +13,8 @@ use Rattle.station_line.specs.Site.{switched_on, HoldsSite}
 use Rattle.wire_faults.specs.declared.faults.WireFault.{WireFault}
 use Rattle.wire_faults.specs.declared.faults.WireFault.TheVariants as wire
 use Rattle.wire_scan.specs.Opening.{IsFound}
+use Rattle.site_wire.specs.declared.device.WireTold.{WireTold}
+use Rattle.wire_session.specs.declared.told.Worked.{Worked}
 use Rattle.wire_session.specs.Ending.{Ends}
 use Rattle.wire_session.specs.Slaves.{SlavesHold}
 
@@ -29,18 +31,18 @@ abbrev pub EndsRecovery : (Station → Type 0) → Result (Unit {0}) WireFault �
 EndsRecovery Hold result old new line before = Ends (λ done. SavesRecovered Hold new line before) result old new line
 
 -- The line was found, its files stand apart, and the site of the words on the wire and the journal's bytes was recovered as far as the result
--- says.
-pub record RecoversFound (result : Result (Unit {0}) WireFault) (leads : Leads) (old new : Known) (name : List ℕ) : Type 0 where
+-- says: the slaves too, by what is told of the devices.
+pub record RecoversFound (worked : Worked (Unit {0}) WireTold) (leads : Leads) (old new : Known) (name : List ℕ) : Type 0 where
   pub line : LineFile
   pub plant : List (List ℕ)
   pub bytes : List ℕ
   pub found : IsFound old name line plant bytes
   pub apart : IsLineApart leads line name
-  pub ends : EndsRecovery (SlavesHold plant) result old new line (switched_on plant bytes)
+  pub ends : EndsRecovery (λ s. IsSomeAnd worked.told (SlavesHold plant s)) worked.ended old new line (switched_on plant bytes)
 
 -- what `recover` does: it stops before it writes, or it recovers the line
-abbrev pub Recovers : Result (Unit {0}) WireFault → Leads → Known → Known → List ℕ → Type 0
-Recovers result leads old new name = (IsErr result × (new ≡ old)) ⊎ RecoversFound result leads old new name
+abbrev pub Recovers : Worked (Unit {0}) WireTold → Leads → Known → Known → List ℕ → Type 0
+Recovers worked leads old new name = (IsErr worked.ended × (new ≡ old)) ⊎ RecoversFound worked leads old new name
 
 -- `init` is refused as by the station, or before: then nothing was written.
 abbrev pub RefusesInit : Known → Known → Leads → List ℕ → WireFault → Type 0

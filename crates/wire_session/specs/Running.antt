@@ -1,5 +1,5 @@
 -- `run` on a wire: how the line that was found is served by threads, and what the files hold in the end.
-use Rattle.std.specs.Prelude.{◌≡◌, ◌⊎◌, ℕ, Bool, false, List, Result, None, IsErr, IsTrue}
+use Rattle.std.specs.Prelude.{◌≡◌, ◌⊎◌, ℕ, false, List, Result, Option, None, IsErr, IsTrue}
 use Rattle.sii_edit.specs.declared.command.Command.{Command}
 use Rattle.site_core.specs.State.{Seen}
 use Rattle.site_shadow.specs.Site.{SiteValue}
@@ -14,6 +14,9 @@ use Rattle.station_line.specs.Site.{IsSiteOf}
 use Rattle.script_session.specs.Saving.{SavesRun, SavesServed, Serves}
 use Rattle.wire_faults.specs.declared.faults.WireFault.{WireFault}
 use Rattle.wire_scan.specs.Opening.{IsFound}
+use Rattle.site_wire.specs.declared.device.WireTold.{WireTold}
+use Rattle.wire_session.specs.declared.told.LineTold.{LineTold}
+use Rattle.wire_session.specs.declared.told.Worked.{Worked}
 use Rattle.wire_session.specs.Ending.{Ends}
 use Rattle.wire_session.specs.Slaves.{SavesFollowed, SlavesAreSaved}
 
@@ -35,21 +38,21 @@ pub record SavesSite (Way : Seen → Type 0) (files : Known) (line : LineFile) (
   pub followed : IsTrue saves.serves.is_driven → SavesFollowed Way files line
 
 -- The files hold the state of a station that was served on a site of slaves with these words and a journal with these bytes. Where threads could be
--- made, so that the commands were submitted at a desk, so do the slaves.
+-- made, so that the commands were submitted at a desk, so do the slaves, by what is told of the devices.
 pub record SavesFound (files : Known) (line : LineFile) (plant : List (List ℕ)) (bytes : List ℕ) (commands : List Command)
-    (status : ExitStatus) : Type 0 where
+    (told : Option (LineTold WireTold)) (status : ExitStatus) : Type 0 where
   pub site : SiteValue
   pub made : IsSiteOf plant bytes site
   pub saves : SavesRun false files line site commands status
-  pub slaves : IsTrue saves.serves.is_driven → SlavesAreSaved plant files line
+  pub slaves : IsTrue saves.serves.is_driven → SlavesAreSaved plant files line told
 
 -- The same of the words that were found on the wire and the bytes of the journal.
-abbrev pub EndsFound : Result ExitStatus WireFault → Known → Known → LineFile → List (List ℕ) → List ℕ → List Command → Type 0
-EndsFound result old new line plant bytes commands =
-    Ends (λ status. SavesFound new line plant bytes commands status) result old new line
+abbrev pub EndsFound : Worked ExitStatus WireTold → Known → Known → LineFile → List (List ℕ) → List ℕ → List Command → Type 0
+EndsFound worked old new line plant bytes commands =
+    Ends (λ status. SavesFound new line plant bytes commands worked.told status) worked.ended old new line
 
 -- The line was found and the script read, their files stand apart, and the commands were run as far as the result says.
-pub record RunsFound (result : Result ExitStatus WireFault) (leads : Leads) (old new : Known) (name script : List ℕ) : Type 0 where
+pub record RunsFound (worked : Worked ExitStatus WireTold) (leads : Leads) (old new : Known) (name script : List ℕ) : Type 0 where
   pub line : LineFile
   pub plant : List (List ℕ)
   pub bytes : List ℕ
@@ -57,8 +60,8 @@ pub record RunsFound (result : Result ExitStatus WireFault) (leads : Leads) (old
   pub commands : List Command
   pub spelt : SpellsCommands old script commands
   pub apart : IsRunApart old leads None line name script
-  pub ends : EndsFound result old new line plant bytes commands
+  pub ends : EndsFound worked old new line plant bytes commands
 
 -- what `run` does: it stops before it writes, or it runs the commands
-abbrev pub RunsScript : Result ExitStatus WireFault → Leads → Known → Known → List ℕ → List ℕ → Type 0
-RunsScript result leads old new name script = (IsErr result × (new ≡ old)) ⊎ RunsFound result leads old new name script
+abbrev pub RunsScript : Worked ExitStatus WireTold → Leads → Known → Known → List ℕ → List ℕ → Type 0
+RunsScript worked leads old new name script = (IsErr worked.ended × (new ≡ old)) ⊎ RunsFound worked leads old new name script

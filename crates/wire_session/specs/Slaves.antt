@@ -1,46 +1,59 @@
 -- What real slaves hold behind a run or a recovery on a wire (ETG.1000.4, slave information interface).
-use Rattle.std.specs.Prelude.{◌≡◌, ℕ, List, ◌++◌, length, Some, slice_get}
+use Rattle.std.specs.Prelude.{◌≡◌, ℕ, List, [], ◌++◌, length, Option, Some, None, IsSomeAnd, slice_get}
 use Rattle.esc_model.specs.SlaveHalf.{SlaveHalf, powered_up}
 use Rattle.esc_model.specs.Orders.{station}
 use Rattle.site_core.specs.State.{Seen}
 use Rattle.site_core.specs.Times.{Follows}
 use Rattle.site_shadow.specs.Site.{SiteValue}
 use Rattle.site_wire.specs.Likeness.{IsLike}
-use Rattle.site_wire.specs.Sent.{Exchanged, HasSent}
+use Rattle.site_wire.specs.Sent.{Exchanged, exchanges}
 use Rattle.site_wire.specs.RealSlaves.{Lives}
+use Rattle.site_wire.specs.declared.device.WireTold.{WireTold}
 use Rattle.book_model.specs.Book.{base_of}
 use Rattle.station_alone.specs.Station.{Station}
 use Rattle.station_alone.specs.Recovery.{HasRecovered}
 use Rattle.station_text.specs.declared.line_file.LineFile.{LineFile}
 use Rattle.station_files.specs.Files.{Known}
 use Rattle.station_line.specs.Site.{IsFollowed, HoldsSite}
-use Rattle.script_session.specs.AtDesk.{IsServedFollowed}
+use Rattle.script_session.specs.AtDesk.{IsServedTold}
+use Rattle.script_session.specs.Parts.{Soundly}
+use Rattle.script_session.specs.declared.told.DeskTold.{DeskTold}
+use Rattle.script_session.specs.declared.told.PartTold.{PartTold}
+use Rattle.wire_session.specs.declared.told.LineTold.{LineTold}
 
 -- THE DEVICES
 
--- The line of this station was served at a desk, and calls alone led on behind it; devices have followed the station's site before the desk and each
--- part there.
-pub record LedBehindDesk {D : Type 0} (follows : D → Seen → Type 0) (opened : Station) (last : Seen) : Type 0 where
+-- A device has kept of its site what it keeps, nothing has failed that it was asked, the site goes on, and this is told of the device.
+abbrev pub KeepsTold : {D T : Type 0} → (D → Seen → Type 0) → (D → Type 0) → (D → T → Type 0) → T → D → Seen → Type 0
+KeepsTold follows well tells told device seen = Soundly follows well device seen × tells device told
+
+-- The line of this station was served at a desk, and calls alone led on behind it; this is told of the devices of the station's site before the desk
+-- and of each part there, which ended soundly.
+pub record LedBehindDesk {D T : Type 0} (follows : D → Seen → Type 0) (well : D → Type 0) (tells : D → T → Type 0) (told : DeskTold T)
+    (opened : Station) (last : Seen) : Type 0 where
   pub left : SiteValue
-  pub served : IsServedFollowed follows opened left
+  pub served : IsServedTold follows well tells opened told left
   pub behind : Follows left.seen last
 
 -- A station was opened on this site before that, by calls alone.
-pub record LedThroughout {D : Type 0} (follows : D → Seen → Type 0) (site : SiteValue) (last : Seen) : Type 0 where
+pub record LedThroughout {D T : Type 0} (follows : D → Seen → Type 0) (well : D → Type 0) (tells : D → T → Type 0) (told : DeskTold T)
+    (site : SiteValue) (last : Seen) : Type 0 where
   pub opened : Station
   pub line : opened.line ≡ site.line
   pub opens : Follows site.seen opened.seen
-  pub behind : LedBehindDesk follows opened last
+  pub behind : LedBehindDesk follows well tells told opened last
 
--- A device has followed this site at its end, and it has a half for each of so many slaves.
-pub record IsFollowedLine {D : Type 0} (follows : D → Seen → Type 0) (slaves : ℕ) (last : Seen) : Type 0 where
-  pub ends : IsFollowed follows last
+-- This is told of a device that has followed this site at its end, and it has a half for each of so many slaves.
+pub record IsToldLine {D T : Type 0} (follows : D → Seen → Type 0) (well : D → Type 0) (tells : D → T → Type 0) (told : T) (slaves : ℕ)
+    (last : Seen) : Type 0 where
+  pub ends : IsFollowed (KeepsTold follows well tells told) last
   pub count : slaves ≡ length last.state.halves
 
--- Devices have followed this site, its parts at a desk, and the site behind it.
-pub record EndsFollowed {D : Type 0} (follows : D → Seen → Type 0) (site : SiteValue) (slaves : ℕ) (last : Seen) : Type 0 where
-  pub leads : LedThroughout follows site last
-  pub ends : IsFollowedLine follows slaves last
+-- Devices have followed this site, its parts at a desk, and the site behind it, and this is told of them.
+pub record EndsTold {D T : Type 0} (follows : D → Seen → Type 0) (well : D → Type 0) (tells : D → T → Type 0) (site : SiteValue)
+    (slaves : ℕ) (told : LineTold T) (last : Seen) : Type 0 where
+  pub leads : LedThroughout follows well tells told.desk site last
+  pub ends : IsToldLine follows well tells told.behind slaves last
 
 -- A site was recovered, the files hold its state then, and `Way` is said of what led there.
 pub record SavesFollowed (Way : Seen → Type 0) (files : Known) (line : LineFile) : Type 0 where
@@ -49,39 +62,38 @@ pub record SavesFollowed (Way : Seen → Type 0) (files : Known) (line : LineFil
   pub held : HoldsSite files line s.seen.state
   pub way : Way s.seen
 
--- from this site on calls alone led there, and a device has followed it
-pub record LedOn {D : Type 0} (follows : D → Seen → Type 0) (slaves : ℕ) (before last : Seen) : Type 0 where
+-- from this site on calls alone led there, and this is told of a device that has followed it
+pub record LedOn {D T : Type 0} (follows : D → Seen → Type 0) (well : D → Type 0) (tells : D → T → Type 0) (told : T) (slaves : ℕ)
+    (before last : Seen) : Type 0 where
   pub leads : Follows before last
-  pub ends : IsFollowedLine follows slaves last
+  pub ends : IsToldLine follows well tells told slaves last
 
 -- the line of this station was served at a desk on the way
-pub record LedAtDesk {D : Type 0} (follows : D → Seen → Type 0) (slaves : ℕ) (opened : Station) (last : Seen) : Type 0 where
-  pub leads : LedBehindDesk follows opened last
-  pub ends : IsFollowedLine follows slaves last
+pub record LedAtDesk {D T : Type 0} (follows : D → Seen → Type 0) (well : D → Type 0) (tells : D → T → Type 0) (slaves : ℕ)
+    (opened : Station) (told : LineTold T) (last : Seen) : Type 0 where
+  pub leads : LedBehindDesk follows well tells told.desk opened last
+  pub ends : IsToldLine follows well tells told.behind slaves last
 
 -- THE SLAVES
 
--- A device had sent this by some moment.
-pub record WasSent (log : List Exchanged) : Type 0 where
-  pub moment : ℕ
-  pub sent : HasSent moment log
+-- what the device of a slave's part has sent
+abbrev pub sent_by : Option (PartTold WireTold) → List Exchanged
+sent_by (Some part) = exchanges part.told.sent
+sent_by None = []
 
--- What was sent since the line was found, by three devices one after the other: as the journal was opened, at the desk, and behind it. A real slave
--- at this place that was as it was found, with these words, and that could have answered so, holds its contents now.
-pub record SlaveHolds (slave : ℕ) (words : List ℕ) (contents : List (List ℕ)) : Type 0 where
-  pub opening : List Exchanged
-  pub opened : WasSent opening
-  pub redoing : List Exchanged
-  pub redone : WasSent redoing
-  pub ending : List Exchanged
-  pub ended : WasSent ending
-  pub holds : (real later : SlaveHalf) → IsLike (powered_up words (station slave)) real → Lives (opening ++ redoing ++ ending) real later
-      → slice_get contents slave ≡ Some later.words
+-- What was sent since the line was found, by three devices one after the other: as the journal was opened; at the desk, to this slave; and behind it.
+abbrev pub sent_to : (slave : ℕ) → LineTold WireTold → List Exchanged
+sent_to slave told = exchanges told.desk.line.told.sent ++ sent_by (slice_get told.desk.slaves.items slave) ++ exchanges told.behind.sent
 
--- Each slave that was found with these words holds the contents of this station.
-abbrev pub SlavesHold : List (List ℕ) → Station → Type 0
-SlavesHold plant s = (slave : ℕ) (words : List ℕ) → slice_get plant slave ≡ Some words → SlaveHolds slave words (base_of s.book)
+-- A real slave at this place that was as it was found, with these words, and that could have answered so to what was sent, holds its contents now.
+abbrev pub SlaveHolds : (slave : ℕ) → (words : List ℕ) → List (List ℕ) → LineTold WireTold → Type 0
+SlaveHolds slave words contents told = (real later : SlaveHalf) → IsLike (powered_up words (station slave)) real
+    → Lives (sent_to slave told) real later → slice_get contents slave ≡ Some later.words
 
--- The files hold the state of a line that was recovered, and each slave that was found with these words holds its contents.
-abbrev pub SlavesAreSaved : List (List ℕ) → Known → LineFile → Type 0
-SlavesAreSaved plant files line = (s : Station) × HasRecovered s × HoldsSite files line s.seen.state × SlavesHold plant s
+-- By what was told of the devices, each slave that was found with these words holds the contents of this station.
+abbrev pub SlavesHold : List (List ℕ) → Station → LineTold WireTold → Type 0
+SlavesHold plant s told = (slave : ℕ) (words : List ℕ) → slice_get plant slave ≡ Some words → SlaveHolds slave words (base_of s.book) told
+
+-- The files hold the state of a line that was recovered, and by what was told each slave that was found with these words holds its contents.
+abbrev pub SlavesAreSaved : List (List ℕ) → Known → LineFile → Option (LineTold WireTold) → Type 0
+SlavesAreSaved plant files line told = (s : Station) × HasRecovered s × HoldsSite files line s.seen.state × IsSomeAnd told (SlavesHold plant s)

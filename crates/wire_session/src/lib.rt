@@ -8,9 +8,12 @@ mod recovery;
 mod redoing;
 mod reporting;
 mod running;
+mod saving;
 mod threads;
+mod told;
 
 pub use init::{begin_journal, init_on_wire};
 pub use planning::plan_on_wire;
 pub use recovery::recover_line;
 pub use running::{RunOrder, run_script};
+pub use told::{LineTold, Worked};

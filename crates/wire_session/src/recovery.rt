@@ -1,27 +1,28 @@
 //! The subcommand `recover`.
-ghost use Rattle.std.specs.Prelude.{◌≡◌, ◌≤◌, length, IfErr, IsTrue, OnOk};
+ghost use Rattle.std.specs.Prelude.{◌≡◌, ◌≤◌, length, IsSomeAnd, IsTrue, OnOk};
 ghost use Rattle.esc_rom.specs.Owned.{OwnsAll};
 ghost use Rattle.station_files.specs.Files.{ChangesAmong};
 ghost use Rattle.station_line.specs.Site.{files_of, switched_on, HoldsSite};
-ghost use Rattle.wire_faults.specs.Faults.{IsOfStream};
-ghost use Rattle.script_session.specs.Parts.{Soundly};
+ghost use Rattle.wire_session.specs.Ending.{LeavesImages};
 ghost use Rattle.wire_session.specs.Recovery.{EndsRecovery, Recovers};
-ghost use Rattle.wire_session.specs.Slaves.{EndsFollowed, SlavesHold};
+ghost use Rattle.wire_session.specs.Slaves.{EndsTold, IsToldLine, SlavesHold};
+ghost use Rattle.wire_session.specs.Reporting.{IsPrinted};
 
 use crate::as_found::AsFound;
-use crate::redoing::recover_by_threads;
+use crate::redoing::{ByThreads, recover_by_threads};
 use crate::reporting::{report_end, tell_why};
+use crate::saving::save_told;
+use crate::told::{LineTold, Worked};
 use line_changes::Before;
-use script_session::is_sound;
 use sii_words::Plant;
 use site_file::FileDevice;
-use site_shadow::{Device, Lends, ShadowSite};
-use site_wire::{LiveLine, LockedLine, WireDevice};
+use site_shadow::{Lends, ShadowSite};
+use site_wire::{LiveLine, LockedLine, WireDevice, WireTold};
 use station_alone::Recovered;
 use station_files::{Fault, Store};
-use station_line::{save_site, site_of, write_recovered};
+use station_line::{site_of, write_recovered};
 use station_text::LineFile;
-use std::alloc::Global;
+use std::alloc::{AllocError, Global};
 use std::io::Write;
 use std::rt::Clock;
 use std::sync::Wait;
@@ -54,7 +55,7 @@ pub fn recover_line<
     asked: Asked,
     store: &mut S,
     output: &mut O,
-) -> Result<(), WireFault>
+) -> Worked<(), WireTold>
     ensures { Recovers result S.leads (S.files store.old) (S.files store.new) name.now }
 {
     let mut wire = wire;
@@ -66,7 +67,7 @@ pub fn recover_line<
         Ok(found) => recover_found(rt, found, wire, store, output),
         Err(fault) => {
             drop(wire);
-            Err(fault)
+            Worked::failed(fault)
         }
     }
 }
@@ -83,12 +84,12 @@ fn recover_found<
     wire: NumberedWire<W>,
     store: &mut S,
     output: &mut O,
-) -> Result<(), WireFault>
+) -> Worked<(), WireTold>
     requires some { 1 ≤ length found.slaves.items }
     requires most { length found.slaves.items ≤ 64 }
     requires count { length found.slaves.items ≡ length found.line.images.items }
-    ensures { EndsRecovery (SlavesHold found.slaves.items) result (S.files store.old) (S.files store.new) found.line
-        (switched_on found.slaves.items found.journal.items) }
+    ensures { EndsRecovery (λ s. IsSomeAnd result.told (SlavesHold found.slaves.items s)) result.ended
+        (S.files store.old) (S.files store.new) found.line (switched_on found.slaves.items found.journal.items) }
 {
     let Found {
         line,
@@ -104,14 +105,17 @@ fn recover_found<
         slaves: &slaves,
         journal,
     };
-    let ended = recover_opened(rt, as_found, &locked, store, output);
+    let Worked { ended, told } = recover_opened(rt, as_found, &locked, store, output);
     let explained = tell_why(rt, &locked, ended);
     let mut wire = locked.into_line().into_wire();
     hand_back(&mut wire, &states);
     drop(wire);
     let words = Plant::of(slaves);
     let before = Before { line, words };
-    report_end(rt.alloc(), tells, &before, explained, store, output)
+    Worked {
+        ended: report_end(rt.alloc(), tells, &before, explained, store, output),
+        told,
+    }
 }
 
 /// Opens the journal of a line, and recovers the line.
@@ -126,22 +130,30 @@ fn recover_opened<
     locked: &LockedLine<W>,
     store: &mut S,
     output: &mut O,
-) -> Result<(), WireFault>
+) -> Worked<(), WireTold>
     requires some { 1 ≤ length found.slaves.now }
     requires most { length found.slaves.now ≤ 64 }
     requires count { length found.slaves.now ≡ length found.line.now.images.items }
-    ensures { EndsRecovery (SlavesHold found.entry.slaves.now) result (S.files store.old) (S.files store.new) found.entry.line.now
-        (switched_on found.entry.slaves.now found.entry.journal.items) }
+    ensures { EndsRecovery (λ s. IsSomeAnd result.told (SlavesHold found.entry.slaves.now s)) result.ended
+        (S.files store.old) (S.files store.new) found.entry.line.now (switched_on found.entry.slaves.now found.entry.journal.items) }
 {
     let AsFound {
         line,
         slaves,
         journal,
     } = found;
-    let files = open_journal(rt.alloc(), line, store)?;
+    let files = match open_journal(rt.alloc(), line, store) {
+        Ok(files) => files,
+        Err(fault) => {
+            drop(journal);
+            return Worked::of_fault(fault);
+        }
+    };
     let device = WireDevice::shared(locked.shared(rt), rt, FileDevice::new(files));
-    let site = site_of(rt.alloc(), slaves, journal, device)?;
-    recover_site(rt, line, site, store, output)
+    match site_of(rt.alloc(), slaves, journal, device) {
+        Ok(site) => recover_site(rt, line, site, store, output),
+        Err(AllocError) => Worked::of_fault(Fault::Memory),
+    }
 }
 
 /// Recovers a line, and saves what its slaves hold to their image files. `Unserved` where something has failed that the device was asked, though
@@ -152,43 +164,64 @@ fn recover_site<R: Wait + Threads + AllocGlobal + Sync, D: Lends + Send, S: Stor
     site: ShadowSite<D>,
     store: &mut S,
     output: &mut O,
-) -> Result<(), WireFault>
+) -> Worked<(), D::Told>
     requires disk { IsTrue site.line.has_disk }
     requires owned { OwnsAll site.line }
-    ensures { EndsRecovery (λ s. EndsFollowed (Soundly D.follows D.well) site (length line.now.images.items) s.seen)
-        result (S.files store.old) (S.files store.new) line.now site.seen }
+    ensures { EndsRecovery (λ s. IsSomeAnd result.told (λ told. EndsTold D.follows D.well D.tells site (length line.now.images.items) told s.seen))
+        result.ended (S.files store.old) (S.files store.new) line.now site.seen }
 {
     match recover_by_threads(rt, site, line.images.len()) {
-        Ok((alone, recovered)) => {
+        Ok(redone) => {
+            let ByThreads {
+                alone,
+                recovered,
+                told: desk,
+            } = redone;
             let (core, left) = alone.into_parts();
             drop(core);
-            if is_sound(&left) {
-                save_recovered(rt.alloc(), line, left, recovered, store, output)
-            } else {
-                drop(left);
-                Err(WireFault::Station(Fault::Unserved))
+            let (ended, behind) = save_recovered(rt.alloc(), line, left, recovered, store, output);
+            Worked {
+                ended,
+                told: Some(LineTold { desk, behind }),
             }
         }
-        Err(fault) => Err(WireFault::Station(fault)),
+        Err(fault) => Worked::of_fault(fault),
     }
 }
 
-/// Saves what the slaves hold, and prints what was recovered.
-fn save_recovered<D: Device + Drop, S: Store, O: Write>(
+/// Saves what the slaves hold, prints what was recovered, and gives what is told of the device.
+fn save_recovered<D: Lends, S: Store, O: Write>(
     alloc: Global,
     line: &LineFile,
     site: ShadowSite<D>,
     recovered: Recovered,
     store: &mut S,
     output: &mut O,
-) -> Result<(), WireFault>
+) -> (Result<(), WireFault>, D::Told)
     requires disk { IsTrue site.line.has_disk }
     requires slaves { length site.line.sizes ≡ length line.now.images.items }
-    ensures saved { OnOk result (HoldsSite (S.files store.new) line.now site.seen.state) }
+    ensures saved { OnOk result.0 (HoldsSite (S.files store.new) line.now site.seen.state) }
     ensures others { ChangesAmong (S.files store.old) (S.files store.new) (files_of line.now) }
-    ensures failed { IfErr result IsOfStream }
+    ensures failed { LeavesImages result.0 (S.files store.old) (S.files store.new) line.now }
+    ensures told { OnOk result.0 (IsToldLine D.follows D.well D.tells result.1 (length line.now.images.items) site.seen) }
 {
-    save_site(alloc, line, site, store)?;
-    write_recovered(recovered, output)?;
-    Ok(())
+    let (saved, told) = save_told(alloc, line, site, store);
+    (print_saved(saved, recovered, output), told)
+}
+
+/// Prints what was recovered, if that was saved.
+fn print_saved<O: Write>(
+    saved: Result<(), Fault>,
+    recovered: Recovered,
+    output: &mut O,
+) -> Result<(), WireFault>
+    ensures { IsPrinted saved result }
+{
+    match saved {
+        Ok(()) => {
+            write_recovered(recovered, output)?;
+            Ok(())
+        }
+        Err(fault) => Err(WireFault::Station(fault)),
+    }
 }

@@ -2,13 +2,13 @@
 ghost use Rattle.std.specs.Prelude.{◌≡◌, ◌+◌, IfOk, IsTrue};
 ghost use Rattle.esc_rom.specs.Owned.{OwnsAll};
 ghost use Rattle.station_alone.specs.Recovery.{BeginsRecovered, HasRecovered};
-ghost use Rattle.script_session.specs.Parts.{IsLineOf, Soundly};
+ghost use Rattle.script_session.specs.Parts.{IsLineOf};
 ghost use Rattle.script_session.specs.Redoing.{IsOpenedHere};
 ghost use Rattle.site_core.specs.Times.{Follows};
 ghost use Rattle.wire_session.specs.Slaves.{LedBehindDesk, LedThroughout};
 ghost use Rattle.wire_session.specs.Redoing.{BeginsAgain, CountsAll, RecoversBehind, RecoversByThreads, RedoesOpened};
 
-use script_session::{Redone, redo_by_threads};
+use script_session::{DeskTold, Redone, redo_by_threads};
 use site_shadow::{Device, Lends, ShadowSite};
 use station_alone::{Alone, Found, Recovered, recover};
 use station_files::Fault;
@@ -16,6 +16,16 @@ use station_line::of_open;
 use std::alloc::Global;
 use std::sync::Wait;
 use std::thread::Threads;
+
+/// A line that threads have redone, and that was recovered behind them.
+#[derive(Drop)]
+pub(crate) struct ByThreads<A, T> {
+    /// The station behind it.
+    pub(crate) alone: A,
+    pub(crate) recovered: Recovered,
+    /// What is told of the devices up to the end of the desk.
+    pub(crate) told: DeskTold<T>,
+}
 
 /// Opens a station on this line of `slaves` slaves, has threads redo what is live in its journal, and recovers the line behind them: retires
 /// what they have left live, and migrates an old journal. Where no thread can be made, this one does it all.
@@ -29,14 +39,14 @@ pub(crate) fn recover_by_threads<R: Wait + Threads + AllocGlobal + Sync, D: Lend
     rt: &R,
     site: ShadowSite<D>,
     slaves: usize,
-) -> Result<(Alone<ShadowSite<D>>, Recovered), Fault>
+) -> Result<ByThreads<Alone<ShadowSite<D>>, D::Told>, Fault>
     requires disk { IsTrue site.line.has_disk }
     requires owned { OwnsAll site.line }
-    ensures line { IfOk result (λ r. IsLineOf slaves r.0.line) }
-    ensures recovered { IfOk result (λ r. HasRecovered r.0) }
-    ensures begins { IfOk result (λ r. BeginsRecovered site.seen r.0) }
-    ensures counts { IfOk result (λ r. RecoversByThreads site r.1 r.0) }
-    ensures followed { IfOk result (λ r. LedThroughout (Soundly D.follows D.well) site r.0.seen) }
+    ensures line { IfOk result (λ r. IsLineOf slaves r.alone.line) }
+    ensures recovered { IfOk result (λ r. HasRecovered r.alone) }
+    ensures begins { IfOk result (λ r. BeginsRecovered site.seen r.alone) }
+    ensures counts { IfOk result (λ r. RecoversByThreads site r.recovered r.alone) }
+    ensures told { IfOk result (λ r. LedThroughout D.follows D.well D.tells r.told site r.alone.seen) }
 {
     match Alone::open_counted(rt.alloc(), site) {
         Ok((alone, found)) => redo_opened(rt, alone, found, slaves),
@@ -53,38 +63,43 @@ fn redo_opened<R: Wait + Threads + AllocGlobal + Sync, D: Lends + Send>(
     alone: Alone<ShadowSite<D>>,
     found: Found,
     slaves: usize,
-) -> Result<(Alone<ShadowSite<D>>, Recovered), Fault>
+) -> Result<ByThreads<Alone<ShadowSite<D>>, D::Told>, Fault>
     requires opened { IsOpenedHere alone }
-    ensures line { IfOk result (λ r. IsLineOf slaves r.0.line) }
-    ensures recovered { IfOk result (λ r. HasRecovered r.0) }
-    ensures begins { IfOk result (λ r. BeginsAgain alone r.0) }
-    ensures counts { IfOk result (λ r. RedoesOpened alone found r.1 r.0) }
-    ensures followed { IfOk result (λ r. LedBehindDesk (Soundly D.follows D.well) alone r.0.seen) }
+    ensures line { IfOk result (λ r. IsLineOf slaves r.alone.line) }
+    ensures recovered { IfOk result (λ r. HasRecovered r.alone) }
+    ensures begins { IfOk result (λ r. BeginsAgain alone r.alone) }
+    ensures counts { IfOk result (λ r. RedoesOpened alone found r.recovered r.alone) }
+    ensures told { IfOk result (λ r. LedBehindDesk D.follows D.well D.tells r.told alone r.alone.seen) }
 {
     let redone = redo_by_threads(rt, rt.alloc(), alone, slaves)?;
-    let Redone { site, words } = redone;
-    recover_behind(rt.alloc(), site, found, words)
+    recover_behind(rt.alloc(), redone, found)
 }
 
-/// Recovers a line on which threads have issued `sent` words.
-fn recover_behind<D: Device + Drop>(
+/// Recovers a line that threads have redone.
+fn recover_behind<D: Device + Drop, T: Drop>(
     alloc: Global,
-    site: ShadowSite<D>,
+    redone: Redone<ShadowSite<D>, T>,
     found: Found,
-    sent: u64,
-) -> Result<(Alone<ShadowSite<D>>, Recovered), Fault>
-    requires disk { IsTrue site.line.has_disk }
-    requires owned { OwnsAll site.line }
-    ensures line { IfOk result (λ r. r.0.line ≡ site.line) }
-    ensures recovered { IfOk result (λ r. HasRecovered r.0) }
-    ensures begins { IfOk result (λ r. BeginsRecovered site.seen r.0) }
-    ensures counts { IfOk result (λ r. RecoversBehind site found sent r.1 r.0) }
-    ensures follows { IfOk result (λ r. Follows site.seen r.0.seen) }
+) -> Result<ByThreads<Alone<ShadowSite<D>>, T>, Fault>
+    requires disk { IsTrue redone.site.line.has_disk }
+    requires owned { OwnsAll redone.site.line }
+    ensures line { IfOk result (λ r. r.alone.line ≡ redone.site.line) }
+    ensures told { IfOk result (λ r. r.told ≡ redone.told) }
+    ensures recovered { IfOk result (λ r. HasRecovered r.alone) }
+    ensures begins { IfOk result (λ r. BeginsRecovered redone.site.seen r.alone) }
+    ensures counts { IfOk result (λ r. RecoversBehind redone.site found redone.words r.recovered r.alone) }
+    ensures follows { IfOk result (λ r. Follows redone.site.seen r.alone.seen) }
 {
+    let Redone { site, told, words } = redone;
     match recover(alloc, site) {
-        Ok((alone, behind)) => Ok((alone, count_all(found, sent, behind))),
+        Ok((alone, behind)) => Ok(ByThreads {
+            alone,
+            recovered: count_all(found, words, behind),
+            told,
+        }),
         Err((left, fault)) => {
             drop(left);
+            drop(told);
             Err(of_open(fault))
         }
     }

@@ -1,7 +1,6 @@
 //! The subcommand `run`.
-ghost use Rattle.std.specs.Prelude.{◌≡◌, ◌≤◌, ◌∷◌, ◌++◌, length, None, IfOk, IsTrue, OnOk};
+ghost use Rattle.std.specs.Prelude.{◌≡◌, ◌≤◌, ◌∷◌, ◌++◌, length, None, IfOk, IsSomeAnd, IsTrue, OnOk};
 ghost use Rattle.esc_rom.specs.Owned.{OwnsAll};
-ghost use Rattle.script_session.specs.Parts.{Soundly};
 ghost use Rattle.station_files.specs.FileNames.{files_with, spelt, written_of};
 ghost use Rattle.station_files.specs.Locations.{AreApart};
 ghost use Rattle.station_files.specs.ScriptFiles.{SpellsCommands};
@@ -10,22 +9,23 @@ ghost use Rattle.station_line.specs.Opened.{is_old};
 ghost use Rattle.wire_scan.specs.Opening.{IsFound};
 ghost use Rattle.wire_session.specs.Ending.{Ends};
 ghost use Rattle.wire_session.specs.Running.{EndsFound, RunsScript, SavesSite};
-ghost use Rattle.wire_session.specs.Slaves.{EndsFollowed};
+ghost use Rattle.wire_session.specs.Slaves.{EndsTold};
 
 use crate::as_found::AsFound;
 use crate::reporting::{report_end, tell_handed, tell_why};
 use crate::threads::run_threads;
+use crate::told::Worked;
 use line_changes::Before;
 use script_session::Work;
 use sii_edit::Command;
 use sii_words::Plant;
 use site_file::FileDevice;
 use site_shadow::{Lends, ShadowSite};
-use site_wire::{LiveLine, LockedLine, WireDevice};
-use station_files::{ExitStatus, Script, Store, load_script_files};
+use site_wire::{LiveLine, LockedLine, WireDevice, WireTold};
+use station_files::{ExitStatus, Fault, Script, Store, load_script_files};
 use station_line::{is_old, of_open, open_station, site_of};
 use station_text::LineFile;
-use std::alloc::Global;
+use std::alloc::{AllocError, Global};
 use std::io::Write;
 use std::rt::Clock;
 use std::sync::Wait;
@@ -80,7 +80,7 @@ pub fn run_script<
     order: RunOrder<'_>,
     store: &mut S,
     output: &mut O,
-) -> Result<ExitStatus, WireFault>
+) -> Worked<ExitStatus, WireTold>
     ensures { RunsScript result S.leads (S.files store.old) (S.files store.new) order.entry.named.line.now order.entry.named.script.now }
 {
     let mut wire = wire;
@@ -91,7 +91,7 @@ pub fn run_script<
         }
         Err(fault) => {
             drop(wire);
-            Err(fault)
+            Worked::failed(fault)
         }
     }
 }
@@ -169,7 +169,7 @@ fn run_found<
     wire: NumberedWire<W>,
     store: &mut S,
     output: &mut O,
-) -> Result<ExitStatus, WireFault>
+) -> Worked<ExitStatus, WireTold>
     requires some { 1 ≤ length found.slaves.items }
     requires most { length found.slaves.items ≤ 64 }
     requires count { length found.slaves.items ≡ length found.line.images.items }
@@ -193,7 +193,10 @@ fn run_found<
         slaves: &slaves,
         journal,
     };
-    let ended = run_opened(rt, as_found, &locked, work, store, output);
+    let Worked {
+        ended,
+        told: of_devices,
+    } = run_opened(rt, as_found, &locked, work, store, output);
     let explained = tell_why(rt, &locked, ended);
     let mut wire = locked.into_line().into_wire();
     hand_back(&mut wire, &states);
@@ -201,7 +204,10 @@ fn run_found<
     drop(wire);
     let words = Plant::of(slaves);
     let before = Before { line, words };
-    report_end(rt.alloc(), tells, &before, told, store, output)
+    Worked {
+        ended: report_end(rt.alloc(), tells, &before, told, store, output),
+        told: of_devices,
+    }
 }
 
 /// Opens the journal of a line, and runs the commands.
@@ -217,7 +223,7 @@ fn run_opened<
     work: Work,
     store: &mut S,
     output: &mut O,
-) -> Result<ExitStatus, WireFault>
+) -> Worked<ExitStatus, WireTold>
     requires some { 1 ≤ length found.slaves.now }
     requires most { length found.slaves.now ≤ 64 }
     requires count { length found.slaves.now ≡ length found.line.now.images.items }
@@ -229,11 +235,23 @@ fn run_opened<
         slaves,
         journal,
     } = found;
-    let files = open_journal(rt.alloc(), line, store)?;
+    let files = match open_journal(rt.alloc(), line, store) {
+        Ok(files) => files,
+        Err(fault) => {
+            drop(journal);
+            drop(work);
+            return Worked::of_fault(fault);
+        }
+    };
     let was_old = is_old(&journal);
     let device = WireDevice::shared(locked.shared(rt), rt, FileDevice::new(files));
-    let site = site_of(rt.alloc(), slaves, journal, device)?;
-    run_site(rt, line, Start { site, was_old }, work, store, output)
+    match site_of(rt.alloc(), slaves, journal, device) {
+        Ok(site) => run_site(rt, line, Start { site, was_old }, work, store, output),
+        Err(AllocError) => {
+            drop(work);
+            Worked::of_fault(Fault::Memory)
+        }
+    }
 }
 
 /// Opens the station on this line, and serves the commands by threads.
@@ -244,12 +262,13 @@ fn run_site<R: Wait + Threads + AllocGlobal + Sync, D: Lends + Send, S: Store, O
     work: Work,
     store: &mut S,
     output: &mut O,
-) -> Result<ExitStatus, WireFault>
+) -> Worked<ExitStatus, D::Told>
     requires disk { IsTrue start.site.line.has_disk }
     requires owned { OwnsAll start.site.line }
     requires old { start.was_old ≡ is_old start.site.seen.state.disk.bytes }
-    ensures { Ends (SavesSite (EndsFollowed (Soundly D.follows D.well) start.site (length line.now.images.items)) (S.files store.new) line.now
-        start.site work.commands.items) result (S.files store.old) (S.files store.new) line.now }
+    ensures { Ends (SavesSite (λ last. IsSomeAnd result.told (λ told.
+        EndsTold D.follows D.well D.tells start.site (length line.now.images.items) told last)) (S.files store.new) line.now
+        start.site work.commands.items) result.ended (S.files store.old) (S.files store.new) line.now }
 {
     let Start { site, was_old } = start;
     match open_station(rt.alloc(), site, was_old, None) {
@@ -257,7 +276,7 @@ fn run_site<R: Wait + Threads + AllocGlobal + Sync, D: Lends + Send, S: Store, O
         Err((left, fault)) => {
             drop(left);
             drop(work);
-            Err(WireFault::Station(of_open(fault)))
+            Worked::of_fault(of_open(fault))
         }
     }
 }

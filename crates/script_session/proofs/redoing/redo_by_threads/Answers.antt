@@ -1,11 +1,11 @@
 use Rattle.std.proofs.Common.{◌∙◌, ap, arith, refl, sym, subst, length, List, Result}
-use Rattle.std.specs.Prelude.{IsTrue}
+use Rattle.std.specs.Prelude.{IsTrue, OnOk}
 use Rattle.site_core.specs.Line.{Line}
 use Rattle.site_core.specs.State.{Seen}
 use Rattle.book_model.specs.Book.{Book}
 use Rattle.station_files.specs.declared.faults.Fault.{Fault}
 use Rattle.script_session.specs.AtDesk.{EndsFollowed}
-use Rattle.script_session.specs.Parts.{AreSound, IsApart}
+use Rattle.script_session.specs.Parts.{AreSound, IsApart, IsDeskTold}
 use Rattle.site_shadow.specs.Site.{SiteValue}
 use Rattle.station_jobs.specs.declared.log.SlaveLog.{SlaveLog}
 use Rattle.station_jobs.specs.Ends.{Stay}
@@ -32,8 +32,8 @@ returns-in-Ok-sound-clause-redone g c =
     (c.of.ensures.core ∙ parts.ensures.book) parts.ensures.seen c.in-Ok.ensures.sites.apart desk.of_sites desk.closes c.in_ok-site.ensures.together.0
     (subst (λ (l : List (Stay SiteValue SlaveLog)). IsCount (issues_of l) words) c.as_slice.ensures.value c.issues_of-words.ensures)
 
-pub returns-in-Ok-sound-clause-followed : goal.returns-in-Ok-sound-clause-followed
-returns-in-Ok-sound-clause-followed g c =
+pub returns-in-Ok-sound-clause-told : goal.returns-in-Ok-sound-clause-told
+returns-in-Ok-sound-clause-told g c =
     let parts = c.into_parts-core in
     let sound = c.judge_ends-sound in
     let sites = c.in-Ok.prepared.sites in
@@ -55,4 +55,6 @@ returns-in-Ok-sound-clause-followed g c =
           (ap (λ (l : Line). length l.sizes) (sym parts.ensures.line) ∙ c.prepare.ensures.count)
           (on_ok sound.result (λ (both : AreSound put.told × IsTrue c.disk_is_synced-is_synced.result).
           (both.0, c.disk_is_synced-is_synced.ensures both.1)) sound.ensures) c.put_together.ensures.followed);
+      devices = subst (λ (s : Seen). IsDeskTold follows well g.D.Lends.tells s put.told ends) parts.ensures.seen (put.ensures.told parts.result.1.seen c.in-Ok.ensures.told);
+      sound = (subst (λ (r : Result (Unit {0}) Fault). OnOk r (AreSound put.told × IsTrue c.disk_is_synced-is_synced.result)) c.in-Ok-sound.is sound.ensures).0;
     }

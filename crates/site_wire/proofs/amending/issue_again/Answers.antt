@@ -19,8 +19,8 @@ pub returns-in_err-answer : goal.returns-in_err-answer
 returns-in_err-answer g c =
     let d = write_order c.args.slave c.args.write.word c.args.write.value in
     let answer = option_map found_of c.pass.result in
-    own_then c.args.slave c.args.half.now c.args.line.now.moment c.clear.new.line.moment c.pass.new.self.moment c.clear.ensures
-    (own_once c.args.slave c.args.half.now c.clear.new.line.moment c.pass.new.self.moment (exchanged d answer)
+    own_then c.args.slave c.args.half.now c.args.line.now.log.all c.clear.new.line.log.all c.pass.new.self.log.all c.clear.ensures
+    (own_once c.args.slave c.args.half.now c.clear.new.line.log.all c.pass.new.self.log.all (exchanged d answer)
     (c.pass.ensures d c.write_frame.ensures)
     (write_own c.args.slave c.args.half.now c.args.write answer c.requires.slave (omega arith) (omega arith) c.requires.flying))
 
@@ -28,7 +28,7 @@ pub returns : goal.returns
 returns g c =
     let d = write_order c.args.slave c.args.write.word c.args.write.value in
     let answer = option_map found_of c.pass.result in
-    own_then c.args.slave c.args.half.now c.args.line.now.moment c.clear.new.line.moment c.pass.new.self.moment c.clear.ensures
-    (own_once c.args.slave c.args.half.now c.clear.new.line.moment c.pass.new.self.moment (exchanged d answer)
+    own_then c.args.slave c.args.half.now c.args.line.now.log.all c.clear.new.line.log.all c.pass.new.self.log.all c.clear.ensures
+    (own_once c.args.slave c.args.half.now c.clear.new.line.log.all c.pass.new.self.log.all (exchanged d answer)
     (c.pass.ensures d c.write_frame.ensures)
     (write_own c.args.slave c.args.half.now c.args.write answer c.requires.slave (omega arith) (omega arith) c.requires.flying))

@@ -29,54 +29,54 @@ pass-requires g c = record {
 
 pub returns-in_err-taken : goal.returns-in_err-taken
 returns-in_err-taken g c =
-    tried_asking c.args.slave c.args.word c.args.held c.args.half.now c.requires.slave c.args.line.now.moment c.pass.new.self.moment
+    tried_asking c.args.slave c.args.word c.args.held c.args.half.now c.requires.slave c.args.line.now.log.all c.pass.new.self.log.all
     (option_map found_of c.pass.result) (c.pass.ensures (words_order c.args.slave c.args.word c.args.held) c.read_frame.ensures)
     c.from_residual.result (λ pair is. absurd (let e : None ≡ Some (tried.Read pair) = sym c.from_residual.ensures ∙ is in cc))
 
 pub returns-in_err-shown : goal.returns-in_err-shown
 returns-in_err-shown g c =
-    tried_polling c.args.slave c.args.word c.args.held c.args.half.now c.requires.slave c.args.line.now.moment c.pass.new.self.moment
+    tried_polling c.args.slave c.args.word c.args.held c.args.half.now c.requires.slave c.args.line.now.log.all c.pass.new.self.log.all
     (option_map found_of c.pass.result) (c.pass.ensures (words_order c.args.slave c.args.word c.args.held) c.read_frame.ensures)
-    c.wait_idle.new.line.moment c.wait_idle.result c.wait_idle.ensures
+    c.wait_idle.new.line.log.all c.wait_idle.result c.wait_idle.ensures
     c.from_residual-in_err-shown.result
     (λ pair is. absurd (let e : None ≡ Some (tried.Read pair) = sym c.from_residual-in_err-shown.ensures ∙ is in cc))
 
 pub returns-then-eq : goal.returns-then-eq
 returns-then-eq g c =
-    tried_polling c.args.slave c.args.word c.args.held c.args.half.now c.requires.slave c.args.line.now.moment c.pass.new.self.moment
+    tried_polling c.args.slave c.args.word c.args.held c.args.half.now c.requires.slave c.args.line.now.log.all c.pass.new.self.log.all
     (option_map found_of c.pass.result) (c.pass.ensures (words_order c.args.slave c.args.word c.args.held) c.read_frame.ensures)
-    c.wait_idle.new.line.moment c.wait_idle.result c.wait_idle.ensures (Some tried.Unseen) (λ pair is. absurd cc)
+    c.wait_idle.new.line.log.all c.wait_idle.result c.wait_idle.ensures (Some tried.Unseen) (λ pair is. absurd cc)
 
 pub returns-then-taken-ne1 : goal.returns-then-taken-ne1
 returns-then-taken-ne1 g c =
-    tried_polling c.args.slave c.args.word c.args.held c.args.half.now c.requires.slave c.args.line.now.moment c.pass.new.self.moment
+    tried_polling c.args.slave c.args.word c.args.held c.args.half.now c.requires.slave c.args.line.now.log.all c.pass.new.self.log.all
     (option_map found_of c.pass.result) (c.pass.ensures (words_order c.args.slave c.args.word c.args.held) c.read_frame.ensures)
-    c.wait_idle.new.line.moment c.wait_idle.result c.wait_idle.ensures (Some tried.Refused) (λ pair is. absurd cc)
+    c.wait_idle.new.line.log.all c.wait_idle.result c.wait_idle.ensures (Some tried.Refused) (λ pair is. absurd cc)
 
 pub returns-in_err-fetched : goal.returns-in_err-fetched
 returns-in_err-fetched g c =
-    tried_fetching c.args.slave c.args.word c.args.held c.args.half.now c.requires.slave c.args.line.now.moment c.pass.new.self.moment
+    tried_fetching c.args.slave c.args.word c.args.held c.args.half.now c.requires.slave c.args.line.now.log.all c.pass.new.self.log.all
     (option_map found_of c.pass.result) (c.pass.ensures (words_order c.args.slave c.args.word c.args.held) c.read_frame.ensures)
-    c.wait_idle.new.line.moment c.wait_idle.result c.wait_idle.ensures
-    c.pass-2.new.self.moment (option_map found_of c.pass-2.result) (c.pass-2.ensures (fetch_order c.args.slave) c.frame_for-fetch.ensures)
+    c.wait_idle.new.line.log.all c.wait_idle.result c.wait_idle.ensures
+    c.pass-2.new.self.log.all (option_map found_of c.pass-2.result) (c.pass-2.ensures (fetch_order c.args.slave) c.frame_for-fetch.ensures)
     c.from_residual-in_err-fetched.result
     (λ pair is. absurd (let e : None ≡ Some (tried.Read pair) = sym c.from_residual-in_err-fetched.ensures ∙ is in cc))
 
 pub returns-in-Some : goal.returns-in-Some
 returns-in-Some g c =
-    tried_reading c.args.slave c.args.word c.args.held c.args.half.now c.requires.slave c.args.line.now.moment c.pass.new.self.moment
+    tried_reading c.args.slave c.args.word c.args.held c.args.half.now c.requires.slave c.args.line.now.log.all c.pass.new.self.log.all
     (option_map found_of c.pass.result) (c.pass.ensures (words_order c.args.slave c.args.word c.args.held) c.read_frame.ensures)
-    c.wait_idle.new.line.moment c.wait_idle.result c.wait_idle.ensures
+    c.wait_idle.new.line.log.all c.wait_idle.result c.wait_idle.ensures
     (omega arith) (found_of c.in_ok-taken.taken) (ap (option_map found_of) c.in_ok-taken.was)
     c.if-taken-ne1.false (c.in_ok-shown.was ∙ ap (λ (s : Shown). Some s) (well_by c.in_ok-shown.shown (sym c.if-ne.ensures)))
-    c.pass-2.new.self.moment (option_map found_of c.pass-2.result) (found_of c.in_ok-fetched.fetched) c.in-Some.pair
+    c.pass-2.new.self.log.all (option_map found_of c.pass-2.result) (found_of c.in_ok-fetched.fetched) c.in-Some.pair
     (ap (option_map found_of) c.in_ok-fetched.was) c.in-Some.ensures
     (c.pass-2.ensures (fetch_order c.args.slave) c.frame_for-fetch.ensures)
 
 pub returns-in-None : goal.returns-in-None
 returns-in-None g c =
-    tried_fetching c.args.slave c.args.word c.args.held c.args.half.now c.requires.slave c.args.line.now.moment c.pass.new.self.moment
+    tried_fetching c.args.slave c.args.word c.args.held c.args.half.now c.requires.slave c.args.line.now.log.all c.pass.new.self.log.all
     (option_map found_of c.pass.result) (c.pass.ensures (words_order c.args.slave c.args.word c.args.held) c.read_frame.ensures)
-    c.wait_idle.new.line.moment c.wait_idle.result c.wait_idle.ensures
-    c.pass-2.new.self.moment (option_map found_of c.pass-2.result) (c.pass-2.ensures (fetch_order c.args.slave) c.frame_for-fetch.ensures)
+    c.wait_idle.new.line.log.all c.wait_idle.result c.wait_idle.ensures
+    c.pass-2.new.self.log.all (option_map found_of c.pass-2.result) (c.pass-2.ensures (fetch_order c.args.slave) c.frame_for-fetch.ensures)
     (Some tried.Refused) (λ pair is. absurd cc)

@@ -8,13 +8,13 @@ use Rattle.site_wire.proofs.amending.wait_idle.Goals as goal
 
 pub returns-in_err-pass : goal.returns-in_err-pass
 returns-in_err-pass g c =
-    polls_more c.args.slave c.args.line.now.moment c.loop-poll.line.moment c.pass.new.self.moment None c.from_residual.result
+    polls_more c.args.slave c.args.line.now.log.all c.loop-poll.line.log.all c.pass.new.self.log.all None c.from_residual.result
     (option_map found_of c.pass.result) c.loop-poll.invariant (c.pass.ensures (poll_order c.args.slave) c.frame_for-poll.ensures)
     (λ is. absurd (let e : None ≡ Some shown.Well = sym c.from_residual.ensures ∙ is in cc))
 
 pub returns-in_default : goal.returns-in_default
 returns-in_default g c =
-    polls_more c.args.slave c.args.line.now.moment c.loop-poll.line.moment c.pass.new.self.moment None (Some c.state_shown.result)
+    polls_more c.args.slave c.args.line.now.log.all c.loop-poll.line.log.all c.pass.new.self.log.all None (Some c.state_shown.result)
     (option_map found_of c.pass.result) c.loop-poll.invariant (c.pass.ensures (poll_order c.args.slave) c.frame_for-poll.ensures)
     (λ is. record {
       found = found_of c.in_ok-pass.field-0;
@@ -24,10 +24,10 @@ returns-in_default g c =
 
 pub returns-then-uncounted-ge-UNCOUNTED : goal.returns-then-uncounted-ge-UNCOUNTED
 returns-then-uncounted-ge-UNCOUNTED g c =
-    polls_more c.args.slave c.args.line.now.moment c.loop-poll.line.moment c.pass.new.self.moment None _
+    polls_more c.args.slave c.args.line.now.log.all c.loop-poll.line.log.all c.pass.new.self.log.all None _
     (option_map found_of c.pass.result) c.loop-poll.invariant (c.pass.ensures (poll_order c.args.slave) c.frame_for-poll.ensures) (λ is. absurd cc)
 
 pub loop-poll-preserved : goal.loop-poll-preserved
 loop-poll-preserved g c =
-    polls_more c.args.slave c.args.line.now.moment c.loop-poll.line.moment c.pass.new.self.moment None None
+    polls_more c.args.slave c.args.line.now.log.all c.loop-poll.line.log.all c.pass.new.self.log.all None None
     (option_map found_of c.pass.result) c.loop-poll.invariant (c.pass.ensures (poll_order c.args.slave) c.frame_for-poll.ensures) (λ is. absurd cc)

@@ -1,5 +1,4 @@
-use Rattle.script_session.specs.Parts.{Soundly}
-use Rattle.wire_session.proofs.BehindDesk.{followed-behind, again-behind, counts-behind, line-behind}
+use Rattle.wire_session.proofs.BehindDesk.{told-behind, again-behind, counts-behind, line-behind}
 use Rattle.wire_session.proofs.redoing.redo_opened.Goals as goal
 
 pub returns-clause-line : goal.returns-clause-line
@@ -16,7 +15,7 @@ returns-clause-counts g c =
     counts-behind c.recover_behind.result c.args.alone c.args.found c.in_ok-redone.redone.site c.in_ok-redone.redone.words
     c.in_ok-redone.ensures.redone c.recover_behind.ensures.counts
 
-pub returns-clause-followed : goal.returns-clause-followed
-returns-clause-followed g c =
-    followed-behind (Soundly g.D.Device.follows g.D.Device.well) c.recover_behind.result c.args.alone c.in_ok-redone.redone.site c.in_ok-redone.ensures.followed
-    c.recover_behind.ensures.follows
+pub returns-clause-told : goal.returns-clause-told
+returns-clause-told g c =
+    told-behind g.D.Device.follows g.D.Device.well g.D.Lends.tells c.recover_behind.result c.args.alone c.in_ok-redone.redone.told c.in_ok-redone.redone.site
+    c.in_ok-redone.ensures.told c.recover_behind.ensures.follows c.recover_behind.ensures.told

@@ -8,8 +8,8 @@ pub returns : goal.returns
 returns g c =
     let found = c.args.found in
     ends_told
-    (λ (files : Known) (status : ExitStatus). SavesFound files found.line found.slaves.items found.journal.items c.args.commands.items status)
-    c.run_opened-ended.result c.tell_why-explained.result c.report_end.result (g.S.Store.files c.args.store.now)
+    (λ (files : Known) (status : ExitStatus). SavesFound files found.line found.slaves.items found.journal.items c.args.commands.items c.run_opened-ended.result.told status)
+    c.run_opened-ended.result.ended c.tell_why-explained.result c.report_end.result (g.S.Store.files c.args.store.now)
     (g.S.Store.files c.run_opened-ended.new.store) (g.S.Store.files c.report_end.new.store) found.line
     c.report_end.ensures.same c.tell_why-explained.ensures
     (reported_twice c.tell_why-explained.result c.tell_handed-told.result c.report_end.result c.tell_handed-told.ensures.reported c.report_end.ensures.reported)

@@ -1,4 +1,5 @@
-use Rattle.std.proofs.Common.{ℕ, ◌∷◌, [], sym, subst, ◌∙◌}
+use Rattle.site_wire.specs.declared.sending.Exchange.{Exchange}
+use Rattle.std.proofs.Common.{List, ℕ, ◌∷◌, [], sym, subst, ◌∙◌}
 use Rattle.std.specs.Prelude.{Option}
 use Rattle.std.specs.Option.{option_map}
 use Rattle.ecat_frame.specs.Frame.{pdu}
@@ -11,21 +12,21 @@ use Rattle.site_wire.proofs.device.WireDevice.send.Goals as goal
 -- src/device.rt:320:13
 pub returns-in_default-clause-sends : goal.returns-in_default-clause-sends
 returns-in_default-clause-sends g c =
-    for_once c.args.slave c.args.half.now (pdu c.args.sent) c.args.self.now.sender.moment c.pass.new.self.sender.moment c.pass.new.self.returned
+    for_once c.args.slave c.args.half.now (pdu c.args.sent) c.args.self.now.sender.log.all c.pass.new.self.sender.log.all c.pass.new.self.returned
     c.pass.new.self.is_over c.pass.new.self.resting
     (c.pass.ensures.rests ∙ c.prepare.ensures.rests ∙ c.requires.stays) c.requires.to
-    (subst (λ (n : ℕ). Sends n c.pass.new.self.sender.moment (exchanged (pdu c.args.sent) (option_map found_of c.pass.new.self.returned) ∷ []))
-    c.prepare.ensures.moment c.pass.ensures.sends)
+    (subst (λ (s : List Exchange). Sends s c.pass.new.self.sender.log.all (exchanged (pdu c.args.sent) (option_map found_of c.pass.new.self.returned) ∷ []))
+    c.prepare.ensures.sent c.pass.ensures.sends)
     c.pass.ensures.over c.requires.quiet c.requires.news (λ going. sym c.in_flight.ensures.write ∙ c.in_default.is)
 
 -- src/device.rt:305:5
 pub returns-clause-sends : goal.returns-clause-sends
 returns-clause-sends g c =
     let flying = sym c.in_flight.ensures.write ∙ c.in-Some.is in
-    for_word c.args.slave c.args.half.now (pdu c.args.sent) c.args.self.now.sender.moment c.pass.new.self.sender.moment c.follow.new.self.sender.moment
+    for_word c.args.slave c.args.half.now (pdu c.args.sent) c.args.self.now.sender.log.all c.pass.new.self.sender.log.all c.follow.new.self.sender.log.all
     c.in-Some-returned.answer c.in-Some.write c.follow.new.self.is_over c.follow.new.self.resting c.requires.to
-    (subst (λ (a : Option Answer). Sends c.args.self.now.sender.moment c.pass.new.self.sender.moment (exchanged (pdu c.args.sent) (option_map found_of a) ∷ []))
+    (subst (λ (a : Option Answer). Sends c.args.self.now.sender.log.all c.pass.new.self.sender.log.all (exchanged (pdu c.args.sent) (option_map found_of a) ∷ []))
     c.in-Some-returned.is
-    (subst (λ (n : ℕ). Sends n c.pass.new.self.sender.moment (exchanged (pdu c.args.sent) (option_map found_of c.pass.new.self.returned) ∷ []))
-    c.prepare.ensures.moment c.pass.ensures.sends))
+    (subst (λ (s : List Exchange). Sends s c.pass.new.self.sender.log.all (exchanged (pdu c.args.sent) (option_map found_of c.pass.new.self.returned) ∷ []))
+    c.prepare.ensures.sent c.pass.ensures.sends))
     (c.requires.quiet (is_busy_of c.args.half.now c.in-Some.write flying)) flying c.follow.ensures.up

@@ -8,4 +8,4 @@ returns-clause-follows g c =
     read_keeps c.args.self.now c.end_call.new.self c.end_call.result
     (handed_on (ReadsJournal c.args.self.now.journal) c.read-passing.result c.end_call.result c.read-passing.new.self c.end_call.new.self.journal
     c.end_call.ensures.same c.end_call.ensures.journal c.read-passing.ensures.asks)
-    (record { moment = c.end_call.ensures.quiet.moment; over = c.end_call.ensures.quiet.over }) c.end_call.ensures.well
+    (record { sent = c.end_call.ensures.quiet.sent; over = c.end_call.ensures.quiet.over }) c.end_call.ensures.well

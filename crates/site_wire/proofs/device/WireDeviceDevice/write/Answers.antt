@@ -9,4 +9,4 @@ returns-clause-follows g c =
     write_keeps c.args.at c.args.bytes.now c.args.self.now c.end_call.new.self c.end_call.result
     (handed_on (CallsJournal (writes c.args.at c.args.bytes.now) c.args.self.now.journal) c.write-passing.result c.end_call.result c.write-passing.new.self c.end_call.new.self.journal
     c.end_call.ensures.same c.end_call.ensures.journal c.write-passing.ensures.asks)
-    (record { moment = c.end_call.ensures.quiet.moment; over = c.end_call.ensures.quiet.over }) c.end_call.ensures.well
+    (record { sent = c.end_call.ensures.quiet.sent; over = c.end_call.ensures.quiet.over }) c.end_call.ensures.well

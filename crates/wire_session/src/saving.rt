@@ -1,0 +1,54 @@
+//! Saves what the slaves of a line on a wire hold, and tells of its device.
+ghost use Rattle.std.specs.Prelude.{◌≡◌, length, IfErr, IsTrue, OnOk};
+ghost use Rattle.station_files.specs.Files.{ChangesAmong};
+ghost use Rattle.station_line.specs.Site.{HoldsSite, files_of};
+ghost use Rattle.wire_session.specs.Ending.{MayFail};
+ghost use Rattle.wire_session.specs.Slaves.{IsToldLine};
+
+use script_session::{PartTold, told_by};
+use site_core::Site;
+use site_shadow::{Lends, Parts, ShadowSite};
+use station_files::{Fault, Store};
+use station_line::save_parts;
+use station_text::LineFile;
+use std::alloc::Global;
+
+/// Saves what a line holds, as `save_site` does, and gives what is told of its device.
+///
+/// # Errors
+///
+/// `Unserved` where the site has stopped, or something has failed that its device was asked, though the station was told of nothing; then nothing is
+/// written. Then as for `save_site`.
+pub(crate) fn save_told<D: Lends, S: Store>(
+    alloc: Global,
+    line: &LineFile,
+    site: ShadowSite<D>,
+    store: &mut S,
+) -> (Result<(), Fault>, D::Told)
+    requires disk { IsTrue site.line.has_disk }
+    requires slaves { length site.line.sizes ≡ length line.now.images.items }
+    ensures saved { OnOk result.0 (HoldsSite (S.files store.new) line.now site.seen.state) }
+    ensures others { ChangesAmong (S.files store.old) (S.files store.new) (files_of line.now) }
+    ensures failed { IfErr result.0 (MayFail (S.files store.old) (S.files store.new)) }
+    ensures told { OnOk result.0 (IsToldLine D.follows D.well D.tells result.1 (length line.now.images.items) site.seen) }
+{
+    // Its contract says that there is a half for each slave.
+    let _slaves = site.slaves();
+    let has_stopped = site.has_stopped();
+    let (parts, mut device) = site.into_parts();
+    let PartTold { told, is_sound } = told_by(&mut device, has_stopped);
+    drop(device);
+    if !is_sound {
+        drop(parts);
+        return (Err(Fault::Unserved), told);
+    }
+    let Parts {
+        sizes: _,
+        disk,
+        halves,
+        process: _,
+    } = parts;
+    let journal = disk.unwrap();
+    let saved = save_parts(alloc, line, &journal, &halves, store);
+    (saved, told)
+}

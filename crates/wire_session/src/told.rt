@@ -1,0 +1,54 @@
+//! What is told of the devices of a line on a wire.
+ghost use Rattle.std.specs.Prelude.{◌≡◌, Err};
+ghost use Rattle.wire_faults.specs.declared.faults.WireFault.TheVariants as wire;
+
+use script_session::DeskTold;
+use station_files::Fault;
+use wire_faults::WireFault;
+
+/// What is told of the devices of a line that was served at a desk. `T` is what one device tells.
+#[derive(Drop)]
+pub struct LineTold<T> {
+    /// Of the line's device as the station was opened, and of its parts' at the desk.
+    pub desk: DeskTold<T>,
+    /// Of the line's device behind the desk.
+    pub behind: T,
+}
+
+/// How the work on a line ended, and what is told of its devices.
+#[derive(Drop)]
+pub struct Worked<V, T> {
+    /// The value, or the fault that ended the work.
+    pub ended: Result<V, WireFault>,
+    /// None where no desk has served the line, or a fault came before the line's device could tell.
+    pub told: Option<LineTold<T>>,
+}
+
+impl<V, T: Drop> Worked<V, T> {
+    /// How the work ended. What is told is lost.
+    pub fn into_ended(self) -> Result<V, WireFault>
+        ensures { result ≡ self.ended }
+    {
+        let Worked { ended, told: _ } = self;
+        ended
+    }
+}
+
+impl<V, T> Worked<V, T> {
+    /// A fault ended the work, and nothing is told.
+    pub(crate) fn failed(fault: WireFault) -> Worked<V, T>
+        ensures { result.ended ≡ Err fault }
+    {
+        Worked {
+            ended: Err(fault),
+            told: None,
+        }
+    }
+
+    /// The same of a fault that isn't of the wire.
+    pub(crate) fn of_fault(fault: Fault) -> Worked<V, T>
+        ensures { result.ended ≡ Err (wire.Station fault) }
+    {
+        Worked::failed(WireFault::Station(fault))
+    }
+}
