@@ -63,6 +63,8 @@ impl<S: Store> Store for InputScript<'_, S> {
 
     ghost leads = { but_scripts S.leads };
 
+    ghost opened = { S.opened };
+
     type File = S::File;
 
     type Lock = S::Lock;

@@ -36,8 +36,14 @@ use Rattle.script_session.specs.declared.closing.Ending.{Ending}
 use Rattle.script_session.specs.declared.threads.Left.{Left}
 use Rattle.script_session.specs.declared.threads.NotServed.{NotServed}
 use Rattle.script_session.specs.declared.told.PartTold.{PartTold}
-use Rattle.script_session.specs.Parts.{Sites, AreFollowed, AreSound, BeginsWith, EndsSynced, HasDiskOf, IsApart, IsDeskTold, IsServable, AreEndsOfParts}
-use Rattle.script_session.specs.AtDesk.{seen_of, Closes, ClosesWith, DeskServes, EndsApart, EndsSo, IsServedAtDesk, IsStopped}
+use Rattle.script_session.specs.declared.told.UnservedTold.{UnservedTold}
+use Rattle.station_jobs.specs.declared.log.SlaveLog.{SlaveLog}
+use Rattle.station_jobs.specs.Ends.{Stay}
+use Rattle.station_threads.specs.Parts.{IsEndOfSlave}
+use Rattle.station_threads.proofs.PlaceLaws.{placed-long}
+use Rattle.script_session.specs.Parts.{Sites, AreFollowed, AreSound, BeginsWith, EndsSynced, HasDiskOf, IsApart, IsDeskLeft, IsDeskTold, IsLineTold, IsServable, AreEndsOfParts}
+use Rattle.script_session.specs.AtDesk as at_desk
+use Rattle.script_session.specs.AtDesk.{seen_of, Closes, ClosesWith, DeskServes, IsUnservedTold, EndsSo, IsServedAtDesk, IsStopped}
 use Rattle.script_session.specs.Parts.{IsTogether, Telling}
 use Rattle.script_session.specs.AtDesk.{IsStoppedAtDesk, LeavesSo, ServesFollowed, TellsWhy}
 use Rattle.script_session.proofs.AskLaws.{all-received}
@@ -273,10 +279,30 @@ module _ (opened : Station) (commands : List Command) (book : Book) (seen : Seen
     serves-parts well tells line (Err fault) is told sound before count all = tt
 
     -- or not
-    pub ends-apart : {T : Type 0} (result : Result (Left SiteValue T) NotServed) → AreFollowed follows at.ends
-        → IfErr result (λ (why : NotServed). IsTrue why.is_begun → EndsApart follows opened commands)
-    ends-apart (Ok left) followed = tt
-    ends-apart (Err why) followed = λ begun. record { ending = at.ending; desk = desk-serves at.ending refl; followed = followed }
+    pub ends-apart : {T : Type 0} (well : D → Type 0) (tells : D → T → Type 0) (line : PartTold T) (result : Result (Left SiteValue T) (NotServed T))
+        → IsFollowed (Telling follows well tells line) seen
+        → IfErr result (λ (why : NotServed T). IsDeskLeft follows well tells line at.ends why.told)
+        → IfErr result (λ (why : NotServed T). IsUnservedTold follows well tells opened commands why.told)
+    ends-apart well tells line (Ok left) before is = tt
+    ends-apart well tells line (Err why) before is =
+        subst (IsUnservedTold follows well tells opened commands) (sym is.desk)
+        (at_desk.desk is.devices at.ending (desk-serves at.ending refl)
+        (is.tells_them opened.seen (subst (IsFollowed (Telling follows well tells line)) of_seen before)))
+
+-- no desk began
+pub line-told : {D T : Type 0} (follows : D → Seen → Type 0) (well : D → Type 0) (tells : D → T → Type 0) (opened : Station) (commands : List Command)
+    (seen : Seen) (told : UnservedTold T) → seen ≡ opened.seen → IsLineTold follows well tells seen told
+    → IsUnservedTold follows well tells opened commands told
+line-told follows well tells opened commands seen told of_seen is =
+    subst (IsUnservedTold follows well tells opened commands) (sym is.line)
+    (at_desk.line is.part (subst (IsFollowed (Telling follows well tells is.part)) of_seen is.tells_it))
+
+-- as many workers end as there are sites of slaves
+pub as-many-ends : (sites : Sites) (ends : Ends SiteValue) (room : ℕ) → AreEndsOfParts sites ends → length sites.slaves.items ≤ room
+    → length ends.workers.items ≤ room
+as-many-ends sites ends room of_sites enough =
+    let long = placed-long (λ slave (site : SiteValue) (end : Stay SiteValue SlaveLog). IsEndOfSlave slave site end) 0 sites.slaves.items ends.workers.items of_sites.workers in
+    omega (arith, long, enough)
 
 -- where no fault is told, the desk was closed, and the line was served
 pub served-told : (opened : Station) (commands : List Command) (ending : Ending) (site : SiteValue) → ending.told ≡ Ok tt → LeavesSo opened commands ending site → IsServedAtDesk opened commands ending.is_driven ending.status (Ok tt) site

@@ -1,6 +1,6 @@
 -- EEPROM halves that are put into sites, and taken from them, one by one.
 use Rattle.std.proofs.Common.{◌≡◌, ℕ, zero, suc, take, slice_get, ◌+◌, List, [], ◌∷◌, ◌++◌, length, Some, None, Option, Result, Ok, Err, refl, sym, ◌∙◌, ap, subst, arith}
-use Rattle.std.specs.Prelude.{is_some, IfSome, IfOk, IsTrue}
+use Rattle.std.specs.Prelude.{is_some, IfSome, IfOk, IsOkAnd, IsTrue}
 use Rattle.std.specs.Global.{Vec}
 use Rattle.std.specs.List.{AllByRecursion}
 use Rattle.std.proofs.lemmas.Bool.{false≢true}
@@ -39,6 +39,19 @@ halves-more ends halves end half slave all is has =
     let here : slave ≡ 0 + length ends = omega (arith, long, many, is) in
     subst (λ (l : List SlaveHalf). AllPlaced EndsWith 0 (ends ++ end ∷ []) l) (sym (map-append half_of halves (half ∷ [])))
     (placed-more EndsWith 0 ends (halves_of halves) end (half_of half) all (subst (λ (n : ℕ). EndsWith n end (half_of half)) here has))
+
+-- one half more, unless one is missing
+pub half-joins : {E : Type 0} (ends : List (Stay SiteValue SlaveLog)) (halves : Result (Vec (Option SlaveHalf)) E) (half : Result (Option SlaveHalf) E)
+    (more : Result (Vec (Option SlaveHalf)) E) (end : Stay SiteValue SlaveLog) (slave : ℕ) → slave ≡ length ends
+    → IfOk halves (λ (had : Vec (Option SlaveHalf)). AllPlaced EndsWith 0 ends (halves_of had.items)) → IfOk half (λ (one : Option SlaveHalf). EndsWith slave end (half_of one))
+    → IfOk more (λ (m : Vec (Option SlaveHalf)). IsOkAnd halves (λ had. IsOkAnd half (λ one. m.items ≡ had.items ++ one ∷ [])))
+    → IfOk more (λ (m : Vec (Option SlaveHalf)). AllPlaced EndsWith 0 (ends ++ end ∷ []) (halves_of m.items))
+half-joins ends halves half (Err fault) end slave here all has joins = tt
+half-joins ends (Ok had) (Ok one) (Ok more) end slave here all has joins =
+    subst (λ (l : List (Option SlaveHalf)). AllPlaced EndsWith 0 (ends ++ end ∷ []) (halves_of l)) (sym joins)
+    (halves-more ends had.items end one slave all (let many = placed-long EndsWith 0 ends (halves_of had.items) all in let same = length-map had.items half_of in omega (arith, many, same, here)) has)
+half-joins ends (Ok had) (Err fault) (Ok more) end slave here all has joins = absurd joins
+half-joins ends (Err fault) half (Ok more) end slave here all has joins = absurd joins
 
 -- ---- what is put together
 

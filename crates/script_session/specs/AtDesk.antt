@@ -36,8 +36,11 @@ use Rattle.script_session.specs.declared.closing.Ending.{Ending}
 use Rattle.script_session.specs.declared.threads.Opening.{Opening}
 use Rattle.script_session.specs.declared.threads.Left.{Left}
 use Rattle.script_session.specs.declared.told.DeskTold.{DeskTold}
+use Rattle.script_session.specs.declared.told.PartTold.{PartTold}
+use Rattle.script_session.specs.declared.told.UnservedTold.{UnservedTold}
+use Rattle.script_session.specs.declared.told.UnservedTold.TheVariants as unserved
 use Rattle.script_session.specs.Asking.{commands_of, GivesUp}
-use Rattle.script_session.specs.Parts.{Sites, IsApart, AreEndsOfParts, AreFollowed, AreSound, IsDeskTold, IsTogether, Soundly}
+use Rattle.script_session.specs.Parts.{Sites, IsApart, AreEndsOfParts, AreFollowed, AreSound, IsDeskTold, IsTogether, Soundly, Telling}
 use Rattle.station_line.specs.Site.{IsFollowed}
 
 -- the state of a site and its past
@@ -208,8 +211,11 @@ pub record ServesFollowed {D T : Type 0} (follows : D → Seen → Type 0) (well
   pub told : IsDeskTold follows well tells opened.seen left.told parts.desk.ends
   pub sound : OnOk left.sound (AreSound left.told)
 
--- A desk served the parts, whatever came of putting the line together, and behind each part a device has kept this of the part's site.
-pub record EndsApart {D : Type 0} (follows : D → Seen → Type 0) (opened : Station) (commands : List Command) : Type 0 where
-  pub ending : Ending
-  pub desk : DeskServes opened commands ending
-  pub followed : AreFollowed follows desk.ends
+-- A line was not served, or not put together again behind that, and this is told: of the line's device, where no desk began; or of the devices at a
+-- desk of this book, which served the parts with this ending.
+pub data IsUnservedTold {D T : Type 0} (follows : D → Seen → Type 0) (well : D → Type 0) (tells : D → T → Type 0) (opened : Station)
+    (commands : List Command) : UnservedTold T → Type 0 where
+  line : (part : PartTold T) → IsFollowed (Telling follows well tells part) opened.seen
+      → IsUnservedTold follows well tells opened commands (unserved.Line part)
+  desk : (told : DeskTold T) (ending : Ending) (desk : DeskServes opened commands ending)
+      → IsDeskTold follows well tells opened.seen told desk.ends → IsUnservedTold follows well tells opened commands (unserved.Desk told)

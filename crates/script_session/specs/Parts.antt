@@ -1,5 +1,5 @@
 -- A line that is taken apart into sites, and put together again.
-use Rattle.std.specs.Prelude.{◌≡◌, ◌⊎◌, ◌≤◌, ◌+◌, ℕ, List, [], ◌∷◌, true, length, Ok, Option, Some, is_some, slice_get, IsTrue, None, false}
+use Rattle.std.specs.Prelude.{◌≡◌, ◌⊎◌, ◌≤◌, ◌+◌, ℕ, List, [], ◌∷◌, true, length, Ok, IfOk, Option, Some, is_some, slice_get, IsTrue, None, false}
 use Rattle.std.specs.List.{AllByRecursion}
 use Rattle.std.specs.Global.{Vec}
 use Rattle.esc_model.specs.SlaveHalf.{SlaveHalf}
@@ -20,6 +20,8 @@ use Rattle.station_threads.specs.declared.parts.PerDevice.{PerDevice}
 use Rattle.station_threads.specs.declared.closing.Ends.{Ends}
 use Rattle.script_session.specs.declared.told.PartTold.{PartTold}
 use Rattle.script_session.specs.declared.told.DeskTold.{DeskTold}
+use Rattle.script_session.specs.declared.told.UnservedTold.{UnservedTold}
+use Rattle.script_session.specs.declared.told.UnservedTold.TheVariants as unserved
 use Rattle.script_session.specs.declared.together.OfSlaves.{OfSlaves}
 use Rattle.station_threads.specs.Places.{AllPlaced}
 use Rattle.station_threads.specs.Sites.{OwnParts, AreEndsOfSites, IsEndOfTurns}
@@ -117,15 +119,30 @@ pub record AreSound {T : Type 0} (told : DeskTold T) : Type 0 where
 abbrev pub EndsWith : ℕ → Stay SiteValue SlaveLog → SlaveHalf → Type 0
 EndsWith slave end half = HasHalf slave half end.site
 
--- The EEPROM halves of the slaves are those at the ends of their workers, in order, and this is told of the devices behind these.
+-- The EEPROM halves of the slaves, where none is missing, are those at the ends of their workers, in order, and this is told of the devices behind
+-- these.
 pub record AreLeftBy {D T : Type 0} (follows : D → Seen → Type 0) (well : D → Type 0) (tells : D → T → Type 0)
     (workers : List (Stay SiteValue SlaveLog)) (left : OfSlaves T) : Type 0 where
-  pub halves : AllPlaced EndsWith 0 workers (halves_of left.halves.items)
+  pub halves : IfOk left.halves (λ halves. AllPlaced EndsWith 0 workers (halves_of halves.items))
   pub told : AreToldOf follows well tells left.told.items workers
 
 -- There is nothing in these lists yet.
 abbrev pub IsRoom : {T : Type 0} → OfSlaves T → Type 0
-IsRoom room = (room.halves.items ≡ []) × (room.told.items ≡ [])
+IsRoom room = IfOk room.halves (λ halves. halves.items ≡ []) × (room.told.items ≡ [])
+
+-- This is told of the line's device, which keeps this of the line.
+pub record IsLineTold {D T : Type 0} (follows : D → Seen → Type 0) (well : D → Type 0) (tells : D → T → Type 0) (seen : Seen)
+    (told : UnservedTold T) : Type 0 where
+  pub part : PartTold T
+  pub line : told ≡ unserved.Line part
+  pub tells_it : IsFollowed (Telling follows well tells part) seen
+
+-- This is told of the devices at a desk with these ends; of the line's, what was told before.
+pub record IsDeskLeft {D T : Type 0} (follows : D → Seen → Type 0) (well : D → Type 0) (tells : D → T → Type 0) (line : PartTold T)
+    (ends : Ends SiteValue) (told : UnservedTold T) : Type 0 where
+  pub devices : DeskTold T
+  pub desk : told ≡ unserved.Desk devices
+  pub tells_them : (opened : Seen) → IsFollowed (Telling follows well tells line) opened → IsDeskTold follows well tells opened devices ends
 
 -- The site's disk has the bytes that the flusher left, all of them synced, and each slave's EEPROM half is as its worker left it. It has seen no
 -- call.

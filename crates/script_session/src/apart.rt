@@ -1,14 +1,16 @@
 //! Takes a line apart into sites: one for the disk, one for each slave, and one for the process data.
 
-ghost use Rattle.std.specs.Prelude.{◌≡◌, ◌↔◌, ◌+◌, ◌<◌, ◌≤◌, [], true, length, slice_set, vec_len, is_some, IfOk, IsSomeAnd, IsTrue};
+ghost use Rattle.std.specs.Prelude.{◌≡◌, ◌↔◌, ◌+◌, ◌<◌, ◌≤◌, [], true, length, slice_set, vec_len, is_some, IfErr, IfOk, IfSome, IsSomeAnd, IsTrue};
 ghost use Rattle.site_shadow.specs.Line.{half_of, halves_of};
 ghost use Rattle.site_shadow.specs.Parts.{site_of};
 ghost use Rattle.site_shadow.specs.Site.{SiteValue};
 ghost use Rattle.station_threads.specs.Places.{AllPlaced};
 ghost use Rattle.station_threads.specs.Sites.{OwnParts};
-ghost use Rattle.script_session.specs.Parts.{BeginsWith, HasDiskOf, IsServable, Telling};
+ghost use Rattle.site_core.specs.State.{State};
+ghost use Rattle.script_session.specs.Parts.{BeginsWith, HasDiskOf, IsLineTold, IsServable, Telling};
 ghost use Rattle.station_line.specs.Site.{IsFollowed};
 
+use crate::threads::NotServed;
 use crate::told::{PartTold, told_by};
 use esc_model::{FIRST_STATION, ProcessHalf, RomHalf};
 use site_core::Site;
@@ -253,14 +255,15 @@ fn whole_sites<D: Device + Drop>(sites: Sites<ShadowSite<D>>) -> Result<Sites<Sh
 ///
 /// # Errors
 ///
-/// `Unserved` where the site isn't a whole line with such a disk; `Memory`. The site is dropped.
+/// `Unserved` where the site isn't a whole line with such a disk; `Memory`. The site is dropped, and its device told of.
 pub(crate) fn take_apart<D: Lends>(
     alloc: Global,
     site: ShadowSite<D>,
     capacity: u32,
-) -> Result<(Sites<ShadowSite<D>>, D, PartTold<D::Told>), Fault>
+) -> Result<(Sites<ShadowSite<D>>, D, PartTold<D::Told>), NotServed<D::Told>>
     ensures sites { IfOk result (λ apart. IsServable capacity site.seen.state apart.0) }
     ensures told { IfOk result (λ apart. IsFollowed (Telling D.follows D.well D.tells apart.2) site.seen) }
+    ensures failed { IfErr result (λ why. IsLineTold D.follows D.well D.tells site.seen why.told) }
     ensures followed { IsFollowed D.follows site.seen }
     ensures count { length site.line.sizes ≡ length site.seen.state.halves }
 {
@@ -269,13 +272,29 @@ pub(crate) fn take_apart<D: Lends>(
     let has_stopped = site.has_stopped();
     let (parts, mut whole) = site.into_parts();
     let told = told_by(&mut whole, has_stopped);
-    if !reaches(&parts, capacity) {
-        drop(parts);
-        drop(whole);
-        drop(told);
+    match servable_sites(alloc, &mut whole, parts, capacity) {
+        Ok(sites) => Ok((sites, whole, told)),
+        Err(fault) => {
+            drop(whole);
+            Err(NotServed::unbegun(fault, told))
+        }
+    }
+}
+
+/// The sites of the line's parts, each of which owns its part, if the disk reaches to the end of a journal's area of `capacity` bytes.
+fn servable_sites<D: Lends>(
+    alloc: Global,
+    whole: &mut D,
+    line: Parts,
+    capacity: u32,
+) -> Result<Sites<ShadowSite<D>>, Fault>
+    ensures { (state : State) → IfSome line.disk (λ bytes. bytes.items ≡ state.disk.bytes) → halves_of line.halves.items ≡ state.halves
+        → IfOk result (IsServable capacity state) }
+{
+    if !reaches(&line, capacity) {
+        drop(line);
         return Err(Fault::Unserved);
     }
-    let sites = sites_of(alloc, &mut whole, parts)?;
-    let owned = whole_sites(sites)?;
-    Ok((owned, whole, told))
+    let sites = sites_of(alloc, whole, line)?;
+    whole_sites(sites)
 }

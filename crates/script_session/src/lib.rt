@@ -20,5 +20,5 @@ pub use redoing::{Redone, redo_by_threads};
 pub use soundness::is_sound;
 pub use station_threads::CloseFault;
 pub use threads::{Left, NotServed, serve_by_threads};
-pub use told::{DeskTold, PartTold, told_by};
+pub use told::{DeskTold, PartTold, UnservedTold, told_by};
 pub use work::Work;

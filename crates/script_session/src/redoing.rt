@@ -73,17 +73,18 @@ pub fn redo_by_threads<D: Lends + Send, W: Wait + Threads + Sync>(
 {
     let capacity = alone.core().capacity();
     let (core, site) = alone.into_parts();
-    let Prepared { sites, whole } = match prepare(alloc, site, capacity, slaves) {
+    let Prepared { sites, whole } = match prepare(alloc, site, capacity) {
         Ok(prepared) => prepared,
-        Err(fault) => {
+        Err(why) => {
             drop(core);
-            return Err(fault);
+            return Err(why.fault);
         }
     };
     let ends = redo_at_desk::<Brand, Brand, D, W>(rt, alloc, Opening::of(core), sites)?;
     let words = issues_of(ends.workers.as_slice());
     let is_synced = disk_is_synced(&ends);
-    let (site, told) = put_together(alloc, whole, slaves, ends)?;
+    let (put, told) = put_together(alloc, whole, slaves, ends);
+    let site = put?;
     let sound = judge_ends(&told, is_synced);
     match sound {
         Ok(()) => Ok(Redone { site, told, words }),

@@ -3,14 +3,17 @@
 ghost use Rattle.std.specs.Prelude.{◌≡◌, ◌+◌, ◌≤◌, [], false, length, vec_capacity, IfErr, IfOk, IsTrue, OnOk};
 ghost use Rattle.site_core.specs.State.{Seen};
 ghost use Rattle.script_session.specs.Asking.{no_counts};
-ghost use Rattle.script_session.specs.AtDesk.{EndsApart, LeavesSo, OpensDesk, ServesFollowed, ServesSites};
+ghost use Rattle.script_session.specs.AtDesk.{IsUnservedTold, LeavesSo, OpensDesk, ServesFollowed, ServesSites};
+ghost use Rattle.script_session.specs.declared.told.UnservedTold.TheVariants as unserved;
 ghost use Rattle.script_session.specs.Parts.{
   AreEndsOfParts,
   AreFollowed,
   AreSound,
   EndsSynced,
+  IsDeskLeft,
   IsDeskTold,
   IsLineOf,
+  IsLineTold,
   IsRoom,
   IsServable,
   IsTogether,
@@ -25,7 +28,7 @@ use crate::closing::{AtDesk, Ending, hand_in};
 use crate::soundness::{disk_is_synced, judge_ends};
 use crate::submitter::Submitter;
 use crate::together::{OfSlaves, Whole, put_together};
-use crate::told::DeskTold;
+use crate::told::{DeskTold, PartTold, UnservedTold};
 use crate::work::Work;
 use book_core::Core;
 use sii_edit::Command;
@@ -59,24 +62,23 @@ pub struct Left<S, T> {
     pub told: DeskTold<T>,
 }
 
-/// Why a line was not served, or not put together again behind that.
-#[derive(Clone, Copy)]
-pub struct NotServed {
+/// Why a line was not served, or not put together again behind that. `T` is what its devices tell.
+#[derive(Drop)]
+pub struct NotServed<T> {
     /// The fault.
     pub fault: Fault,
-    /// Whether a desk served the parts of the line, and what they left couldn't be put together. If not, no desk began, and no device was asked
-    /// anything.
-    pub is_begun: bool,
+    /// What is told of the devices.
+    pub told: UnservedTold<T>,
 }
 
-impl NotServed {
-    /// No desk began.
-    fn unbegun(fault: Fault) -> Self
-        ensures { result.is_begun ≡ false }
+impl<T> NotServed<T> {
+    /// No desk began, and this is told of the line's device.
+    pub(crate) fn unbegun(fault: Fault, told: PartTold<T>) -> NotServed<T>
+        ensures { result.told ≡ unserved.Line told }
     {
         NotServed {
             fault,
-            is_begun: false,
+            told: UnservedTold::Line(told),
         }
     }
 }
@@ -88,8 +90,8 @@ impl NotServed {
 /// # Errors
 ///
 /// `Unserved` where the station's site can't be taken apart, or what is put together in the end isn't a line with its disk and `slaves`
-/// slaves; `Memory`. At the desk nothing fails but for want of memory. The site is dropped. A fault during the work is no error here:
-/// `Left::ending` has it.
+/// slaves; `Memory`. At the desk nothing fails but for want of memory. The site is dropped, and its devices are told of. A fault during the work is
+/// no error here: `Left::ending` has it.
 pub fn serve_by_threads<D: Lends + Send, O: Write, W: Wait + Threads + Sync>(
     rt: &W,
     alloc: Global,
@@ -97,31 +99,28 @@ pub fn serve_by_threads<D: Lends + Send, O: Write, W: Wait + Threads + Sync>(
     slaves: usize,
     work: Work,
     output: &mut O,
-) -> Result<Left<ShadowSite<D>, D::Told>, NotServed>
+) -> Result<Left<ShadowSite<D>, D::Told>, NotServed<D::Told>>
     requires { alone.book.accepted ≡ [] }
     ensures line { IfOk result (λ left. IsLineOf slaves left.site.line) }
     ensures left { IfOk result (λ left. LeavesSo alone work.commands.items left.ending left.site) }
     ensures parts { IfOk result (λ left. ServesFollowed D.follows D.well D.tells alone work.commands.items left) }
     ensures before { IsFollowed D.follows alone.seen }
-    ensures failed { IfErr result (λ why. IsTrue why.is_begun → EndsApart D.follows alone work.commands.items) }
+    ensures failed { IfErr result (λ why. IsUnservedTold D.follows D.well D.tells alone work.commands.items why.told) }
     ensures unserved { IfOk result (λ left. left.ending.is_driven ≡ false → left.unserved.items ≡ work.commands.items) }
 {
     let (core, site) = alone.into_parts();
-    let Prepared { sites, whole } = match prepare(alloc, site, core.capacity(), slaves) {
+    let Prepared { sites, whole } = match prepare(alloc, site, core.capacity()) {
         Ok(prepared) => prepared,
-        Err(fault) => {
+        Err(why) => {
             drop(core);
             drop(work);
-            return Err(NotServed::unbegun(fault));
+            return Err(why);
         }
     };
     let opening = Opening::of(core);
     match serve_at_desk::<Brand, Brand, Brand, D, O, W>(rt, alloc, opening, sites, work, output) {
         Ok(at) => put_back(alloc, whole, slaves, at),
-        Err(AllocError) => {
-            drop(whole);
-            Err(NotServed::unbegun(Fault::Memory))
-        }
+        Err(AllocError) => Err(NotServed::unbegun(Fault::Memory, whole.into_told())),
     }
 }
 
@@ -137,16 +136,17 @@ pub(crate) fn prepare<D: Lends>(
     alloc: Global,
     site: ShadowSite<D>,
     capacity: u32,
-    slaves: usize,
-) -> Result<Prepared<D, D::Told>, Fault>
+) -> Result<Prepared<D, D::Told>, NotServed<D::Told>>
     ensures sites { IfOk result (λ prepared. IsServable capacity site.seen.state prepared.sites) }
     ensures room { IfOk result (λ prepared. IsRoom prepared.whole.room) }
+    ensures reserved { IfOk result (λ prepared. length prepared.sites.slaves.items ≤ vec_capacity prepared.whole.room.told) }
     ensures told { IfOk result (λ prepared. IsFollowed (Telling D.follows D.well D.tells prepared.whole.told) site.seen) }
+    ensures failed { IfErr result (λ why. IsLineTold D.follows D.well D.tells site.seen why.told) }
     ensures followed { IsFollowed D.follows site.seen }
     ensures count { length site.line.sizes ≡ length site.seen.state.halves }
 {
     let (sites, device, told) = take_apart(alloc, site, capacity)?;
-    match OfSlaves::room(alloc, slaves) {
+    match OfSlaves::room(alloc, sites.slaves.len()) {
         Ok(room) => Ok(Prepared {
             sites,
             whole: Whole { device, told, room },
@@ -154,8 +154,7 @@ pub(crate) fn prepare<D: Lends>(
         Err(AllocError) => {
             drop(sites);
             drop(device);
-            drop(told);
-            Err(Fault::Memory)
+            Err(NotServed::unbegun(Fault::Memory, told))
         }
     }
 }
@@ -166,8 +165,9 @@ fn put_back<D: Lends>(
     whole: Whole<D, D::Told>,
     slaves: usize,
     at: AtDesk<ShadowSite<D>>,
-) -> Result<Left<ShadowSite<D>, D::Told>, NotServed>
-    requires { IsRoom whole.room }
+) -> Result<Left<ShadowSite<D>, D::Told>, NotServed<D::Told>>
+    requires room { IsRoom whole.room }
+    requires reserved { length at.ends.workers.items ≤ vec_capacity whole.room.told }
     ensures line { IfOk result (λ left. IsLineOf slaves left.site.line) }
     ensures left { IfOk result (λ left. IsTogether at.ends left.site × (left.ending ≡ at.ending)) }
     ensures followed { AreFollowed D.follows at.ends }
@@ -175,6 +175,7 @@ fn put_back<D: Lends>(
     ensures told { IfOk result (λ left. (opened : Seen) → IsFollowed (Telling D.follows D.well D.tells whole.told) opened
         → IsDeskTold D.follows D.well D.tells opened left.told at.ends) }
     ensures sound { IfOk result (λ left. OnOk left.sound (AreSound left.told × EndsSynced at.ends.flusher.log)) }
+    ensures failed { IfErr result (λ why. IsDeskLeft D.follows D.well D.tells whole.told at.ends why.told) }
 {
     let AtDesk {
         ends,
@@ -182,8 +183,9 @@ fn put_back<D: Lends>(
         unserved,
     } = at;
     let is_synced = disk_is_synced(&ends);
-    match put_together(alloc, whole, slaves, ends) {
-        Ok((site, told)) => {
+    let (put, told) = put_together(alloc, whole, slaves, ends);
+    match put {
+        Ok(site) => {
             let sound = judge_ends(&told, is_synced);
             Ok(Left {
                 site,
@@ -197,7 +199,7 @@ fn put_back<D: Lends>(
             drop(unserved);
             Err(NotServed {
                 fault,
-                is_begun: true,
+                told: UnservedTold::Desk(told),
             })
         }
     }

@@ -1,11 +1,12 @@
 //! Puts a line together again from the ends of its threads.
 
-ghost use Rattle.std.specs.Prelude.{◌≡◌, ◌∷◌, ◌++◌, [], List, IfOk, IfSome, IsTrue};
+ghost use Rattle.std.specs.Prelude.{◌≡◌, ◌<◌, ◌≤◌, ◌+◌, ◌∷◌, ◌++◌, [], List, length, vec_capacity, IfOk, IfSome, IsOkAnd, IsTrue};
 ghost use Rattle.std.specs.List.{AllByRecursion};
 ghost use Rattle.site_core.specs.State.{Seen};
 ghost use Rattle.site_shadow.specs.Line.{half_of, halves_of};
 ghost use Rattle.site_shadow.specs.Site.{SiteValue};
 ghost use Rattle.station_jobs.specs.Ends.{Stay};
+ghost use Rattle.station_threads.specs.declared.closing.Ends.{Ends};
 ghost use Rattle.station_jobs.specs.Flushing.{IsFlushed};
 ghost use Rattle.station_jobs.specs.declared.log.SlaveLog.{SlaveLog};
 ghost use Rattle.station_threads.specs.Places.{AllPlaced};
@@ -34,37 +35,48 @@ use station_jobs::{CycleLog, End, Leads, SlaveLog};
 use station_threads::Ends;
 use std::alloc::{AllocError, Global};
 
-/// The EEPROM halves of slaves, as their workers left them, and what is told of their devices, both in order.
+/// The EEPROM halves of slaves, as their workers left them, or why one is missing; and what is told of their devices. Both are in order.
 #[derive(Drop)]
 pub(crate) struct OfSlaves<T> {
-    pub(crate) halves: Vec<Option<RomHalf>>,
+    pub(crate) halves: Result<Vec<Option<RomHalf>>, Fault>,
     pub(crate) told: Vec<PartTold<T>>,
 }
 
 impl<T> OfSlaves<T> {
     /// Empty lists, with room for this many slaves.
     pub(crate) fn room(alloc: Global, slaves: usize) -> Result<OfSlaves<T>, AllocError>
-        ensures { IfOk result IsRoom }
+        ensures room { IfOk result IsRoom }
+        ensures reserved { IfOk result (λ room. slaves ≤ vec_capacity room.told) }
     {
         let halves = Vec::with_capacity(alloc, slaves)?;
         let told = Vec::with_capacity(alloc, slaves)?;
-        Ok(OfSlaves { halves, told })
+        Ok(OfSlaves {
+            halves: Ok(halves),
+            told,
+        })
     }
 }
 
-impl<T: Drop> OfSlaves<T> {
-    /// The same lists with one slave more.
-    fn with(self, half: Option<RomHalf>, part: PartTold<T>) -> Result<OfSlaves<T>, AllocError>
-        ensures halves { IfOk result (λ more. more.halves.items ≡ self.halves.items ++ half ∷ []) }
-        ensures told { IfOk result (λ more. more.told.items ≡ self.told.items ++ part ∷ []) }
-    {
-        let OfSlaves {
-            mut halves,
-            mut told,
-        } = self;
-        halves.push(half)?;
-        told.push(part)?;
-        Ok(OfSlaves { halves, told })
+/// These halves and this one, unless one is missing or memory is refused.
+fn with_half(
+    halves: Result<Vec<Option<RomHalf>>, Fault>,
+    half: Result<Option<RomHalf>, Fault>,
+) -> Result<Vec<Option<RomHalf>>, Fault>
+    ensures { IfOk result (λ more. IsOkAnd halves (λ had. IsOkAnd half (λ one. more.items ≡ had.items ++ one ∷ []))) }
+{
+    match (halves, half) {
+        (Ok(mut halves), Ok(half)) => {
+            halves.push(half)?;
+            Ok(halves)
+        }
+        (Err(fault), half) => {
+            drop(half);
+            Err(fault)
+        }
+        (Ok(halves), Err(fault)) => {
+            drop(halves);
+            Err(fault)
+        }
     }
 }
 
@@ -77,6 +89,18 @@ pub(crate) struct Whole<D, T> {
     pub(crate) told: PartTold<T>,
     /// Empty lists with room for what the workers leave.
     pub(crate) room: OfSlaves<T>,
+}
+
+impl<D: Drop, T: Drop> Whole<D, T> {
+    /// What was told of the line's device.
+    pub(crate) fn into_told(self) -> PartTold<T>
+        ensures { result ≡ self.told }
+    {
+        let Whole { device, told, room } = self;
+        drop(device);
+        drop(room);
+        told
+    }
 }
 
 /// The parts of the site with which a thread ended. The device of the line takes the site's back, and tells of it.
@@ -95,25 +119,24 @@ fn parts_of<D: Lends, L: Leads + Drop>(
     (parts, taken_back(whole, device, has_stopped))
 }
 
-/// The EEPROM half of this slave, as its worker left it, and what is told of its device.
+/// The EEPROM half of this slave, as its worker left it, and what is told of its device. `Unserved` where the half is missing.
 fn half_at<D: Lends>(
     slave: usize,
     end: End<ShadowSite<D>, SlaveLog>,
     whole: &mut D,
-) -> Result<(Option<RomHalf>, PartTold<D::Told>), Fault>
-    ensures half { IfOk result (λ left. EndsWith slave end (half_of left.0)) }
-    ensures told { IfOk result (λ left. IsWorkFollowed (Telling D.follows D.well D.tells left.1) end) }
+) -> (Result<Option<RomHalf>, Fault>, PartTold<D::Told>)
+    ensures half { IfOk result.0 (λ half. EndsWith slave end (half_of half)) }
+    ensures told { IsWorkFollowed (Telling D.follows D.well D.tells result.1) end }
     ensures followed { IsWorkFollowed D.follows end }
 {
     let (mut parts, told) = parts_of(end, whole);
     if slave >= parts.halves.len() {
         drop(parts);
-        drop(told);
-        return Err(Fault::Unserved);
+        return (Err(Fault::Unserved), told);
     }
     let half = parts.halves.swap_remove(slave);
     drop(parts);
-    Ok((half, told))
+    (Ok(half), told)
 }
 
 /// The same lists with the next slave in them, as its worker left it.
@@ -121,51 +144,37 @@ fn with_slave<D: Lends>(
     left: OfSlaves<D::Told>,
     end: End<ShadowSite<D>, SlaveLog>,
     whole: &mut D,
-) -> Result<OfSlaves<D::Told>, Fault>
+) -> OfSlaves<D::Told>
+    requires { length left.told.items < vec_capacity left.told }
     ensures left { (workers : List (Stay SiteValue SlaveLog)) → AreLeftBy D.follows D.well D.tells workers left
-        → IfOk result (AreLeftBy D.follows D.well D.tells (workers ++ end ∷ [])) }
+        → AreLeftBy D.follows D.well D.tells (workers ++ end ∷ []) result }
     ensures followed { IsWorkFollowed D.follows end }
+    ensures count { length result.told.items ≡ length left.told.items + 1 }
+    ensures reserved { vec_capacity result.told ≡ vec_capacity left.told }
 {
-    let (half, part) = half_at(left.halves.len(), end, whole)?;
-    let more = left.with(half, part)?;
-    Ok(more)
-}
-
-/// The same behind a fault, which stays. The site of the worker is taken apart all the same.
-fn with_next<D: Lends>(
-    left: Result<OfSlaves<D::Told>, Fault>,
-    end: End<ShadowSite<D>, SlaveLog>,
-    whole: &mut D,
-) -> Result<OfSlaves<D::Told>, Fault>
-    ensures left { (workers : List (Stay SiteValue SlaveLog)) → IfOk left (AreLeftBy D.follows D.well D.tells workers)
-        → IfOk result (AreLeftBy D.follows D.well D.tells (workers ++ end ∷ [])) }
-    ensures followed { IsWorkFollowed D.follows end }
-{
-    match left {
-        Ok(left) => with_slave(left, end, whole),
-        Err(fault) => {
-            let (parts, told) = parts_of(end, whole);
-            drop(parts);
-            drop(told);
-            Err(fault)
-        }
+    let OfSlaves { halves, mut told } = left;
+    let (half, part) = half_at(told.len(), end, whole);
+    told.push_reserved(part);
+    OfSlaves {
+        halves: with_half(halves, half),
+        told,
     }
 }
 
-/// The EEPROM halves of all slaves, in order, as their workers left them, and what is told of their devices. The site of each worker is taken
-/// apart, also behind a fault.
+/// The EEPROM halves of all slaves, in order, as their workers left them, and what is told of their devices.
 fn slaves_at<D: Lends>(
     room: OfSlaves<D::Told>,
     workers: Vec<End<ShadowSite<D>, SlaveLog>>,
     whole: &mut D,
-) -> Result<OfSlaves<D::Told>, Fault>
-    requires { IsRoom room }
-    ensures left { IfOk result (AreLeftBy D.follows D.well D.tells workers.items) }
+) -> OfSlaves<D::Told>
+    requires room { IsRoom room }
+    requires reserved { length workers.items ≤ vec_capacity room.told }
+    ensures left { AreLeftBy D.follows D.well D.tells workers.items result }
     ensures followed { AllByRecursion (IsWorkFollowed D.follows) workers.items }
 {
-    let mut left = Ok(room);
+    let mut left = room;
     for end in workers {
-        left = with_next(left, end, whole);
+        left = with_slave(left, end, whole);
     }
     left
 }
@@ -247,22 +256,48 @@ fn whole_line<D: Device + Drop>(site: ShadowSite<D>, slaves: usize) -> Result<Sh
     }
 }
 
-/// The line of these ends: its disk and each slave's EEPROM half as the threads left them, and what is told of the devices. The line's device takes
+/// The line with the disk of these parts and these EEPROM halves, if it is one of `slaves` slaves.
+fn joined<D: Device + Drop>(
+    alloc: Global,
+    line: Parts,
+    device: D,
+    halves: Result<Vec<Option<RomHalf>>, Fault>,
+    slaves: usize,
+) -> Result<ShadowSite<D>, Fault>
+    ensures { (ends : Ends SiteValue) → IfSome line.disk (λ bytes. bytes.items ≡ ends.flusher.site.seen.state.disk.bytes)
+        → IfOk halves (λ found. AllPlaced EndsWith 0 ends.workers.items (halves_of found.items))
+        → IfOk result (λ site. IsTogether ends site × IsLineOf slaves site.line) }
+{
+    match halves {
+        Ok(halves) => {
+            let made = line_of(alloc, line, device, halves)?;
+            whole_line(made, slaves)
+        }
+        Err(fault) => {
+            drop(line);
+            drop(device);
+            Err(fault)
+        }
+    }
+}
+
+/// The line of these ends: its disk and each slave's EEPROM half as the threads left them; and what is told of the devices. The line's device takes
 /// back what it lent them, and is put behind it.
 ///
 /// # Errors
 ///
-/// `Unserved` where these are not the ends of one line of `slaves` slaves; `Memory`. What devices have followed they have followed all the same.
+/// `Unserved` where these are not the ends of one line of `slaves` slaves; `Memory`. What is told of the devices is told all the same.
 pub(crate) fn put_together<D: Lends>(
     alloc: Global,
     whole: Whole<D, D::Told>,
     slaves: usize,
     ends: Ends<ShadowSite<D>>,
-) -> Result<(ShadowSite<D>, DeskTold<D::Told>), Fault>
-    requires { IsRoom whole.room }
-    ensures together { IfOk result (λ put. IsTogether ends put.0 × IsLineOf slaves put.0.line) }
-    ensures told { IfOk result (λ put. (opened : Seen) → IsFollowed (Telling D.follows D.well D.tells whole.told) opened
-        → IsDeskTold D.follows D.well D.tells opened put.1 ends) }
+) -> (Result<ShadowSite<D>, Fault>, DeskTold<D::Told>)
+    requires room { IsRoom whole.room }
+    requires reserved { length ends.workers.items ≤ vec_capacity whole.room.told }
+    ensures together { IfOk result.0 (λ site. IsTogether ends site × IsLineOf slaves site.line) }
+    ensures told { (opened : Seen) → IsFollowed (Telling D.follows D.well D.tells whole.told) opened
+        → IsDeskTold D.follows D.well D.tells opened result.1 ends }
     ensures followed { AreFollowed D.follows ends }
 {
     let Whole {
@@ -271,25 +306,16 @@ pub(crate) fn put_together<D: Lends>(
         room,
     } = whole;
     let (parts, disk, workers) = split(ends, &mut device);
+    let left = slaves_at(room, workers, &mut device);
     let OfSlaves {
         halves,
         told: of_slaves,
-    } = match slaves_at(room, workers, &mut device) {
-        Ok(left) => left,
-        Err(fault) => {
-            drop(parts);
-            drop(device);
-            drop(told);
-            drop(disk);
-            return Err(fault);
-        }
-    };
-    let made = line_of(alloc, parts, device, halves)?;
-    let site = whole_line(made, slaves)?;
+    } = left;
+    let site = joined(alloc, parts, device, halves, slaves);
     let told = DeskTold {
         line: told,
         disk,
         slaves: of_slaves,
     };
-    Ok((site, told))
+    (site, told)
 }

@@ -26,6 +26,15 @@ pub struct DeskTold<T> {
     pub slaves: Vec<PartTold<T>>,
 }
 
+/// What is told of the devices of a line that was not served, or not put together again behind that.
+#[derive(Drop)]
+pub enum UnservedTold<T> {
+    /// Of the line's device, where no desk began.
+    Line(PartTold<T>),
+    /// Of the devices at a desk that served the parts.
+    Desk(DeskTold<T>),
+}
+
 /// What this device tells, which was behind a site that had stopped or not. It is then as one that has asked nothing yet.
 pub fn told_by<D: Lends>(device: &mut D, has_stopped: bool) -> PartTold<D::Told>
     ensures { (seen : Seen) → D.follows device.old seen → has_stopped ≡ seen.is_stopped

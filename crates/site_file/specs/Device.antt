@@ -10,11 +10,11 @@ use Rattle.site_file.specs.declared.asking.LineFile.TheVariants.{Journal, Image}
 use Rattle.site_file.specs.declared.files.FileDevice.{FileDevice}
 use Rattle.site_file.specs.Calls.{Call, asked, tells_length}
 use Rattle.site_file.specs.Asking.{Asks, AsksToRead, WritesWord}
-use Rattle.site_file.specs.Owned.{LacksJournal, image_in}
+use Rattle.site_file.specs.Owned.{Lacks, LacksJournal, image_in}
 
 -- One call on the journal. If it fails, so does the device call. Where the device doesn't own the journal, it isn't made.
 pub data CallsJournal {F : Type 0} (call : Call) (old : FileDevice F) (result : Passing) (new : FileDevice F) : Type 0 where
-  over : LacksJournal old.has_failed old.held → result ≡ Stops Old → new ≡ record old { has_failed = true } → CallsJournal call old result new
+  over : LacksJournal old.asking.part old.has_failed old.held → result ≡ Stops Old → new ≡ record old { has_failed = true } → CallsJournal call old result new
   passes : old.has_failed ≡ false → Asks old.asking.calls new.asking.calls (asked Journal call true ∷ [])
       → result ≡ Passes → new.has_failed ≡ false → CallsJournal call old result new
   fails : old.has_failed ≡ false → Asks old.asking.calls new.asking.calls (asked Journal call false ∷ [])
@@ -28,18 +28,18 @@ pub data AsksLength {F : Type 0} (old : FileDevice F) (result : Passing) (new : 
 
 -- The journal is read. If it has other bytes than the shadow, the site stops.
 pub data ReadsJournal {F : Type 0} (old : FileDevice F) (result : Passing) (new : FileDevice F) : Type 0 where
-  over : LacksJournal old.has_failed old.held → result ≡ Stops Old → new ≡ record old { has_failed = true } → ReadsJournal old result new
+  over : LacksJournal old.asking.part old.has_failed old.held → result ≡ Stops Old → new ≡ record old { has_failed = true } → ReadsJournal old result new
   compared : old.has_failed ≡ false → AsksToRead Journal old.asking.calls new.asking.calls
       → (result ≡ Passes) ⊎ (result ≡ Stops New) → new.has_failed ≡ false → ReadsJournal old result new
   fails : old.has_failed ≡ false → AsksToRead Journal old.asking.calls new.asking.calls
       → result ≡ Fails → new.has_failed ≡ true → ReadsJournal old result new
 
 -- A half comes to rest, with the word that it has in flight. The word is written to the slave's image; if that fails, the half stays busy. So
--- it does for a slave that has no image.
+-- it does for a slave that has no image here.
 pub data Rests {F : Type 0} (slave : ℕ) (flying : Option WordWrite) (old : FileDevice F) (result : Resting) (new : FileDevice F) : Type 0 where
   idle : flying ≡ None → result ≡ Well → new ≡ old → Rests slave flying old result new
   over : IsTrue old.has_failed → result ≡ Stays → new ≡ old → Rests slave flying old result new
-  absent : is_some (image_in old.held slave) ≡ false → result ≡ Stays → new ≡ record old { has_failed = true }
+  absent : Lacks old.asking.part (Image slave) (image_in old.held slave) → result ≡ Stays → new ≡ record old { has_failed = true }
       → Rests slave flying old result new
   writes : (write : WordWrite) → flying ≡ Some write → old.has_failed ≡ false
       → WritesWord (Image slave) write.word write.value old.asking.calls true new.asking.calls

@@ -1,4 +1,5 @@
 pub mod Calls
+pub mod Parts
 pub mod Asking
 pub mod Owned
 pub mod Device

@@ -2,8 +2,11 @@
 use Rattle.std.specs.Prelude.{◌≡◌, ◌⊎◌, ℕ, ◌==◌, Bool, false, List, [], Option, Some, None, slice_get, slice_set, is_some, IsTrue, if◌then◌else◌}
 use Rattle.site_shadow.specs.declared.lending.LinePart.{LinePart}
 use Rattle.site_shadow.specs.declared.lending.LinePart.TheVariants as part
+use Rattle.site_file.specs.declared.asking.LineFile.{LineFile}
+use Rattle.site_file.specs.declared.asking.LineFile.TheVariants.{Journal}
 use Rattle.site_file.specs.declared.owned.LentImage.{LentImage}
 use Rattle.site_file.specs.declared.owned.OwnedFiles.{OwnedFiles}
+use Rattle.site_file.specs.Parts.{is_of}
 
 -- the file, if there is a place for it and it lies there
 abbrev pub file_at : {F : Type 0} → Option (Option F) → Option F
@@ -18,9 +21,13 @@ or_lent None slave other = other
 abbrev pub image_in : {F : Type 0} → OwnedFiles F → ℕ → Option F
 image_in files slave = or_lent files.lent slave (file_at (slice_get files.images.items slave))
 
--- The journal can't be asked: a call has failed, or it isn't owned.
-abbrev pub LacksJournal : {F : Type 0} → (has_failed : Bool) → OwnedFiles F → Type 0
-LacksJournal has_failed files = IsTrue has_failed ⊎ (is_some files.journal ≡ false)
+-- A file can't be asked: it isn't one of the part's, or it isn't owned.
+abbrev pub Lacks : {F : Type 0} → Option LinePart → LineFile → Option F → Type 0
+Lacks part name file = (is_of part name ≡ false) ⊎ (is_some file ≡ false)
+
+-- The journal can't be asked: a call has failed, or it isn't one of the part's, or it isn't owned.
+abbrev pub LacksJournal : {F : Type 0} → Option LinePart → (has_failed : Bool) → OwnedFiles F → Type 0
+LacksJournal part has_failed files = IsTrue has_failed ⊎ Lacks part Journal files.journal
 
 -- No image is owned.
 pub record OwnsNoImage {F : Type 0} (files : OwnedFiles F) : Type 0 where

@@ -1,9 +1,12 @@
 // The calls on the open files of a line. Each is noted: the contracts of `Asking` say what was asked of which file, and in which order. That a
 // call which is noted is the one that is made is read from the four functions that make them.
 ghost use Rattle.std.specs.Prelude.{◌≡◌, false, true, length, IfSome};
+ghost use Rattle.std.specs.Option.{ForSome};
+ghost use Rattle.site_file.specs.Parts.{AreOf, is_of};
 
 use crate::access::RandomAccessFile;
 use sii_words::History;
+use site_shadow::LinePart;
 use std::alloc::AllocError;
 use std::io;
 use std::snapshot::Snapshot;
@@ -61,6 +64,22 @@ pub struct NamedFile<'f, F> {
     file: &'f F,
 }
 
+impl FileTold {
+    ghost use Rattle.std.specs.Prelude.{◌↔◌, Some, IsTrue};
+
+    /// Whether it was the device of this part.
+    pub fn is_of(&self, part: LinePart) -> bool
+        ensures { IsTrue result ↔ self.now.part ≡ Some part }
+    {
+        match (self.part, part) {
+            (Some(LinePart::Disk), LinePart::Disk) | (Some(LinePart::Process), LinePart::Process) =>
+                true,
+            (Some(LinePart::Slave(own)), LinePart::Slave(slave)) => own == slave,
+            _ => false,
+        }
+    }
+}
+
 impl<'f, F> NamedFile<'f, F> {
     /// The file with this name.
     pub fn new(name: LineFile, file: &'f F) -> NamedFile<'f, F>
@@ -91,20 +110,34 @@ pub struct Asking {
     has_asked: bool,
     /// Whether no call was made before the log began.
     is_first: bool,
+    /// The part of the line whose files may be asked. None: each file of the line may be.
+    part: Option<LinePart>,
     ghost told: { has_asked ≡ false → length calls.all ≡ 0 },
     ghost first: { is_first ≡ true → length calls.begun.value ≡ 0 },
+    ghost own: { AreOf part calls.all },
+}
+
+/// What a device tells of the calls on its files.
+#[derive(Drop)]
+pub struct FileTold {
+    /// All that it asked, in order. None where it stood behind two sites: then its log is not all.
+    pub calls: Option<History<Asked>>,
+    /// The part of the line whose device it was: it has asked the files of that part alone. None: the line's.
+    pub part: Option<LinePart>,
+    ghost own: { ForSome calls (AreOf part) },
 }
 
 impl Asking {
     ghost use Rattle.std.specs.Prelude.{[], ◌∷◌, is_ok, is_some, not};
     ghost use Rattle.site_file.specs.Calls.{asked, tells_length, reads, writes, syncs};
-    ghost use Rattle.site_file.specs.Asking.{HasLog, TellsLog, Asks, Begins};
+    ghost use Rattle.site_file.specs.Asking.{HasLog, TellsFiles, Asks, Begins};
 
-    /// No call has been made yet.
-    pub fn new() -> Asking
+    /// No call has been made yet. The files of this part may be asked; for None, each file of the line.
+    pub fn new(part: Option<LinePart>) -> Asking
         ensures log { HasLog result.calls [] }
         ensures nothing { result.calls.all ≡ [] }
         ensures first { (result.is_first ≡ true) × (result.has_asked ≡ false) }
+        ensures part { result.part ≡ part }
     {
         let all = History::new();
         let begun = Snapshot::of(&all);
@@ -112,6 +145,25 @@ impl Asking {
             calls: Log { all, begun },
             has_asked: false,
             is_first: true,
+            part,
+        }
+    }
+
+    /// The part of the line whose files may be asked. None: each file of the line may be.
+    pub fn part(&self) -> Option<LinePart>
+        ensures { result ≡ self.now.part }
+    {
+        self.part
+    }
+
+    /// Whether this file may be asked.
+    pub fn is_for(&self, file: LineFile) -> bool
+        ensures { result ≡ is_of self.now.part file }
+    {
+        match (self.part, file) {
+            (None, _) | (Some(LinePart::Disk), LineFile::Journal) => true,
+            (Some(LinePart::Slave(own)), LineFile::Image(slave)) => own == slave,
+            _ => false,
         }
     }
 
@@ -119,22 +171,27 @@ impl Asking {
     pub fn begin(&mut self)
         ensures begins { Begins self.old.calls self.new.calls }
         ensures first { self.new.is_first ≡ not self.old.has_asked }
+        ensures part { self.new.part ≡ self.old.part }
     {
         self.is_first = !self.has_asked;
         self.calls.begun = Snapshot::of(&self.calls.all);
     }
 
-    /// All that was asked. None where a call was made before the log began: then that is not all in it.
-    pub fn told(self) -> Option<History<Asked>>
-        ensures some { is_some result ≡ self.is_first }
-        ensures log { TellsLog self.calls result }
-        ensures all { IfSome result (λ log. log ≡ self.calls.all) }
+    /// All that was asked, unless a call was made before the log began: then that is not all in it.
+    pub fn told(self) -> FileTold
+        ensures tells { TellsFiles self result }
+        ensures some { is_some result.calls ≡ self.is_first }
+        ensures all { IfSome result.calls (λ log. log ≡ self.calls.all) }
     {
+        let part = self.part;
         if self.is_first {
-            Some(self.into_all())
+            FileTold {
+                calls: Some(self.into_all()),
+                part,
+            }
         } else {
             drop(self);
-            None
+            FileTold { calls: None, part }
         }
     }
 
@@ -150,8 +207,10 @@ impl Asking {
 
     /// A call was made, and succeeded or failed.
     fn note(&mut self, file: LineFile, call: Call, succeeded: bool)
+        requires { is_of self.old.part file ≡ true }
         ensures asks { Asks self.old.calls self.new.calls (asked file call succeeded ∷ []) }
         ensures first { (self.new.is_first ≡ self.old.is_first) × (self.new.has_asked ≡ true) }
+        ensures part { self.new.part ≡ self.old.part }
     {
         self.has_asked = true;
         let made = Asked {
@@ -168,7 +227,9 @@ impl Asking {
     ///
     /// If the system can't tell it.
     pub fn len<F: RandomAccessFile>(&mut self, of: NamedFile<'_, F>) -> io::Result<u64>
-        ensures { Asks self.old.calls self.new.calls (asked of.entry.name tells_length (is_ok result) ∷ []) }
+        requires { is_of self.old.part of.name ≡ true }
+        ensures part { self.new.part ≡ self.old.part }
+        ensures asks { Asks self.old.calls self.new.calls (asked of.entry.name tells_length (is_ok result) ∷ []) }
     {
         let result = of.file.len();
         self.note(of.name, Call::TellsLength, result.is_ok());
@@ -186,7 +247,9 @@ impl Asking {
         bytes: &mut [u8],
         at: u64,
     ) -> io::Result<()>
-        ensures { Asks self.old.calls self.new.calls (asked from.entry.name (reads at (length bytes.old)) (is_ok result) ∷ []) }
+        requires { is_of self.old.part from.name ≡ true }
+        ensures part { self.new.part ≡ self.old.part }
+        ensures asks { Asks self.old.calls self.new.calls (asked from.entry.name (reads at (length bytes.old)) (is_ok result) ∷ []) }
     {
         let count = bytes.len();
         let result = from.file.read_exact_at(bytes, at);
@@ -205,7 +268,9 @@ impl Asking {
         bytes: &[u8],
         at: u64,
     ) -> io::Result<()>
-        ensures { Asks self.old.calls self.new.calls (asked to.entry.name (writes at bytes.now) (is_ok result) ∷ []) }
+        requires { is_of self.old.part to.name ≡ true }
+        ensures part { self.new.part ≡ self.old.part }
+        ensures asks { Asks self.old.calls self.new.calls (asked to.entry.name (writes at bytes.now) (is_ok result) ∷ []) }
     {
         let result = to.file.write_all_at(bytes, at);
         let call = Call::Writes {
@@ -222,7 +287,9 @@ impl Asking {
     ///
     /// If that failed. What was written since the last sync may be lost then.
     pub fn sync<F: RandomAccessFile>(&mut self, of: NamedFile<'_, F>) -> io::Result<()>
-        ensures { Asks self.old.calls self.new.calls (asked of.entry.name syncs (is_ok result) ∷ []) }
+        requires { is_of self.old.part of.name ≡ true }
+        ensures part { self.new.part ≡ self.old.part }
+        ensures asks { Asks self.old.calls self.new.calls (asked of.entry.name syncs (is_ok result) ∷ []) }
     {
         let result = of.file.sync_data();
         self.note(of.name, Call::Syncs, result.is_ok());

@@ -7,10 +7,11 @@ ghost use Rattle.site_shadow.specs.declared.pattern.Pattern.TheVariants as patte
 ghost use Rattle.site_file.specs.declared.asking.LineFile.TheVariants as line_file;
 ghost use Rattle.site_file.specs.Calls.{writes, syncs};
 ghost use Rattle.site_file.specs.Asking.{HasLog, Begins, AsksToRead, WritesWord};
-ghost use Rattle.site_file.specs.Owned.{LacksJournal};
+ghost use Rattle.site_file.specs.Owned.{Lacks, LacksJournal, image_in};
+ghost use Rattle.site_file.specs.Parts.{is_of};
 
 use crate::access::RandomAccessFile;
-use crate::asking::{Asked, Asking, NamedFile};
+use crate::asking::{Asked, Asking, FileTold, LineFile, NamedFile};
 use crate::owned::{OpenFiles, OwnedFiles};
 use ecat_frame::Frame;
 use esc_model::{RomHalf, WordWrite};
@@ -57,12 +58,20 @@ impl<F: RandomAccessFile> FileDevice<F> {
         ensures begins { result.has_failed ≡ false }
         ensures journal { result.held.journal ≡ Some files.journal }
         ensures images { result.held.images ≡ files.images }
+        ensures part { result.asking.part ≡ None }
     {
         FileDevice {
             held: OwnedFiles::of(files),
-            asking: Asking::new(),
+            asking: Asking::new(None),
             has_failed: false,
         }
+    }
+
+    /// The part of the line that lent it, whose files alone it asks. None: the line's own.
+    pub fn part(&self) -> Option<LinePart>
+        ensures { result ≡ self.now.asking.part }
+    {
+        self.asking.part()
     }
 
     /// Whether a call on a file has failed, or it was put behind a shadow that had seen a call.
@@ -125,7 +134,8 @@ impl<F: Drop> FileDevice<F> {
             asking,
             has_failed: _,
         } = self;
-        match asking.told() {
+        let FileTold { calls, part: _ } = asking.told();
+        match calls {
             Some(log) => Some(Finished { files: held, log }),
             None => {
                 drop(held);
@@ -135,15 +145,36 @@ impl<F: Drop> FileDevice<F> {
     }
 }
 
-/// The journal, if it is among these files and no call has failed.
-fn sound_journal<F>(held: &OwnedFiles<F>, has_failed: bool) -> Option<NamedFile<'_, F>>
+/// The journal, if it is among these files, may be asked, and no call has failed.
+fn sound_journal<'f, F>(
+    held: &'f OwnedFiles<F>,
+    asking: &Asking,
+    has_failed: bool,
+) -> Option<NamedFile<'f, F>>
     ensures some { IfSome result (λ journal. (has_failed ≡ false) × (journal.name ≡ line_file.Journal)) }
-    ensures none { IfNone result (LacksJournal has_failed held.now) }
+    ensures own { IfSome result (λ journal. is_of asking.now.part journal.name ≡ true) }
+    ensures none { IfNone result (LacksJournal asking.now.part has_failed held.now) }
 {
-    if has_failed {
+    if has_failed || !asking.is_for(LineFile::Journal) {
         return None;
     }
     held.journal()
+}
+
+/// The image of a slave, if it is among these files and may be asked.
+fn own_image<'f, F>(
+    held: &'f OwnedFiles<F>,
+    asking: &Asking,
+    slave: usize,
+) -> Option<NamedFile<'f, F>>
+    ensures name { IfSome result (λ image. image.name ≡ line_file.Image slave) }
+    ensures own { IfSome result (λ image. is_of asking.now.part image.name ≡ true) }
+    ensures none { IfNone result (Lacks asking.now.part (line_file.Image slave) (image_in held.now slave)) }
+{
+    if !asking.is_for(LineFile::Image(slave)) {
+        return None;
+    }
+    held.image(slave)
 }
 
 /// Writes a word to an image and syncs it. Returns whether both succeeded.
@@ -153,7 +184,9 @@ fn write_word<F: RandomAccessFile>(
     image: NamedFile<'_, F>,
     write: WordWrite,
 ) -> bool
-    ensures { WritesWord image.entry.name write.word write.value asking.old.calls result asking.new.calls }
+    requires { is_of asking.old.part image.name ≡ true }
+    ensures part { asking.new.part ≡ asking.old.part }
+    ensures writes { WritesWord image.entry.name write.word write.value asking.old.calls result asking.new.calls }
 {
     let place = u64::from(write.word) * 2;
     match asking.write(image, &write.value.to_le_bytes(), place) {
@@ -186,7 +219,9 @@ fn has_bytes<F: RandomAccessFile>(
     at: usize,
     bytes: &[u8],
 ) -> io::Result<bool>
-    ensures { AsksToRead file.entry.name asking.old.calls asking.new.calls }
+    requires { is_of asking.old.part file.name ≡ true }
+    ensures part { asking.new.part ≡ asking.old.part }
+    ensures reads { AsksToRead file.entry.name asking.old.calls asking.new.calls }
 {
     let mut buffer = [0u8; PIECE];
     let mut place = at as u64;
@@ -209,9 +244,10 @@ impl<F: RandomAccessFile> FileDevice<F> {
     /// Asks the journal for its length.
     fn ask_length(&mut self, length: usize) -> Passing
         ensures files { self.new.held ≡ self.old.held }
+        ensures part { self.new.asking.part ≡ self.old.asking.part }
         ensures asks { AsksLength self.old result self.new }
     {
-        let Some(journal) = sound_journal(&self.held, self.has_failed) else {
+        let Some(journal) = sound_journal(&self.held, &self.asking, self.has_failed) else {
             return self.refuse();
         };
         match self.asking.len(journal) {
@@ -223,9 +259,10 @@ impl<F: RandomAccessFile> FileDevice<F> {
     /// Compares the journal with what the shadow holds.
     fn compare(&mut self, at: usize, held: &[u8]) -> Passing
         ensures files { self.new.held ≡ self.old.held }
+        ensures part { self.new.asking.part ≡ self.old.asking.part }
         ensures asks { ReadsJournal self.old result self.new }
     {
-        let Some(journal) = sound_journal(&self.held, self.has_failed) else {
+        let Some(journal) = sound_journal(&self.held, &self.asking, self.has_failed) else {
             return self.refuse();
         };
         match has_bytes(&mut self.asking, journal, at, held) {
@@ -237,9 +274,10 @@ impl<F: RandomAccessFile> FileDevice<F> {
     /// Writes to the journal.
     fn write_journal(&mut self, at: usize, bytes: &[u8]) -> Passing
         ensures files { self.new.held ≡ self.old.held }
+        ensures part { self.new.asking.part ≡ self.old.asking.part }
         ensures asks { CallsJournal (writes at bytes.now) self.old result self.new }
     {
-        let Some(journal) = sound_journal(&self.held, self.has_failed) else {
+        let Some(journal) = sound_journal(&self.held, &self.asking, self.has_failed) else {
             return self.refuse();
         };
         let written = self.asking.write(journal, bytes, at as u64);
@@ -249,9 +287,10 @@ impl<F: RandomAccessFile> FileDevice<F> {
     /// Syncs the journal.
     fn sync_journal(&mut self) -> Passing
         ensures files { self.new.held ≡ self.old.held }
+        ensures part { self.new.asking.part ≡ self.old.asking.part }
         ensures asks { CallsJournal syncs self.old result self.new }
     {
-        let Some(journal) = sound_journal(&self.held, self.has_failed) else {
+        let Some(journal) = sound_journal(&self.held, &self.asking, self.has_failed) else {
             return self.refuse();
         };
         let synced = self.asking.sync(journal);
@@ -261,6 +300,7 @@ impl<F: RandomAccessFile> FileDevice<F> {
     /// Writes a word in flight to its image and syncs it.
     fn rest_word(&mut self, slave: usize, half: &RomHalf) -> Resting
         ensures files { self.new.held ≡ self.old.held }
+        ensures part { self.new.asking.part ≡ self.old.asking.part }
         ensures asks { Rests slave (in_flight half.now.activity) self.old result self.new }
         ensures fits { FitsWords half.now }
     {
@@ -270,7 +310,7 @@ impl<F: RandomAccessFile> FileDevice<F> {
         if self.has_failed {
             return Resting::Stays;
         }
-        let Some(image) = self.held.image(slave) else {
+        let Some(image) = own_image(&self.held, &self.asking, slave) else {
             return self.stay();
         };
         if write_word(&mut self.asking, image, write) {
@@ -295,6 +335,7 @@ impl<F: RandomAccessFile> Device for FileDevice<F> {
     fn begin(&mut self, is_new: bool)
         ensures begins { Begins self.old.asking.calls self.new.asking.calls }
         ensures files { self.new.held ≡ self.old.held }
+        ensures part { self.new.asking.part ≡ self.old.asking.part }
         ensures sound { self.new.has_failed ≡ (self.old.has_failed || not is_new) }
         ensures follows { (seen : Seen) → (IsTrue is_new ↔ seen.past ≡ []) → Follows self.new seen }
     {
@@ -304,6 +345,7 @@ impl<F: RandomAccessFile> Device for FileDevice<F> {
 
     fn len(&mut self, length: usize) -> Passing
         ensures files { self.new.held ≡ self.old.held }
+        ensures part { self.new.asking.part ≡ self.old.asking.part }
         ensures asks { AsksLength self.old result self.new }
         ensures follows { Keeps Follows self.old self.new }
     {
@@ -312,6 +354,7 @@ impl<F: RandomAccessFile> Device for FileDevice<F> {
 
     fn read(&mut self, at: usize, held: &[u8]) -> Passing
         ensures files { self.new.held ≡ self.old.held }
+        ensures part { self.new.asking.part ≡ self.old.asking.part }
         ensures asks { ReadsJournal self.old result self.new }
         ensures follows { Keeps Follows self.old self.new }
     {
@@ -320,6 +363,7 @@ impl<F: RandomAccessFile> Device for FileDevice<F> {
 
     fn write(&mut self, at: usize, bytes: &[u8]) -> Passing
         ensures files { self.new.held ≡ self.old.held }
+        ensures part { self.new.asking.part ≡ self.old.asking.part }
         ensures asks { CallsJournal (writes at bytes.now) self.old result self.new }
         ensures follows { WriteKeeps Follows at bytes.now self.old result self.new }
     {
@@ -328,6 +372,7 @@ impl<F: RandomAccessFile> Device for FileDevice<F> {
 
     fn sync(&mut self) -> Passing
         ensures files { self.new.held ≡ self.old.held }
+        ensures part { self.new.asking.part ≡ self.old.asking.part }
         ensures asks { CallsJournal syncs self.old result self.new }
         ensures follows { SyncKeeps Follows self.old result self.new }
     {
@@ -350,6 +395,7 @@ impl<F: RandomAccessFile> Device for FileDevice<F> {
     /// word. If that fails, the half stays busy, and the site stops at once.
     fn rest(&mut self, slave: usize, half: &RomHalf, frame: &Frame, k: usize) -> Resting
         ensures files { self.new.held ≡ self.old.held }
+        ensures part { self.new.asking.part ≡ self.old.asking.part }
         ensures asks { Rests slave (in_flight half.now.activity) self.old result self.new }
         ensures follows { RestKeeps Follows slave half.now frame.now k self.old result self.new }
     {
@@ -397,28 +443,29 @@ impl<F: RandomAccessFile> Device for FileDevice<F> {
 }
 
 impl<F: RandomAccessFile + Drop> Lends for FileDevice<F> {
-    ghost use Rattle.site_file.specs.Asking.{TellsLog};
+    ghost use Rattle.site_file.specs.Asking.{TellsFiles};
     ghost use Rattle.site_file.specs.Owned.{PutsBack, Takes};
 
-    type Told = Option<History<Asked>>;
+    type Told = FileTold;
 
-    ghost tells = { λ device told. TellsLog device.asking.calls told };
+    ghost tells = { λ device told. TellsFiles device.asking told };
 
     fn lend(&mut self, part: LinePart) -> FileDevice<F>
         ensures files { Takes part self.old.held result.held self.new.held }
         ensures nothing { (result.asking.calls.all ≡ []) × HasLog result.asking.calls [] }
+        ensures part { result.asking.part ≡ Some part }
         ensures failed { result.has_failed ≡ self.old.has_failed }
         ensures same { (self.new.asking ≡ self.old.asking) × (self.new.has_failed ≡ self.old.has_failed) }
     {
         FileDevice {
             held: self.held.take(part),
-            asking: Asking::new(),
+            asking: Asking::new(Some(part)),
             has_failed: self.has_failed,
         }
     }
 
-    fn take_back(&mut self, lent: FileDevice<F>) -> Option<History<Asked>>
-        ensures tells { TellsLog lent.asking.calls result }
+    fn take_back(&mut self, lent: FileDevice<F>) -> FileTold
+        ensures tells { TellsFiles lent.asking result }
         ensures files { PutsBack self.old.held lent.held self.new.held }
         ensures failed { self.new.has_failed ≡ (self.old.has_failed || lent.has_failed) }
         ensures same { self.new.asking ≡ self.old.asking }
@@ -433,13 +480,15 @@ impl<F: RandomAccessFile + Drop> Lends for FileDevice<F> {
         asking.told()
     }
 
-    fn tell(&mut self) -> Option<History<Asked>>
-        ensures tells { TellsLog self.old.asking.calls result }
+    fn tell(&mut self) -> FileTold
+        ensures tells { TellsFiles self.old.asking result }
         ensures files { self.new.held ≡ self.old.held }
         ensures nothing { (self.new.asking.calls.all ≡ []) × HasLog self.new.asking.calls [] }
         ensures failed { self.new.has_failed ≡ self.old.has_failed }
+        ensures part { self.new.asking.part ≡ self.old.asking.part }
     {
-        let asking = mem::replace(&mut self.asking, Asking::new());
+        let part = self.asking.part();
+        let asking = mem::replace(&mut self.asking, Asking::new(part));
         asking.told()
     }
 }

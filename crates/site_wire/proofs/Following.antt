@@ -1,9 +1,9 @@
 -- A device on a wire has followed its site through each call.
-use Rattle.std.proofs.Common.{◌≡◌, not, ◌||◌, ◌≢◌, ◌⊎◌, ◌↔◌, ℕ, zero, suc, ◌<◌, Bool, true, false, List, [], ◌∷◌, ◌++◌, length, slice_get, slice_set, slice_index, eqb, Some, Ok, Err, Result, IsTrue, refl, sym, ap, subst, ◌∙◌, inl, inr, arith}
+use Rattle.std.proofs.Common.{◌≡◌, not, ◌||◌, ◌≢◌, ◌⊎◌, ◌↔◌, ℕ, zero, suc, ◌<◌, Bool, true, false, List, [], ◌∷◌, ◌++◌, length, slice_get, slice_set, slice_index, eqb, Option, Some, Ok, Err, Result, IsTrue, refl, sym, ap, subst, ◌∙◌, inl, inr, arith}
 use Rattle.std.specs.List.{All}
 use Rattle.std.proofs.lemmas.Bool.Decides.{eqb_tells, leb_tells}
 use Rattle.std.proofs.lemmas.List.{get_or_past}
-use Rattle.std.proofs.lemmas.List.Elements.{All-get_or}
+use Rattle.std.proofs.lemmas.List.Elements.{All-append, All-get_or, All-nil}
 use Rattle.ecat_frame.specs.Frame.{Pdu}
 use Rattle.esc_model.specs.Orders.{station}
 use Rattle.esc_model.specs.SlaveHalf.{SlaveHalf}
@@ -33,6 +33,8 @@ use Rattle.site_wire.specs.Sent.{Exchanged, HasSent, exchanges}
 use Rattle.site_wire.specs.RealSlaves.{Lives, ends}
 use Rattle.site_wire.proofs.Living.{Between, lives_parts, lives_station, lives_untouched}
 use Rattle.site_wire.proofs.Carrying.{carries_behind}
+use Rattle.site_shadow.specs.declared.lending.LinePart.{LinePart}
+use Rattle.site_wire.specs.Parts.{AreFor, IsForPart, SendsAsPart}
 use Rattle.site_wire.proofs.Sends.{nothing_sent}
 
 module _ {L F C : Type 0} where
@@ -49,37 +51,52 @@ module _ {L F C : Type 0} where
       → (before.is_over ≡ false → before.journal.has_failed ≡ false) → after.is_over ≡ false → after.journal.has_failed ≡ false
   still_sound before after same over was going = ap (λ (j : FileDevice F). j.has_failed) same ∙ was (over going)
 
+  -- one that has sent nothing more, and is of the same part
+  still_own : (before after : WireDevice L F C) → after.journal.asking.part ≡ before.journal.asking.part → SendsNothing before after
+      → (before.is_over ≡ false → AreFor before.journal.asking.part (exchanges before.sender.log.all)) → after.is_over ≡ false
+      → AreFor after.journal.asking.part (exchanges after.sender.log.all)
+  still_own before after part nothing own going =
+      subst (λ (p : Option LinePart). AreFor p (exchanges after.sender.log.all)) (sym part)
+      (subst (λ (sent : List Exchange). AreFor before.journal.asking.part (exchanges sent)) (sym nothing.sent) (own (nothing.over going)))
+
   pub nothing_keeps : (before after : WireDevice L F C) → after.journal ≡ before.journal → SendsNothing before after → Keeps WireFollows before after
   nothing_keeps before after same nothing seen follows = record {
     slaves = same_slaves before after nothing seen follows.slaves;
     journal = subst (λ (j : FileDevice F). JournalFollows j seen) (sym same) follows.journal;
     sound = still_sound before after same nothing.over follows.sound;
+    own = still_own before after (ap (λ (j : FileDevice F). j.asking.part) same) nothing follows.own;
   }
 
-  pub length_keeps : (before after : WireDevice L F C) (result : Passing) → AsksLength before.journal result after.journal → SendsNothing before after
+  pub length_keeps : (before after : WireDevice L F C) (result : Passing) → after.journal.asking.part ≡ before.journal.asking.part
+      → AsksLength before.journal result after.journal → SendsNothing before after
       → (after.is_over ≡ false → result ≡ Passes) → Keeps WireFollows before after
-  length_keeps before after result asks nothing well seen follows = record {
+  length_keeps before after result part asks nothing well seen follows = record {
     slaves = same_slaves before after nothing seen follows.slaves;
     journal = length_follows before.journal after.journal result seen asks follows.journal;
     sound = λ going. length_sound before.journal after.journal result asks (well going);
+    own = still_own before after part nothing follows.own;
   }
 
-  pub read_keeps : (before after : WireDevice L F C) (result : Passing) → ReadsJournal before.journal result after.journal → SendsNothing before after
+  pub read_keeps : (before after : WireDevice L F C) (result : Passing) → after.journal.asking.part ≡ before.journal.asking.part
+      → ReadsJournal before.journal result after.journal → SendsNothing before after
       → (after.is_over ≡ false → result ≡ Passes) → Keeps WireFollows before after
-  read_keeps before after result asks nothing well seen follows = record {
+  read_keeps before after result part asks nothing well seen follows = record {
     slaves = same_slaves before after nothing seen follows.slaves;
     journal = read_follows before.journal after.journal result seen asks follows.journal;
     sound = λ going. read_sound before.journal after.journal result asks (well going);
+    own = still_own before after part nothing follows.own;
   }
 
   pub write_keeps : (at : ℕ) (bytes : List ℕ) (before after : WireDevice L F C) (result : Passing)
+      → after.journal.asking.part ≡ before.journal.asking.part
       → CallsJournal (writes at bytes) before.journal result after.journal → SendsNothing before after → (after.is_over ≡ false → result ≡ Passes)
       → WriteKeeps WireFollows at bytes before result after
-  write_keeps at bytes before after result calls nothing well old new given running inside wrote told follows = record {
+  write_keeps at bytes before after result part calls nothing well old new given running inside wrote told follows = record {
     slaves = still_follows after old new (Extends-by old new wrote.middle given wrote.call) (λ going. same given wrote going)
         (same_slaves before after nothing old follows.slaves);
     journal = write_follows at bytes before.journal after.journal result old new given calls running inside wrote told follows.journal;
     sound = λ going. call_sound (writes at bytes) before.journal after.journal result calls (well going);
+    own = still_own before after part nothing follows.own;
   }
     where
       same : (given : Result (Unit {0}) DeviceFault) → WritesDisk old at bytes given new → ¬ IsTrue new.is_stopped → new.state.halves ≡ old.state.halves
@@ -88,13 +105,15 @@ module _ {L F C : Type 0} where
       same (Err faults.Lost) wrote going = absurd (wrote.not_lost refl)
       same (Err faults.Stopped) wrote going = absurd (going (wrote.call.stopped.1 refl))
 
-  pub sync_keeps : (before after : WireDevice L F C) (result : Passing) → CallsJournal syncs before.journal result after.journal
+  pub sync_keeps : (before after : WireDevice L F C) (result : Passing) → after.journal.asking.part ≡ before.journal.asking.part
+      → CallsJournal syncs before.journal result after.journal
       → SendsNothing before after → (after.is_over ≡ false → result ≡ Passes) → SyncKeeps WireFollows before result after
-  sync_keeps before after result calls nothing well old new given running syncs_it told follows = record {
+  sync_keeps before after result part calls nothing well old new given running syncs_it told follows = record {
     slaves = still_follows after old new (Extends-by old new [] given syncs_it.call) (λ going. same given syncs_it going)
         (same_slaves before after nothing old follows.slaves);
     journal = sync_follows before.journal after.journal result old new given calls running syncs_it told follows.journal;
     sound = λ going. call_sound syncs before.journal after.journal result calls (well going);
+    own = still_own before after part nothing follows.own;
   }
     where
       same : (given : Result (Unit {0}) DeviceFault) → SyncsDisk old given new → ¬ IsTrue new.is_stopped → new.state.halves ≡ old.state.halves
@@ -127,9 +146,12 @@ pub begins : {L F C : Type 0} (device : WireDevice L F C) (was_over had_failed i
     → HasLog device.journal.asking.calls [] → device.journal.has_failed ≡ (had_failed || not is_new)
     → device.is_over ≡ ((was_over || device.journal.has_failed) || not is_unsent) → (IsTrue is_new ↔ seen.past ≡ []) → WireFollows device seen
 begins device was_over had_failed is_unsent is_new seen none unasked failed over told = record {
-  slaves = slaves_begin device seen (λ going. none (is_it is_unsent (neither (was_over || device.journal.has_failed) (not is_unsent) (sym over ∙ going)))) (λ going. told.0 (is_first had_failed is_new (sym failed ∙ sound going)));
+  slaves = slaves_begin device seen unsent (λ going. told.0 (is_first had_failed is_new (sym failed ∙ sound going)));
   journal = journal_begins device.journal had_failed is_new seen unasked failed told;
   sound = sound;
+  own = λ going.
+      subst (λ (sent : List Exchange). AreFor device.journal.asking.part (exchanges sent)) (sym (unsent going))
+      (subst (AreFor device.journal.asking.part) (sym nothing_sent) (All-nil (IsForPart device.journal.asking.part)));
 }
   where
     is_it : (is : Bool) → not is ≡ false → is ≡ true
@@ -143,6 +165,9 @@ begins device was_over had_failed is_unsent is_new seen none unasked failed over
     neither : (was is : Bool) → (was || is) ≡ false → is ≡ false
     neither true is e = absurd cc
     neither false is e = e
+
+    unsent : device.is_over ≡ false → device.sender.log.all ≡ []
+    unsent going = none (is_it is_unsent (neither (was_over || device.journal.has_failed) (not is_unsent) (sym over ∙ going)))
 
     sound : device.is_over ≡ false → device.journal.has_failed ≡ false
     sound going = neither was_over device.journal.has_failed (front (was_over || device.journal.has_failed) (not is_unsent) (sym over ∙ going))
@@ -179,7 +204,20 @@ only_datagram frame k d e one at = by k (ap (λ (f : List Pdu). slice_get f k) (
 
 module _ {L F C : Type 0} (slave : ℕ) (half : SlaveHalf) (frame : List Pdu) (k : ℕ) (before after : WireDevice L F C) (result : Resting)
     (carried : CarriesFrame slave half frame before.sender.log.all after.sender.log.all after.is_over after.resting)
-    (was_going : before.is_over ≡ false) (is : after.is_over ≡ false → result ≡ after.resting) (same : after.journal ≡ before.journal) where
+    (was_going : before.is_over ≡ false) (is : after.is_over ≡ false → result ≡ after.resting) (same : after.journal ≡ before.journal)
+    (as_part : SendsAsPart before.journal.asking.part slave before.sender.log.all after.sender.log.all) where
+  -- what was sent more went to this slave
+  own_calls : AreFor before.journal.asking.part (exchanges before.sender.log.all) → AreFor before.journal.asking.part (exchanges after.sender.log.all)
+  own_calls so_far = by as_part
+    where
+      by : SendsAsPart before.journal.asking.part slave before.sender.log.all after.sender.log.all
+          → AreFor before.journal.asking.part (exchanges after.sender.log.all)
+      by (inl none) = subst (λ (sent : List Exchange). AreFor before.journal.asking.part (exchanges sent)) (sym none) so_far
+      by (inr works) =
+          subst (AreFor before.journal.asking.part) (sym carried.sends.goes_on)
+          (All-append (IsForPart before.journal.asking.part) (exchanges before.sender.log.all) carried.calls so_far
+          (λ k d inside. record { slave = slave; works = works; to = carried.to k d inside }))
+
   module _ (old new : Seen) (rested : SlaveHalf) (d : Pdu) (here : slice_get old.state.halves slave ≡ Some half) (at : slice_get frame k ≡ Some d)
       (so : RestsAs result half rested) (state : new.state ≡ with_half old.state slave (served_datagram rested d).half) (log : List Exchanged)
       (going : after.is_over ≡ false) where
@@ -231,6 +269,9 @@ module _ {L F C : Type 0} (slave : ℕ) (half : SlaveHalf) (frame : List Pdu) (k
     };
     journal = rest_follows slave (served_datagram rested d).half before.journal after.journal old new same running state extends follows.journal;
     sound = still_sound before after same (λ going. was_going) follows.sound;
+    own = λ going.
+        subst (λ (p : Option LinePart). AreFor p (exchanges after.sender.log.all)) (sym (ap (λ (j : FileDevice F). j.asking.part) same))
+        (own_calls (follows.own was_going));
   }
 
 -- a half that rests while the device is over: the slaves may be anything
@@ -244,6 +285,7 @@ module _ {L F C : Type 0} (slave : ℕ) (half : SlaveHalf) (frame : List Pdu) (k
         slaves = record { log = sent.0; has = sent.1; follow = λ going still. absurd (let e : true ≡ false = sym over ∙ going in cc) };
         journal = rest_follows slave (served_datagram rested d).half before.journal after.journal old new same running state extends follows.journal;
         sound = λ going. absurd (let e : true ≡ false = sym over ∙ going in cc);
+        own = λ going. absurd (let e : true ≡ false = sym over ∙ going in cc);
       }
 
   pub over_before : after.sender.log.all ≡ before.sender.log.all → RestKeeps WireFollows slave half frame k before result after

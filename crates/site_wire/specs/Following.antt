@@ -19,9 +19,10 @@ use Rattle.site_wire.specs.Amending.{IsAmended}
 use Rattle.site_wire.specs.Answers.{shown_status}
 use Rattle.site_wire.specs.Answering.{shown_by}
 use Rattle.site_wire.specs.declared.sending.Exchange.{Exchange}
-use Rattle.site_wire.specs.Sent.{Exchanged, exchanged, HasSent, Sends}
+use Rattle.site_wire.specs.Sent.{Exchanged, exchanged, exchanges, HasSent, Sends}
 use Rattle.site_wire.specs.RealSlaves.{Lives}
 use Rattle.site_wire.specs.Journal.{JournalFollows, journal_on}
+use Rattle.site_wire.specs.Parts.{AreFor}
 use Rattle.site_wire.specs.declared.amending.Tried.{Tried}
 use Rattle.site_wire.specs.declared.amending.Tried.TheVariants as tried
 use Rattle.site_wire.specs.declared.answers.Shown.{Shown}
@@ -176,11 +177,12 @@ still_follows device old new extends same follows = record {
     before true is running = absurd (let over : new.is_stopped ≡ true = extends.stopped is in cc)
 
 -- A device on a wire has followed its site: so have the real slaves, and the journal's file. As long as it isn't over, no call on the journal has
--- failed.
+-- failed, and all was sent to slaves on which the device of its part works.
 pub record WireFollows {L F C : Type 0} (device : WireDevice L F C) (seen : Seen) : Type 0 where
   pub slaves : SlavesFollowed device seen
   pub journal : JournalFollows device.journal seen
   pub sound : device.is_over ≡ false → device.journal.has_failed ≡ false
+  pub own : device.is_over ≡ false → AreFor device.journal.asking.part (exchanges device.sender.log.all)
 
 -- the law of the trait: a step in which the device isn't asked
 pub follows_on : {L F C : Type 0} (device : WireDevice L F C) (old new : Seen) → IsUnasked old new → WireFollows device old → WireFollows device new
@@ -188,4 +190,5 @@ follows_on device old new unasked follows = record {
   slaves = still_follows device old new unasked.goes.extends unasked.halves follows.slaves;
   journal = journal_on device.journal old new unasked.goes follows.journal;
   sound = follows.sound;
+  own = follows.own;
 }

@@ -9,6 +9,7 @@ pub mod Joining
 pub mod Known
 pub mod Orders
 pub mod Sent
+pub mod Parts
 pub mod Told
 pub mod RealSlaves
 pub mod Journal

@@ -120,7 +120,7 @@ fn wait_idle<L: Reach, C: Clock>(
     ensures { Polls slave line.old.log.all line.new.log.all result }
 {
     let poll = frame_for(slave, Command::Fprd, CONTROL, &[0, 0]);
-    let mut pace = Pace::of_polls();
+    let mut pace = Pace::new();
     let mut uncounted = 0u32;
     for _poll in 0..POLLS {
         match state_shown(&line.pass(half, &poll)?) {
@@ -131,7 +131,7 @@ fn wait_idle<L: Reach, C: Clock>(
         if uncounted >= UNCOUNTED {
             return Some(Shown::Nothing);
         }
-        pace.pause(clock);
+        pace.poll(clock);
     }
     Some(Shown::Nothing)
 }
@@ -195,7 +195,7 @@ pub(crate) fn read_back<L: Reach, C: Clock>(
     if usize::from(first) + 1 >= half.words().len() {
         return None;
     }
-    let mut pace = Pace::of_tries();
+    let mut pace = Pace::new();
     for _try in 0..ATTEMPTS {
         match try_pair(line, clock, slave, half, first, !write.value)? {
             Tried::Read(pair) => return Some(word_in(pair, write.word)),
@@ -203,7 +203,7 @@ pub(crate) fn read_back<L: Reach, C: Clock>(
             Tried::Refused => {}
         }
         let _cleared = clear(line, slave, half)?;
-        pace.pause(clock);
+        pace.retry(clock);
     }
     None
 }

@@ -14,6 +14,7 @@ ghost use Rattle.std.specs.List.{All};
 ghost use Rattle.std.specs.Option.{option_map};
 ghost use Rattle.site_wire.specs.Sent.{exchanged, Sends};
 ghost use Rattle.site_wire.specs.Following.{SendsNothing, ReadsBack, rests_with, FollowsUp, SendsFor, IsDueTo, CarriesFrame};
+ghost use Rattle.site_wire.specs.Parts.{SendsAsPart, WorksOn};
 ghost use Rattle.esc_model.specs.Bytes.{station_of};
 ghost use Rattle.esc_model.specs.Orders.{station};
 
@@ -26,7 +27,7 @@ use crate::sending::{Exchange, Sender};
 use ecat_frame::{Datagram, Frame};
 use esc_model::{RomHalf, WordWrite, station_address};
 use sii_words::History;
-use site_file::{Asked, FileDevice, RandomAccessFile};
+use site_file::{FileDevice, FileTold, RandomAccessFile};
 use site_shadow::{Device, Lends, LinePart, Passing, Pattern, Resting, ShadowSite};
 use std::rt::Clock;
 use std::sync::Wait;
@@ -48,7 +49,8 @@ const LEFT: Pattern = Pattern::New;
 /// A slave that ends the write of a word in error is told to do it again, its error cleared before, for half a second; the shadow stays
 /// busy meanwhile. A word that the slave shows as written is read back before the shadow has it in place. Polls of a busy slave have pauses.
 ///
-/// Over a `SharedLine` each part of a line can be lent a device. Once one of them has stopped, no other sends a frame.
+/// Over a `SharedLine` each part of a line can be lent a device: that of a slave sends to this slave alone, any other sends nothing. Once one of
+/// them has stopped, no other sends a frame.
 #[derive(Drop)]
 pub struct WireDevice<'f, L, F, C> {
     sender: Sender<L>,
@@ -70,12 +72,10 @@ pub struct WireDevice<'f, L, F, C> {
 /// How far a slave is with the word that it writes.
 #[derive(Clone, Copy)]
 struct SlaveWrite {
-    /// How often it was issued again, since the slave ended it in error or didn't take it.
-    tries: u32,
-    /// Between polls.
+    /// Before each poll.
     polls: Pace,
-    /// Between tries.
-    pauses: Pace,
+    /// Before each time that it is issued again, since the slave ended it in error or didn't take it.
+    retries: Pace,
 }
 
 /// A line on a wire, and a disk in a file.
@@ -88,9 +88,8 @@ impl SlaveWrite {
     /// It was issued once.
     fn begun() -> SlaveWrite {
         SlaveWrite {
-            tries: 0,
-            polls: Pace::of_polls(),
-            pauses: Pace::of_tries(),
+            polls: Pace::new(),
+            retries: Pace::new(),
         }
     }
 }
@@ -273,13 +272,14 @@ impl<'f, L: Reach, F: RandomAccessFile, C: Clock> WireDevice<'f, L, F, C> {
     /// Sends the frame, unless its datagram tells nothing new, or the half is busy and takes nothing of it, and notes how the half rests then.
     fn carry(&mut self, slave: usize, half: &RomHalf, frame: &Frame)
         ensures carries { CarriesFrame slave half.now frame.now self.old.sender.log.all self.new.sender.log.all self.new.is_over self.new.resting }
+        ensures own { SendsAsPart self.old.journal.asking.part slave self.old.sender.log.all self.new.sender.log.all }
         ensures known { (d : Pdu) → frame.now ≡ d ∷ [] → IsKnown half.now d → self.new.is_over ≡ false
             → self.new ≡ record self.old { returned = None; resting = resting.Well } }
         ensures journal { self.new.journal ≡ self.old.journal }
     {
         self.returned = None;
         self.resting = Resting::Stays;
-        let Some(number) = number_of(slave) else {
+        let Some(number) = number_of(self.journal.part(), slave) else {
             return self.stop(StopReason::NotOneDatagram { slave }, None);
         };
         match fit_datagram(number, half, frame) {
@@ -323,7 +323,7 @@ impl<'f, L: Reach, F: RandomAccessFile, C: Clock> WireDevice<'f, L, F, C> {
         ensures journal { self.new.journal ≡ self.old.journal }
     {
         if half.is_at_work() {
-            self.writes[place].polls.pause(self.clock);
+            self.writes[place].polls.poll(self.clock);
         } else {
             self.writes[place] = SlaveWrite::begun();
             self.is_unconfirmed[place] = false;
@@ -414,12 +414,11 @@ impl<'f, L: Reach, F: RandomAccessFile, C: Clock> WireDevice<'f, L, F, C> {
         if self.is_over {
             return;
         }
-        if self.writes[place].tries >= ATTEMPTS {
+        if u32::from(self.writes[place].retries.pauses()) >= ATTEMPTS {
             return self.end_in_error(slave, half, write, answer);
         }
         self.returned = None;
-        self.writes[place].tries += 1;
-        self.writes[place].pauses.pause(self.clock);
+        self.writes[place].retries.retry(self.clock);
         match issue_again(&mut self.sender, slave, half, write) {
             Some(is_taken) => self.set_unconfirmed(place, !is_taken),
             None => self.is_over = true,
@@ -446,10 +445,25 @@ impl<'f, L: Reach, F: RandomAccessFile, C: Clock> WireDevice<'f, L, F, C> {
     }
 }
 
-/// The number of a slave that a line may have.
-fn number_of(slave: usize) -> Option<u16>
-    ensures { IfSome result (λ number. (number ≡ slave) × (number < 64)) }
+/// Whether the device of this part of a line works on this slave. For None it is the line's own.
+fn works_on(part: Option<LinePart>, slave: usize) -> bool
+    ensures { IsTrue result → WorksOn part slave }
 {
+    match part {
+        None => true,
+        Some(LinePart::Slave(own)) => own == slave,
+        Some(_) => false,
+    }
+}
+
+/// The number of a slave that a line may have, and on which the device of this part works.
+fn number_of(part: Option<LinePart>, slave: usize) -> Option<u16>
+    ensures number { IfSome result (λ number. (number ≡ slave) × (number < 64)) }
+    ensures own { IsSome result → WorksOn part slave }
+{
+    if !works_on(part, slave) {
+        return None;
+    }
     match u16::try_from(slave) {
         Ok(number) if number < 64 => Some(number),
         _ => None,
@@ -564,7 +578,7 @@ impl<'f, L: Reach, F: RandomAccessFile, C: Clock> Device for WireDevice<'f, L, F
         if self.is_over {
             return Passing::Stops(LEFT);
         }
-        match number_of(slave) {
+        match number_of(self.journal.part(), slave) {
             Some(number) if fit_datagram(number, half, frame).is_some() => Passing::Passes,
             _ => {
                 self.stop(StopReason::NotOneDatagram { slave }, None);
@@ -636,8 +650,8 @@ impl<'f, L: Reach, F: RandomAccessFile, C: Clock> Device for WireDevice<'f, L, F
 /// What a device on a wire tells of its calls.
 #[derive(Drop)]
 pub struct WireTold {
-    /// All that the journal's file was asked, in order. None where its device stood behind two sites.
-    pub journal: Option<History<Asked>>,
+    /// What was asked of the journal's file, and of which part the device was.
+    pub journal: FileTold,
     /// All that was sent to the slaves, in order, and what came back.
     pub sent: History<Exchange>,
 }
@@ -656,6 +670,8 @@ impl<'f, L: Reach + Copy + Drop, F: RandomAccessFile + Drop, C: Clock> Lends
         ensures files { Takes part self.old.journal.held result.journal.held self.new.journal.held }
         ensures sent { (result.sender.log.all ≡ []) × (self.new.sender ≡ self.old.sender) }
         ensures over { (result.is_over ≡ self.old.is_over) × (self.new.is_over ≡ self.old.is_over) }
+        ensures part { result.journal.asking.part ≡ Some part }
+        ensures same { (self.new.writes ≡ self.old.writes) × (self.new.is_unconfirmed ≡ self.old.is_unconfirmed) }
     {
         WireDevice {
             sender: Sender::new(self.sender.line),

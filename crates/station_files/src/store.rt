@@ -1,5 +1,5 @@
 //! What the program asks of a store of named files.
-ghost use Rattle.std.specs.Prelude.{◌≡◌, ℕ, List, Option, None, option_map, IfOk, IfErr, IfSome, OnOk};
+ghost use Rattle.std.specs.Prelude.{◌≡◌, ℕ, ⊤, List, Option, None, option_map, IfOk, IfErr, IfSome, OnOk};
 ghost use Rattle.station_files.specs.Faults.{IsOfLock, IsOfStream};
 ghost use Rattle.station_files.specs.Files.{HasBytes, ChangesOnly};
 ghost use Rattle.station_files.specs.Locations.{Leads, LeadsTo};
@@ -23,6 +23,9 @@ pub trait Store {
 
     // Where each name leads, as far as that is known and stays so. None: nothing is known.
     ghost leads: { Leads } = { λ _. None };
+
+    // The open file was opened under this name.
+    ghost opened: { Self.File → List ℕ → Type 0 } = { λ _ _. ⊤ };
 
     /// Reads a whole file; `None` where there is no such file.
     ///
@@ -72,6 +75,7 @@ pub trait Store {
     ///
     /// The file is absent, or can't be opened for reading and writing, or can't be synced.
     fn open(&mut self, name: &str) -> io::Result<Self::File>
+        ensures opened { IfOk result (λ file. opened file name.now) }
         ensures others { ChangesOnly (files self.old) (files self.new) name.now };
 
     /// Opens a file for access at byte offsets, and locks it without waiting until it is closed. An absent file is created, empty. Any

@@ -3,6 +3,7 @@ pub mod Site
 pub mod Faults
 pub mod Init
 pub mod Opened
+pub mod OpenFiles
 pub mod Judging
 pub mod Refusals
 pub mod Rounds

@@ -1,7 +1,8 @@
 //! Opens the files of a line, for work on them in place.
-ghost use Rattle.std.specs.Prelude.{map, string_bytes, IfErr};
+ghost use Rattle.std.specs.Prelude.{map, string_bytes, IfErr, IfOk};
 ghost use Rattle.station_files.specs.Faults.{IsOfStream};
 ghost use Rattle.station_files.specs.Files.{ChangesAmong};
+ghost use Rattle.station_line.specs.OpenFiles.{AreOpened, AreOpenedAs};
 ghost use Rattle.station_line.specs.Site.{files_of};
 
 use site_file::OpenFiles;
@@ -9,7 +10,7 @@ use station_files::{Fault, Store};
 use station_text::LineFile;
 use std::alloc::Global;
 
-/// Opens the journal's file, and then the image files of the slaves in order. Each is synced as it is opened.
+/// Opens the journal's file, and then the image files of the slaves in order, each once and under its own name. Each is synced as it is opened.
 ///
 /// # Errors
 ///
@@ -20,6 +21,7 @@ pub fn open_files<S: Store>(
     line: &LineFile,
     store: &mut S,
 ) -> Result<OpenFiles<S::File>, Fault>
+    ensures opened { IfOk result (AreOpened S.opened line.now) }
     ensures others { ChangesAmong (S.files store.old) (S.files store.new) (files_of line.now) }
     ensures failed { IfErr result IsOfStream }
 {
@@ -34,6 +36,7 @@ fn open_images<S: Store>(
     names: &[String],
     store: &mut S,
 ) -> Result<Vec<Option<S::File>>, Fault>
+    ensures opened { IfOk result (λ images. AreOpenedAs S.opened names.now images.items) }
     ensures others { ChangesAmong (S.files store.old) (S.files store.new) (map (λ name. string_bytes name) names.now) }
     ensures failed { IfErr result IsOfStream }
 {

@@ -3,6 +3,7 @@
 
 mod codes;
 mod content;
+mod explanations;
 mod items;
 mod layout_listing;
 mod lines;

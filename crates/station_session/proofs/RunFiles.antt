@@ -2,7 +2,7 @@
 use Rattle.std.proofs.Common.{◌≡◌, ◌∙◌, ℕ, ◌+◌, zero, suc, eq-eqb, Bool, true, false, List, [], ◌∷◌, Some, slice_get, IsTrue, Result, Ok, Err, refl}
 use Rattle.std.proofs.Common.{sym, ap, subst, inl, inr, arith}
 use Rattle.std.proofs.lemmas.List.{append_cancel_left}
-use Rattle.std.specs.Prelude.{◌⊎◌, IfSome, None, OnOk, Option}
+use Rattle.std.specs.Prelude.{◌⊎◌, IfSome, IsSomeAnd, None, OnOk, Option}
 use Rattle.std.specs.List.{AllByRecursion}
 use Rattle.sii_edit.specs.declared.command.Command.{Command}
 use Rattle.esc_model.specs.SlaveHalf.{SlaveHalf}
@@ -17,6 +17,7 @@ use Rattle.site_file.specs.declared.asking.LineFile.{LineFile as FileName}
 use Rattle.site_file.specs.declared.asking.LineFile.TheVariants.{Journal as JournalFile, Image}
 use Rattle.site_file.specs.declared.files.FileDevice.{FileDevice}
 use Rattle.site_file.specs.declared.asking.Asked.{Asked}
+use Rattle.site_file.specs.declared.asking.FileTold.{FileTold}
 use Rattle.site_file.specs.Asking.{HasLog, TellsLog}
 use Rattle.site_file.specs.Following as files
 use Rattle.site_file.specs.Held.{is_same}
@@ -47,7 +48,10 @@ use Rattle.station_files.specs.ScriptFiles.{SpellsCommands}
 use Rattle.station_files.specs.declared.faults.ExitStatus.{ExitStatus}
 use Rattle.station_files.specs.declared.faults.Fault.{Fault}
 use Rattle.script_session.specs.declared.closing.Ending.{Ending}
-use Rattle.script_session.specs.AtDesk.{DeskServes, EndsApart, EndsFollowed, ServesParts, seen_of}
+use Rattle.script_session.specs.AtDesk.{DeskServes, EndsFollowed, IsUnservedTold, ServesParts, seen_of}
+use Rattle.script_session.specs.AtDesk as at_desk
+use Rattle.script_session.specs.declared.told.UnservedTold.{UnservedTold}
+use Rattle.script_session.specs.declared.told.UnservedTold.TheVariants as unserved
 use Rattle.script_session.specs.declared.told.DeskTold.{DeskTold}
 use Rattle.script_session.specs.declared.told.PartTold.{PartTold}
 use Rattle.script_session.specs.Parts.{AreFollowed, AreSound, AreToldOf, BeginsWith, EndsWith, IsDeskTold, IsTogether, IsWorkFollowed, Soundly, Telling}
@@ -56,7 +60,7 @@ use Rattle.script_session.proofs.SlaveLaws.{placed-at}
 use Rattle.station_session.specs.RunFiles.{BeginsPart, DeskGoes, GoesAlone, GoesBehind, GoesFollowed, HoldTogether, IsLeftBy, KeepsAtDesk, KeepsParts}
 use Rattle.station_session.specs.RunFiles.{OfDevices, OfFiles, RunsFollowed, KeepsRunFiles, RunKeepsFiles, Says, ServesFollowedBy, ServesOn}
 use Rattle.station_session.specs.declared.told.RunTold.{RunTold}
-use Rattle.station_session.specs.RunFiles.{DeskTells, HaveAsked, IsTold, KeepsAsTold, KeepsDeskAsTold, ServesAsTold, TellsOf, line_told}
+use Rattle.station_session.specs.RunFiles.{DeskTells, HaveAsked, IsTold, KeepsAsTold, KeepsDeskAsTold, KeepsPartsAsTold, ServesAsTold, TellsOf, desk_of, line_told, opening_of}
 use Rattle.station_session.specs.RunFiles.{ServesSome, unbegun, apart, served, unopened, opened, unrecovered, recovered}
 use Rattle.station_line.specs.Opened.{GoesKept, Loads}
 use Rattle.station_line.specs.Rounds.{Goes}
@@ -207,18 +211,18 @@ told-calls F device kept calls (Some asked) same log tells =
     append_cancel_left device.asking.calls.begun.value asked calls (sym tells ∙ subst (λ (d : FileDevice F). HasLog d.asking.calls calls) same log)
 
 -- what a device tells of its log, its device of files has asked
-abbrev pub TellsFile : (F : Type 0) → {D : Type 0} → (follows : D → Seen → Type 0) → HasFileDevice F follows → (D → Option (List Asked) → Type 0) → Type 0
+abbrev pub TellsFile : (F : Type 0) → {D : Type 0} → (follows : D → Seen → Type 0) → HasFileDevice F follows → (D → FileTold → Type 0) → Type 0
 TellsFile F {D} follows to_file tells =
-    (device : D) (seen : Seen) (f : follows device seen) (told : Option (List Asked)) → tells device told → TellsLog (to_file device seen f).0.asking.calls told
+    (device : D) (seen : Seen) (f : follows device seen) (told : FileTold) → tells device told → TellsLog (to_file device seen f).0.asking.calls told.calls
 
 -- by devices that keep this and tell of it
-module _ (F : Type 0) {D : Type 0} (follows : D → Seen → Type 0) (to_file : HasFileDevice F follows) (tells : D → Option (List Asked) → Type 0) (tells_file : TellsFile F follows to_file tells) where
-  is-told : (device : D) (seen : Seen) (f : follows device seen) (kept : FileDevice F) (calls : List Asked) (told : Option (Option (List Asked)))
+module _ (F : Type 0) {D : Type 0} (follows : D → Seen → Type 0) (to_file : HasFileDevice F follows) (tells : D → FileTold → Type 0) (tells_file : TellsFile F follows to_file tells) where
+  is-told : (device : D) (seen : Seen) (f : follows device seen) (kept : FileDevice F) (calls : List Asked) (told : Option FileTold)
       → kept ≡ (to_file device seen f).0 → HasLog kept.asking.calls calls → IfSome told (tells device) → IsTold told (λ asked. asked ≡ calls)
   is-told device seen f kept calls None same log none = tt
-  is-told device seen f kept calls (Some told) same log tell = told-calls F (to_file device seen f).0 kept calls told same log (tells_file device seen f told tell)
+  is-told device seen f kept calls (Some told) same log tell = told-calls F (to_file device seen f).0 kept calls told.calls same log (tells_file device seen f told tell)
 
-  goes_on_files : (told : Option (Option (List Asked))) (before now : Seen) → before.past ≡ [] → GoesFollowed (TellsOf follows tells told) before now
+  goes_on_files : (told : Option FileTold) (before now : Seen) → before.past ≡ [] → GoesFollowed (TellsOf follows tells told) before now
       → KeepsAsTold F told before now
   goes_on_files told before now new stage =
       let device = to_file stage.followed.0 now stage.followed.1.0 in
@@ -229,7 +233,7 @@ module _ (F : Type 0) {D : Type 0} (follows : D → Seen → Type 0) (to_file : 
         asked = is-told stage.followed.0 now stage.followed.1.0 keeps.device keeps.calls told (device_kept F device.0 before now device.1 new first stage.goes.keeps) keeps.log stage.followed.1.1;
       }
 
-  serves_on_files : (told : Option (Option (List Asked))) (commands : List Command) (before now : Seen) → before.past ≡ []
+  serves_on_files : (told : Option FileTold) (commands : List Command) (before now : Seen) → before.past ≡ []
       → ServesOn (TellsOf follows tells told) commands before now → ServesAsTold F told commands before now
   serves_on_files told commands before now new serves =
       let device = to_file serves.followed.0 now serves.followed.1.0 in
@@ -241,7 +245,7 @@ module _ (F : Type 0) {D : Type 0} (follows : D → Seen → Type 0) (to_file : 
       }
 
 -- a device that keeps this, and of which nothing has failed on a site that goes on
-module _ (F : Type 0) {D : Type 0} (follows : D → Seen → Type 0) (well : D → Type 0) (tells : D → Option (List Asked) → Type 0) (to_file : HasFileDevice F follows) (tells_file : TellsFile F follows to_file tells)
+module _ (F : Type 0) {D : Type 0} (follows : D → Seen → Type 0) (well : D → Type 0) (tells : D → FileTold → Type 0) (to_file : HasFileDevice F follows) (tells_file : TellsFile F follows to_file tells)
     (well_file : (device : D) (seen : Seen) (f : follows device seen) → well device → (to_file device seen f).0.has_failed ≡ false) where
   soundly_file : HasFileDevice F (Soundly follows well)
   soundly_file device seen soundly = to_file device seen soundly.0
@@ -270,63 +274,73 @@ module _ (F : Type 0) {D : Type 0} (follows : D → Seen → Type 0) (well : D �
   keeps_desk station synced commands ending site (Err fault) parts followed = record { parts = keeps_followed station synced commands ending parts.desk followed; together = tt }
 
   -- where the devices are told of
-  module _ (station : Station) (synced : station.seen.state.disk ≡ of_bytes station.seen.state.disk.bytes) (commands : List Command) (ending : Ending) (site : SiteValue) (parts : ServesParts station commands ending site)
-      (told : DeskTold (Option (List Asked))) (tellings : IsDeskTold follows well tells station.seen told parts.desk.ends) where
-    told_disk : IsFollowed follows parts.desk.ends.flusher.site.seen
+  module _ (station : Station) (synced : station.seen.state.disk ≡ of_bytes station.seen.state.disk.bytes) (commands : List Command) (ending : Ending) (desk : DeskServes station commands ending)
+      (told : DeskTold FileTold) (tellings : IsDeskTold follows well tells station.seen told desk.ends) where
+    told_disk : IsFollowed follows desk.ends.flusher.site.seen
     told_disk = (tellings.disk.0, tellings.disk.1.0)
 
-    told_works : (slave : ℕ) (end : Stay SiteValue SlaveLog) → slice_get parts.desk.ends.workers.items slave ≡ Some end → IsWorkFollowed follows end
+    told_works : (slave : ℕ) (end : Stay SiteValue SlaveLog) → slice_get desk.ends.workers.items slave ≡ Some end → IsWorkFollowed follows end
     told_works slave end is =
-        let w = told-work follows well tells told.slaves.items parts.desk.ends.workers.items tellings.slaves slave end is in
+        let w = told-work follows well tells told.slaves.items desk.ends.workers.items tellings.slaves slave end is in
         record { worked = w.2.worked; followed = (w.2.followed.0, w.2.followed.1.0) }
 
-    keeps_told : KeepsParts F station parts.desk.ends
-    keeps_told = keeps_parts F follows to_file station synced commands ending parts.desk tellings.flushed told_disk told_works
+    keeps_told : KeepsParts F station desk.ends
+    keeps_told = keeps_parts F follows to_file station synced commands ending desk tellings.flushed told_disk told_works
 
-    have_asked : HaveAsked told parts.desk.ends keeps_told.desk
+    have_asked : HaveAsked told desk.ends keeps_told.desk
     unfolding keeps_told keeps_parts desk told_disk told_works
     have_asked = record {
-      journal = subst (λ (d : FileDevice F). TellsLog d.asking.calls told.disk.told)
-          (sym (journal_device F follows to_file station synced commands ending parts.desk tellings.flushed told_disk told_works))
-          (tells_file tellings.disk.0 parts.desk.ends.flusher.site.seen tellings.disk.1.0 told.disk.told tellings.disk.1.1);
+      journal = subst (λ (d : FileDevice F). TellsLog d.asking.calls told.disk.told.calls)
+          (sym (journal_device F follows to_file station synced commands ending desk tellings.flushed told_disk told_works))
+          (tells_file tellings.disk.0 desk.ends.flusher.site.seen tellings.disk.1.0 told.disk.told tellings.disk.1.1);
       images = λ slave end is.
-          let w = told-work follows well tells told.slaves.items parts.desk.ends.workers.items tellings.slaves slave end is in (
+          let w = told-work follows well tells told.slaves.items desk.ends.workers.items tellings.slaves slave end is in (
             w.0,
             w.1,
-            subst (λ (d : FileDevice F). TellsLog d.asking.calls w.0.told)
-                (sym (image_device F follows to_file station synced commands ending parts.desk tellings.flushed told_disk told_works slave end is))
+            subst (λ (d : FileDevice F). TellsLog d.asking.calls w.0.told.calls)
+                (sym (image_device F follows to_file station synced commands ending desk tellings.flushed told_disk told_works slave end is))
                 (tells_file w.2.followed.0 end.site.seen w.2.followed.1.0 w.0.told w.2.followed.1.1),
           );
     }
 
-    told_together : AreSound told → parts.desk.ends.flusher.site.seen.state.disk ≡ of_bytes parts.desk.ends.flusher.site.seen.state.disk.bytes
-        → HoldTogether parts.desk.ends keeps_told.desk site
+    told_together : (site : SiteValue) → IsTogether desk.ends site → AreSound told → desk.ends.flusher.site.seen.state.disk ≡ of_bytes desk.ends.flusher.site.seen.state.disk.bytes
+        → HoldTogether desk.ends keeps_told.desk site
     unfolding keeps_told keeps_parts desk told_disk told_works
-    told_together sound all_synced =
-        let ends = parts.desk.ends in
+    told_together site together sound all_synced =
+        let ends = desk.ends in
         let here = tellings.disk.1.2 sound.disk in
-        hold_together F follows to_file station synced commands ending parts.desk tellings.flushed told_disk told_works site parts.together
+        hold_together F follows to_file station synced commands ending desk tellings.flushed told_disk told_works site together
         (well_file tellings.disk.0 ends.flusher.site.seen tellings.disk.1.0 here.0, here.1)
         (λ slave end is.
         let w = told-work follows well tells told.slaves.items ends.workers.items tellings.slaves slave end is in
         let there = w.2.followed.1.2 (sound-at told.slaves.items slave w.0 sound.slaves w.1) in
         (well_file w.2.followed.0 end.site.seen w.2.followed.1.0 there.0, there.1)) all_synced
 
-    keeps_as_told : (sound : Result (Unit {0}) Fault) → OnOk sound (AreSound told) → EndsFollowed follows well station sound parts.desk.ends
-        → KeepsDeskAsTold F (Some told) station sound parts.desk.ends site
-    keeps_as_told (Ok done) are followed =
-        record { keeps = record { parts = keeps_told; together = told_together are followed.synced }; asked = have_asked }
-    keeps_as_told (Err fault) are followed = record { keeps = record { parts = keeps_told; together = tt }; asked = have_asked }
+    keeps_as_told : (site : SiteValue) → IsTogether desk.ends site → (sound : Result (Unit {0}) Fault) → OnOk sound (AreSound told) → EndsFollowed follows well station sound desk.ends
+        → KeepsDeskAsTold F (Some told) station sound desk.ends site
+    keeps_as_told site together (Ok done) are followed =
+        record { keeps = record { parts = keeps_told; together = told_together site together are followed.synced }; asked = have_asked }
+    keeps_as_told site together (Err fault) are followed = record { keeps = record { parts = keeps_told; together = tt }; asked = have_asked }
 
-  desk_as_told : (told : Option (DeskTold (Option (List Asked)))) (station : Station) → station.seen.state.disk ≡ of_bytes station.seen.state.disk.bytes → (commands : List Command) (ending : Ending) (site : SiteValue)
+  -- where the line wasn't put together
+  parts_as_told : (told : Option (DeskTold FileTold)) (station : Station) → station.seen.state.disk ≡ of_bytes station.seen.state.disk.bytes
+      → (commands : List Command) (ending : Ending) (desk : DeskServes station commands ending)
+      → IsSomeAnd told (λ one. IsDeskTold follows well tells station.seen one desk.ends) → KeepsPartsAsTold F told station desk.ends
+  parts_as_told None station synced commands ending served_by tellings = absurd tellings
+  parts_as_told (Some told) station synced commands ending served_by tellings = record {
+    keeps = keeps_told station synced commands ending served_by told tellings;
+    asked = have_asked station synced commands ending served_by told tellings;
+  }
+
+  desk_as_told : (told : Option (DeskTold FileTold)) (station : Station) → station.seen.state.disk ≡ of_bytes station.seen.state.disk.bytes → (commands : List Command) (ending : Ending) (site : SiteValue)
       (sound : Result (Unit {0}) Fault) (parts : ServesParts station commands ending site) → DeskTells follows well tells told station sound parts.desk.ends
       → KeepsDeskAsTold F told station sound parts.desk.ends site
   desk_as_told None station synced commands ending site sound parts tell =
       record { keeps = keeps_desk station synced commands ending site sound parts tell.followed; asked = tt }
   desk_as_told (Some told) station synced commands ending site sound parts tell =
-      keeps_as_told station synced commands ending site parts told tell.tell.0 sound tell.tell.1 tell.followed
+      keeps_as_told station synced commands ending parts.desk told tell.tell.0 site parts.together sound tell.tell.1 tell.followed
 
-  module _ (told : RunTold (Option (List Asked))) where
+  module _ (told : RunTold FileTold) where
     alone_on_files : (commands : List Command) (left : Seen) (status : ExitStatus) → left.past ≡ []
         → GoesAlone (OfDevices follows well tells told) commands left status → GoesAlone (OfFiles F told) commands left status
     alone_on_files commands left status new (unrecovered last stage bad) = unrecovered last
@@ -346,8 +360,8 @@ module _ (F : Type 0) {D : Type 0} (follows : D → Seen → Type 0) (well : D �
         → (commands : List Command) (status : ExitStatus) → ServesFollowedBy follows well tells station commands status told
         → DeskGoes (OfFiles F told) station commands status
     desk_on_files station synced commands status (unbegun bad) = unbegun bad
-    desk_on_files station synced commands status (apart ending desk followed bad) =
-        apart ending desk (keeps_followed station synced commands ending desk followed) bad
+    desk_on_files station synced commands status (apart ending desk tellings bad) =
+        apart ending desk (parts_as_told told.desk station synced commands ending desk tellings) bad
     desk_on_files station synced commands status (served ending site sound parts tell closes) =
         served ending site sound parts (desk_as_told told.desk station synced commands ending site sound parts tell)
         (λ closed. behind_on_files ending.is_driven sound commands site.seen status parts.together.new (closes closed))
@@ -367,7 +381,7 @@ pub told-opening : {T : Type 0} (tellings : Option (DeskTold T)) (opening : Opti
 told-opening {T} tellings opening told none some = ap (λ (d : Option (DeskTold T)). line_told d opening) none ∙ some
 
 -- the same site, with another device
-pub kept_as : (F : Type 0) (site other : SiteValue) (commands : List Command) (status : ExitStatus) (told : RunTold (Option (List Asked))) → other ≡ site
+pub kept_as : (F : Type 0) (site other : SiteValue) (commands : List Command) (status : ExitStatus) (told : RunTold FileTold) → other ≡ site
     → RunKeepsFiles F other.seen commands status told → RunKeepsFiles F site.seen commands status told
 kept_as F site other commands status told same kept = subst (λ (s : SiteValue). RunKeepsFiles F s.seen commands status told) same kept
 
@@ -462,12 +476,26 @@ goes_alone follows well tells told before r commands status goes begins some =
 
 -- what a line was not served with, by what `serve_by_threads` tells
 pub not_served : {D T : Type 0} (follows : D → Seen → Type 0) (well : D → Type 0) (tells : D → T → Type 0) (told : RunTold T) (station : Station)
-    (commands : List Command) (begun : Bool) (status : ExitStatus) → ¬ IsFaultless status → (IsTrue begun → EndsApart follows station commands)
-    → ServesFollowedBy follows well tells station commands status told
-not_served follows well tells told station commands true status bad left = let e = left refl in apart e.ending e.desk e.followed bad
-not_served follows well tells told station commands false status bad left = unbegun bad
+    (commands : List Command) (why : UnservedTold T) (status : ExitStatus) → ¬ IsFaultless status → told.desk ≡ desk_of why
+    → IsUnservedTold follows well tells station commands why → ServesFollowedBy follows well tells station commands status told
+not_served follows well tells told station commands (unserved.Line part) status bad is (at_desk.line _ followed) = unbegun bad
+not_served follows well tells told station commands (unserved.Desk devices) status bad is (at_desk.desk _ ending served_by tellings) =
+    apart ending served_by
+    (subst (λ (d : Option (DeskTold _)). IsSomeAnd d (λ one. IsDeskTold follows well tells station.seen one served_by.ends)) (sym is) tellings) bad
 
-desk_told : (F : Type 0) (told : RunTold (Option (List Asked))) (station : Station) (commands : List Command) (one final : ExitStatus) → ¬ IsFaultless final
+pub unserved_line : {D T : Type 0} (follows : D → Seen → Type 0) (well : D → Type 0) (tells : D → T → Type 0) (told : RunTold T) (station : Station)
+    (commands : List Command) (why : UnservedTold T) → told.desk ≡ desk_of why → told.opening ≡ opening_of why
+    → IsUnservedTold follows well tells station commands why → IsFollowed (TellsOf follows tells (line_told told.desk told.opening)) station.seen
+unserved_line follows well tells told station commands why same_desk same_opening is =
+    subst (λ (d : Option (DeskTold _)). IsFollowed (TellsOf follows tells (line_told d told.opening)) station.seen) (sym same_desk)
+    (subst (λ (o : Option _). IsFollowed (TellsOf follows tells (line_told (desk_of why) o)) station.seen) (sym same_opening) (by why is))
+  where
+    by : (why : UnservedTold _) → IsUnservedTold follows well tells station commands why
+        → IsFollowed (TellsOf follows tells (line_told (desk_of why) (opening_of why))) station.seen
+    by (unserved.Line part) (at_desk.line _ followed) = (followed.0, (followed.1.0, followed.1.1))
+    by (unserved.Desk devices) (at_desk.desk _ ending served_by tellings) = (tellings.before.0, (tellings.before.1.0, tellings.before.1.1))
+
+desk_told : (F : Type 0) (told : RunTold FileTold) (station : Station) (commands : List Command) (one final : ExitStatus) → ¬ IsFaultless final
     → DeskGoes (OfFiles F told) station commands one → DeskGoes (OfFiles F told) station commands final
 desk_told F told station commands one final bad (unbegun was) = unbegun bad
 desk_told F told station commands one final bad (apart ending desk keeps was) = apart ending desk keeps bad
@@ -476,13 +504,13 @@ desk_told F told station commands one final bad (served ending site sound parts 
     (closes closed))
 
 -- a fault of the capture ends the run as a fault, or the status stays
-pub told_as : (F : Type 0) (before : Seen) (commands : List Command) (one final : ExitStatus) (told : RunTold (Option (List Asked))) → (final ≡ one) ⊎ (¬ IsFaultless final)
+pub told_as : (F : Type 0) (before : Seen) (commands : List Command) (one final : ExitStatus) (told : RunTold FileTold) → (final ≡ one) ⊎ (¬ IsFaultless final)
     → RunKeepsFiles F before commands one told → RunKeepsFiles F before commands final told
 told_as F before commands one final told (inl same) kept = subst (λ (s : ExitStatus). RunKeepsFiles F before commands s told) (sym same) kept
 told_as F before commands one final told (inr bad) (unopened last stage was) = unopened last stage bad
 told_as F before commands one final told (inr bad) (opened station stage synced goes) = opened station stage synced
     (desk_told F told station commands one final bad goes)
 
-pub runs_kept : (F : Type 0) (old : Known) (name script : List ℕ) (line : LineFile) (site : SiteValue) (commands : List Command) (status : ExitStatus) (told : RunTold (Option (List Asked))) → Loads old name line site
+pub runs_kept : (F : Type 0) (old : Known) (name script : List ℕ) (line : LineFile) (site : SiteValue) (commands : List Command) (status : ExitStatus) (told : RunTold FileTold) → Loads old name line site
     → SpellsCommands old script commands → RunKeepsFiles F site.seen commands status told → KeepsRunFiles F old name script status told
 runs_kept F known name script line site commands status told loaded spelt kept = record { line = line; site = site; loaded = loaded; commands = commands; spelt = spelt; kept = kept }

@@ -10,6 +10,10 @@ use Rattle.site_shadow.specs.Unsynced.{of_bytes}
 use Rattle.site_file.specs.declared.asking.LineFile.{LineFile as FileName}
 use Rattle.site_file.specs.declared.asking.LineFile.TheVariants.{Journal, Image}
 use Rattle.site_file.specs.declared.asking.Asked.{Asked}
+use Rattle.site_file.specs.declared.asking.FileTold.{FileTold}
+use Rattle.site_file.specs.Parts.{AreOf}
+use Rattle.site_shadow.specs.declared.lending.LinePart.{LinePart}
+use Rattle.site_shadow.specs.declared.lending.LinePart.TheVariants as parts
 use Rattle.site_file.specs.Asking.{TellsLog}
 use Rattle.site_file.specs.Files.{BecomesBy, File, IsBytes}
 use Rattle.site_file.specs.Held.{of_file}
@@ -34,8 +38,10 @@ use Rattle.station_line.specs.Opened.{GoesKept}
 use Rattle.script_session.specs.declared.closing.Ending.{Ending}
 use Rattle.script_session.specs.AtDesk.{BeginsAs, DeskServes, EndsFollowed, ServesParts, seen_of}
 use Rattle.script_session.specs.declared.told.DeskTold.{DeskTold}
+use Rattle.script_session.specs.declared.told.UnservedTold.{UnservedTold}
+use Rattle.script_session.specs.declared.told.UnservedTold.TheVariants as unserved
 use Rattle.script_session.specs.declared.told.PartTold.{PartTold}
-use Rattle.script_session.specs.Parts.{AreFollowed, AreSound, IsDeskTold}
+use Rattle.script_session.specs.Parts.{AreSound, IsDeskTold}
 use Rattle.station_session.specs.declared.told.RunTold.{RunTold}
 use Rattle.station_line.specs.Rounds.{AreAmong, Goes}
 use Rattle.station_line.specs.Site.{IsFollowed}
@@ -111,6 +117,15 @@ abbrev pub line_told : {T : Type 0} → Option (DeskTold T) → Option T → Opt
 line_told (Some desk) other = Some desk.line.told
 line_told None other = other
 
+-- the same, and what is told of devices at a desk, by what is told where a line was not served
+abbrev pub opening_of : {T : Type 0} → UnservedTold T → Option T
+opening_of (unserved.Line part) = Some part.told
+opening_of (unserved.Desk desk) = None
+
+abbrev pub desk_of : {T : Type 0} → UnservedTold T → Option (DeskTold T)
+desk_of (unserved.Line part) = None
+desk_of (unserved.Desk desk) = Some desk
+
 -- A device keeps this of a site, and what is told, if something is, is told of it.
 abbrev pub TellsOf : {D T : Type 0} → (D → Seen → Type 0) → (D → T → Type 0) → Option T → D → Seen → Type 0
 TellsOf follows tells told device seen = follows device seen × IfSome told (tells device)
@@ -127,7 +142,7 @@ OfDevices follows well tells told = record {
   opening = GoesFollowed (TellsOf follows tells (line_told told.desk told.opening));
   behind = GoesFollowed (TellsOf follows tells told.behind);
   serving = ServesOn (TellsOf follows tells told.behind);
-  parts = λ station ends. AreFollowed follows ends;
+  parts = λ station ends. IsSomeAnd told.desk (λ desk. IsDeskTold follows well tells station.seen desk ends);
   desk = λ station sound ends site. DeskTells follows well tells told.desk station sound ends;
 }
 
@@ -180,51 +195,56 @@ pub record KeepsAtDesk (F : Type 0) (station : Station) (sound : Result (Unit {0
   pub together : OnOk sound (HoldTogether ends parts.desk site)
 
 -- What is told of the calls of a device, if something is.
-abbrev pub IsTold : Option (Option (List Asked)) → (List Asked → Type 0) → Type 0
-IsTold told so = IfSome told (λ asked. IfSome asked so)
+abbrev pub IsTold : Option FileTold → (List Asked → Type 0) → Type 0
+IsTold told so = IfSome told (λ file. IfSome file.calls so)
 
 -- As `KeepsOn`, by the calls that are told.
-pub record KeepsAsTold (F : Type 0) (told : Option (Option (List Asked))) (before now : Seen) : Type 0 where
+pub record KeepsAsTold (F : Type 0) (told : Option FileTold) (before now : Seen) : Type 0 where
   pub keeps : KeepsOn F before now
   pub asked : IsTold told (λ calls. calls ≡ keeps.calls)
 
 -- As `KeepsOnServing`, by the calls that are told.
-pub record ServesAsTold (F : Type 0) (told : Option (Option (List Asked))) (commands : List Command) (before now : Seen) : Type 0 where
+pub record ServesAsTold (F : Type 0) (told : Option FileTold) (commands : List Command) (before now : Seen) : Type 0 where
   pub keeps : KeepsOnServing F commands before now
   pub asked : IsTold told (λ calls. calls ≡ keeps.calls)
 
 -- The devices behind the parts of a desk have asked their files what is told of them.
-pub record HaveAsked {F : Type 0} (told : DeskTold (Option (List Asked))) (ends : Ends SiteValue)
+pub record HaveAsked {F : Type 0} (told : DeskTold FileTold) (ends : Ends SiteValue)
     (desk : DeskOnFiles F seen_of ends.flusher ends.workers.items) : Type 0 where
-  pub journal : TellsLog desk.journal.device.asking.calls told.disk.told
+  pub journal : TellsLog desk.journal.device.asking.calls told.disk.told.calls
   pub images : (slave : ℕ) (end : Stay SiteValue SlaveLog) (is : slice_get ends.workers.items slave ≡ Some end)
-      → (part : PartTold (Option (List Asked))) × (slice_get told.slaves.items slave ≡ Some part)
-      × TellsLog (desk.images slave end is).device.asking.calls part.told
+      → (part : PartTold FileTold) × (slice_get told.slaves.items slave ≡ Some part)
+      × TellsLog (desk.images slave end is).device.asking.calls part.told.calls
+
+-- As `KeepsParts`, by the calls that are told.
+pub record KeepsPartsAsTold (F : Type 0) (told : Option (DeskTold FileTold)) (station : Station) (ends : Ends SiteValue) : Type 0 where
+  pub keeps : KeepsParts F station ends
+  pub asked : IsSomeAnd told (λ desk. HaveAsked desk ends keeps.desk)
 
 -- As `KeepsAtDesk`, by the calls that are told.
-pub record KeepsDeskAsTold (F : Type 0) (told : Option (DeskTold (Option (List Asked)))) (station : Station) (sound : Result (Unit {0}) Fault)
+pub record KeepsDeskAsTold (F : Type 0) (told : Option (DeskTold FileTold)) (station : Station) (sound : Result (Unit {0}) Fault)
     (ends : Ends SiteValue) (site : SiteValue) : Type 0 where
   pub keeps : KeepsAtDesk F station sound ends site
   pub asked : IfSome told (λ desk. HaveAsked desk ends keeps.parts.desk)
 
 -- what the files of a run keep of which this is told
-abbrev pub OfFiles : Type 0 → RunTold (Option (List Asked)) → Says
+abbrev pub OfFiles : Type 0 → RunTold FileTold → Says
 OfFiles F told = record {
   opening = KeepsAsTold F (line_told told.desk told.opening);
   behind = KeepsAsTold F told.behind;
   serving = ServesAsTold F told.behind;
-  parts = KeepsParts F;
+  parts = KeepsPartsAsTold F told.desk;
   desk = KeepsDeskAsTold F told.desk;
 }
 
 -- What a power cut has left in the files of a run is kept, as far as the run came, however it ended: as the station was opened, at its desk, and in
 -- what went behind the desk, each since the log of its device began. Each begins with the files as the one before left them. The logs are those
 -- that the run tells.
-abbrev pub RunKeepsFiles : (F : Type 0) → (before : Seen) → List Command → ExitStatus → RunTold (Option (List Asked)) → Type 0
+abbrev pub RunKeepsFiles : (F : Type 0) → (before : Seen) → List Command → ExitStatus → RunTold FileTold → Type 0
 RunKeepsFiles F before commands status told = RunGoes (OfFiles F told) before commands status
 
 -- The line and the script were read, and what a power cut has left in the line's files as the commands were run on them is kept so.
-pub record KeepsRunFiles (F : Type 0) (old : Known) (name script : List ℕ) (status : ExitStatus) (told : RunTold (Option (List Asked))) : Type 0 where
+pub record KeepsRunFiles (F : Type 0) (old : Known) (name script : List ℕ) (status : ExitStatus) (told : RunTold FileTold) : Type 0 where
   pub line : LineFile
   pub site : SiteValue
   pub loaded : Loads old name line site
@@ -232,17 +252,22 @@ pub record KeepsRunFiles (F : Type 0) (old : Known) (name script : List ℕ) (st
   pub spelt : SpellsCommands old script commands
   pub kept : RunKeepsFiles F site.seen commands status told
 
--- The log of the device of a part is told.
-abbrev pub HasLogTold : PartTold (Option (List Asked)) → Type 0
-HasLogTold part = IsTrue (is_some part.told)
+-- All that a device asked of its files is told, and it was the device of this part: it asked no other file.
+pub record IsPartTold (part : LinePart) (told : FileTold) : Type 0 where
+  pub log : IsTrue (is_some told.calls)
+  pub own : IfSome told.calls (AreOf (Some part))
 
--- The logs of the line's device before it was taken apart, and of the device of each part are told.
-pub record AreLogsTold (told : DeskTold (Option (List Asked))) : Type 0 where
-  pub line : HasLogTold told.line
-  pub disk : HasLogTold told.disk
-  pub slaves : AllByRecursion HasLogTold told.slaves.items
+-- The same of the device behind the worker of each slave, in order.
+abbrev pub AreSlavesTold : List (PartTold FileTold) → Type 0
+AreSlavesTold told = (slave : ℕ) (part : PartTold FileTold) → slice_get told slave ≡ Some part → IsPartTold (parts.Slave slave) part.told
+
+-- The logs of the line's device before it was taken apart, and of the device of each part are told, each of its own part.
+pub record AreLogsTold (told : DeskTold FileTold) : Type 0 where
+  pub line : IsTrue (is_some told.line.told.calls)
+  pub disk : IsPartTold parts.Disk told.disk.told
+  pub slaves : AreSlavesTold told.slaves.items
 
 -- The logs of the line's device as the station was opened, of the devices at the desk, and of the line's behind it are told.
-pub record IsAllTold (told : RunTold (Option (List Asked))) : Type 0 where
+pub record IsAllTold (told : RunTold FileTold) : Type 0 where
   pub desk : IsSomeAnd told.desk AreLogsTold
-  pub behind : IsSomeAnd told.behind (λ log. IsTrue (is_some log))
+  pub behind : IsSomeAnd told.behind (λ file. IsTrue (is_some file.calls))

@@ -17,5 +17,5 @@ pub use fused::Fuse;
 pub use recovery::{Recovery, recover_line};
 pub use run::{Ran, RunNames, run_script};
 pub use streams::Streams;
-pub use told::{FileLog, FilesTold, RunTold};
+pub use told::{FilesTold, RunTold};
 pub use watch::Watch;

@@ -10,11 +10,11 @@ use crate::capture::{begin_capture, end_capture};
 use crate::fused::{Fuse, run_fused};
 use crate::streams::Streams;
 use crate::threads::run_threads;
-use crate::told::{FileLog, FilesTold, RunTold, Served, with_all_told};
+use crate::told::{FilesTold, RunTold, Served, with_all_told};
 use crate::watch::Watch;
 use line_watch::{Capture, Captured, Cleared, Watched};
 use sii_edit::Command;
-use site_file::{FileDevice, OpenFiles};
+use site_file::{FileDevice, FileTold, OpenFiles};
 use site_shadow::{Device, Lends, ShadowSite};
 use station_files::{ExitStatus, Fault, Store, report_fault};
 use station_line::{Given, Session, load, of_open, open_files, open_station};
@@ -231,7 +231,7 @@ fn run_opened<
     capture: Option<&'a Capture<S::File>>,
     store: &mut S,
     streams: Streams<'_, W, E>,
-) -> Served<FileLog>
+) -> Served<FileTold>
     requires fresh { IsFresh given.session.line given.session.site }
     requires old { given.session.is_old ≡ is_old given.session.site.seen.state.disk.bytes }
     ensures ends { EndsRun false (S.files store.old) (S.files store.new) given.session.line given.session.site given.commands.items result.status }

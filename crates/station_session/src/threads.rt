@@ -59,7 +59,7 @@ pub(crate) fn run_threads<
         Ok(left) => end_threads(rt.alloc(), line, left, store, streams),
         Err(why) => Served {
             status: report_fault(why.fault, streams.faults),
-            told: RunTold::nothing(),
+            told: RunTold::of_unserved(why.told),
         },
     }
 }

@@ -1,20 +1,16 @@
 //! What a run tells of the devices of its line.
 ghost use Rattle.std.specs.Prelude.{◌≡◌, ◌⊎◌, Some, None, IsTrue};
-ghost use Rattle.std.specs.List.{AllByRecursion};
 ghost use Rattle.station_files.specs.Faults.{IsFaultless};
-ghost use Rattle.station_session.specs.RunFiles.{AreLogsTold, HasLogTold, IsAllTold};
+ghost use Rattle.station_session.specs.RunFiles.{desk_of, opening_of, AreLogsTold, AreSlavesTold, IsAllTold, IsPartTold};
 
-use script_session::{DeskTold, PartTold};
-use sii_words::History;
-use site_file::Asked;
+use script_session::{DeskTold, PartTold, UnservedTold};
+use site_file::FileTold;
+use site_shadow::LinePart;
 use station_files::{ExitStatus, Fault, report_fault};
 use std::io::Write;
 
-/// All that a device has asked its files, in order. None where it stood behind two sites: then its log is not all.
-pub type FileLog = Option<History<Asked>>;
-
 /// What a run tells of the calls on the files of its line.
-pub type FilesTold = RunTold<FileLog>;
+pub type FilesTold = RunTold<FileTold>;
 
 /// What a run tells of the devices of its line, as far as it came. `T` is what one device tells.
 #[derive(Drop)]
@@ -41,6 +37,17 @@ impl<T> RunTold<T> {
         }
     }
 
+    /// Of the devices of a line that was not served, or not put together again behind that.
+    pub(crate) fn of_unserved(told: UnservedTold<T>) -> RunTold<T>
+        ensures opening { result.opening ≡ opening_of told }
+        ensures desk { result.desk ≡ desk_of told }
+    {
+        match told {
+            UnservedTold::Line(line) => RunTold::of_opening(line.told),
+            UnservedTold::Desk(desk) => RunTold::of_desk(desk, None),
+        }
+    }
+
     /// Of the line's device alone, as a station wasn't opened.
     pub(crate) fn of_opening(told: T) -> RunTold<T>
         ensures opening { result.opening ≡ Some told }
@@ -55,6 +62,7 @@ impl<T> RunTold<T> {
 
     /// Of a line that was served at a desk, and of its device behind that.
     pub(crate) fn of_desk(desk: DeskTold<T>, behind: Option<T>) -> RunTold<T>
+        ensures opening { result.opening ≡ None }
         ensures desk { result.desk ≡ Some desk }
         ensures behind { result.behind ≡ behind }
     {
@@ -96,7 +104,7 @@ impl<T> Behind<T> {
 }
 
 /// The same, or `Unserved` where no fault is told and a log is missing.
-pub(crate) fn with_all_told<E: Write>(served: Served<FileLog>, faults: &mut E) -> Served<FileLog>
+pub(crate) fn with_all_told<E: Write>(served: Served<FileTold>, faults: &mut E) -> Served<FileTold>
     ensures told { result.told ≡ served.told }
     ensures status { (result.status ≡ served.status) ⊎ (¬ IsFaultless result.status) }
     ensures all { IsFaultless result.status → IsAllTold result.told }
@@ -115,31 +123,47 @@ pub(crate) fn with_all_told<E: Write>(served: Served<FileLog>, faults: &mut E) -
     }
 }
 
-/// Whether the logs of all devices are told.
+/// Whether the logs of all devices are told, those of a desk's each of its own part.
 fn is_all_told(told: &FilesTold) -> bool
     ensures { IsTrue result → IsAllTold told.now }
 {
     match (&told.desk, &told.behind) {
-        (Some(desk), Some(Some(_))) => are_logs_told(desk),
+        (Some(desk), Some(behind)) => behind.calls.is_some() && are_logs_told(desk),
         _ => false,
     }
 }
 
-/// Whether the logs of the devices at a desk are told.
-fn are_logs_told(told: &DeskTold<FileLog>) -> bool
+/// Whether the logs of the devices at a desk are told, each of its own part.
+fn are_logs_told(told: &DeskTold<FileTold>) -> bool
     ensures { IsTrue result → AreLogsTold told.now }
 {
-    told.line.told.is_some() && told.disk.told.is_some() && have_logs(told.slaves.as_slice())
+    if !is_part_told(&told.disk.told, LinePart::Disk) {
+        return false;
+    }
+    if !are_slaves_told(told.slaves.as_slice()) {
+        return false;
+    }
+    told.line.told.calls.is_some()
 }
 
-/// Whether each of these parts has its log told.
-fn have_logs(parts: &[PartTold<FileLog>]) -> bool
-    ensures { IsTrue result → AllByRecursion HasLogTold parts.now }
+/// Whether the log of each slave's device is told.
+fn are_slaves_told(told: &[PartTold<FileTold>]) -> bool
+    ensures { IsTrue result → AreSlavesTold told.now }
 {
-    for place in 0..parts.len() {
-        if parts[place].told.is_none() {
+    for place in 0..told.len() {
+        if !is_part_told(&told[place].told, LinePart::Slave(place)) {
             return false;
         }
     }
     true
+}
+
+/// Whether the log of the device of this part is told.
+fn is_part_told(told: &FileTold, part: LinePart) -> bool
+    ensures { IsTrue result → IsPartTold part told.now }
+{
+    if !told.is_of(part) {
+        return false;
+    }
+    told.calls.is_some()
 }

@@ -220,6 +220,8 @@ impl<S: Store> Store for Remembering<'_, S> {
 
     ghost leads = { S.leads };
 
+    ghost opened = { S.opened };
+
     type File = S::File;
 
     type Lock = S::Lock;

@@ -2,6 +2,7 @@
 #![tactic(auto)]
 
 mod codes;
+mod explanations;
 mod faults;
 mod telling;
 

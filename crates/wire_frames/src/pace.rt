@@ -4,52 +4,51 @@ use std::rt::Clock;
 use std::thread;
 use std::time::Duration;
 
-/// How often a command is tried, with the pauses of `Pace::of_tries` between. They take half a second.
+/// How often a command is tried, with the pauses of `Pace::retry` between. They take half a second.
 pub const ATTEMPTS: u32 = 64;
 
 /// After how many polls in a row that no slave counts, or several do, a slave is given up.
 pub const UNCOUNTED: u32 = 100;
 
 /// How many polls follow one another at once.
-const QUICK_POLLS: u32 = 8;
+const QUICK_POLLS: u16 = 8;
 
-/// Pauses that get longer: none at first, and then each twice as long as the last one, up to a limit.
+/// Pauses that get longer: each is twice as long as the last one, up to a limit.
 #[derive(Clone, Copy)]
 pub struct Pace {
-    /// How many pauses are left out yet.
-    quick: u32,
-    /// The next pause, in microseconds.
-    micros: u64,
-    /// The longest one.
-    longest: u64,
+    /// How many pauses have been made, or left out.
+    pauses: u16,
 }
 
 impl Pace {
-    /// Between polls of a busy slave: eight follow at once, then 50 microseconds to one millisecond. 10,000 polls take nine seconds.
-    pub fn of_polls() -> Pace {
-        Pace {
-            quick: QUICK_POLLS,
-            micros: 50,
-            longest: 1_000,
-        }
+    /// No pause has been made.
+    pub fn new() -> Pace {
+        Pace { pauses: 0 }
     }
 
-    /// Between tries of a command that was not acknowledged: one to eight milliseconds.
-    pub fn of_tries() -> Pace {
-        Pace {
-            quick: 0,
-            micros: 1_000,
-            longest: 8_000,
-        }
+    /// How many pauses have been made, or left out.
+    pub fn pauses(self) -> u16 {
+        self.pauses
     }
 
-    /// Pauses.
-    pub fn pause<C: Clock>(&mut self, clock: &C) {
-        if self.quick > 0 {
-            self.quick -= 1;
-            return;
+    /// Pauses before a busy slave is polled again: eight polls follow at once, then come 50 microseconds to one millisecond. 10,000 polls take
+    /// nine seconds.
+    pub fn poll<C: Clock>(&mut self, clock: &C) {
+        if let Some(times) = self.pauses.checked_sub(QUICK_POLLS) {
+            thread::sleep(clock, doubled(50, times, 1_000));
         }
-        thread::sleep(clock, Duration::from_micros(self.micros));
-        self.micros = self.micros.saturating_mul(2).min(self.longest);
+        self.pauses = self.pauses.saturating_add(1);
     }
+
+    /// Pauses before a command is tried again that was not acknowledged: one to eight milliseconds.
+    pub fn retry<C: Clock>(&mut self, clock: &C) {
+        thread::sleep(clock, doubled(1_000, self.pauses, 8_000));
+        self.pauses = self.pauses.saturating_add(1);
+    }
+}
+
+/// So many microseconds, doubled so often, up to a limit of less than 64 times as many.
+fn doubled(micros: u64, times: u16, longest: u64) -> Duration {
+    let factor = 1_u64 << times.min(6);
+    Duration::from_micros(micros.saturating_mul(factor).min(longest))
 }

@@ -186,6 +186,7 @@ pub fn open_journal<S: Store>(
     line: &LineFile,
     store: &mut S,
 ) -> Result<OpenFiles<S::File>, Fault>
+    ensures opened { IfOk result (λ files. S.opened files.journal (string_bytes line.now.journal)) }
     ensures others { ChangesOnly (S.files store.old) (S.files store.new) (string_bytes line.now.journal) }
     ensures failed { IfErr result station.IsOfStream }
 {

@@ -1,5 +1,6 @@
 mod BehindDesk
 mod Endings
+mod Interleaved
 mod Recovering
 mod RunEnds
 mod SlavesHeld

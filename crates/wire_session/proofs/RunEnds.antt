@@ -1,6 +1,6 @@
 -- What the files hold after a run on a wire.
 use Rattle.std.proofs.Common.{◌≡◌, ℕ, Bool, true, false, List, ◌∷◌, ◌++◌, length, None, Option, Some, Result, Ok, Err, inr, sym, subst}
-use Rattle.std.specs.Prelude.{IfOk, IsSomeAnd, IsTrue, OnOk, string_bytes}
+use Rattle.std.specs.Prelude.{IfSome, IfOk, IsSomeAnd, IsTrue, OnOk, string_bytes}
 use Rattle.sii_edit.specs.declared.command.Command.{Command}
 use Rattle.site_core.specs.State.{State, Seen}
 use Rattle.site_core.specs.Times.{Follows}
@@ -197,6 +197,11 @@ ends_at_desk {D} {T} follows well tells (Err fault) old new line slaves opened c
 pub told_weaker : {A : Type 0} {P Q : A → Type 0} (told : Option A) → ((a : A) → P a → Q a) → IsSomeAnd told P → IsSomeAnd told Q
 told_weaker (Some a) follows says = follows a says
 told_weaker None follows says = absurd says
+
+-- the same where more is known of it in any case
+pub told_own : {A : Type 0} {P Q R : A → Type 0} (told : Option A) → IfSome told R → ((a : A) → R a → P a → Q a) → IsSomeAnd told P → IsSomeAnd told Q
+told_own (Some a) own follows says = follows a own says
+told_own None own follows says = absurd says
 
 pub ends_opened : {D T : Type 0} (follows : D → Seen → Type 0) (well : D → Type 0) (tells : D → T → Type 0) (told : Option (LineTold T)) (result : Result ExitStatus WireFault) (old new : Known) (line : LineFile) (slaves : ℕ)
     (site : SiteValue) (was_old : Bool) (opened : Station) (commands : List Command) → was_old ≡ is_old site.seen.state.disk.bytes

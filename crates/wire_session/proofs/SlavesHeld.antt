@@ -1,5 +1,5 @@
 -- Real slaves hold the contents of a station whose line was recovered on a wire.
-use Rattle.std.proofs.Common.{◌≡◌, ℕ, zero, suc, ◌+◌, ◌<◌, false, List, [], ◌∷◌, ◌++◌, length, map, get_or, inl, Option, Some, IsTrue, Result, Ok, Err, slice_get, refl, sym, ap, subst, ◌∙◌, arith}
+use Rattle.std.proofs.Common.{◌≡◌, ◌≢◌, ℕ, zero, suc, ◌+◌, ◌<◌, false, List, [], ◌∷◌, ◌++◌, length, map, get_or, inl, Option, Some, None, IsTrue, Result, Ok, Err, slice_get, refl, sym, ap, subst, ◌∙◌, arith}
 use Rattle.std.specs.Prelude.{OnOk}
 use Rattle.std.specs.List.{AllByRecursion}
 use Rattle.std.proofs.lemmas.List.{length-map}
@@ -17,6 +17,9 @@ use Rattle.site_wire.specs.Sent.{Exchanged, exchanges}
 use Rattle.site_wire.specs.Told.{TellsWire}
 use Rattle.site_wire.specs.declared.device.WireTold.{WireTold}
 use Rattle.site_wire.specs.RealSlaves.{Lives}
+use Rattle.site_wire.specs.Parts.{AreFor}
+use Rattle.site_wire.specs.declared.sending.Exchange.{Exchange}
+use Rattle.site_shadow.specs.declared.lending.LinePart.{LinePart}
 use Rattle.site_wire.specs.Following.{IsBehind, WireFollows}
 use Rattle.site_wire.specs.declared.device.WireDevice.{WireDevice}
 use Rattle.site_wire.proofs.Living.{lives_parts, lives_station}
@@ -35,7 +38,9 @@ use Rattle.station_line.specs.Site.{IsFollowed, powered_up_from, switched_on}
 use Rattle.script_session.specs.AtDesk.{IsServedTold}
 use Rattle.script_session.proofs.SlaveLaws.{placed-at}
 use Rattle.wire_session.specs.declared.told.LineTold.{LineTold}
-use Rattle.wire_session.specs.Slaves.{EndsTold, IsToldLine, KeepsTold, SlavesHold, sent_by, sent_to}
+use Rattle.wire_session.specs.Interleaving.{Interleaves}
+use Rattle.wire_session.specs.Slaves.{AreOfParts, EndsTold, IsToldLine, KeepsTold, SlavesHold, all_sent, sent_at_desk}
+use Rattle.wire_session.proofs.Interleaved.{Misses, OthersMiss, lives_joined, own_part}
 
 -- PLACES
 
@@ -88,6 +93,21 @@ module _ {D T : Type 0} (follows : D → Seen → Type 0) (well : D → Type 0) 
       let later = told_at told ends k end are.1 sound.1 here in
       record { part = later.part; here = later.here; worked = later.worked; followed = later.followed }
 
+  -- the device of a part of which this is told
+  told_of : (told : List (PartTold T)) (ends : List (Stay SiteValue SlaveLog)) (k : ℕ) (part : PartTold T) → AreToldOf follows well tells told ends
+      → AllByRecursion (λ (one : PartTold T). IsTrue one.is_sound) told → slice_get told k ≡ Some part
+      → (seen : Seen) × IsFollowed (KeepsTold follows well tells part.told) seen
+  told_of [] [] k part are sound here = absurd cc
+  told_of [] (e ∷ ends) k part are sound here = absurd are
+  told_of (one ∷ told) [] k part are sound here = absurd are
+  told_of (one ∷ told) (e ∷ ends) zero part are sound here =
+      let same : one ≡ part = cc in (
+        e.site.seen,
+        subst (λ (p : PartTold T). IsFollowed (KeepsTold follows well tells p.told) e.site.seen) same
+            (keeps_told one e.site.seen sound.0 are.0.followed),
+      )
+  told_of (one ∷ told) (e ∷ ends) (suc k) part are sound here = told_of told ends k part are.1 sound.1 here
+
 -- WHAT A POWER CUT LEAVES
 
 -- The words of all slaves, with those of one as a power cut may leave them.
@@ -119,6 +139,27 @@ holds_contents s slave half later recovered here behind =
     let pair : Pair = record { disk = s.seen.state.disk.bytes; words = left.words } in
     subst (λ (contents : List (List ℕ)). slice_get contents slave ≡ Some later.words)
     (recovered.only pair (record { disk = StopImage-same s.seen.state.disk; words = left.each })) left.here
+
+-- WHAT DEVICES SENT
+
+-- what the device of a slave's part has sent
+abbrev sent_by : Option (PartTold WireTold) → List Exchanged
+sent_by (Some part) = exchanges part.told.sent
+sent_by None = []
+
+-- what a slave was sent by three devices, one after the other: as the journal was opened, at the desk, and behind it
+abbrev sent_to : (slave : ℕ) → LineTold WireTold → List Exchanged
+sent_to slave told = exchanges told.desk.line.told.sent ++ sent_by (slice_get told.desk.slaves.items slave) ++ exchanges told.behind.sent
+
+get-map : {X Y : Type 0} (f : X → Y) (xs : List X) (k : ℕ) (x : X) → slice_get xs k ≡ Some x → slice_get (map f xs) k ≡ Some (f x)
+get-map f [] k x here = absurd cc
+get-map f (y ∷ ys) zero x here = let same : y ≡ x = cc in ap (λ z. Some (f z)) same
+get-map f (y ∷ ys) (suc k) x here = get-map f ys k x here
+
+get-mapped : {X Y : Type 0} (f : X → Y) (xs : List X) (k : ℕ) (y : Y) → slice_get (map f xs) k ≡ Some y → (x : X) × (slice_get xs k ≡ Some x) × (f x ≡ y)
+get-mapped f [] k y here = absurd cc
+get-mapped f (x ∷ xs) zero y here = (x, refl, cc)
+get-mapped f (x ∷ xs) (suc k) y here = get-mapped f xs k y here
 
 -- THREE DEVICES
 
@@ -172,6 +213,15 @@ module _ {L F C : Type 0} where
       (ap (λ state. slice_get state.halves slave) (first_stays before now new goes) ∙ at_first) at_now station_is behind
       (subst (λ (l : List Exchanged). Lives l real later) log lives)
 
+  -- a device that was sound has sent to the slaves of its part alone
+  sent_as_part : (told : WireTold) (seen : Seen) → IsFollowed (KeepsTold {D = WireDevice L F C} WireFollows well tells told) seen
+      → AreFor told.journal.part (exchanges told.sent)
+  sent_as_part told seen followed =
+      let device = followed.0 in
+      let follows : WireFollows device seen = followed.1.0.0 in
+      subst (λ (p : Option LinePart). AreFor p (exchanges told.sent)) (sym followed.1.1.journal.part)
+      (subst (λ (sent : List Exchange). AreFor device.journal.asking.part (exchanges sent)) (sym followed.1.1.sent) (follows.own followed.1.0.1))
+
   module _ (site : SiteValue) (slaves : ℕ) (s : Station) (told : LineTold WireTold) (new : site.seen.past ≡ [])
       (followed : EndsTold {D = WireDevice L F C} WireFollows well tells site slaves told s.seen) where
     abbrev opened : Station
@@ -182,6 +232,19 @@ module _ {L F C : Type 0} where
 
     abbrev served : IsServedTold {D = WireDevice L F C} WireFollows well tells opened told.desk left
     served = followed.leads.behind.served
+
+    -- what is told of the device of a slave's part
+    part_at : (slave : ℕ) → slave < length opened.seen.state.halves
+        → (part : PartTold WireTold) × (slice_get told.desk.slaves.items slave ≡ Some part)
+    part_at slave inside =
+        let parts = served.served in
+        let at_opened = slice_get-get_or opened.seen.state.halves slave (powered_up [] 0) inside in
+        let begun = placed-at BeginsWith 0 opened.seen.state.halves parts.sites.slaves.items slave (get_or opened.seen.state.halves slave (powered_up [] 0))
+        parts.apart.slaves at_opened in
+        let end = placed-at (λ place (x : SiteValue) (e : Stay SiteValue SlaveLog). IsEndOfSlave place x e) 0 parts.sites.slaves.items parts.ends.workers.items slave begun.0
+        parts.of_sites.workers begun.1 in
+        let work = told_at WireFollows well tells told.desk.slaves.items parts.ends.workers.items slave end.0 served.devices.slaves served.sound.slaves end.1 in
+        (work.part, work.here)
 
     three_devices : (slave : ℕ) (first half : SlaveHalf) → slice_get site.seen.state.halves slave ≡ Some first → slice_get s.seen.state.halves slave ≡ Some half
         → slave < length opened.seen.state.halves → GoesOn slave first half (sent_to slave told)
@@ -207,10 +270,52 @@ module _ {L F C : Type 0} where
         subst (λ (part : Option (PartTold WireTold)). GoesOn slave first half (exchanges told.desk.line.told.sent ++ sent_by part ++ exchanges told.behind.sent)) (sym work.here)
         (goes_thrice slave first mid back.0 half (exchanges told.desk.line.told.sent) (exchanges work.part.told.sent) (exchanges told.behind.sent) one two three)
 
+    -- no device of another part has sent to a slave
+    module _ (own : AreOfParts (λ (part : LinePart) (one : WireTold). one.journal.part ≡ Some part) told.desk) (slave : ℕ) where
+      disk_misses : Misses (station slave) (exchanges told.desk.disk.told.sent)
+      disk_misses =
+          let sent = subst (λ (p : Option LinePart). AreFor p (exchanges told.desk.disk.told.sent)) own.disk
+          (sent_as_part told.desk.disk.told served.served.ends.flusher.site.seen
+          (keeps_told WireFollows well tells told.desk.disk served.served.ends.flusher.site.seen served.sound.disk served.devices.disk)) in
+          λ k d inside. absurd (sent k d inside).works
+
+      slave_misses : (other : ℕ) (part : PartTold WireTold) → other ≢ slave → slice_get told.desk.slaves.items other ≡ Some part
+          → Misses (station slave) (exchanges part.told.sent)
+      slave_misses other part apart here =
+          let device = told_of WireFollows well tells told.desk.slaves.items served.served.ends.workers.items other part served.devices.slaves served.sound.slaves here in
+          let sent = subst (λ (p : Option LinePart). AreFor p (exchanges part.told.sent)) (own.slaves other part here) (sent_as_part part.told device.0 device.1) in
+          λ k d inside.
+          let call = sent k d inside in
+          λ to. apart (let same : station call.slave ≡ station slave = sym call.to ∙ to in omega (arith, call.works, same))
+
+      others_miss : OthersMiss (station slave) (sent_at_desk told.desk) (suc slave)
+      others_miss zero calls apart here = let same : exchanges told.desk.disk.told.sent ≡ calls = cc in subst (Misses (station slave)) same disk_misses
+      others_miss (suc other) calls apart here =
+          let found = get-mapped (λ (part : PartTold WireTold). exchanges part.told.sent) told.desk.slaves.items other calls here in
+          subst (Misses (station slave)) found.2 (slave_misses other found.0 (λ same. apart (ap suc same)) found.1)
+
+      -- a slave that has lived through all that was sent has lived through what its own device sent at the desk
+      own_lives : (desk : List Exchanged) (real later : SlaveHalf) → Interleaves (sent_at_desk told.desk) desk → real.station ≡ station slave
+          → (part : PartTold WireTold) → slice_get told.desk.slaves.items slave ≡ Some part → Lives (all_sent told desk) real later
+          → Lives (sent_to slave told) real later
+      own_lives desk real later among near part here lives =
+          let line = exchanges told.desk.line.told.sent in
+          let behind = exchanges told.behind.sent in
+          let both = lives_parts (line ++ desk) behind real later lives in
+          let first = lives_parts line desk real both.mid both.before in
+          let at_mid = lives_station line real first.mid first.before ∙ near in
+          let own_list : slice_get (sent_at_desk told.desk) (suc slave) ≡ Some (exchanges part.told.sent) =
+          get-map (λ (one : PartTold WireTold). exchanges one.told.sent) told.desk.slaves.items slave part here in
+          subst (λ (one : Option (PartTold WireTold)). Lives (line ++ sent_by one ++ behind) real later) (sym here)
+          (lives_joined (line ++ exchanges part.told.sent) behind real both.mid later
+          (lives_joined line (exchanges part.told.sent) real first.mid both.mid first.before
+          (own_part (station slave) (sent_at_desk told.desk) desk among (suc slave) (exchanges part.told.sent) own_list others_miss first.mid both.mid at_mid first.behind))
+          both.behind)
+
     -- each slave that was found with these words holds the contents
-    pub slaves_hold : (plant : List (List ℕ)) (bytes : List ℕ) → site.seen ≡ switched_on plant bytes → site.line.sizes ≡ map length plant → slaves ≡ length plant
+    pub slaves_hold : AreOfParts (λ (part : LinePart) (one : WireTold). one.journal.part ≡ Some part) told.desk → (plant : List (List ℕ)) (bytes : List ℕ) → site.seen ≡ switched_on plant bytes → site.line.sizes ≡ map length plant → slaves ≡ length plant
         → HasRecovered s → SlavesHold plant s told
-    slaves_hold plant bytes found sizes count recovered slave words here =
+    slaves_hold own plant bytes found sizes count recovered slave words here =
         let within : slave < length plant = slice_get_within plant slave words here in
         let inside : slave < length opened.seen.state.halves =
         (let many : length plant ≡ length opened.seen.state.halves =
@@ -221,6 +326,8 @@ module _ {L F C : Type 0} where
         let at_first : slice_get site.seen.state.halves slave ≡ Some (powered_up words (station slave)) =
         ap (λ (seen : Seen). slice_get seen.state.halves slave) found ∙ powered_at 0x1001 plant slave words here in
         let goes = three_devices slave (powered_up words (station slave)) half at_first at_last inside in
-        λ real later like lives.
+        let part = part_at slave inside in
+        λ desk real later among like lives.
         holds_contents s slave half later recovered at_last
-        (goes real later refl (like_behind (powered_up words (station slave)) real refl like) lives)
+        (goes real later refl (like_behind (powered_up words (station slave)) real refl like)
+        (own_lives own slave desk real later among like.station part.0 part.1 lives))

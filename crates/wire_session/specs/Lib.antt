@@ -1,4 +1,5 @@
 pub mod Ending
+pub mod Interleaving
 pub mod Planning
 pub mod Recovery
 pub mod Redoing

@@ -1,10 +1,12 @@
 -- What real slaves hold behind a run or a recovery on a wire (ETG.1000.4, slave information interface).
-use Rattle.std.specs.Prelude.{◌≡◌, ℕ, List, [], ◌++◌, length, Option, Some, None, IsSomeAnd, slice_get}
+use Rattle.std.specs.Prelude.{◌≡◌, ℕ, List, ◌∷◌, ◌++◌, map, length, Option, Some, IsSomeAnd, slice_get}
 use Rattle.esc_model.specs.SlaveHalf.{SlaveHalf, powered_up}
 use Rattle.esc_model.specs.Orders.{station}
 use Rattle.site_core.specs.State.{Seen}
 use Rattle.site_core.specs.Times.{Follows}
 use Rattle.site_shadow.specs.Site.{SiteValue}
+use Rattle.site_shadow.specs.declared.lending.LinePart.{LinePart}
+use Rattle.site_shadow.specs.declared.lending.LinePart.TheVariants as part
 use Rattle.site_wire.specs.Likeness.{IsLike}
 use Rattle.site_wire.specs.Sent.{Exchanged, exchanges}
 use Rattle.site_wire.specs.RealSlaves.{Lives}
@@ -20,12 +22,22 @@ use Rattle.script_session.specs.Parts.{Soundly}
 use Rattle.script_session.specs.declared.told.DeskTold.{DeskTold}
 use Rattle.script_session.specs.declared.told.PartTold.{PartTold}
 use Rattle.wire_session.specs.declared.told.LineTold.{LineTold}
+use Rattle.wire_session.specs.Interleaving.{Interleaves}
 
 -- THE DEVICES
 
 -- A device has kept of its site what it keeps, nothing has failed that it was asked, the site goes on, and this is told of the device.
 abbrev pub KeepsTold : {D T : Type 0} → (D → Seen → Type 0) → (D → Type 0) → (D → T → Type 0) → T → D → Seen → Type 0
 KeepsTold follows well tells told device seen = Soundly follows well device seen × tells device told
+
+-- This is told of devices of the slaves' parts, each of its own.
+abbrev pub AreOfSlaves : {T : Type 0} → (of : LinePart → T → Type 0) → List (PartTold T) → Type 0
+AreOfSlaves {T} of parts = (slave : ℕ) (told : PartTold T) → slice_get parts slave ≡ Some told → of (part.Slave slave) told.told
+
+-- The same of the disk's device too.
+pub record AreOfParts {T : Type 0} (of : LinePart → T → Type 0) (told : DeskTold T) : Type 0 where
+  pub disk : of part.Disk told.disk.told
+  pub slaves : AreOfSlaves of told.slaves.items
 
 -- The line of this station was served at a desk, and calls alone led on behind it; this is told of the devices of the station's site before the desk
 -- and of each part there, which ended soundly.
@@ -76,19 +88,19 @@ pub record LedAtDesk {D T : Type 0} (follows : D → Seen → Type 0) (well : D 
 
 -- THE SLAVES
 
--- what the device of a slave's part has sent
-abbrev pub sent_by : Option (PartTold WireTold) → List Exchanged
-sent_by (Some part) = exchanges part.told.sent
-sent_by None = []
+-- what the devices of the disk and of each slave have sent at a desk, in order
+abbrev pub sent_at_desk : DeskTold WireTold → List (List Exchanged)
+sent_at_desk told = map (λ (part : PartTold WireTold). exchanges part.told.sent) (told.disk ∷ told.slaves.items)
 
--- What was sent since the line was found, by three devices one after the other: as the journal was opened; at the desk, to this slave; and behind it.
-abbrev pub sent_to : (slave : ℕ) → LineTold WireTold → List Exchanged
-sent_to slave told = exchanges told.desk.line.told.sent ++ sent_by (slice_get told.desk.slaves.items slave) ++ exchanges told.behind.sent
+-- What was sent since the line was found: by its device as the journal was opened; then this at the desk; and behind it by the line's device again.
+abbrev pub all_sent : LineTold WireTold → (desk : List Exchanged) → List Exchanged
+all_sent told desk = exchanges told.desk.line.told.sent ++ desk ++ exchanges told.behind.sent
 
--- A real slave at this place that was as it was found, with these words, and that could have answered so to what was sent, holds its contents now.
+-- A real slave at this place that was as it was found, with these words, and that could have answered so to what was sent, holds its contents now; in
+-- whatever order the devices of a desk sent.
 abbrev pub SlaveHolds : (slave : ℕ) → (words : List ℕ) → List (List ℕ) → LineTold WireTold → Type 0
-SlaveHolds slave words contents told = (real later : SlaveHalf) → IsLike (powered_up words (station slave)) real
-    → Lives (sent_to slave told) real later → slice_get contents slave ≡ Some later.words
+SlaveHolds slave words contents told = (desk : List Exchanged) (real later : SlaveHalf) → Interleaves (sent_at_desk told.desk) desk
+    → IsLike (powered_up words (station slave)) real → Lives (all_sent told desk) real later → slice_get contents slave ≡ Some later.words
 
 -- By what was told of the devices, each slave that was found with these words holds the contents of this station.
 abbrev pub SlavesHold : List (List ℕ) → Station → LineTold WireTold → Type 0

@@ -1,11 +1,11 @@
 //! The subcommand `recover`.
-ghost use Rattle.std.specs.Prelude.{◌≡◌, ◌≤◌, length, IsSomeAnd, IsTrue, OnOk};
+ghost use Rattle.std.specs.Prelude.{◌≡◌, ◌≤◌, length, IfSome, IsSomeAnd, IsTrue, OnOk};
 ghost use Rattle.esc_rom.specs.Owned.{OwnsAll};
 ghost use Rattle.station_files.specs.Files.{ChangesAmong};
 ghost use Rattle.station_line.specs.Site.{files_of, switched_on, HoldsSite};
 ghost use Rattle.wire_session.specs.Ending.{LeavesImages};
 ghost use Rattle.wire_session.specs.Recovery.{EndsRecovery, Recovers};
-ghost use Rattle.wire_session.specs.Slaves.{EndsTold, IsToldLine, SlavesHold};
+ghost use Rattle.wire_session.specs.Slaves.{AreOfParts, EndsTold, IsToldLine, SlavesHold};
 ghost use Rattle.wire_session.specs.Reporting.{IsPrinted};
 
 use crate::as_found::AsFound;
@@ -17,7 +17,7 @@ use line_changes::Before;
 use sii_words::Plant;
 use site_file::FileDevice;
 use site_shadow::{Lends, ShadowSite};
-use site_wire::{LiveLine, LockedLine, WireDevice, WireTold};
+use site_wire::{LiveLine, LockedLine, TellsPart, WireDevice, WireTold};
 use station_alone::Recovered;
 use station_files::{Fault, Store};
 use station_line::{site_of, write_recovered};
@@ -158,7 +158,7 @@ fn recover_opened<
 
 /// Recovers a line, and saves what its slaves hold to their image files. `Unserved` where something has failed that the device was asked, though
 /// the recovery was told of nothing.
-fn recover_site<R: Wait + Threads + AllocGlobal + Sync, D: Lends + Send, S: Store, O: Write>(
+fn recover_site<R: Wait + Threads + AllocGlobal + Sync, D: TellsPart + Send, S: Store, O: Write>(
     rt: &R,
     line: &LineFile,
     site: ShadowSite<D>,
@@ -167,7 +167,8 @@ fn recover_site<R: Wait + Threads + AllocGlobal + Sync, D: Lends + Send, S: Stor
 ) -> Worked<(), D::Told>
     requires disk { IsTrue site.line.has_disk }
     requires owned { OwnsAll site.line }
-    ensures { EndsRecovery (λ s. IsSomeAnd result.told (λ told. EndsTold D.follows D.well D.tells site (length line.now.images.items) told s.seen))
+    ensures own { IfSome result.told (λ told. AreOfParts D.is_of told.desk) }
+    ensures recovers { EndsRecovery (λ s. IsSomeAnd result.told (λ told. EndsTold D.follows D.well D.tells site (length line.now.images.items) told s.seen))
         result.ended (S.files store.old) (S.files store.new) line.now site.seen }
 {
     match recover_by_threads(rt, site, line.images.len()) {

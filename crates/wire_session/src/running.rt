@@ -1,5 +1,5 @@
 //! The subcommand `run`.
-ghost use Rattle.std.specs.Prelude.{◌≡◌, ◌≤◌, ◌∷◌, ◌++◌, length, None, IfOk, IsSomeAnd, IsTrue, OnOk};
+ghost use Rattle.std.specs.Prelude.{◌≡◌, ◌≤◌, ◌∷◌, ◌++◌, length, None, IfOk, IfSome, IsSomeAnd, IsTrue, OnOk};
 ghost use Rattle.esc_rom.specs.Owned.{OwnsAll};
 ghost use Rattle.station_files.specs.FileNames.{files_with, spelt, written_of};
 ghost use Rattle.station_files.specs.Locations.{AreApart};
@@ -9,7 +9,7 @@ ghost use Rattle.station_line.specs.Opened.{is_old};
 ghost use Rattle.wire_scan.specs.Opening.{IsFound};
 ghost use Rattle.wire_session.specs.Ending.{Ends};
 ghost use Rattle.wire_session.specs.Running.{EndsFound, RunsScript, SavesSite};
-ghost use Rattle.wire_session.specs.Slaves.{EndsTold};
+ghost use Rattle.wire_session.specs.Slaves.{AreOfParts, EndsTold};
 
 use crate::as_found::AsFound;
 use crate::reporting::{report_end, tell_handed, tell_why};
@@ -20,8 +20,8 @@ use script_session::Work;
 use sii_edit::Command;
 use sii_words::Plant;
 use site_file::FileDevice;
-use site_shadow::{Lends, ShadowSite};
-use site_wire::{LiveLine, LockedLine, WireDevice, WireTold};
+use site_shadow::ShadowSite;
+use site_wire::{LiveLine, LockedLine, TellsPart, WireDevice, WireTold};
 use station_files::{ExitStatus, Fault, Script, Store, load_script_files};
 use station_line::{is_old, of_open, open_station, site_of};
 use station_text::LineFile;
@@ -255,7 +255,7 @@ fn run_opened<
 }
 
 /// Opens the station on this line, and serves the commands by threads.
-fn run_site<R: Wait + Threads + AllocGlobal + Sync, D: Lends + Send, S: Store, O: Write>(
+fn run_site<R: Wait + Threads + AllocGlobal + Sync, D: TellsPart + Send, S: Store, O: Write>(
     rt: &R,
     line: &LineFile,
     start: Start<ShadowSite<D>>,
@@ -266,7 +266,8 @@ fn run_site<R: Wait + Threads + AllocGlobal + Sync, D: Lends + Send, S: Store, O
     requires disk { IsTrue start.site.line.has_disk }
     requires owned { OwnsAll start.site.line }
     requires old { start.was_old ≡ is_old start.site.seen.state.disk.bytes }
-    ensures { Ends (SavesSite (λ last. IsSomeAnd result.told (λ told.
+    ensures own { IfSome result.told (λ told. AreOfParts D.is_of told.desk) }
+    ensures ends { Ends (SavesSite (λ last. IsSomeAnd result.told (λ told.
         EndsTold D.follows D.well D.tells start.site (length line.now.images.items) told last)) (S.files store.new) line.now
         start.site work.commands.items) result.ended (S.files store.old) (S.files store.new) line.now }
 {

@@ -1,5 +1,5 @@
 //! Serves the commands of a run by threads, and saves what the slaves hold.
-ghost use Rattle.std.specs.Prelude.{◌≡◌, [], length, IfOk, IsSomeAnd, IsTrue, Ok, OnOk};
+ghost use Rattle.std.specs.Prelude.{◌≡◌, [], length, IfOk, IfSome, IsSomeAnd, IsTrue, Ok, OnOk};
 ghost use Rattle.station_files.specs.Files.{ChangesAmong};
 ghost use Rattle.station_files.specs.declared.faults.ExitStatus.TheVariants.{Done};
 ghost use Rattle.station_line.specs.Site.{files_of, HoldsSite};
@@ -7,13 +7,14 @@ ghost use Rattle.script_session.specs.Parts.{IsLineOf};
 ghost use Rattle.script_session.specs.Saving.{HoldsBehind, SavesBehind, SavesLeft};
 ghost use Rattle.wire_session.specs.Ending.{Ends, LeavesImages};
 ghost use Rattle.wire_session.specs.Running.{EndsAlone, SavesDesk};
-ghost use Rattle.wire_session.specs.Slaves.{IsToldLine, LedAtDesk, LedOn, SavesFollowed};
+ghost use Rattle.wire_session.specs.Slaves.{AreOfParts, IsToldLine, LedAtDesk, LedOn, SavesFollowed};
 
 use crate::saving::save_told;
-use crate::told::{LineTold, Worked};
+use crate::told::{LineTold, Worked, are_of_parts};
 use script_session::{Ending, Left, Work, serve_by_threads};
 use sii_edit::Command;
 use site_shadow::{Lends, ShadowSite};
+use site_wire::TellsPart;
 use station_alone::{Alone, recover};
 use station_files::{ExitStatus, Fault, Store, worse};
 use station_line::{of_open, serve_commands};
@@ -36,10 +37,10 @@ struct DeskLeft {
 }
 
 /// Serves the commands by threads, recovers the line so that nothing is live, and saves what its slaves hold. Where no thread can be made,
-/// the commands are served on this one. The station must not have accepted a command yet.
+/// the commands are served on this one. `Unserved` where a part's device isn't told as its own. The station must not have accepted a command yet.
 pub(crate) fn run_threads<
     R: Wait + Threads + AllocGlobal + Sync,
-    D: Lends + Send,
+    D: TellsPart + Send,
     S: Store,
     O: Write,
 >(
@@ -51,12 +52,17 @@ pub(crate) fn run_threads<
     output: &mut O,
 ) -> Worked<ExitStatus, D::Told>
     requires none { alone.book.accepted ≡ [] }
-    ensures { Ends (SavesDesk (λ last. IsSomeAnd result.told (λ told.
+    ensures own { IfSome result.told (λ told. AreOfParts D.is_of told.desk) }
+    ensures ends { Ends (SavesDesk (λ last. IsSomeAnd result.told (λ told.
         LedAtDesk D.follows D.well D.tells (length line.now.images.items) alone told last)) (S.files store.new) line.now alone work.commands.items)
         result.ended (S.files store.old) (S.files store.new) line.now }
 {
     match serve_by_threads(rt, rt.alloc(), alone, line.images.len(), work, output) {
         Ok(left) => {
+            if !are_of_parts::<D>(&left.told) {
+                drop(left);
+                return Worked::of_fault(Fault::Unserved);
+            }
             let (ended, told) = end_threads(rt.alloc(), line, left, store, output);
             Worked {
                 ended,

@@ -1,8 +1,11 @@
 //! What is told of the devices of a line on a wire.
-ghost use Rattle.std.specs.Prelude.{◌≡◌, Err};
+ghost use Rattle.std.specs.Prelude.{◌≡◌, Err, None, IsTrue};
 ghost use Rattle.wire_faults.specs.declared.faults.WireFault.TheVariants as wire;
+ghost use Rattle.wire_session.specs.Slaves.{AreOfParts, AreOfSlaves};
 
-use script_session::DeskTold;
+use script_session::{DeskTold, PartTold};
+use site_shadow::LinePart;
+use site_wire::TellsPart;
 use station_files::Fault;
 use wire_faults::WireFault;
 
@@ -13,6 +16,25 @@ pub struct LineTold<T> {
     pub desk: DeskTold<T>,
     /// Of the line's device behind the desk.
     pub behind: T,
+}
+
+/// Whether this is told of the devices of the disk's part and of each slave's, each of its own.
+pub(crate) fn are_of_parts<D: TellsPart>(told: &DeskTold<D::Told>) -> bool
+    ensures { IsTrue result → AreOfParts D.is_of told.now }
+{
+    D::is_told_of(&told.disk.told, LinePart::Disk) && are_of_slaves::<D>(told.slaves.as_slice())
+}
+
+/// Whether this is told of the devices of the slaves' parts, each of its own.
+fn are_of_slaves<D: TellsPart>(parts: &[PartTold<D::Told>]) -> bool
+    ensures { IsTrue result → AreOfSlaves D.is_of parts.now }
+{
+    for slave in 0..parts.len() {
+        if !D::is_told_of(&parts[slave].told, LinePart::Slave(slave)) {
+            return false;
+        }
+    }
+    true
 }
 
 /// How the work on a line ended, and what is told of its devices.
@@ -37,7 +59,8 @@ impl<V, T: Drop> Worked<V, T> {
 impl<V, T> Worked<V, T> {
     /// A fault ended the work, and nothing is told.
     pub(crate) fn failed(fault: WireFault) -> Worked<V, T>
-        ensures { result.ended ≡ Err fault }
+        ensures ended { result.ended ≡ Err fault }
+        ensures told { result.told ≡ None }
     {
         Worked {
             ended: Err(fault),
@@ -47,7 +70,8 @@ impl<V, T> Worked<V, T> {
 
     /// The same of a fault that isn't of the wire.
     pub(crate) fn of_fault(fault: Fault) -> Worked<V, T>
-        ensures { result.ended ≡ Err (wire.Station fault) }
+        ensures ended { result.ended ≡ Err (wire.Station fault) }
+        ensures told { result.told ≡ None }
     {
         Worked::failed(WireFault::Station(fault))
     }

@@ -80,7 +80,7 @@ pub fn read_in_step<W: Wire, C: Clock>(
     ensures same { wire.new.stations ≡ wire.old.stations }
     ensures kept { AllKept W.gives ahead.new }
 {
-    let mut pace = Pace::of_polls();
+    let mut pace = Pace::new();
     for _round in 0..u32::MAX {
         let asked = asked_by(&readers);
         if asked.count() == 0 {
@@ -90,9 +90,9 @@ pub fn read_in_step<W: Wire, C: Clock>(
             return Err(LineFault::Silent);
         };
         if take_answers::<W>(&returned.frame, &mut readers, ahead) {
-            pace = Pace::of_polls();
+            pace = Pace::new();
         } else {
-            pace.pause(clock);
+            pace.poll(clock);
         }
     }
     Ok(())

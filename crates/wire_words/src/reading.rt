@@ -145,7 +145,7 @@ pub(crate) fn read_in_tries<W: Wire, C: Clock>(
     ensures same { wire.new.stations ≡ wire.old.stations }
     ensures read { IfOk result (WordsRead W.gives (slice_index wire.old.stations.by_slave slave) word) }
 {
-    let mut pace = Pace::of_tries();
+    let mut pace = Pace::new();
     let mut refused = None;
     for _try in 0..tries {
         match try_at(wire, clock, slave, word)? {
@@ -153,7 +153,7 @@ pub(crate) fn read_in_tries<W: Wire, C: Clock>(
             Tried::Refused(last) => refused = Some(last),
         }
         clear(wire, clock, slave)?;
-        pace.pause(clock);
+        pace.retry(clock);
     }
     match refused {
         Some(last) => Err(Hitch::Stuck(last)),

@@ -111,7 +111,7 @@ pub(crate) fn wait_idle<W: Wire, C: Clock>(
     ensures same { wire.new.stations ≡ wire.old.stations }
     ensures eight { IfOk result (λ polled. polled.loads ≡ Eight → ShowsEight W.gives (slice_index wire.old.stations.by_slave slave)) }
 {
-    let mut pace = Pace::of_polls();
+    let mut pace = Pace::new();
     let mut polled = poll(wire, slave)?;
     let mut uncounted = 0u32;
     for _poll in 0..POLLS {
@@ -123,7 +123,7 @@ pub(crate) fn wait_idle<W: Wire, C: Clock>(
         if uncounted >= UNCOUNTED {
             return Err(Hitch::Stuck(polled.last));
         }
-        pace.pause(clock);
+        pace.poll(clock);
         polled = poll(wire, slave)?;
     }
     Err(Hitch::Stuck(polled.last))

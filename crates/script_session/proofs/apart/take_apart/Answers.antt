@@ -1,27 +1,26 @@
-use Rattle.std.proofs.Common.{Ok}
-use Rattle.station_files.specs.declared.faults.Fault.{Fault}
-use Rattle.script_session.proofs.DeskLaws.{servable}
 use Rattle.script_session.proofs.apart.take_apart.Goals as goal
 
-pub returns-clause-sites : goal.returns-clause-sites
-returns-clause-sites g c =
+pub returns-in-Ok-clause-sites : goal.returns-in-Ok-clause-sites
+returns-in-Ok-clause-sites g c =
     let parts = c.into_parts-parts in
-    let sites = c.in_ok-sites in
-    servable {E = Fault} (Ok c.in_ok-owned.owned) sites.sites c.args.capacity c.args.site.seen.state parts.result.0.disk _ (c.reaches.ensures.0 c.if-not-reaches.false) parts.ensures.disk parts.ensures.halves sites.ensures.disk sites.ensures.new sites.ensures.slaves sites.ensures.turning c.in_ok-owned.ensures
+    c.in-Ok.ensures c.args.site.seen.state parts.ensures.disk parts.ensures.halves
 
-pub returns-clause-told : goal.returns-clause-told
-returns-clause-told g c =
+pub returns-in-Ok-clause-told : goal.returns-in-Ok-clause-told
+returns-in-Ok-clause-told g c =
     let parts = c.into_parts-parts in
     (parts.result.1, c.told_by-told.ensures c.args.site.seen parts.ensures.device c.has_stopped-has_stopped.ensures)
 
-pub returns-then-not-reaches-clause-followed : goal.returns-then-not-reaches-clause-followed
-returns-then-not-reaches-clause-followed g c = (c.into_parts-parts.result.1, c.into_parts-parts.ensures.device)
+pub returns-in-Err-clause-failed : goal.returns-in-Err-clause-failed
+returns-in-Err-clause-failed g c =
+    let parts = c.into_parts-parts in
+    record {
+      part = c.told_by-told.result;
+      line = c.unbegun.ensures;
+      tells_it = (parts.result.1, c.told_by-told.ensures c.args.site.seen parts.ensures.device c.has_stopped-has_stopped.ensures);
+    }
 
-pub returns-in_err-sites-clause-followed : goal.returns-in_err-sites-clause-followed
-returns-in_err-sites-clause-followed g c = (c.into_parts-parts.result.1, c.into_parts-parts.ensures.device)
+pub returns-in-Ok-clause-followed : goal.returns-in-Ok-clause-followed
+returns-in-Ok-clause-followed g c = (c.into_parts-parts.result.1, c.into_parts-parts.ensures.device)
 
-pub returns-in_err-owned-clause-followed : goal.returns-in_err-owned-clause-followed
-returns-in_err-owned-clause-followed g c = (c.into_parts-parts.result.1, c.into_parts-parts.ensures.device)
-
-pub returns-clause-followed : goal.returns-clause-followed
-returns-clause-followed g c = (c.into_parts-parts.result.1, c.into_parts-parts.ensures.device)
+pub returns-in-Err-clause-followed : goal.returns-in-Err-clause-followed
+returns-in-Err-clause-followed g c = (c.into_parts-parts.result.1, c.into_parts-parts.ensures.device)

@@ -1,7 +1,10 @@
-use Rattle.std.proofs.Common.{◌∙◌, ap, arith, length, refl, sym}
+use Rattle.std.proofs.Common.{◌∙◌, ap, arith, length, refl, subst, sym}
 use Rattle.site_core.specs.Line.{Line}
 use Rattle.book_model.specs.Book.{Book}
-use Rattle.script_session.proofs.DeskLaws.{ends-apart, served-at-desk, serves-parts}
+use Rattle.script_session.specs.declared.told.PartTold.{PartTold}
+use Rattle.script_session.specs.Parts.{Telling}
+use Rattle.station_line.specs.Site.{IsFollowed}
+use Rattle.script_session.proofs.DeskLaws.{as-many-ends, ends-apart, line-told, served-at-desk, serves-parts}
 use Rattle.script_session.proofs.threads.serve_by_threads.Goals as goal
 
 pub serve_at_desk-requires-clause-opening : goal.serve_at_desk-requires-clause-opening
@@ -38,5 +41,23 @@ returns-in-Ok-serve_at_desk-clause-failed g c =
     let desk = c.in-Ok-serve_at_desk in
     ends-apart c.args.alone c.args.work.commands.items c.of-opening.result.core parts.result.1.seen c.in-Ok.prepared.sites desk.at
     (c.of-opening.ensures.core ∙ parts.ensures.book) parts.ensures.seen c.in-Ok.ensures.sites.apart desk.ensures.of_sites desk.ensures.ending
-    g.D.Device.follows
-    c.put_back.result c.put_back.ensures.followed
+    g.D.Device.follows g.D.Device.well g.D.Lends.tells c.in-Ok.prepared.whole.told c.put_back.result c.in-Ok.ensures.told c.put_back.ensures.failed
+
+pub put_back-requires-clause-reserved : goal.put_back-requires-clause-reserved
+put_back-requires-clause-reserved g c =
+    as-many-ends c.in-Ok.prepared.sites c.in-Ok-serve_at_desk.at.ends _ c.in-Ok-serve_at_desk.ensures.of_sites c.in-Ok.ensures.reserved
+
+pub returns-in-Err-clause-failed : goal.returns-in-Err-clause-failed
+returns-in-Err-clause-failed g c =
+    line-told g.D.Device.follows g.D.Device.well g.D.Lends.tells c.args.alone c.args.work.commands.items c.into_parts-core.result.1.seen c.in-Err.why.told
+    c.into_parts-core.ensures.seen c.in-Err.ensures.failed
+
+pub returns-in-Err-serve_at_desk-clause-failed : goal.returns-in-Err-serve_at_desk-clause-failed
+returns-in-Err-serve_at_desk-clause-failed g c =
+    line-told g.D.Device.follows g.D.Device.well g.D.Lends.tells c.args.alone c.args.work.commands.items c.into_parts-core.result.1.seen c.unbegun.result.told
+    c.into_parts-core.ensures.seen (record {
+      part = c.into_told.result;
+      line = c.unbegun.ensures;
+      tells_it = subst (λ (part : PartTold _). IsFollowed (Telling g.D.Device.follows g.D.Device.well g.D.Lends.tells part) c.into_parts-core.result.1.seen)
+          (sym c.into_told.ensures) c.in-Ok.ensures.told;
+    })

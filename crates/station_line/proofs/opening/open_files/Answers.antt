@@ -12,3 +12,9 @@ pub returns-in_err-images-clause-others : goal.returns-in_err-images-clause-othe
 returns-in_err-images-clause-others g c =
     changes_line (g.S.Store.files c.args.store.now) (g.S.Store.files c.open.new.self) (g.S.Store.files c.open_images.new.store) (string_bytes c.args.line.now.journal) (names_of c.args.line.now)
     (rw c.as_str.ensures.value at c.open.ensures.others) (rw c.deref.ensures.value at c.open_images.ensures.others)
+
+pub returns-clause-opened : goal.returns-clause-opened
+returns-clause-opened g c = record {
+  journal = rw c.as_str.ensures.value at c.in_ok-journal.ensures.opened;
+  images = rw c.deref.ensures.value at c.in_ok-images.ensures.opened;
+}

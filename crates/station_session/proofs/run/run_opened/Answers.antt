@@ -31,5 +31,5 @@ returns-clause-kept g c =
     subst (λ t. RunKeepsFiles _ given.session.site.seen given.commands.items told.result.status t) (sym told.ensures.told)
     (told_as _ given.session.site.seen given.commands.items ran.result.status told.result.status ran.result.told told.ensures.status
     (kept_as _ given.session.site site.result given.commands.items ran.result.status ran.result.told site.ensures
-    (run_on_files _ _ _ _ (λ device seen follows. (device.device.device, follows)) (λ device seen follows told tells. tells) (λ device seen follows well. well) ran.result.told
+    (run_on_files _ _ _ _ (λ device seen follows. (device.device.device, follows)) (λ device seen follows told tells. tells.calls) (λ device seen follows well. well) ran.result.told
     site.result.seen given.commands.items ran.result.status fresh.new ran.ensures.goes)))

@@ -3,7 +3,7 @@ use Rattle.station_line.specs.Site.{IsFollowed}
 use Rattle.script_session.specs.Parts.{AreSound, IsDeskTold}
 use Rattle.station_session.proofs.ThreadsEnd.{ends-left}
 use Rattle.station_session.specs.RunFiles.{OfDevices, TellsOf, line_told, served}
-use Rattle.station_session.proofs.RunFiles.{behind_unserved}
+use Rattle.station_session.proofs.RunFiles.{behind_unserved, not_served, unserved_line}
 use Rattle.station_session.proofs.threads.run_threads.Goals as goal
 
 pub returns-in-Ok-clause-ends : goal.returns-in-Ok-clause-ends
@@ -31,3 +31,13 @@ returns-in-Ok-clause-serves g c =
     })
     (λ closed. behind_unserved (OfDevices follows well tells c.end_threads.result.told) left.ending.is_driven left.sound left.unserved.items
     c.args.commands.items left.site.seen c.end_threads.result.status c.in-Ok.ensures.unserved (c.end_threads.ensures.goes closed))
+
+pub returns-in-Err-clause-followed : goal.returns-in-Err-clause-followed
+returns-in-Err-clause-followed g c =
+    unserved_line g.D.Device.follows g.D.Device.well g.D.Lends.tells c.of_unserved.result c.args.alone c.args.commands.items c.in-Err.why.told
+    c.of_unserved.ensures.desk c.of_unserved.ensures.opening c.in-Err.ensures.failed
+
+pub returns-in-Err-clause-serves : goal.returns-in-Err-clause-serves
+returns-in-Err-clause-serves g c =
+    not_served g.D.Device.follows g.D.Device.well g.D.Lends.tells c.of_unserved.result c.args.alone c.args.commands.items c.in-Err.why.told
+    c.report_fault.result c.report_fault.ensures.fault c.of_unserved.ensures.desk c.in-Err.ensures.failed

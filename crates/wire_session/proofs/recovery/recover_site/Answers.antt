@@ -16,8 +16,8 @@ save_recovered-ended-requires-clause-slaves g c κs lives =
     as-many c.in-Ok.redone.alone.line c.into_parts-core.result.1.line (length c.args.line.now.images.items) c.into_parts-core.ensures.line
     (c.in-Ok.ensures.line.count ∙ count)
 
-pub returns-in-Ok : goal.returns-in-Ok
-returns-in-Ok g c =
+pub returns-in-Ok-clause-recovers : goal.returns-in-Ok-clause-recovers
+returns-in-Ok-clause-recovers g c =
     let follows = g.D.Device.follows in
     let well = g.D.Device.well in
     let tells = g.D.Lends.tells in

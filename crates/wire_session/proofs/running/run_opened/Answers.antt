@@ -12,7 +12,7 @@ use Rattle.wire_session.specs.Slaves.{EndsTold, SlavesHold}
 use Rattle.wire_session.proofs.SlavesHeld.{slaves_hold}
 use Rattle.station_files.specs.declared.faults.Fault.TheVariants.{Memory}
 use Rattle.wire_session.proofs.Endings.{ends_refused}
-use Rattle.wire_session.proofs.RunEnds.{ends_found, told_weaker}
+use Rattle.wire_session.proofs.RunEnds.{ends_found, told_own}
 use Rattle.wire_session.proofs.running.run_opened.Goals as goal
 
 pub run_site-requires-send-D : goal.run_site-requires-send-D
@@ -30,10 +30,10 @@ returns-in-Ok-site_of g c =
     c.run_site.result (g.S.Store.files c.args.store.now) (g.S.Store.files c.open_journal.new.store) (g.S.Store.files c.run_site.new.store)
     c.args.found.line.now c.args.found.slaves.now c.args.found.journal.items c.in-Ok-site_of.site c.args.work.commands.items c.open_journal.ensures.others
     c.in-Ok-site_of.ensures
-    (λ s recovered way. told_weaker {Q = SlavesHold c.args.found.slaves.now s} c.run_site.result.told
-    (λ told ends. slaves_hold c.in-Ok-site_of.site count s told (ap (λ (seen : Seen). seen.past) c.in-Ok-site_of.ensures.seen) ends c.args.found.slaves.now c.args.found.journal.items
+    (λ s recovered way. told_own {Q = SlavesHold c.args.found.slaves.now s} c.run_site.result.told c.run_site.ensures.own
+    (λ told own ends. slaves_hold c.in-Ok-site_of.site count s told (ap (λ (seen : Seen). seen.past) c.in-Ok-site_of.ensures.seen) ends own c.args.found.slaves.now c.args.found.journal.items
     c.in-Ok-site_of.ensures.seen c.in-Ok-site_of.ensures.sizes (sym c.requires.count) recovered) way)
-    c.run_site.ensures
+    c.run_site.ensures.ends
 
 pub returns-in-Err-site_of : goal.returns-in-Err-site_of
 returns-in-Err-site_of g c =
@@ -41,4 +41,4 @@ returns-in-Err-site_of g c =
     ends_refused
     (λ (status : ExitStatus). SavesFound (g.S.Store.files c.open_journal.new.store) found.line.now found.slaves.now found.journal.items c.args.work.commands.items c.of_fault-in-Err-site_of.result.told status)
     c.of_fault-in-Err-site_of.result.ended Memory (g.S.Store.files c.args.store.now) (g.S.Store.files c.open_journal.new.store) found.line.now
-    c.open_journal.ensures.others (inr refl) c.of_fault-in-Err-site_of.ensures
+    c.open_journal.ensures.others (inr refl) c.of_fault-in-Err-site_of.ensures.ended

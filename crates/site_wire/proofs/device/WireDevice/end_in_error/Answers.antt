@@ -1,5 +1,5 @@
 use Rattle.site_wire.specs.declared.sending.Exchange.{Exchange}
-use Rattle.std.proofs.Common.{List, ℕ, sym, subst, ◌∙◌}
+use Rattle.std.proofs.Common.{List, sym, subst, ◌∙◌}
 use Rattle.site_wire.specs.Following.{FollowsUp}
 use Rattle.site_wire.proofs.FollowingUp.{up_read, up_unread}
 use Rattle.site_wire.proofs.device.WireDevice.end_in_error.Goals as goal

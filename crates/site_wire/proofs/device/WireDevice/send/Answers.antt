@@ -1,5 +1,5 @@
 use Rattle.site_wire.specs.declared.sending.Exchange.{Exchange}
-use Rattle.std.proofs.Common.{List, ℕ, ◌∷◌, [], sym, subst, ◌∙◌}
+use Rattle.std.proofs.Common.{List, ◌∷◌, [], sym, subst, ◌∙◌}
 use Rattle.std.specs.Prelude.{Option}
 use Rattle.std.specs.Option.{option_map}
 use Rattle.ecat_frame.specs.Frame.{pdu}

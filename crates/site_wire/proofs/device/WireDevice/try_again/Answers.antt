@@ -1,5 +1,5 @@
 use Rattle.site_wire.specs.declared.sending.Exchange.{Exchange}
-use Rattle.std.proofs.Common.{List, ℕ, sym, subst, ◌∙◌}
+use Rattle.std.proofs.Common.{List, sym, subst, ◌∙◌}
 use Rattle.site_wire.specs.Following.{FollowsUp}
 use Rattle.site_wire.proofs.FollowingUp.{up_nothing, up_own}
 use Rattle.site_wire.proofs.device.WireDevice.try_again.Goals as goal

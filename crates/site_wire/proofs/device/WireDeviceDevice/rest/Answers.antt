@@ -15,4 +15,4 @@ returns-then-self-2-clause-follows g c =
 pub returns-clause-follows : goal.returns-clause-follows
 returns-clause-follows g c =
     rest_keeps c.args.slave c.args.half.now c.args.frame.now c.args.k c.args.self.now c.carry.new.self c.carry.new.self.resting c.carry.ensures.carries
-    c.if-self.false (λ going. refl) c.carry.ensures.journal
+    c.if-self.false (λ going. refl) c.carry.ensures.journal c.carry.ensures.own

@@ -1,0 +1,13 @@
+use Rattle.std.specs.Prelude.{IsTrue}
+use Rattle.std.proofs.Common.{List, subst}
+use Rattle.site_file.specs.declared.asking.FileTold.{FileTold}
+use Rattle.script_session.specs.declared.told.PartTold.{PartTold}
+use Rattle.station_session.specs.RunFiles.{AreSlavesTold}
+use Rattle.station_session.proofs.told.are_logs_told.Goals as goal
+
+pub returns : goal.returns
+returns c is = record {
+  line = rw c.is_some.ensures at is;
+  disk = c.is_part_told.ensures c.if-not-is_part_told.false;
+  slaves = subst AreSlavesTold c.as_slice.ensures.value (c.are_slaves_told.ensures c.if-not-are_slaves_told.false);
+}

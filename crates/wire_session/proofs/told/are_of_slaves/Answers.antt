@@ -1,0 +1,22 @@
+use Rattle.std.proofs.Common.{ℕ, Some, arith, length, refl, subst, sym}
+use Rattle.std.proofs.lemmas.Option.{slice_get_read, slice_get_within}
+use Rattle.site_shadow.specs.declared.lending.LinePart.TheVariants as part
+use Rattle.script_session.specs.declared.told.PartTold.{PartTold}
+use Rattle.script_session.proofs.ToldLaws.{before-next}
+use Rattle.wire_session.proofs.told.are_of_slaves.Goals as goal
+
+pub loop-slave-init : goal.loop-slave-init
+loop-slave-init g c = λ slave told inside here. absurd (omega (arith, inside))
+
+pub loop-slave-preserved : goal.loop-slave-preserved
+loop-slave-preserved g c =
+    let parts = c.args.parts.now in
+    let slave = c.loop-slave.slave in
+    let told = c.index-parts-slave.result in
+    before-next (λ (k : ℕ) (one : PartTold _). g.D.TellsPart.is_of (part.Slave k) one.told) parts slave told
+    (slice_get_read parts (length parts) slave told refl c.loop-slave-test.true c.index-parts-slave.is)
+    (subst (λ (one : PartTold _). g.D.TellsPart.is_of (part.Slave slave) one.told) (sym c.index-parts-slave.is) (c.is_told_of.ensures c.if-not-is_told_of.false))
+    c.loop-slave.invariant
+
+pub returns : goal.returns
+returns g c = λ is slave told here. c.loop-slave.invariant slave told (let inside = slice_get_within c.args.parts.now slave told here in omega (arith, inside)) here
