@@ -1,7 +1,7 @@
 -- A desk that was closed with what one submitter handed in.
 use Rattle.std.proofs.Common.{◌≡◌, ℕ, Bool, ◌+◌, ◌≤◌, true, false, List, [], ◌∷◌, ◌++◌, length, refl, sym, ◌∙◌, ap, subst, arith, inl, inr, Option}
 use Rattle.std.proofs.Common.{Some, None, Result, Ok, Err}
-use Rattle.std.specs.Prelude.{◌⊎◌, is_some, IfErr, IfOk, IfSome, IsSomeAnd, IsTrue, MatchResult, OnOk}
+use Rattle.std.specs.Prelude.{◌⊎◌, is_some, IfErr, IfOk, IfSome, IsSomeAnd, MatchResult, OnOk}
 use Rattle.std.specs.Global.{Vec}
 use Rattle.sii_edit.specs.declared.command.Command.{Command}
 use Rattle.esc_model.specs.SlaveHalf.{SlaveHalf}

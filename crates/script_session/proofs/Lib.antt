@@ -1,3 +1,4 @@
+pub mod ApartLaws
 pub mod AskLaws
 pub mod HalfPlaces
 mod PartLaws

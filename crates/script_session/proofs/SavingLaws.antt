@@ -1,5 +1,6 @@
 -- What the files hold behind a desk.
-use Rattle.std.proofs.Common.{◌≡◌, ℕ, Bool, true, false, List, refl, subst}
+use Rattle.std.proofs.Common.{◌≡◌, ℕ, Bool, true, false, IsTrue, List, Result, Ok, Err, length, refl, subst}
+use Rattle.std.specs.Prelude.{OnOk}
 use Rattle.sii_edit.specs.declared.command.Command.{Command}
 use Rattle.site_core.specs.Line.{Line}
 use Rattle.site_core.specs.State.{Seen}
@@ -7,8 +8,10 @@ use Rattle.station_alone.specs.Station.{Station}
 use Rattle.station_text.specs.declared.line_file.LineFile.{LineFile}
 use Rattle.station_files.specs.Files.{Known}
 use Rattle.station_files.specs.declared.faults.ExitStatus.{ExitStatus}
-use Rattle.script_session.specs.Parts.{IsLineOf}
-use Rattle.script_session.specs.Saving.{HoldsBehind, SavesBehind, SavesServed}
+use Rattle.station_line.specs.Site.{IsFollowed}
+use Rattle.script_session.specs.declared.told.PartTold.{PartTold}
+use Rattle.script_session.specs.Parts.{IsLineOf, Telling}
+use Rattle.script_session.specs.Saving.{HoldsBehind, IsToldLine, KeepsTold, SavesBehind, SavesServed}
 
 pub line-of : (line : Line) (slaves count : ℕ) → slaves ≡ count → IsLineOf slaves line → IsLineOf count line
 line-of line slaves count same is = subst (λ (n : ℕ). IsLineOf n line) same is
@@ -23,3 +26,21 @@ pub behind-unserved : (is_driven : Bool) (files : Known) (line : LineFile) (befo
     → SavesBehind files line before is_driven unserved status → SavesBehind files line before is_driven commands status
 behind-unserved is_driven files line before unserved commands status same saves =
     record { r = saves.r; recovered = saves.recovered; begins = saves.begins; holds = holds-unserved is_driven files line saves.r unserved commands status same saves.holds }
+
+-- ---- what is told of the device of a line that was saved
+
+-- where the one holds in any case
+pub in_each : {V E : Type 0} {P : Type 0} (result : Result V E) → P → OnOk result P
+in_each (Ok value) holds = holds
+in_each (Err fault) holds = tt
+
+module _ {D T : Type 0} (follows : D → Seen → Type 0) (well : D → Type 0) (tells : D → T → Type 0) where
+  -- a device that ended soundly
+  pub keeps_told : (part : PartTold T) (seen : Seen) → IsTrue part.is_sound → IsFollowed (Telling follows well tells part) seen
+      → IsFollowed (KeepsTold follows well tells part.told) seen
+  keeps_told part seen sound is = let both = is.1.2 sound in (is.0, ((is.1.0, both.0, both.1), is.1.1))
+
+  -- a site whose device has told this, and has ended soundly
+  pub told_line : (part : PartTold T) (device : D) (seen : Seen) (slaves : ℕ) → Telling follows well tells part device seen → IsTrue part.is_sound
+      → slaves ≡ length seen.state.halves → IsToldLine follows well tells part.told slaves seen
+  told_line part device seen slaves telling sound count = record { ends = keeps_told part seen sound (device, telling); count = count }

@@ -40,7 +40,7 @@ use Rattle.script_session.specs.declared.told.PartTold.{PartTold}
 use Rattle.script_session.specs.declared.told.UnservedTold.{UnservedTold}
 use Rattle.script_session.specs.declared.told.UnservedTold.TheVariants as unserved
 use Rattle.script_session.specs.Asking.{commands_of, GivesUp}
-use Rattle.script_session.specs.Parts.{Sites, IsApart, AreEndsOfParts, AreFollowed, AreSound, IsDeskTold, IsTogether, Soundly, Telling}
+use Rattle.script_session.specs.Parts.{Sites, IsApart, AreEndsOfParts, AreFollowed, AreSound, AreUnserved, IsDeskTold, IsTogether, Soundly, Telling}
 use Rattle.station_line.specs.Site.{IsFollowed}
 
 -- the state of a site and its past
@@ -159,6 +159,13 @@ pub record LeavesSo (opened : Station) (commands : List Command) (ending : Endin
       (λ done. IsServedAtDesk opened commands ending.is_driven ending.status ending.told site)
       (λ why. IsStoppedAtDesk opened why ending.told site)
 
+-- The line of this station was taken apart, and its parts ended so.
+pub record PartsEnd (opened : Station) : Type 0 where
+  pub sites : Sites
+  pub apart : IsApart opened.seen.state sites
+  pub ends : Ends SiteValue
+  pub of_sites : AreEndsOfParts sites ends
+
 -- The line of this station was taken apart, and a desk of its book served the parts.
 pub record DeskServes (opened : Station) (commands : List Command) (ending : Ending) : Type 0 where
   pub sites : Sites
@@ -211,11 +218,13 @@ pub record ServesFollowed {D T : Type 0} (follows : D → Seen → Type 0) (well
   pub told : IsDeskTold follows well tells opened.seen left.told parts.desk.ends
   pub sound : OnOk left.sound (AreSound left.told)
 
--- A line was not served, or not put together again behind that, and this is told: of the line's device, where no desk began; or of the devices at a
--- desk of this book, which served the parts with this ending.
+-- A line was not served, or not put together again behind that, and this is told: of the line's device, where no part had one yet; of the devices
+-- of the parts, where no desk has served them; or of the devices at a desk of this book, which served the parts with this ending.
 pub data IsUnservedTold {D T : Type 0} (follows : D → Seen → Type 0) (well : D → Type 0) (tells : D → T → Type 0) (opened : Station)
     (commands : List Command) : UnservedTold T → Type 0 where
   line : (part : PartTold T) → IsFollowed (Telling follows well tells part) opened.seen
       → IsUnservedTold follows well tells opened commands (unserved.Line part)
+  apart : (told : DeskTold T) (parts : PartsEnd opened) → AreUnserved parts.ends → IsDeskTold follows well tells opened.seen told parts.ends
+      → IsUnservedTold follows well tells opened commands (unserved.Apart told)
   desk : (told : DeskTold T) (ending : Ending) (desk : DeskServes opened commands ending)
       → IsDeskTold follows well tells opened.seen told desk.ends → IsUnservedTold follows well tells opened commands (unserved.Desk told)

@@ -62,11 +62,22 @@ pub record IsServable (capacity : ℕ) (whole : State) (sites : Sites) : Type 0 
   pub apart : IsApart whole sites
   pub own : OwnUpTo (8 + capacity) sites
 
+-- These sites are in the same states, whatever devices stand behind them.
+pub record AreSame (sites same : Sites) : Type 0 where
+  pub disk : same.disk ≡ sites.disk
+  pub slaves : same.slaves.items ≡ sites.slaves.items
+  pub cycle : same.cycle ≡ sites.cycle
+
 -- These are the ends of the threads that served these sites: each began with its site.
 pub record AreEndsOfParts (sites : Sites) (ends : Ends SiteValue) : Type 0 where
   pub flusher : ends.flusher.start ≡ sites.disk
   pub workers : AreEndsOfSites sites.slaves.items ends.workers.items
   pub cycle : IsEndOfTurns sites.cycle ends.cycle
+
+-- No desk has served these parts: each is as it began, and there is no job in its log.
+pub record AreUnserved (ends : Ends SiteValue) : Type 0 where
+  pub disk : (ends.flusher.site ≡ ends.flusher.start) × (ends.flusher.log ≡ [])
+  pub slaves : AllByRecursion (λ (end : Stay SiteValue SlaveLog). (end.site ≡ end.start) × (end.log.jobs ≡ [])) ends.workers.items
 
 -- A device keeps this of a site, nothing has failed that it was asked, and the site has not stopped.
 abbrev pub Soundly : {D : Type 0} → (D → Seen → Type 0) → (D → Type 0) → D → Seen → Type 0

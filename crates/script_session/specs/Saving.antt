@@ -1,5 +1,5 @@
 -- What the files of a line hold once its commands were served.
-use Rattle.std.specs.Prelude.{◌≡◌, Ok, Bool, true, false, List}
+use Rattle.std.specs.Prelude.{◌≡◌, ◌⊎◌, ℕ, Ok, Bool, true, false, List, length}
 use Rattle.sii_edit.specs.declared.command.Command.{Command}
 use Rattle.site_core.specs.State.{Seen}
 use Rattle.site_shadow.specs.Site.{SiteValue}
@@ -7,13 +7,30 @@ use Rattle.station_alone.specs.Station.{Station}
 use Rattle.station_alone.specs.Recovery.{HasRecovered, BeginsRecovered}
 use Rattle.station_text.specs.declared.line_file.LineFile.{LineFile}
 use Rattle.station_files.specs.Files.{Known}
+use Rattle.station_files.specs.Faults.{IsOfStream}
+use Rattle.station_files.specs.declared.faults.Fault.{Fault}
 use Rattle.station_files.specs.declared.faults.ExitStatus.{ExitStatus}
 use Rattle.station_files.specs.declared.faults.ExitStatus.TheVariants.{Done}
-use Rattle.station_line.specs.Site.{HoldsSite}
+use Rattle.station_line.specs.Site.{HoldsSite, IsFollowed}
 use Rattle.station_line.specs.Opened.{is_old, StartsFrom}
 use Rattle.station_line.specs.Rounds.{AreAmong, Goes, IsServed}
 use Rattle.script_session.specs.declared.threads.Left.{Left}
 use Rattle.script_session.specs.AtDesk.{IsServedAtDesk}
+use Rattle.script_session.specs.Parts.{Soundly}
+
+-- A fault comes with which files are saved: one of a file or of memory; or it came before, and nothing was written.
+abbrev pub MayFail : Known → Known → Fault → Type 0
+MayFail old new fault = (new ≡ old) ⊎ IsOfStream fault
+
+-- A device has kept of its site what it keeps, nothing has failed that it was asked, the site goes on, and this is told of the device.
+abbrev pub KeepsTold : {D T : Type 0} → (D → Seen → Type 0) → (D → Type 0) → (D → T → Type 0) → T → D → Seen → Type 0
+KeepsTold follows well tells told device seen = Soundly follows well device seen × tells device told
+
+-- This is told of a device that has followed this site at its end, and it has a half for each of so many slaves.
+pub record IsToldLine {D T : Type 0} (follows : D → Seen → Type 0) (well : D → Type 0) (tells : D → T → Type 0) (told : T) (slaves : ℕ)
+    (last : Seen) : Type 0 where
+  pub ends : IsFollowed (KeepsTold follows well tells told) last
+  pub count : slaves ≡ length last.state.halves
 
 -- The files hold the state of this station after some of the commands were accepted and served: all of them if the status is `Done`.
 pub record SavesServed (files : Known) (line : LineFile) (opened : Station) (commands : List Command) (status : ExitStatus) : Type 0 where

@@ -1,23 +1,26 @@
-//! Takes a line apart into sites: one for the disk, one for each slave, and one for the process data.
+//! Takes a line apart into sites: one for the disk, one for each slave, and one for the process data. They are made in memory. Once nothing can fail
+//! any more, the line's device lends each its own.
 
-ghost use Rattle.std.specs.Prelude.{◌≡◌, ◌↔◌, ◌+◌, ◌<◌, ◌≤◌, [], true, length, slice_set, vec_len, is_some, IfErr, IfOk, IfSome, IsSomeAnd, IsTrue};
+ghost use Rattle.std.specs.Prelude.{◌≡◌, ◌↔◌, ◌+◌, ◌<◌, ◌≤◌, [], true, length, slice_set, vec_len, vec_capacity, is_some, IfOk, IfSome};
+ghost use Rattle.std.specs.Prelude.{IsSomeAnd, IsTrue};
 ghost use Rattle.site_shadow.specs.Line.{half_of, halves_of};
 ghost use Rattle.site_shadow.specs.Parts.{site_of};
 ghost use Rattle.site_shadow.specs.Site.{SiteValue};
 ghost use Rattle.station_threads.specs.Places.{AllPlaced};
 ghost use Rattle.station_threads.specs.Sites.{OwnParts};
 ghost use Rattle.site_core.specs.State.{State};
-ghost use Rattle.script_session.specs.Parts.{BeginsWith, HasDiskOf, IsLineTold, IsServable, Telling};
-ghost use Rattle.station_line.specs.Site.{IsFollowed};
+ghost use Rattle.script_session.specs.Parts.{AreSame, BeginsWith, HasDiskOf, IsServable};
 
-use crate::threads::NotServed;
-use crate::told::{PartTold, told_by};
 use esc_model::{FIRST_STATION, ProcessHalf, RomHalf};
 use site_core::Site;
+use site_mem::FaultPlan;
 use site_shadow::{Device, Lends, LinePart, Parts, ShadowSite};
 use station_files::Fault;
 use station_threads::{PerDevice, Sites, own_parts};
 use std::alloc::{AllocError, Global};
+
+/// The site of a part in memory, which has no device of the line's yet.
+pub(crate) type InMemory = ShadowSite<FaultPlan>;
 
 /// No EEPROM half, for each of `slaves` slaves.
 fn no_halves(alloc: Global, slaves: usize) -> Result<Vec<Option<RomHalf>>, AllocError> {
@@ -77,14 +80,13 @@ fn with_half(parts: Parts, slave: usize, half: Option<RomHalf>) -> Parts
     parts
 }
 
-/// A site that owns the EEPROM half of this slave, and nothing else. The device of the line lends it one.
-fn slave_site<D: Lends>(
+/// A site that owns the EEPROM half of this slave, and nothing else.
+fn slave_site(
     alloc: Global,
-    whole: &mut D,
     sizes: &Vec<u16>,
     slave: usize,
     half: Option<RomHalf>,
-) -> Result<ShadowSite<D>, Fault>
+) -> Result<InMemory, Fault>
     ensures { IfOk result (λ site. BeginsWith slave (half_of half) site) }
 {
     let Ok(parts) = nothing(alloc, sizes) else {
@@ -97,22 +99,21 @@ fn slave_site<D: Lends>(
         return Err(Fault::Unserved);
     }
     let parts = with_half(parts, slave, half);
-    site_of(alloc, parts, whole.lend(LinePart::Slave(slave)))
+    site_of(alloc, parts, FaultPlan::none())
 }
 
 /// A site for each slave, which owns its EEPROM half alone.
-fn slave_sites<D: Lends>(
+fn slave_sites(
     alloc: Global,
-    whole: &mut D,
     sizes: &Vec<u16>,
     halves: Vec<Option<RomHalf>>,
-) -> Result<Vec<ShadowSite<D>>, Fault>
+) -> Result<Vec<InMemory>, Fault>
     ensures { IfOk result (λ sites. AllPlaced BeginsWith 0 (halves_of halves.items) sites.items) }
 {
     let mut sites = Vec::with_capacity(alloc, halves.len())?;
     for half in halves {
         let slave = sites.len();
-        let site = slave_site(alloc, whole, sizes, slave, half)?;
+        let site = slave_site(alloc, sizes, slave, half)?;
         sites.push(site)?;
     }
     Ok(sites)
@@ -139,33 +140,27 @@ fn processes(alloc: Global, halves: &[Option<RomHalf>]) -> Result<Vec<ProcessHal
     Ok(processes)
 }
 
-/// A site that owns this disk, and nothing else. The device of the line lends it one.
-fn disk_site<D: Lends>(
-    alloc: Global,
-    whole: &mut D,
-    sizes: &Vec<u16>,
-    disk: Option<Vec<u8>>,
-) -> Result<ShadowSite<D>, Fault>
+/// A site that owns this disk, and nothing else.
+fn disk_site(alloc: Global, sizes: &Vec<u16>, disk: Option<Vec<u8>>) -> Result<InMemory, Fault>
     ensures disk { IfOk result (λ site. HasDiskOf disk site) }
     ensures new { IfOk result (λ site. site.seen.past ≡ []) }
 {
     let mut parts = nothing(alloc, sizes)?;
     parts.disk = disk;
-    site_of(alloc, parts, whole.lend(LinePart::Disk))
+    site_of(alloc, parts, FaultPlan::none())
 }
 
-/// A site that owns the process halves of these slaves, just switched on, and nothing else. The device of the line lends it one.
-fn cycle_site<D: Lends>(
+/// A site that owns the process halves of these slaves, just switched on, and nothing else.
+fn cycle_site(
     alloc: Global,
-    whole: &mut D,
     sizes: &Vec<u16>,
     halves: &[Option<RomHalf>],
-) -> Result<ShadowSite<D>, Fault> {
+) -> Result<InMemory, Fault> {
     let processes = processes(alloc, halves)?;
     match nothing(alloc, sizes) {
         Ok(mut parts) => {
             parts.process = Some(processes);
-            site_of(alloc, parts, whole.lend(LinePart::Process))
+            site_of(alloc, parts, FaultPlan::none())
         }
         Err(AllocError) => {
             drop(processes);
@@ -175,18 +170,17 @@ fn cycle_site<D: Lends>(
 }
 
 /// A site that owns this disk alone, and one that owns the process halves of these slaves alone.
-fn disk_and_cycle<D: Lends>(
+fn disk_and_cycle(
     alloc: Global,
-    whole: &mut D,
     sizes: &Vec<u16>,
     disk: Option<Vec<u8>>,
     halves: &[Option<RomHalf>],
-) -> Result<(ShadowSite<D>, ShadowSite<D>), Fault>
+) -> Result<(InMemory, InMemory), Fault>
     ensures disk { IfOk result (λ sites. HasDiskOf disk sites.0) }
     ensures new { IfOk result (λ sites. sites.0.seen.past ≡ []) }
 {
-    let cycle = cycle_site(alloc, whole, sizes, halves)?;
-    match disk_site(alloc, whole, sizes, disk) {
+    let cycle = cycle_site(alloc, sizes, halves)?;
+    match disk_site(alloc, sizes, disk) {
         Ok(disk) => Ok((disk, cycle)),
         Err(fault) => {
             drop(cycle);
@@ -195,12 +189,8 @@ fn disk_and_cycle<D: Lends>(
     }
 }
 
-/// The sites of the line's parts, each with a device that the line's lends it. The process halves are just switched on.
-fn sites_of<D: Lends>(
-    alloc: Global,
-    whole: &mut D,
-    line: Parts,
-) -> Result<Sites<ShadowSite<D>>, Fault>
+/// The sites of the line's parts. The process halves are just switched on.
+fn sites_of(alloc: Global, line: Parts) -> Result<Sites<InMemory>, Fault>
     ensures disk { IfOk result (λ sites. HasDiskOf line.disk sites.disk) }
     ensures new { IfOk result (λ sites. sites.disk.seen.past ≡ []) }
     ensures slaves { IfOk result (λ sites. AllPlaced BeginsWith 0 (halves_of line.halves.items) sites.slaves.items) }
@@ -213,8 +203,8 @@ fn sites_of<D: Lends>(
         process,
     } = line;
     drop(process);
-    let (disk, cycle) = disk_and_cycle(alloc, whole, &sizes, disk, &halves)?;
-    match slave_sites(alloc, whole, &sizes, halves) {
+    let (disk, cycle) = disk_and_cycle(alloc, &sizes, disk, &halves)?;
+    match slave_sites(alloc, &sizes, halves) {
         Ok(slaves) => Ok(PerDevice {
             disk,
             slaves,
@@ -239,7 +229,7 @@ fn reaches(parts: &Parts, capacity: u32) -> bool
 }
 
 /// The sites, if each owns its part (`own_parts`); otherwise `Unserved`.
-fn whole_sites<D: Device + Drop>(sites: Sites<ShadowSite<D>>) -> Result<Sites<ShadowSite<D>>, Fault>
+fn whole_sites(sites: Sites<InMemory>) -> Result<Sites<InMemory>, Fault>
     ensures { IfOk result (λ same. (same ≡ sites) × OwnParts (λ (s : SiteValue). s.line) same.disk same.slaves.items same.cycle) }
 {
     if own_parts(&sites) {
@@ -250,44 +240,17 @@ fn whole_sites<D: Device + Drop>(sites: Sites<ShadowSite<D>>) -> Result<Sites<Sh
     }
 }
 
-/// Takes a line apart into sites, to each of which its device lends one. Gives the sites, the device of the line, and what was told of that before
-/// it lent any. The disk must reach to the end of a journal's area of `capacity` bytes. The process halves are just switched on.
+/// The sites of the line's parts, each of which owns its part, if the disk reaches to the end of a journal's area of `capacity` bytes. The process
+/// halves are just switched on.
 ///
 /// # Errors
 ///
-/// `Unserved` where the site isn't a whole line with such a disk; `Memory`. The site is dropped, and its device told of.
-pub(crate) fn take_apart<D: Lends>(
+/// `Unserved` where the parts aren't a whole line with such a disk; `Memory`.
+pub(crate) fn servable_sites(
     alloc: Global,
-    site: ShadowSite<D>,
-    capacity: u32,
-) -> Result<(Sites<ShadowSite<D>>, D, PartTold<D::Told>), NotServed<D::Told>>
-    ensures sites { IfOk result (λ apart. IsServable capacity site.seen.state apart.0) }
-    ensures told { IfOk result (λ apart. IsFollowed (Telling D.follows D.well D.tells apart.2) site.seen) }
-    ensures failed { IfErr result (λ why. IsLineTold D.follows D.well D.tells site.seen why.told) }
-    ensures followed { IsFollowed D.follows site.seen }
-    ensures count { length site.line.sizes ≡ length site.seen.state.halves }
-{
-    // Its contract says that there is a half for each slave.
-    let _slaves = site.slaves();
-    let has_stopped = site.has_stopped();
-    let (parts, mut whole) = site.into_parts();
-    let told = told_by(&mut whole, has_stopped);
-    match servable_sites(alloc, &mut whole, parts, capacity) {
-        Ok(sites) => Ok((sites, whole, told)),
-        Err(fault) => {
-            drop(whole);
-            Err(NotServed::unbegun(fault, told))
-        }
-    }
-}
-
-/// The sites of the line's parts, each of which owns its part, if the disk reaches to the end of a journal's area of `capacity` bytes.
-fn servable_sites<D: Lends>(
-    alloc: Global,
-    whole: &mut D,
     line: Parts,
     capacity: u32,
-) -> Result<Sites<ShadowSite<D>>, Fault>
+) -> Result<Sites<InMemory>, Fault>
     ensures { (state : State) → IfSome line.disk (λ bytes. bytes.items ≡ state.disk.bytes) → halves_of line.halves.items ≡ state.halves
         → IfOk result (IsServable capacity state) }
 {
@@ -295,6 +258,55 @@ fn servable_sites<D: Lends>(
         drop(line);
         return Err(Fault::Unserved);
     }
-    let sites = sites_of(alloc, whole, line)?;
+    let sites = sites_of(alloc, line)?;
     whole_sites(sites)
+}
+
+/// The same sites, each with a device of its own that the line's lends it. `room` is empty.
+pub(crate) fn lent_sites<D: Lends>(
+    whole: &mut D,
+    sites: Sites<InMemory>,
+    room: Vec<ShadowSite<D>>,
+) -> Sites<ShadowSite<D>>
+    requires empty { room.items ≡ [] }
+    requires room { length sites.slaves.items ≤ vec_capacity room }
+    ensures { AreSame sites result }
+{
+    let PerDevice {
+        disk,
+        slaves,
+        cycle,
+    } = sites;
+    let disk = disk.with_device(whole.lend(LinePart::Disk));
+    let slaves = lent_slaves(whole, slaves, room);
+    match cycle {
+        Some(cycle) => PerDevice {
+            disk,
+            slaves,
+            cycle: Some(cycle.with_device(whole.lend(LinePart::Process))),
+        },
+        None => PerDevice {
+            disk,
+            slaves,
+            cycle: None,
+        },
+    }
+}
+
+/// The sites of the slaves, each with a device of its own that the line's lends it. `room` is empty.
+fn lent_slaves<D: Lends>(
+    whole: &mut D,
+    sites: Vec<InMemory>,
+    room: Vec<ShadowSite<D>>,
+) -> Vec<ShadowSite<D>>
+    requires empty { room.items ≡ [] }
+    requires room { length sites.items ≤ vec_capacity room }
+    ensures { result.items ≡ sites.items }
+{
+    let mut lent = room;
+    for site in sites {
+        let slave = lent.len();
+        lent.push_reserved(site.with_device(whole.lend(LinePart::Slave(slave))));
+    }
+    lent
 }

@@ -7,6 +7,7 @@ mod asked;
 mod closing;
 mod events;
 mod redoing;
+mod saving;
 mod soundness;
 mod submitter;
 mod submitting;
@@ -17,6 +18,7 @@ mod work;
 
 pub use closing::Ending;
 pub use redoing::{Redone, redo_by_threads};
+pub use saving::save_told;
 pub use soundness::is_sound;
 pub use station_threads::CloseFault;
 pub use threads::{Left, NotServed, serve_by_threads};

@@ -1,7 +1,8 @@
 //! Serves a line by threads.
 
-ghost use Rattle.std.specs.Prelude.{◌≡◌, ◌+◌, ◌≤◌, [], false, length, vec_capacity, IfErr, IfOk, IsTrue, OnOk};
-ghost use Rattle.site_core.specs.State.{Seen};
+ghost use Rattle.std.specs.Prelude.{◌≡◌, ◌+◌, ◌≤◌, [], false, length, vec_capacity, IfErr, IfOk, IfSome, IsTrue, OnOk};
+ghost use Rattle.site_core.specs.State.{Seen, State};
+ghost use Rattle.site_shadow.specs.Line.{halves_of};
 ghost use Rattle.script_session.specs.Asking.{no_counts};
 ghost use Rattle.script_session.specs.AtDesk.{IsUnservedTold, LeavesSo, OpensDesk, ServesFollowed, ServesSites};
 ghost use Rattle.script_session.specs.declared.told.UnservedTold.TheVariants as unserved;
@@ -22,17 +23,18 @@ ghost use Rattle.script_session.specs.Parts.{
 };
 ghost use Rattle.station_line.specs.Site.{IsFollowed};
 
-use crate::apart::take_apart;
+use crate::apart::{InMemory, lent_sites, servable_sites};
 use crate::asked::Asked;
 use crate::closing::{AtDesk, Ending, hand_in};
 use crate::soundness::{disk_is_synced, judge_ends};
 use crate::submitter::Submitter;
-use crate::together::{OfSlaves, Whole, put_together};
-use crate::told::{DeskTold, PartTold, UnservedTold};
+use crate::together::{OfSlaves, Whole, put_together, told_unserved};
+use crate::told::{DeskTold, PartTold, UnservedTold, told_by};
 use crate::work::Work;
 use book_core::Core;
 use sii_edit::Command;
-use site_shadow::{Device, Lends, ShadowSite};
+use site_core::Site;
+use site_shadow::{Device, Lends, Parts, ShadowSite};
 use station_alone::Alone;
 use station_files::{ExitStatus, Fault};
 use station_jobs::NoHook;
@@ -72,13 +74,23 @@ pub struct NotServed<T> {
 }
 
 impl<T> NotServed<T> {
-    /// No desk began, and this is told of the line's device.
+    /// No part had a device yet, and this is told of the line's.
     pub(crate) fn unbegun(fault: Fault, told: PartTold<T>) -> NotServed<T>
         ensures { result.told ≡ unserved.Line told }
     {
         NotServed {
             fault,
             told: UnservedTold::Line(told),
+        }
+    }
+
+    /// Memory was refused for a desk, and this is told of the devices of the parts, which none has served.
+    pub(crate) fn apart(told: DeskTold<T>) -> NotServed<T>
+        ensures { result.told ≡ unserved.Apart told }
+    {
+        NotServed {
+            fault: Fault::Memory,
+            told: UnservedTold::Apart(told),
         }
     }
 }
@@ -120,7 +132,7 @@ pub fn serve_by_threads<D: Lends + Send, O: Write, W: Wait + Threads + Sync>(
     let opening = Opening::of(core);
     match serve_at_desk::<Brand, Brand, Brand, D, O, W>(rt, alloc, opening, sites, work, output) {
         Ok(at) => put_back(alloc, whole, slaves, at),
-        Err(AllocError) => Err(NotServed::unbegun(Fault::Memory, whole.into_told())),
+        Err(sites) => Err(NotServed::apart(told_unserved(whole, sites))),
     }
 }
 
@@ -131,7 +143,40 @@ pub(crate) struct Prepared<D: Device, T> {
     pub(crate) whole: Whole<D, T>,
 }
 
-/// Takes a line apart, and makes room to put it together again.
+/// A line taken apart in memory, whose device has lent no part one yet.
+#[derive(Drop)]
+struct Apart<D: Device, T> {
+    sites: Sites<InMemory>,
+    /// An empty list with room for the sites of the slaves, each with its device.
+    lent: Vec<ShadowSite<D>>,
+    /// Empty lists with room for what the workers leave.
+    room: OfSlaves<T>,
+}
+
+/// The sites of the line's parts in memory, and room for all that follows. No device has a share in it.
+fn taken_apart<D: Device + Drop, T: Drop>(
+    alloc: Global,
+    line: Parts,
+    capacity: u32,
+) -> Result<Apart<D, T>, Fault>
+    ensures sites { (state : State) → IfSome line.disk (λ bytes. bytes.items ≡ state.disk.bytes) → halves_of line.halves.items ≡ state.halves
+        → IfOk result (λ apart. IsServable capacity state apart.sites) }
+    ensures lent { IfOk result (λ apart. (apart.lent.items ≡ []) × (length apart.sites.slaves.items ≤ vec_capacity apart.lent)) }
+    ensures room { IfOk result (λ apart. IsRoom apart.room × (length apart.sites.slaves.items ≤ vec_capacity apart.room.told)) }
+{
+    let sites = servable_sites(alloc, line, capacity)?;
+    let slaves = sites.slaves.len();
+    let lent = Vec::with_capacity(alloc, slaves)?;
+    let room = OfSlaves::room(alloc, slaves)?;
+    Ok(Apart { sites, lent, room })
+}
+
+/// Takes a line apart, and makes room to put it together again. The line's device lends each part its own once nothing can fail any more.
+///
+/// # Errors
+///
+/// `Unserved` where the site isn't a whole line with a disk that reaches to the end of a journal's area of `capacity` bytes; `Memory`. The site is
+/// dropped, and its device told of. It has lent none.
 pub(crate) fn prepare<D: Lends>(
     alloc: Global,
     site: ShadowSite<D>,
@@ -145,16 +190,22 @@ pub(crate) fn prepare<D: Lends>(
     ensures followed { IsFollowed D.follows site.seen }
     ensures count { length site.line.sizes ≡ length site.seen.state.halves }
 {
-    let (sites, device, told) = take_apart(alloc, site, capacity)?;
-    match OfSlaves::room(alloc, sites.slaves.len()) {
-        Ok(room) => Ok(Prepared {
-            sites,
-            whole: Whole { device, told, room },
-        }),
-        Err(AllocError) => {
-            drop(sites);
+    // Its contract says that there is a half for each slave.
+    let _slaves = site.slaves();
+    let has_stopped = site.has_stopped();
+    let (parts, mut device) = site.into_parts();
+    let told = told_by(&mut device, has_stopped);
+    match taken_apart(alloc, parts, capacity) {
+        Ok(Apart { sites, lent, room }) => {
+            let sites = lent_sites(&mut device, sites, lent);
+            Ok(Prepared {
+                sites,
+                whole: Whole { device, told, room },
+            })
+        }
+        Err(fault) => {
             drop(device);
-            Err(NotServed::unbegun(Fault::Memory, told))
+            Err(NotServed::unbegun(fault, told))
         }
     }
 }
@@ -205,7 +256,8 @@ fn put_back<D: Lends>(
     }
 }
 
-/// Makes a desk of the book, serves the sites there while the commands are submitted, and closes the desk.
+/// Makes a desk of the book, serves the sites there while the commands are submitted, and closes the desk. If memory is refused, nothing is started
+/// and the sites are handed back.
 fn serve_at_desk<
     'o,
     T: Tickets + Send + Sync,
@@ -221,23 +273,24 @@ fn serve_at_desk<
     sites: Sites<ShadowSite<D>>,
     work: Work,
     output: &'o mut O,
-) -> Result<AtDesk<ShadowSite<D>>, AllocError>
+) -> Result<AtDesk<ShadowSite<D>>, Sites<ShadowSite<D>>>
     requires opening { OpensDesk T.opened T.name T.parts R.name R.parts opening }
     requires commands { work.commands.items ≡ C.commands }
     requires sites { OwnUpTo (8 + opening.core.capacity) sites }
-    ensures { IfOk result (ServesSites T.opened C.commands sites) }
+    ensures served { IfOk result (ServesSites T.opened C.commands sites) }
+    ensures handed_back { IfErr result (λ same. same ≡ sites) }
 {
     match open_desk::<T, R>(alloc, opening) {
         Ok(opened) => serve_opened::<T, R, C, D, O, W>(rt, alloc, opened, sites, work, output),
         Err(AllocError) => {
-            drop(sites);
             drop(work);
-            Err(AllocError)
+            Err(sites)
         }
     }
 }
 
-/// Serves the sites at a new desk while the commands are submitted, and closes the desk.
+/// Serves the sites at a new desk while the commands are submitted, and closes the desk. If memory is refused, nothing is started and the sites are
+/// handed back.
 fn serve_opened<
     'o,
     T: Tickets + Send + Sync,
@@ -253,12 +306,13 @@ fn serve_opened<
     sites: Sites<ShadowSite<D>>,
     work: Work,
     output: &'o mut O,
-) -> Result<AtDesk<ShadowSite<D>>, AllocError>
+) -> Result<AtDesk<ShadowSite<D>>, Sites<ShadowSite<D>>>
     requires room { (opened.room.items ≡ []) × (1 ≤ vec_capacity opened.room) }
     requires share { opened.share ≡ no_counts }
     requires commands { work.commands.items ≡ C.commands }
     requires sites { OwnUpTo opened.desk.limit sites }
-    ensures { IfOk result (ServesSites T.opened C.commands sites) }
+    ensures served { IfOk result (ServesSites T.opened C.commands sites) }
+    ensures handed_back { IfErr result (λ same. same ≡ sites) }
 {
     let Opened { desk, share, room } = opened;
     let Work {
@@ -278,11 +332,10 @@ fn serve_opened<
     match serve_sites(rt, alloc, &desk, sites, &NoHook, &mut submitter) {
         Ok(ends) => Ok(hand_in(desk, submitter, room, ends)),
         Err(sites) => {
-            drop(sites);
             drop(desk);
             drop(submitter);
             drop(room);
-            Err(AllocError)
+            Err(sites)
         }
     }
 }
@@ -356,7 +409,8 @@ pub(crate) fn serve_sites<
     client: &mut K,
 ) -> Result<Ends<ShadowSite<D>>, Sites<ShadowSite<D>>>
     requires { OwnUpTo desk.now.limit sites }
-    ensures { IfOk result (λ ends. AreEndsOfParts sites ends) }
+    ensures ends { IfOk result (λ ends. AreEndsOfParts sites ends) }
+    ensures handed_back { IfErr result (λ same. same ≡ sites) }
 {
     serve_line(rt, alloc, desk, sites, hook, client)
 }

@@ -1,7 +1,7 @@
-//! Puts a line together again from the ends of its threads.
+//! Puts a line together again from the ends of its threads, and tells of the devices of its parts.
 
 ghost use Rattle.std.specs.Prelude.{◌≡◌, ◌<◌, ◌≤◌, ◌+◌, ◌∷◌, ◌++◌, [], List, length, vec_capacity, IfOk, IfSome, IsOkAnd, IsTrue};
-ghost use Rattle.std.specs.List.{AllByRecursion};
+ghost use Rattle.std.specs.List.{AllByRecursion, AllZip};
 ghost use Rattle.site_core.specs.State.{Seen};
 ghost use Rattle.site_shadow.specs.Line.{half_of, halves_of};
 ghost use Rattle.site_shadow.specs.Site.{SiteValue};
@@ -32,7 +32,7 @@ use site_core::Site;
 use site_shadow::{Device, Lends, Parts, ShadowSite};
 use station_files::Fault;
 use station_jobs::{CycleLog, End, Leads, SlaveLog};
-use station_threads::Ends;
+use station_threads::{Ends, PerDevice, Sites};
 use std::alloc::{AllocError, Global};
 
 /// The EEPROM halves of slaves, as their workers left them, or why one is missing; and what is told of their devices. Both are in order.
@@ -91,20 +91,19 @@ pub(crate) struct Whole<D, T> {
     pub(crate) room: OfSlaves<T>,
 }
 
-impl<D: Drop, T: Drop> Whole<D, T> {
-    /// What was told of the line's device.
-    pub(crate) fn into_told(self) -> PartTold<T>
-        ensures { result ≡ self.told }
-    {
-        let Whole { device, told, room } = self;
-        drop(device);
-        drop(room);
-        told
-    }
+/// The parts of a site. The device of the line takes the site's back, and tells of it.
+fn parts_of<D: Lends>(site: ShadowSite<D>, whole: &mut D) -> (Parts, PartTold<D::Told>)
+    ensures disk { IfSome result.0.disk (λ bytes. bytes.items ≡ site.seen.state.disk.bytes) }
+    ensures halves { halves_of result.0.halves.items ≡ site.seen.state.halves }
+    ensures told { IsFollowed (Telling D.follows D.well D.tells result.1) site.seen }
+{
+    let has_stopped = site.has_stopped();
+    let (parts, device) = site.into_parts();
+    (parts, taken_back(whole, device, has_stopped))
 }
 
 /// The parts of the site with which a thread ended. The device of the line takes the site's back, and tells of it.
-fn parts_of<D: Lends, L: Leads + Drop>(
+fn parts_at<D: Lends, L: Leads + Drop>(
     end: End<ShadowSite<D>, L>,
     whole: &mut D,
 ) -> (Parts, PartTold<D::Told>)
@@ -114,9 +113,67 @@ fn parts_of<D: Lends, L: Leads + Drop>(
     ensures told { IsFollowed (Telling D.follows D.well D.tells result.1) end.site.seen }
 {
     let (site, _log) = end.into_parts();
-    let has_stopped = site.has_stopped();
-    let (parts, device) = site.into_parts();
-    (parts, taken_back(whole, device, has_stopped))
+    parts_of(site, whole)
+}
+
+/// What is told of the device of a site that no desk has served. The device of the line takes it back.
+fn told_of<D: Lends>(site: ShadowSite<D>, whole: &mut D) -> PartTold<D::Told>
+    ensures { IsFollowed (Telling D.follows D.well D.tells result) site.seen }
+{
+    let (parts, told) = parts_of(site, whole);
+    drop(parts);
+    told
+}
+
+/// What is told of the devices of the slaves' sites, in order, that no desk has served. `room` is empty.
+fn told_of_slaves<D: Lends>(
+    sites: Vec<ShadowSite<D>>,
+    whole: &mut D,
+    room: Vec<PartTold<D::Told>>,
+) -> Vec<PartTold<D::Told>>
+    requires empty { room.items ≡ [] }
+    requires room { length sites.items ≤ vec_capacity room }
+    ensures { AllZip (λ site told. IsFollowed (Telling D.follows D.well D.tells told) site.seen) sites.items result.items }
+{
+    let mut told = room;
+    for site in sites {
+        told.push_reserved(told_of(site, whole));
+    }
+    told
+}
+
+/// What is told of the devices of a line that was taken apart into these sites, which no desk has served. The line's device takes back what it lent
+/// them.
+pub(crate) fn told_unserved<D: Lends>(
+    whole: Whole<D, D::Told>,
+    sites: Sites<ShadowSite<D>>,
+) -> DeskTold<D::Told>
+    requires room { IsRoom whole.room }
+    requires reserved { length sites.slaves.items ≤ vec_capacity whole.room.told }
+    ensures line { result.line ≡ whole.told }
+    ensures disk { IsFollowed (Telling D.follows D.well D.tells result.disk) sites.disk.seen }
+    ensures slaves { AllZip (λ site told. IsFollowed (Telling D.follows D.well D.tells told) site.seen) sites.slaves.items result.slaves.items }
+{
+    let Whole {
+        mut device,
+        told,
+        room,
+    } = whole;
+    let PerDevice {
+        disk,
+        slaves,
+        cycle,
+    } = sites;
+    let OfSlaves { halves, told: room } = room;
+    drop(halves);
+    if let Some(cycle) = cycle {
+        drop(told_of(cycle, &mut device));
+    }
+    DeskTold {
+        line: told,
+        disk: told_of(disk, &mut device),
+        slaves: told_of_slaves(slaves, &mut device, room),
+    }
 }
 
 /// The EEPROM half of this slave, as its worker left it, and what is told of its device. `Unserved` where the half is missing.
@@ -129,7 +186,7 @@ fn half_at<D: Lends>(
     ensures told { IsWorkFollowed (Telling D.follows D.well D.tells result.1) end }
     ensures followed { IsWorkFollowed D.follows end }
 {
-    let (mut parts, told) = parts_of(end, whole);
+    let (mut parts, told) = parts_at(end, whole);
     if slave >= parts.halves.len() {
         drop(parts);
         return (Err(Fault::Unserved), told);
@@ -189,7 +246,7 @@ fn is_line_of<D: Device>(site: &ShadowSite<D>, slaves: usize) -> bool
 /// The device of the line takes back that of the process data, if a thread exchanged them.
 fn end_cycle<D: Lends>(cycle: Option<End<ShadowSite<D>, CycleLog>>, whole: &mut D) {
     if let Some(end) = cycle {
-        let (parts, told) = parts_of(end, whole);
+        let (parts, told) = parts_at(end, whole);
         drop(parts);
         drop(told);
     }
@@ -212,7 +269,7 @@ fn split<D: Lends>(
         cycle,
     } = ends;
     end_cycle(cycle, whole);
-    let (parts, told) = parts_of(flusher, whole);
+    let (parts, told) = parts_at(flusher, whole);
     (parts, told, workers)
 }
 

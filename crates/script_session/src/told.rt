@@ -15,7 +15,7 @@ pub struct PartTold<T> {
     pub is_sound: bool,
 }
 
-/// What is told of the devices of a line that was served at a desk.
+/// What is told of the devices of a line that was taken apart.
 #[derive(Drop)]
 pub struct DeskTold<T> {
     /// Of the line's device, before the line was taken apart.
@@ -29,8 +29,10 @@ pub struct DeskTold<T> {
 /// What is told of the devices of a line that was not served, or not put together again behind that.
 #[derive(Drop)]
 pub enum UnservedTold<T> {
-    /// Of the line's device, where no desk began.
+    /// Of the line's device, where it had lent none to a part yet.
     Line(PartTold<T>),
+    /// Of the devices of the parts, which no desk has served.
+    Apart(DeskTold<T>),
     /// Of the devices at a desk that served the parts.
     Desk(DeskTold<T>),
 }

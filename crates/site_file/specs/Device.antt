@@ -14,7 +14,8 @@ use Rattle.site_file.specs.Owned.{Lacks, LacksJournal, image_in}
 
 -- One call on the journal. If it fails, so does the device call. Where the device doesn't own the journal, it isn't made.
 pub data CallsJournal {F : Type 0} (call : Call) (old : FileDevice F) (result : Passing) (new : FileDevice F) : Type 0 where
-  over : LacksJournal old.asking.part old.has_failed old.held → result ≡ Stops Old → new ≡ record old { has_failed = true } → CallsJournal call old result new
+  over : LacksJournal old.asking.part old.has_failed old.held → result ≡ Stops Old → new ≡ record old { has_failed = true }
+      → CallsJournal call old result new
   passes : old.has_failed ≡ false → Asks old.asking.calls new.asking.calls (asked Journal call true ∷ [])
       → result ≡ Passes → new.has_failed ≡ false → CallsJournal call old result new
   fails : old.has_failed ≡ false → Asks old.asking.calls new.asking.calls (asked Journal call false ∷ [])
@@ -28,7 +29,8 @@ pub data AsksLength {F : Type 0} (old : FileDevice F) (result : Passing) (new : 
 
 -- The journal is read. If it has other bytes than the shadow, the site stops.
 pub data ReadsJournal {F : Type 0} (old : FileDevice F) (result : Passing) (new : FileDevice F) : Type 0 where
-  over : LacksJournal old.asking.part old.has_failed old.held → result ≡ Stops Old → new ≡ record old { has_failed = true } → ReadsJournal old result new
+  over : LacksJournal old.asking.part old.has_failed old.held → result ≡ Stops Old → new ≡ record old { has_failed = true }
+      → ReadsJournal old result new
   compared : old.has_failed ≡ false → AsksToRead Journal old.asking.calls new.asking.calls
       → (result ≡ Passes) ⊎ (result ≡ Stops New) → new.has_failed ≡ false → ReadsJournal old result new
   fails : old.has_failed ≡ false → AsksToRead Journal old.asking.calls new.asking.calls

@@ -1,8 +1,10 @@
 //! Laws of the files behind a shadow. The functions here do nothing: the contract of each is the law.
 
-ghost use Rattle.site_file.specs.DeviceLaws.{NewHolds, RestHolds, WriteHolds, SyncHolds, LengthHolds, ReadHolds, RestLeavesNoMore, WriteLeavesNoMore, SyncOfLeavesNoMore};
+ghost use Rattle.site_file.specs.DeviceLaws.{NewHolds, RestHolds, WriteHolds, SyncHolds, LengthHolds, ReadHolds, RestLeavesNoMore};
+ghost use Rattle.site_file.specs.DeviceLaws.{WriteLeavesNoMore, SyncOfLeavesNoMore};
 ghost use Rattle.site_file.specs.AllFiles.{BeginsToFollow, FollowsOn, SiteIsFollowed};
-ghost use Rattle.site_file.specs.Laws.{OneFileIsAsked, WordIsDurable, WordMayHoldAnything, WordsAreDurable, WriteFollows, WriteMayHoldAnything, FailedWriteLeavesNoMore, SyncFollows, SyncLeavesNoMore, SomethingBecomes, AnyWordMayBeLeft};
+ghost use Rattle.site_file.specs.Laws.{OneFileIsAsked, WordIsDurable, WordMayHoldAnything, WordsAreDurable, WriteFollows, WriteMayHoldAnything};
+ghost use Rattle.site_file.specs.Laws.{FailedWriteLeavesNoMore, SyncFollows, SyncLeavesNoMore, SomethingBecomes, AnyWordMayBeLeft};
 
 /// Once a half has come to rest on a device of files, the image of its slave holds its words, the new one among them, all of it synced; so it is
 /// behind any number of words. Until then, whatever fails, a power cut leaves in the image what it may leave of the half: anything in the

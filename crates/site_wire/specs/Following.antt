@@ -1,5 +1,6 @@
 -- A device on a wire behind its shadow: what it sends for a datagram, and what real slaves are behind it (ETG.1000.4, slave information interface).
-use Rattle.std.specs.Prelude.{◌≡◌, ℕ, ◌+◌, ◌<◌, ◌⊎◌, ◌==◌, Bool, true, false, IsTrue, refl, List, [], ◌∷◌, ◌++◌, Option, Some, None, slice_get, slice_index, if◌then◌else◌}
+use Rattle.std.specs.Prelude.{◌≡◌, ℕ, ◌+◌, ◌<◌, ◌⊎◌, ◌==◌, Bool, true, false, IsTrue, refl, List, [], ◌∷◌, ◌++◌, Option, Some, None, slice_get}
+use Rattle.std.specs.Prelude.{slice_index, if◌then◌else◌}
 use Rattle.std.specs.List.{All}
 use Rattle.std.proofs.Common.{sym, subst}
 use Rattle.ecat_frame.specs.Frame.{Pdu}
@@ -126,7 +127,8 @@ pub record IsDueTo (slave : ℕ) (half : SlaveHalf) (frame : List Pdu) (d : Pdu)
   pub bytes : All (λ (byte : ℕ). byte < 256) d.content
 
 -- the same of a frame, which is due to this slave unless the site is over
-pub record CarriesFrame (slave : ℕ) (half : SlaveHalf) (frame : List Pdu) (old new : List Exchange) (is_over : Bool) (resting : Resting) : Type 0 where
+pub record CarriesFrame (slave : ℕ) (half : SlaveHalf) (frame : List Pdu) (old new : List Exchange) (is_over : Bool) (resting : Resting)
+    : Type 0 where
   pub calls : List Exchanged
   pub sends : Sends old new calls
   pub to : All (λ call. station_of call.sent.address ≡ station slave) calls

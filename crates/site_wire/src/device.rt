@@ -1,5 +1,6 @@
 //! The slaves on a wire and the journal's file, as the device behind a shadow.
-ghost use Rattle.std.specs.Prelude.{◌≡◌, ◌↔◌, ℕ, ◌<◌, ◌∷◌, ◌==◌, ◌||◌, not, [], true, false, None, Some, length, slice_set, if◌then◌else◌, IsTrue, IfSome, IsSome};
+ghost use Rattle.std.specs.Prelude.{◌≡◌, ◌↔◌, ℕ, ◌<◌, ◌∷◌, ◌==◌, ◌||◌, not, [], true, false, None, Some, length, slice_set, if◌then◌else◌};
+ghost use Rattle.std.specs.Prelude.{IsTrue, IfSome, IsSome};
 ghost use Rattle.ecat_frame.specs.Frame.{Pdu, pdu};
 ghost use Rattle.site_wire.specs.Due.{IsFit, WritesControl};
 ghost use Rattle.esc_model.specs.SlaveHalf.{in_flight, is_busy};
@@ -447,7 +448,7 @@ impl<'f, L: Reach, F: RandomAccessFile, C: Clock> WireDevice<'f, L, F, C> {
 
 /// Whether the device of this part of a line works on this slave. For None it is the line's own.
 fn works_on(part: Option<LinePart>, slave: usize) -> bool
-    ensures { IsTrue result → WorksOn part slave }
+    ensures { IsTrue result ↔ WorksOn part slave }
 {
     match part {
         None => true,
@@ -460,6 +461,7 @@ fn works_on(part: Option<LinePart>, slave: usize) -> bool
 fn number_of(part: Option<LinePart>, slave: usize) -> Option<u16>
     ensures number { IfSome result (λ number. (number ≡ slave) × (number < 64)) }
     ensures own { IsSome result → WorksOn part slave }
+    ensures some { WorksOn part slave → slave < 64 → IsSome result }
 {
     if !works_on(part, slave) {
         return None;
@@ -672,6 +674,7 @@ impl<'f, L: Reach + Copy + Drop, F: RandomAccessFile + Drop, C: Clock> Lends
         ensures over { (result.is_over ≡ self.old.is_over) × (self.new.is_over ≡ self.old.is_over) }
         ensures part { result.journal.asking.part ≡ Some part }
         ensures same { (self.new.writes ≡ self.old.writes) × (self.new.is_unconfirmed ≡ self.old.is_unconfirmed) }
+        ensures lent { (result.writes ≡ self.old.writes) × (result.is_unconfirmed ≡ self.old.is_unconfirmed) }
     {
         WireDevice {
             sender: Sender::new(self.sender.line),

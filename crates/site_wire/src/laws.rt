@@ -3,7 +3,8 @@
 ghost use Rattle.site_wire.specs.Amending.{PossibleIsAmended, AmendedStays, AmendedLeavesNoMore, BusyIsPossible, ReadBackIsPossible, OtherIsKept};
 ghost use Rattle.site_wire.specs.RealSlaves.{DefinedServes};
 ghost use Rattle.site_wire.specs.JournalLaws.{JournalIsFollowed};
-ghost use Rattle.site_wire.specs.Laws.{BroughtUpIsLike, LikeIsPossible, IsLikeItself, PossibleLeavesNoMore, AgreedIsPossible, ReadAloneIsPossible, RunIsPossible, StopLeavesNoMore};
+ghost use Rattle.site_wire.specs.Laws.{BroughtUpIsLike, LikeIsPossible, IsLikeItself, PossibleLeavesNoMore, AgreedIsPossible};
+ghost use Rattle.site_wire.specs.Laws.{ReadAloneIsPossible, RunIsPossible, StopLeavesNoMore};
 
 /// A slave as bring-up leaves it is like its shadow. A slave that is like its shadow, but for what is the controller's own, is one that the
 /// shadow may be. What a power cut leaves of any slave that the shadow may be is among what it may leave of the shadow.

@@ -18,7 +18,8 @@ use Rattle.station_files.specs.declared.faults.ExitStatus.{ExitStatus}
 use Rattle.station_files.specs.declared.faults.ExitStatus.TheVariants.{Done, Refused}
 use Rattle.station_files.specs.declared.faults.ExitStatus.TheVariants as ends
 use Rattle.station_files.specs.declared.faults.Fault.{Fault}
-use Rattle.station_files.specs.declared.faults.Fault.TheVariants.{OddLength, BadSize, ImageOverLimit, Memory, Disk, Lost, Stopped, SlaveDead, Unserved, File, BadHex, BadLine, BadScript, Busy}
+use Rattle.station_files.specs.declared.faults.Fault.TheVariants.{OddLength, BadSize, ImageOverLimit, Memory, Disk, Lost, Stopped, SlaveDead}
+use Rattle.station_files.specs.declared.faults.Fault.TheVariants.{Unserved, File, BadHex, BadLine, BadScript, Busy}
 use Rattle.station_files.specs.declared.store.LockFault.{LockFault}
 use Rattle.station_files.specs.declared.store.LockFault.TheVariants as locks
 

@@ -1,6 +1,7 @@
 //! Faults and refusals as the program prints them, and the exit status for each.
 ghost use Rattle.std.specs.Prelude.{◌≡◌, ◌≢◌, ◌≤◌, ◌⊎◌};
-ghost use Rattle.station_files.specs.Faults.{IsFaultless, IsOfStream, code_of, number_of, of_hex, of_line, of_process_image, of_script, of_words, status_of};
+ghost use Rattle.station_files.specs.Faults.{IsFaultless, IsOfStream, code_of, number_of, of_hex, of_line, of_process_image, of_script, of_words};
+ghost use Rattle.station_files.specs.Faults.{status_of};
 
 use sii_edit::{Cause, Refusal};
 use sii_image::ImageFault;

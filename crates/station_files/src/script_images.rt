@@ -1,7 +1,8 @@
 //! Loads the images that the commands of a script name.
 ghost use Rattle.std.specs.Prelude.{◌≡◌, ◌↔◌, ◌++◌, flat_map, map, string_bytes, All, IfErr, IfOk, IsTrue, OnOk};
 ghost use Rattle.std.specs.List.{AllZip};
-ghost use Rattle.station_files.specs.ScriptFiles.{image_of, images_of, IsPlain, LoadsCommand, LoadsEdit, LoadsGroup, LoadsGuarded, RefusesCommand, RefusesCommands, RefusesEdit, RefusesGroup};
+ghost use Rattle.station_files.specs.ScriptFiles.{image_of, images_of, IsPlain, LoadsCommand, LoadsEdit, LoadsGroup, LoadsGuarded};
+ghost use Rattle.station_files.specs.ScriptFiles.{RefusesCommand, RefusesCommands, RefusesEdit, RefusesGroup};
 
 use crate::faults::Fault;
 use crate::same_files::push_name;

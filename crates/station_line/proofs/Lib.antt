@@ -4,7 +4,6 @@ pub mod Refused
 pub mod Saved
 pub mod SwitchedOn
 pub mod Opened
-pub mod OpenFiles
 pub mod Extending
 pub mod Going
 pub mod RoundLaws

@@ -48,7 +48,7 @@ use Rattle.station_files.specs.ScriptFiles.{SpellsCommands}
 use Rattle.station_files.specs.declared.faults.ExitStatus.{ExitStatus}
 use Rattle.station_files.specs.declared.faults.Fault.{Fault}
 use Rattle.script_session.specs.declared.closing.Ending.{Ending}
-use Rattle.script_session.specs.AtDesk.{DeskServes, EndsFollowed, IsUnservedTold, ServesParts, seen_of}
+use Rattle.script_session.specs.AtDesk.{DeskServes, EndsFollowed, IsUnservedTold, PartsEnd, ServesParts, seen_of}
 use Rattle.script_session.specs.AtDesk as at_desk
 use Rattle.script_session.specs.declared.told.UnservedTold.{UnservedTold}
 use Rattle.script_session.specs.declared.told.UnservedTold.TheVariants as unserved
@@ -61,7 +61,7 @@ use Rattle.station_session.specs.RunFiles.{BeginsPart, DeskGoes, GoesAlone, Goes
 use Rattle.station_session.specs.RunFiles.{OfDevices, OfFiles, RunsFollowed, KeepsRunFiles, RunKeepsFiles, Says, ServesFollowedBy, ServesOn}
 use Rattle.station_session.specs.declared.told.RunTold.{RunTold}
 use Rattle.station_session.specs.RunFiles.{DeskTells, HaveAsked, IsTold, KeepsAsTold, KeepsDeskAsTold, KeepsPartsAsTold, ServesAsTold, TellsOf, desk_of, line_told, opening_of}
-use Rattle.station_session.specs.RunFiles.{ServesSome, unbegun, apart, served, unopened, opened, unrecovered, recovered}
+use Rattle.station_session.specs.RunFiles.{ServesSome, unbegun, idle, apart, served, unopened, opened, unrecovered, recovered}
 use Rattle.station_line.specs.Opened.{GoesKept, Loads}
 use Rattle.station_line.specs.Rounds.{Goes}
 use Rattle.station_line.specs.Site.{IsFollowed}
@@ -80,10 +80,13 @@ at-place P (b ∷ xs) (suc k) a all at = at-place P xs k a all.1 at
 abbrev pub HasFileDevice : (F : Type 0) → {D : Type 0} → (D → Seen → Type 0) → Type 0
 HasFileDevice F {D} follows = (device : D) (seen : Seen) → follows device seen → (d : FileDevice F) × files.Follows d seen
 
+-- the parts of a line that a desk has served
+abbrev parts_of : (station : Station) (commands : List Command) (ending : Ending) → DeskServes station commands ending → PartsEnd station
+parts_of station commands ending desk = record { sites = desk.sites; apart = desk.apart; ends = desk.ends; of_sites = desk.of_sites }
+
 -- by devices that keep this
 module _ (F : Type 0) {D : Type 0} (follows : D → Seen → Type 0) (to_file : HasFileDevice F follows) where
-  module _ (station : Station) (synced : station.seen.state.disk ≡ of_bytes station.seen.state.disk.bytes) (commands : List Command) (ending : Ending)
-      (parts : DeskServes station commands ending)
+  module _ (station : Station) (synced : station.seen.state.disk ≡ of_bytes station.seen.state.disk.bytes) (parts : PartsEnd station)
       (flushed : IsFlushed parts.ends.flusher.log parts.ends.flusher.start.seen parts.ends.flusher.site.seen)
       (disk : IsFollowed follows parts.ends.flusher.site.seen)
       (works : (slave : ℕ) (end : Stay SiteValue SlaveLog) → slice_get parts.ends.workers.items slave ≡ Some end → IsWorkFollowed follows end) where
@@ -250,10 +253,10 @@ module _ (F : Type 0) {D : Type 0} (follows : D → Seen → Type 0) (well : D �
   soundly_file : HasFileDevice F (Soundly follows well)
   soundly_file device seen soundly = to_file device seen soundly.0
 
-  keeps_followed : (station : Station) → station.seen.state.disk ≡ of_bytes station.seen.state.disk.bytes → (commands : List Command) (ending : Ending)
-      (parts : DeskServes station commands ending) → AreFollowed follows parts.ends → KeepsParts F station parts.ends
-  keeps_followed station synced commands ending parts followed =
-      keeps_parts F follows to_file station synced commands ending parts followed.flushed followed.followed
+  keeps_followed : (station : Station) → station.seen.state.disk ≡ of_bytes station.seen.state.disk.bytes → (parts : PartsEnd station)
+      → AreFollowed follows parts.ends → KeepsParts F station parts.ends
+  keeps_followed station synced parts followed =
+      keeps_parts F follows to_file station synced parts followed.flushed followed.followed
       (λ slave end is. at-place (IsWorkFollowed follows) parts.ends.workers.items slave end followed.workers is)
 
   -- where nothing is told
@@ -265,16 +268,16 @@ module _ (F : Type 0) {D : Type 0} (follows : D → Seen → Type 0) (well : D �
       let works : (slave : ℕ) (end : Stay SiteValue SlaveLog) → slice_get ends.workers.items slave ≡ Some end → IsWorkFollowed (Soundly follows well) end =
       λ slave end is. at-place (IsWorkFollowed (Soundly follows well)) ends.workers.items slave end followed.parts.workers is in
       record {
-        parts = keeps_parts F (Soundly follows well) soundly_file station synced commands ending parts.desk followed.parts.flushed followed.parts.followed works;
+        parts = keeps_parts F (Soundly follows well) soundly_file station synced (parts_of station commands ending parts.desk) followed.parts.flushed followed.parts.followed works;
         together =
-            hold_together F (Soundly follows well) soundly_file station synced commands ending parts.desk followed.parts.flushed followed.parts.followed works site parts.together
+            hold_together F (Soundly follows well) soundly_file station synced (parts_of station commands ending parts.desk) followed.parts.flushed followed.parts.followed works site parts.together
             (well_file followed.parts.followed.0 ends.flusher.site.seen followed.parts.followed.1.0 followed.parts.followed.1.1, followed.parts.followed.1.2)
             (λ slave end is. let w = works slave end is in (well_file w.followed.0 end.site.seen w.followed.1.0 w.followed.1.1, w.followed.1.2)) followed.synced;
       }
-  keeps_desk station synced commands ending site (Err fault) parts followed = record { parts = keeps_followed station synced commands ending parts.desk followed; together = tt }
+  keeps_desk station synced commands ending site (Err fault) parts followed = record { parts = keeps_followed station synced (parts_of station commands ending parts.desk) followed; together = tt }
 
   -- where the devices are told of
-  module _ (station : Station) (synced : station.seen.state.disk ≡ of_bytes station.seen.state.disk.bytes) (commands : List Command) (ending : Ending) (desk : DeskServes station commands ending)
+  module _ (station : Station) (synced : station.seen.state.disk ≡ of_bytes station.seen.state.disk.bytes) (desk : PartsEnd station)
       (told : DeskTold FileTold) (tellings : IsDeskTold follows well tells station.seen told desk.ends) where
     told_disk : IsFollowed follows desk.ends.flusher.site.seen
     told_disk = (tellings.disk.0, tellings.disk.1.0)
@@ -285,20 +288,20 @@ module _ (F : Type 0) {D : Type 0} (follows : D → Seen → Type 0) (well : D �
         record { worked = w.2.worked; followed = (w.2.followed.0, w.2.followed.1.0) }
 
     keeps_told : KeepsParts F station desk.ends
-    keeps_told = keeps_parts F follows to_file station synced commands ending desk tellings.flushed told_disk told_works
+    keeps_told = keeps_parts F follows to_file station synced desk tellings.flushed told_disk told_works
 
     have_asked : HaveAsked told desk.ends keeps_told.desk
     unfolding keeps_told keeps_parts desk told_disk told_works
     have_asked = record {
       journal = subst (λ (d : FileDevice F). TellsLog d.asking.calls told.disk.told.calls)
-          (sym (journal_device F follows to_file station synced commands ending desk tellings.flushed told_disk told_works))
+          (sym (journal_device F follows to_file station synced desk tellings.flushed told_disk told_works))
           (tells_file tellings.disk.0 desk.ends.flusher.site.seen tellings.disk.1.0 told.disk.told tellings.disk.1.1);
       images = λ slave end is.
           let w = told-work follows well tells told.slaves.items desk.ends.workers.items tellings.slaves slave end is in (
             w.0,
             w.1,
             subst (λ (d : FileDevice F). TellsLog d.asking.calls w.0.told.calls)
-                (sym (image_device F follows to_file station synced commands ending desk tellings.flushed told_disk told_works slave end is))
+                (sym (image_device F follows to_file station synced desk tellings.flushed told_disk told_works slave end is))
                 (tells_file w.2.followed.0 end.site.seen w.2.followed.1.0 w.0.told w.2.followed.1.1),
           );
     }
@@ -309,7 +312,7 @@ module _ (F : Type 0) {D : Type 0} (follows : D → Seen → Type 0) (well : D �
     told_together site together sound all_synced =
         let ends = desk.ends in
         let here = tellings.disk.1.2 sound.disk in
-        hold_together F follows to_file station synced commands ending desk tellings.flushed told_disk told_works site together
+        hold_together F follows to_file station synced desk tellings.flushed told_disk told_works site together
         (well_file tellings.disk.0 ends.flusher.site.seen tellings.disk.1.0 here.0, here.1)
         (λ slave end is.
         let w = told-work follows well tells told.slaves.items ends.workers.items tellings.slaves slave end is in
@@ -324,13 +327,11 @@ module _ (F : Type 0) {D : Type 0} (follows : D → Seen → Type 0) (well : D �
 
   -- where the line wasn't put together
   parts_as_told : (told : Option (DeskTold FileTold)) (station : Station) → station.seen.state.disk ≡ of_bytes station.seen.state.disk.bytes
-      → (commands : List Command) (ending : Ending) (desk : DeskServes station commands ending)
-      → IsSomeAnd told (λ one. IsDeskTold follows well tells station.seen one desk.ends) → KeepsPartsAsTold F told station desk.ends
-  parts_as_told None station synced commands ending served_by tellings = absurd tellings
-  parts_as_told (Some told) station synced commands ending served_by tellings = record {
-    keeps = keeps_told station synced commands ending served_by told tellings;
-    asked = have_asked station synced commands ending served_by told tellings;
-  }
+      → (parts : PartsEnd station) → IsSomeAnd told (λ one. IsDeskTold follows well tells station.seen one parts.ends)
+      → KeepsPartsAsTold F told station parts.ends
+  parts_as_told None station synced parts tellings = absurd tellings
+  parts_as_told (Some told) station synced parts tellings =
+      record { keeps = keeps_told station synced parts told tellings; asked = have_asked station synced parts told tellings }
 
   desk_as_told : (told : Option (DeskTold FileTold)) (station : Station) → station.seen.state.disk ≡ of_bytes station.seen.state.disk.bytes → (commands : List Command) (ending : Ending) (site : SiteValue)
       (sound : Result (Unit {0}) Fault) (parts : ServesParts station commands ending site) → DeskTells follows well tells told station sound parts.desk.ends
@@ -338,7 +339,7 @@ module _ (F : Type 0) {D : Type 0} (follows : D → Seen → Type 0) (well : D �
   desk_as_told None station synced commands ending site sound parts tell =
       record { keeps = keeps_desk station synced commands ending site sound parts tell.followed; asked = tt }
   desk_as_told (Some told) station synced commands ending site sound parts tell =
-      keeps_as_told station synced commands ending parts.desk told tell.tell.0 site parts.together sound tell.tell.1 tell.followed
+      keeps_as_told station synced (parts_of station commands ending parts.desk) told tell.tell.0 site parts.together sound tell.tell.1 tell.followed
 
   module _ (told : RunTold FileTold) where
     alone_on_files : (commands : List Command) (left : Seen) (status : ExitStatus) → left.past ≡ []
@@ -360,8 +361,10 @@ module _ (F : Type 0) {D : Type 0} (follows : D → Seen → Type 0) (well : D �
         → (commands : List Command) (status : ExitStatus) → ServesFollowedBy follows well tells station commands status told
         → DeskGoes (OfFiles F told) station commands status
     desk_on_files station synced commands status (unbegun bad) = unbegun bad
+    desk_on_files station synced commands status (idle parts none tellings bad) =
+        idle parts none (parts_as_told told.desk station synced parts tellings) bad
     desk_on_files station synced commands status (apart ending desk tellings bad) =
-        apart ending desk (parts_as_told told.desk station synced commands ending desk tellings) bad
+        apart ending desk (parts_as_told told.desk station synced (parts_of station commands ending desk) tellings) bad
     desk_on_files station synced commands status (served ending site sound parts tell closes) =
         served ending site sound parts (desk_as_told told.desk station synced commands ending site sound parts tell)
         (λ closed. behind_on_files ending.is_driven sound commands site.seen status parts.together.new (closes closed))
@@ -479,6 +482,9 @@ pub not_served : {D T : Type 0} (follows : D → Seen → Type 0) (well : D → 
     (commands : List Command) (why : UnservedTold T) (status : ExitStatus) → ¬ IsFaultless status → told.desk ≡ desk_of why
     → IsUnservedTold follows well tells station commands why → ServesFollowedBy follows well tells station commands status told
 not_served follows well tells told station commands (unserved.Line part) status bad is (at_desk.line _ followed) = unbegun bad
+not_served follows well tells told station commands (unserved.Apart devices) status bad is (at_desk.apart _ parts none tellings) =
+    idle parts none
+    (subst (λ (d : Option (DeskTold _)). IsSomeAnd d (λ one. IsDeskTold follows well tells station.seen one parts.ends)) (sym is) tellings) bad
 not_served follows well tells told station commands (unserved.Desk devices) status bad is (at_desk.desk _ ending served_by tellings) =
     apart ending served_by
     (subst (λ (d : Option (DeskTold _)). IsSomeAnd d (λ one. IsDeskTold follows well tells station.seen one served_by.ends)) (sym is) tellings) bad
@@ -493,11 +499,13 @@ unserved_line follows well tells told station commands why same_desk same_openin
     by : (why : UnservedTold _) → IsUnservedTold follows well tells station commands why
         → IsFollowed (TellsOf follows tells (line_told (desk_of why) (opening_of why))) station.seen
     by (unserved.Line part) (at_desk.line _ followed) = (followed.0, (followed.1.0, followed.1.1))
+    by (unserved.Apart devices) (at_desk.apart _ parts none tellings) = (tellings.before.0, (tellings.before.1.0, tellings.before.1.1))
     by (unserved.Desk devices) (at_desk.desk _ ending served_by tellings) = (tellings.before.0, (tellings.before.1.0, tellings.before.1.1))
 
 desk_told : (F : Type 0) (told : RunTold FileTold) (station : Station) (commands : List Command) (one final : ExitStatus) → ¬ IsFaultless final
     → DeskGoes (OfFiles F told) station commands one → DeskGoes (OfFiles F told) station commands final
 desk_told F told station commands one final bad (unbegun was) = unbegun bad
+desk_told F told station commands one final bad (idle parts none keeps was) = idle parts none keeps bad
 desk_told F told station commands one final bad (apart ending desk keeps was) = apart ending desk keeps bad
 desk_told F told station commands one final bad (served ending site sound parts desk closes) =
     served ending site sound parts desk (λ closed. behind_told (OfFiles F told) ending.is_driven sound commands site.seen one final (λ was. bad)

@@ -1,7 +1,7 @@
 -- A run on the files of a line: what a power cut leaves in them as the station is opened, while its desk is at work, and as the line is recovered
 -- behind it.
-use Rattle.std.specs.Prelude.{◌≡◌, ℕ, Bool, true, false, List, ◌++◌, Result, Ok, Err, OnOk, Option, Some, None, is_some, IfSome, IsSomeAnd, slice_get, IsTrue}
-use Rattle.std.specs.List.{AllByRecursion}
+use Rattle.std.specs.Prelude.{◌≡◌, ℕ, Bool, true, false, List, ◌++◌, Result, Ok, Err, OnOk, Option, Some, None, is_some, IfSome, IsSomeAnd}
+use Rattle.std.specs.Prelude.{slice_get, IsTrue}
 use Rattle.sii_edit.specs.declared.command.Command.{Command}
 use Rattle.site_core.specs.State.{Pair, Seen}
 use Rattle.site_core.specs.Times.{Follows as SiteFollows}
@@ -36,12 +36,12 @@ use Rattle.station_files.specs.declared.faults.ExitStatus.{ExitStatus}
 use Rattle.station_files.specs.declared.faults.Fault.{Fault}
 use Rattle.station_line.specs.Opened.{GoesKept}
 use Rattle.script_session.specs.declared.closing.Ending.{Ending}
-use Rattle.script_session.specs.AtDesk.{BeginsAs, DeskServes, EndsFollowed, ServesParts, seen_of}
+use Rattle.script_session.specs.AtDesk.{BeginsAs, DeskServes, EndsFollowed, PartsEnd, ServesParts, seen_of}
 use Rattle.script_session.specs.declared.told.DeskTold.{DeskTold}
 use Rattle.script_session.specs.declared.told.UnservedTold.{UnservedTold}
 use Rattle.script_session.specs.declared.told.UnservedTold.TheVariants as unserved
 use Rattle.script_session.specs.declared.told.PartTold.{PartTold}
-use Rattle.script_session.specs.Parts.{AreSound, IsDeskTold}
+use Rattle.script_session.specs.Parts.{AreSound, AreUnserved, IsDeskTold}
 use Rattle.station_session.specs.declared.told.RunTold.{RunTold}
 use Rattle.station_line.specs.Rounds.{AreAmong, Goes}
 use Rattle.station_line.specs.Site.{IsFollowed}
@@ -74,8 +74,11 @@ GoesBehind says is_driven (Err fault) commands left status = ¬ IsFaultless stat
 
 -- The line of an open station was served so.
 pub data DeskGoes (says : Says) (station : Station) (commands : List Command) (status : ExitStatus) : Type 0 where
-  -- no desk began: the line couldn't be taken apart, or memory was refused
+  -- the line couldn't be taken apart: no part had a device yet
   unbegun : ¬ IsFaultless status → DeskGoes says station commands status
+  -- memory was refused for a desk: none has served the parts, each of which had its device by then
+  idle : (parts : PartsEnd station) → AreUnserved parts.ends → says.parts station parts.ends → ¬ IsFaultless status
+      → DeskGoes says station commands status
   -- a desk served its parts, and what they left couldn't be put together
   apart : (ending : Ending) (desk : DeskServes station commands ending) → says.parts station desk.ends → ¬ IsFaultless status
       → DeskGoes says station commands status
@@ -112,7 +115,7 @@ pub record ServesSome {D : Type 0} (follows : D → Seen → Type 0) (commands :
   pub goes : Goes accepted opened last
   pub followed : IsFollowed follows last.seen
 
--- what is told of the line's device as the station was opened: by the desk, if one has served its parts
+-- what is told of the line's device as the station was opened: with those of its parts, if it was taken apart
 abbrev pub line_told : {T : Type 0} → Option (DeskTold T) → Option T → Option T
 line_told (Some desk) other = Some desk.line.told
 line_told None other = other
@@ -120,10 +123,12 @@ line_told None other = other
 -- the same, and what is told of devices at a desk, by what is told where a line was not served
 abbrev pub opening_of : {T : Type 0} → UnservedTold T → Option T
 opening_of (unserved.Line part) = Some part.told
+opening_of (unserved.Apart desk) = None
 opening_of (unserved.Desk desk) = None
 
 abbrev pub desk_of : {T : Type 0} → UnservedTold T → Option (DeskTold T)
 desk_of (unserved.Line part) = None
+desk_of (unserved.Apart desk) = Some desk
 desk_of (unserved.Desk desk) = Some desk
 
 -- A device keeps this of a site, and what is told, if something is, is told of it.
@@ -271,3 +276,9 @@ pub record AreLogsTold (told : DeskTold FileTold) : Type 0 where
 pub record IsAllTold (told : RunTold FileTold) : Type 0 where
   pub desk : IsSomeAnd told.desk AreLogsTold
   pub behind : IsSomeAnd told.behind (λ file. IsTrue (is_some file.calls))
+
+-- No device is told of: none has had a file of the line.
+pub record IsNoneTold {T : Type 0} (told : RunTold T) : Type 0 where
+  pub opening : told.opening ≡ None
+  pub desk : told.desk ≡ None
+  pub behind : told.behind ≡ None

@@ -3,7 +3,7 @@ ghost use Rattle.std.specs.Prelude.{◌≡◌, is_some, option_map, false, IfErr
 ghost use Rattle.station_files.specs.Faults.{IsFaultless};
 ghost use Rattle.station_line.specs.Opened.{is_old, IsFresh};
 ghost use Rattle.station_line.specs.Refusals.{RefusesRun};
-ghost use Rattle.station_session.specs.RunFiles.{IsAllTold, KeepsRunFiles, RunKeepsFiles, RunsFollowed};
+ghost use Rattle.station_session.specs.RunFiles.{IsAllTold, IsNoneTold, KeepsRunFiles, RunKeepsFiles, RunsFollowed};
 ghost use Rattle.station_session.specs.Session.{EndsCaptured, EndsRun, RunsFiles};
 
 use crate::capture::{begin_capture, end_capture};
@@ -38,7 +38,7 @@ pub struct RunNames<'a> {
 /// How far a run came, its exit status, and what was asked of the files of its line.
 #[derive(Drop)]
 pub struct Ran {
-    /// Whether it began. If not, a file of the line couldn't be opened, or the capture couldn't begin, and nothing was asked of these files.
+    /// Whether it began. If not, a file of the line couldn't be opened, or the capture couldn't begin, and no device has had these files.
     pub is_begun: bool,
     /// The exit status.
     pub status: ExitStatus,
@@ -51,6 +51,7 @@ impl Ran {
     fn without_files(is_begun: bool, status: ExitStatus) -> Ran
         ensures begun { result.is_begun ≡ is_begun }
         ensures status { result.status ≡ status }
+        ensures told { IsNoneTold result.told }
     {
         Ran {
             is_begun,
@@ -106,6 +107,7 @@ pub fn run_script<
     ensures kept { is_some fuse ≡ false → IfOk result (λ ran. IsTrue ran.is_begun
         → KeepsRunFiles S.File (S.files store.old) names.entry.line.now names.entry.script.now ran.status ran.told) }
     ensures told { is_some fuse ≡ false → IfOk result (λ ran. IsFaultless ran.status → IsAllTold ran.told) }
+    ensures unbegun { IfOk result (λ ran. ran.is_begun ≡ false → IsNoneTold ran.told) }
     ensures refused { IfErr result (RefusesRun (S.files store.old) S.leads (option_map (λ given. given.now) names.entry.capture)
         names.entry.line.now names.entry.script.now) }
     ensures same { OnErr result (S.files store.new ≡ S.files store.old) }
@@ -144,6 +146,7 @@ fn run_captured<
     ensures kept { is_some fuse ≡ false → IsTrue result.is_begun
         → RunKeepsFiles S.File given.session.site.seen given.commands.items result.status result.told }
     ensures told { is_some fuse ≡ false → IsFaultless result.status → IsAllTold result.told }
+    ensures unbegun { result.is_begun ≡ false → IsNoneTold result.told }
 {
     let Streams { output, faults } = streams;
     let begun = match begin_capture(capture, store) {
@@ -193,6 +196,7 @@ fn run_given<
     ensures kept { is_some fuse ≡ false → IsTrue result.is_begun
         → RunKeepsFiles S.File given.session.site.seen given.commands.items result.status result.told }
     ensures told { is_some fuse ≡ false → IsFaultless result.status → IsAllTold result.told }
+    ensures unbegun { result.is_begun ≡ false → IsNoneTold result.told }
 {
     match fuse {
         Some(fuse) => {

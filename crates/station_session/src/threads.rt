@@ -10,13 +10,12 @@ ghost use Rattle.script_session.specs.Saving.{SavesBehind, SavesLeft};
 
 use crate::streams::Streams;
 use crate::told::{Behind, RunTold, Served};
-use script_session::{DeskTold, Ending, Left, Work, serve_by_threads};
+use script_session::{DeskTold, Ending, Left, Work, save_told, serve_by_threads};
 use sii_edit::Command;
-use site_core::Site;
-use site_shadow::{Lends, Parts, ShadowSite};
+use site_shadow::{Lends, ShadowSite};
 use station_alone::{Alone, recover};
 use station_files::{ExitStatus, Fault, Store, report_fault, status_of, worse};
-use station_line::{of_open, save_parts, serve_commands};
+use station_line::{of_open, serve_commands};
 use station_text::LineFile;
 use std::alloc::Global;
 use std::io::Write;
@@ -198,32 +197,6 @@ fn save_station<D: Lends, S: Store, E: Write>(
         status: status_of(saved, faults),
         told,
     }
-}
-
-/// Saves what a line holds, as `save_site` does, and gives what is told of its device.
-fn save_told<D: Lends, S: Store>(
-    alloc: Global,
-    line: &LineFile,
-    site: ShadowSite<D>,
-    store: &mut S,
-) -> (Result<(), Fault>, D::Told)
-    requires disk { IsTrue site.line.has_disk }
-    requires slaves { length site.line.sizes ≡ length line.now.images.items }
-    ensures saved { OnOk result.0 (HoldsSite (S.files store.new) line.now site.seen.state) }
-    ensures others { ChangesAmong (S.files store.old) (S.files store.new) (files_of line.now) }
-    ensures followed { IsFollowed (TellsOf D.follows D.tells (Some result.1)) site.seen }
-{
-    let _count = site.slaves();
-    let (parts, mut device) = site.into_parts();
-    let Parts {
-        sizes: _,
-        disk,
-        halves,
-        process: _,
-    } = parts;
-    let journal = disk.unwrap();
-    let saved = save_parts(alloc, line, &journal, &halves, store);
-    (saved, device.tell())
 }
 
 /// Serves the commands on an open station on this thread, and saves what its line holds. After a fault nothing more is written.

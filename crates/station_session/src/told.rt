@@ -1,7 +1,7 @@
 //! What a run tells of the devices of its line.
 ghost use Rattle.std.specs.Prelude.{◌≡◌, ◌⊎◌, Some, None, IsTrue};
 ghost use Rattle.station_files.specs.Faults.{IsFaultless};
-ghost use Rattle.station_session.specs.RunFiles.{desk_of, opening_of, AreLogsTold, AreSlavesTold, IsAllTold, IsPartTold};
+ghost use Rattle.station_session.specs.RunFiles.{desk_of, opening_of, AreLogsTold, AreSlavesTold, IsAllTold, IsNoneTold, IsPartTold};
 
 use script_session::{DeskTold, PartTold, UnservedTold};
 use site_file::FileTold;
@@ -15,9 +15,9 @@ pub type FilesTold = RunTold<FileTold>;
 /// What a run tells of the devices of its line, as far as it came. `T` is what one device tells.
 #[derive(Drop)]
 pub struct RunTold<T> {
-    /// Of the line's device as the station was opened, if no desk has served its parts.
+    /// Of the line's device as the station was opened, if its parts got none.
     pub opening: Option<T>,
-    /// Of the devices of a line that was served at a desk: of the line's as the station was opened, and of its parts'.
+    /// Of the devices of a line that was taken apart: of the line's as the station was opened, and of its parts', also where no desk has served them.
     pub desk: Option<DeskTold<T>>,
     /// Of the line's device behind the desk.
     pub behind: Option<T>,
@@ -26,9 +26,7 @@ pub struct RunTold<T> {
 impl<T> RunTold<T> {
     /// Nothing is told.
     pub(crate) fn nothing() -> RunTold<T>
-        ensures opening { result.opening ≡ None }
-        ensures desk { result.desk ≡ None }
-        ensures behind { result.behind ≡ None }
+        ensures { IsNoneTold result }
     {
         RunTold {
             opening: None,
@@ -44,7 +42,7 @@ impl<T> RunTold<T> {
     {
         match told {
             UnservedTold::Line(line) => RunTold::of_opening(line.told),
-            UnservedTold::Desk(desk) => RunTold::of_desk(desk, None),
+            UnservedTold::Apart(desk) | UnservedTold::Desk(desk) => RunTold::of_desk(desk, None),
         }
     }
 
@@ -60,7 +58,7 @@ impl<T> RunTold<T> {
         }
     }
 
-    /// Of a line that was served at a desk, and of its device behind that.
+    /// Of a line that was taken apart, and of its device behind that.
     pub(crate) fn of_desk(desk: DeskTold<T>, behind: Option<T>) -> RunTold<T>
         ensures opening { result.opening ≡ None }
         ensures desk { result.desk ≡ Some desk }

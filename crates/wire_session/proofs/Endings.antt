@@ -12,7 +12,8 @@ use Rattle.wire_faults.specs.Faults.{IsOfStream}
 use Rattle.station_files.specs.declared.faults.Fault.{Fault}
 use Rattle.station_files.specs.Faults as station
 use Rattle.wire_faults.specs.declared.faults.WireFault.TheVariants as wire
-use Rattle.wire_session.specs.Ending.{Ends, LeavesImages, MayFail}
+use Rattle.script_session.specs.Saving.{MayFail}
+use Rattle.wire_session.specs.Ending.{Ends, LeavesImages}
 use Rattle.wire_session.specs.Reporting.{IsExplained, IsReported}
 
 -- ---- what follows from what

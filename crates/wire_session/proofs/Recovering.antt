@@ -22,7 +22,8 @@ use Rattle.wire_session.specs.Recovery.{BeginsJournal, RefusesInit, EndsRecovery
 use Rattle.wire_session.specs.Slaves.{SlavesHold}
 use Rattle.station_files.specs.declared.faults.Fault.{Fault}
 use Rattle.wire_session.specs.Reporting.{IsPrinted}
-use Rattle.wire_session.specs.Ending.{LeavesImages, MayFail}
+use Rattle.script_session.specs.Saving.{MayFail}
+use Rattle.wire_session.specs.Ending.{LeavesImages}
 use Rattle.wire_session.proofs.Endings.{ends_behind_open, may_fail}
 
 -- ---- the line is recovered

@@ -33,7 +33,8 @@ use Rattle.wire_session.specs.Running.{EndsAlone, EndsFound, RunsScript, SavesDe
 use Rattle.site_wire.specs.declared.device.WireTold.{WireTold}
 use Rattle.wire_session.specs.declared.told.LineTold.{LineTold}
 use Rattle.wire_session.specs.declared.told.Worked.{Worked}
-use Rattle.wire_session.specs.Slaves.{EndsTold, IsToldLine, LedAtDesk, LedOn, SavesFollowed, SlavesHold}
+use Rattle.script_session.specs.Saving.{IsToldLine}
+use Rattle.wire_session.specs.Slaves.{EndsTold, LedAtDesk, LedOn, SavesFollowed, SlavesHold}
 use Rattle.wire_session.proofs.Endings.{ends_behind_open, ends_weaker}
 
 -- the line was saved

@@ -1,6 +1,5 @@
 -- Real slaves hold the contents of a station whose line was recovered on a wire.
-use Rattle.std.proofs.Common.{◌≡◌, ◌≢◌, ℕ, zero, suc, ◌+◌, ◌<◌, false, List, [], ◌∷◌, ◌++◌, length, map, get_or, inl, Option, Some, None, IsTrue, Result, Ok, Err, slice_get, refl, sym, ap, subst, ◌∙◌, arith}
-use Rattle.std.specs.Prelude.{OnOk}
+use Rattle.std.proofs.Common.{◌≡◌, ◌≢◌, ℕ, zero, suc, ◌+◌, ◌<◌, false, List, [], ◌∷◌, ◌++◌, length, map, get_or, inl, Option, Some, None, IsTrue, slice_get, refl, sym, ap, subst, ◌∙◌, arith}
 use Rattle.std.specs.List.{AllByRecursion}
 use Rattle.std.proofs.lemmas.List.{length-map}
 use Rattle.std.proofs.lemmas.Option.{slice_get_within, slice_get-get_or}
@@ -32,14 +31,16 @@ use Rattle.station_jobs.specs.declared.log.SlaveLog.{SlaveLog}
 use Rattle.station_jobs.specs.Ends.{Stay}
 use Rattle.station_threads.specs.Parts.{IsEndOfSlave}
 use Rattle.script_session.specs.declared.told.PartTold.{PartTold}
-use Rattle.script_session.specs.Parts.{AreToldOf, BeginsWith, EndsWith, Telling}
+use Rattle.script_session.specs.Parts.{AreToldOf, BeginsWith, EndsWith}
 use Rattle.station_jobs.specs.Working.{IsWorked}
 use Rattle.station_line.specs.Site.{IsFollowed, powered_up_from, switched_on}
 use Rattle.script_session.specs.AtDesk.{IsServedTold}
+use Rattle.script_session.specs.Saving.{KeepsTold}
+use Rattle.script_session.proofs.SavingLaws.{keeps_told}
 use Rattle.script_session.proofs.SlaveLaws.{placed-at}
 use Rattle.wire_session.specs.declared.told.LineTold.{LineTold}
 use Rattle.wire_session.specs.Interleaving.{Interleaves}
-use Rattle.wire_session.specs.Slaves.{AreOfParts, EndsTold, IsToldLine, KeepsTold, SlavesHold, all_sent, sent_at_desk}
+use Rattle.wire_session.specs.Slaves.{AreOfParts, EndsTold, SlavesHold, all_sent, sent_at_desk}
 use Rattle.wire_session.proofs.Interleaved.{Misses, OthersMiss, lives_joined, own_part}
 
 -- PLACES
@@ -55,11 +56,6 @@ powered_at at (first ∷ plant) zero words here =
 powered_at at (first ∷ plant) (suc slave) words here =
     subst (λ (n : ℕ). slice_get (powered_up_from (at + 1) plant) slave ≡ Some (powered_up words n)) (omega arith) (powered_at (at + 1) plant slave words here)
 
--- where the one holds in any case
-pub in_each : {V E : Type 0} {P : Type 0} (result : Result V E) → P → OnOk result P
-in_each (Ok value) holds = holds
-in_each (Err fault) holds = tt
-
 -- what is told of a part that ended soundly, and of whose device it is told
 record ToldAt {D T : Type 0} (follows : D → Seen → Type 0) (well : D → Type 0) (tells : D → T → Type 0) (told : List (PartTold T)) (k : ℕ)
     (end : Stay SiteValue SlaveLog) : Type 0 where
@@ -69,16 +65,6 @@ record ToldAt {D T : Type 0} (follows : D → Seen → Type 0) (well : D → Typ
   followed : IsFollowed (KeepsTold follows well tells part.told) end.site.seen
 
 module _ {D T : Type 0} (follows : D → Seen → Type 0) (well : D → Type 0) (tells : D → T → Type 0) where
-  -- a device that ended soundly
-  keeps_told : (part : PartTold T) (seen : Seen) → IsTrue part.is_sound → IsFollowed (Telling follows well tells part) seen
-      → IsFollowed (KeepsTold follows well tells part.told) seen
-  keeps_told part seen sound is = let both = is.1.2 sound in (is.0, ((is.1.0, both.0, both.1), is.1.1))
-
-  -- a site whose device has told this, and has ended soundly
-  pub told_line : (part : PartTold T) (device : D) (seen : Seen) (slaves : ℕ) → Telling follows well tells part device seen → IsTrue part.is_sound
-      → slaves ≡ length seen.state.halves → IsToldLine follows well tells part.told slaves seen
-  told_line part device seen slaves telling sound count = record { ends = keeps_told part seen sound (device, telling); count = count }
-
   told_at : (told : List (PartTold T)) (ends : List (Stay SiteValue SlaveLog)) (k : ℕ) (end : Stay SiteValue SlaveLog)
       → AreToldOf follows well tells told ends → AllByRecursion (λ (part : PartTold T). IsTrue part.is_sound) told → slice_get ends k ≡ Some end
       → ToldAt follows well tells told k end
@@ -88,7 +74,7 @@ module _ {D T : Type 0} (follows : D → Seen → Type 0) (well : D → Type 0) 
   told_at (part ∷ told) (e ∷ ends) zero end are sound here =
       let same : e ≡ end = cc in
       subst (ToldAt follows well tells (part ∷ told) zero) same
-      (record { part = part; here = refl; worked = are.0.worked; followed = keeps_told part e.site.seen sound.0 are.0.followed })
+      (record { part = part; here = refl; worked = are.0.worked; followed = keeps_told follows well tells part e.site.seen sound.0 are.0.followed })
   told_at (part ∷ told) (e ∷ ends) (suc k) end are sound here =
       let later = told_at told ends k end are.1 sound.1 here in
       record { part = later.part; here = later.here; worked = later.worked; followed = later.followed }
@@ -104,7 +90,7 @@ module _ {D T : Type 0} (follows : D → Seen → Type 0) (well : D → Type 0) 
       let same : one ≡ part = cc in (
         e.site.seen,
         subst (λ (p : PartTold T). IsFollowed (KeepsTold follows well tells p.told) e.site.seen) same
-            (keeps_told one e.site.seen sound.0 are.0.followed),
+            (keeps_told follows well tells one e.site.seen sound.0 are.0.followed),
       )
   told_of (one ∷ told) (e ∷ ends) (suc k) part are sound here = told_of told ends k part are.1 sound.1 here
 

@@ -1,9 +1,7 @@
 -- How the work on a line that was found on a wire ends.
-use Rattle.std.specs.Prelude.{◌≡◌, ◌⊎◌, Result, string_bytes, IfErr, IfOk}
+use Rattle.std.specs.Prelude.{Result, string_bytes, IfErr, IfOk}
 use Rattle.station_text.specs.declared.line_file.LineFile.{LineFile}
 use Rattle.station_files.specs.Files.{Known, ChangesAmong, ChangesOnly}
-use Rattle.station_files.specs.Faults as station
-use Rattle.station_files.specs.declared.faults.Fault.{Fault}
 use Rattle.station_line.specs.Site.{files_of}
 use Rattle.wire_faults.specs.Faults.{IsOfStream}
 use Rattle.wire_faults.specs.declared.faults.WireFault.{WireFault}
@@ -11,10 +9,6 @@ use Rattle.wire_faults.specs.declared.faults.WireFault.{WireFault}
 -- where a fault comes that is neither that of a file nor want of memory, no file was written but perhaps the journal's
 abbrev pub LeavesImages : {T : Type 0} → Result T WireFault → Known → Known → LineFile → Type 0
 LeavesImages result old new line = IfErr result (λ fault. ¬ IsOfStream fault → ChangesOnly old new (string_bytes line.journal))
-
--- A fault comes with which files are saved: one of a file or of memory; or it came before, and nothing was written.
-abbrev pub MayFail : Known → Known → Fault → Type 0
-MayFail old new fault = (new ≡ old) ⊎ station.IsOfStream fault
 
 -- No other files than the line's changed. After a fault of the line or the journal no image file has changed. If the result is `Ok`, the
 -- files hold what is said of its value.

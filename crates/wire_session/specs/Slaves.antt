@@ -1,5 +1,5 @@
 -- What real slaves hold behind a run or a recovery on a wire (ETG.1000.4, slave information interface).
-use Rattle.std.specs.Prelude.{◌≡◌, ℕ, List, ◌∷◌, ◌++◌, map, length, Option, Some, IsSomeAnd, slice_get}
+use Rattle.std.specs.Prelude.{◌≡◌, ℕ, List, ◌∷◌, ◌++◌, map, Option, Some, IsSomeAnd, slice_get}
 use Rattle.esc_model.specs.SlaveHalf.{SlaveHalf, powered_up}
 use Rattle.esc_model.specs.Orders.{station}
 use Rattle.site_core.specs.State.{Seen}
@@ -16,19 +16,15 @@ use Rattle.station_alone.specs.Station.{Station}
 use Rattle.station_alone.specs.Recovery.{HasRecovered}
 use Rattle.station_text.specs.declared.line_file.LineFile.{LineFile}
 use Rattle.station_files.specs.Files.{Known}
-use Rattle.station_line.specs.Site.{IsFollowed, HoldsSite}
+use Rattle.station_line.specs.Site.{HoldsSite}
 use Rattle.script_session.specs.AtDesk.{IsServedTold}
-use Rattle.script_session.specs.Parts.{Soundly}
+use Rattle.script_session.specs.Saving.{IsToldLine}
 use Rattle.script_session.specs.declared.told.DeskTold.{DeskTold}
 use Rattle.script_session.specs.declared.told.PartTold.{PartTold}
 use Rattle.wire_session.specs.declared.told.LineTold.{LineTold}
 use Rattle.wire_session.specs.Interleaving.{Interleaves}
 
 -- THE DEVICES
-
--- A device has kept of its site what it keeps, nothing has failed that it was asked, the site goes on, and this is told of the device.
-abbrev pub KeepsTold : {D T : Type 0} → (D → Seen → Type 0) → (D → Type 0) → (D → T → Type 0) → T → D → Seen → Type 0
-KeepsTold follows well tells told device seen = Soundly follows well device seen × tells device told
 
 -- This is told of devices of the slaves' parts, each of its own.
 abbrev pub AreOfSlaves : {T : Type 0} → (of : LinePart → T → Type 0) → List (PartTold T) → Type 0
@@ -54,12 +50,6 @@ pub record LedThroughout {D T : Type 0} (follows : D → Seen → Type 0) (well 
   pub line : opened.line ≡ site.line
   pub opens : Follows site.seen opened.seen
   pub behind : LedBehindDesk follows well tells told opened last
-
--- This is told of a device that has followed this site at its end, and it has a half for each of so many slaves.
-pub record IsToldLine {D T : Type 0} (follows : D → Seen → Type 0) (well : D → Type 0) (tells : D → T → Type 0) (told : T) (slaves : ℕ)
-    (last : Seen) : Type 0 where
-  pub ends : IsFollowed (KeepsTold follows well tells told) last
-  pub count : slaves ≡ length last.state.halves
 
 -- Devices have followed this site, its parts at a desk, and the site behind it, and this is told of them.
 pub record EndsTold {D T : Type 0} (follows : D → Seen → Type 0) (well : D → Type 0) (tells : D → T → Type 0) (site : SiteValue)

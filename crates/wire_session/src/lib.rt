@@ -8,7 +8,6 @@ mod recovery;
 mod redoing;
 mod reporting;
 mod running;
-mod saving;
 mod threads;
 mod told;
 

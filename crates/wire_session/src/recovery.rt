@@ -5,15 +5,16 @@ ghost use Rattle.station_files.specs.Files.{ChangesAmong};
 ghost use Rattle.station_line.specs.Site.{files_of, switched_on, HoldsSite};
 ghost use Rattle.wire_session.specs.Ending.{LeavesImages};
 ghost use Rattle.wire_session.specs.Recovery.{EndsRecovery, Recovers};
-ghost use Rattle.wire_session.specs.Slaves.{AreOfParts, EndsTold, IsToldLine, SlavesHold};
+ghost use Rattle.script_session.specs.Saving.{IsToldLine};
+ghost use Rattle.wire_session.specs.Slaves.{AreOfParts, EndsTold, SlavesHold};
 ghost use Rattle.wire_session.specs.Reporting.{IsPrinted};
 
 use crate::as_found::AsFound;
 use crate::redoing::{ByThreads, recover_by_threads};
 use crate::reporting::{report_end, tell_why};
-use crate::saving::save_told;
 use crate::told::{LineTold, Worked};
 use line_changes::Before;
+use script_session::save_told;
 use sii_words::Plant;
 use site_file::FileDevice;
 use site_shadow::{Lends, ShadowSite};
@@ -168,7 +169,8 @@ fn recover_site<R: Wait + Threads + AllocGlobal + Sync, D: TellsPart + Send, S: 
     requires disk { IsTrue site.line.has_disk }
     requires owned { OwnsAll site.line }
     ensures own { IfSome result.told (λ told. AreOfParts D.is_of told.desk) }
-    ensures recovers { EndsRecovery (λ s. IsSomeAnd result.told (λ told. EndsTold D.follows D.well D.tells site (length line.now.images.items) told s.seen))
+    ensures recovers { EndsRecovery
+        (λ s. IsSomeAnd result.told (λ told. EndsTold D.follows D.well D.tells site (length line.now.images.items) told s.seen))
         result.ended (S.files store.old) (S.files store.new) line.now site.seen }
 {
     match recover_by_threads(rt, site, line.images.len()) {

@@ -4,14 +4,13 @@ ghost use Rattle.station_files.specs.Files.{ChangesAmong};
 ghost use Rattle.station_files.specs.declared.faults.ExitStatus.TheVariants.{Done};
 ghost use Rattle.station_line.specs.Site.{files_of, HoldsSite};
 ghost use Rattle.script_session.specs.Parts.{IsLineOf};
-ghost use Rattle.script_session.specs.Saving.{HoldsBehind, SavesBehind, SavesLeft};
+ghost use Rattle.script_session.specs.Saving.{HoldsBehind, IsToldLine, SavesBehind, SavesLeft};
 ghost use Rattle.wire_session.specs.Ending.{Ends, LeavesImages};
 ghost use Rattle.wire_session.specs.Running.{EndsAlone, SavesDesk};
-ghost use Rattle.wire_session.specs.Slaves.{AreOfParts, IsToldLine, LedAtDesk, LedOn, SavesFollowed};
+ghost use Rattle.wire_session.specs.Slaves.{AreOfParts, LedAtDesk, LedOn, SavesFollowed};
 
-use crate::saving::save_told;
 use crate::told::{LineTold, Worked, are_of_parts};
-use script_session::{Ending, Left, Work, serve_by_threads};
+use script_session::{Ending, Left, Work, save_told, serve_by_threads};
 use sii_edit::Command;
 use site_shadow::{Lends, ShadowSite};
 use site_wire::TellsPart;

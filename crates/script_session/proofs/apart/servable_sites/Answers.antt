@@ -3,7 +3,7 @@ use Rattle.script_session.proofs.DeskLaws.{servable}
 use Rattle.script_session.proofs.apart.servable_sites.Goals as goal
 
 pub returns : goal.returns
-returns g c state bytes halves =
+returns c state bytes halves =
     let sites = c.in_ok-sites in
     servable {E = Fault} c.whole_sites.result sites.sites c.args.capacity state c.args.line.disk _ (c.reaches.ensures.0 c.if-not-reaches.false) bytes halves
     sites.ensures.disk sites.ensures.new sites.ensures.slaves sites.ensures.turning c.whole_sites.ensures

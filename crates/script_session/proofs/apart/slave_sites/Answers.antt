@@ -5,7 +5,7 @@ use Rattle.station_threads.proofs.Zips.{gone-over}
 use Rattle.script_session.proofs.apart.slave_sites.Goals as goal
 
 pub loop-half-preserved : goal.loop-half-preserved
-loop-half-preserved g c =
+loop-half-preserved c =
     let at = c.loop-half in
     let half = c.in-Some.half in
     let steps : into_iter_items at.half-iterator ≡ half ∷ into_iter_items c.next.new.self = c.in-Some.ensures.steps.0 in (

@@ -6,4 +6,4 @@ use Rattle.script_session.specs.Parts.{BeginsWith}
 use Rattle.script_session.proofs.apart.slave_sites.Given as goal
 
 abbrev pub invariant-loop-half : goal.invariant-loop-half
-invariant-loop-half g l = (l.yielded ++ into_iter_items l.half-iterator ≡ into_iter_items l.initial.half-iterator) × AllPlaced BeginsWith 0 (halves_of l.yielded) l.sites.items
+invariant-loop-half l = (l.yielded ++ into_iter_items l.half-iterator ≡ into_iter_items l.initial.half-iterator) × AllPlaced BeginsWith 0 (halves_of l.yielded) l.sites.items

@@ -5,7 +5,7 @@ use Rattle.script_session.proofs.RedoLaws.{closes-same, ends-same}
 use Rattle.script_session.proofs.redoing.redo_opened.Goals as goal
 
 pub returns-in-Ok-clause-of_sites : goal.returns-in-Ok-clause-of_sites
-returns-in-Ok-clause-of_sites g c = ends-same c.close_redone.result c.in-Ok.ends c.args.sites c.close_redone.ensures.ends c.in-Ok.ensures
+returns-in-Ok-clause-of_sites g c = ends-same c.close_redone.result c.in-Ok.ends c.args.sites c.close_redone.ensures.ends c.in-Ok.ensures.ends
 
 pub returns-in-Ok-clause-closes : goal.returns-in-Ok-clause-closes
 returns-in-Ok-clause-closes g c =

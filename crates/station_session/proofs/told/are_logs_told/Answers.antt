@@ -1,7 +1,4 @@
-use Rattle.std.specs.Prelude.{IsTrue}
-use Rattle.std.proofs.Common.{List, subst}
-use Rattle.site_file.specs.declared.asking.FileTold.{FileTold}
-use Rattle.script_session.specs.declared.told.PartTold.{PartTold}
+use Rattle.std.proofs.Common.{subst}
 use Rattle.station_session.specs.RunFiles.{AreSlavesTold}
 use Rattle.station_session.proofs.told.are_logs_told.Goals as goal
 

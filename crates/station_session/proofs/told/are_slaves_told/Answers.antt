@@ -1,4 +1,4 @@
-use Rattle.std.proofs.Common.{ℕ, Some, arith, length, refl, subst, sym}
+use Rattle.std.proofs.Common.{ℕ, arith, length, refl, subst, sym}
 use Rattle.std.proofs.lemmas.Option.{slice_get_read, slice_get_within}
 use Rattle.site_file.specs.declared.asking.FileTold.{FileTold}
 use Rattle.site_shadow.specs.declared.lending.LinePart.TheVariants as parts

@@ -1,5 +1,3 @@
-use Rattle.std.specs.Prelude.{IsTrue}
-use Rattle.std.proofs.Common.{subst}
 use Rattle.station_session.proofs.Telling.{told_own}
 use Rattle.station_session.proofs.told.is_part_told.Goals as goal
 

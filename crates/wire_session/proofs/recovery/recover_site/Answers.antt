@@ -2,7 +2,8 @@ use Rattle.std.proofs.Common.{◌≡◌, ◌∙◌, ap, subst, length, arith}
 use Rattle.site_core.specs.State.{Seen}
 use Rattle.script_session.proofs.SoundLaws.{on_ok}
 use Rattle.station_line.proofs.Opened.{as-many, has-disk}
-use Rattle.wire_session.specs.Slaves.{EndsTold, IsToldLine}
+use Rattle.script_session.specs.Saving.{IsToldLine}
+use Rattle.wire_session.specs.Slaves.{EndsTold}
 use Rattle.wire_session.proofs.Recovering.{ends_recovered}
 use Rattle.wire_session.proofs.recovery.recover_site.Goals as goal
 

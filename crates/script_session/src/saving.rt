@@ -1,11 +1,10 @@
-//! Saves what the slaves of a line on a wire hold, and tells of its device.
+//! Saves what a line holds that was served, and tells of its device.
 ghost use Rattle.std.specs.Prelude.{◌≡◌, length, IfErr, IsTrue, OnOk};
 ghost use Rattle.station_files.specs.Files.{ChangesAmong};
-ghost use Rattle.station_line.specs.Site.{HoldsSite, files_of};
-ghost use Rattle.wire_session.specs.Ending.{MayFail};
-ghost use Rattle.wire_session.specs.Slaves.{IsToldLine};
+ghost use Rattle.station_line.specs.Site.{HoldsSite, IsFollowed, files_of};
+ghost use Rattle.script_session.specs.Saving.{IsToldLine, MayFail};
 
-use script_session::{PartTold, told_by};
+use crate::told::{PartTold, told_by};
 use site_core::Site;
 use site_shadow::{Lends, Parts, ShadowSite};
 use station_files::{Fault, Store};
@@ -19,7 +18,7 @@ use std::alloc::Global;
 ///
 /// `Unserved` where the site has stopped, or something has failed that its device was asked, though the station was told of nothing; then nothing is
 /// written. Then as for `save_site`.
-pub(crate) fn save_told<D: Lends, S: Store>(
+pub fn save_told<D: Lends, S: Store>(
     alloc: Global,
     line: &LineFile,
     site: ShadowSite<D>,
@@ -30,6 +29,7 @@ pub(crate) fn save_told<D: Lends, S: Store>(
     ensures saved { OnOk result.0 (HoldsSite (S.files store.new) line.now site.seen.state) }
     ensures others { ChangesAmong (S.files store.old) (S.files store.new) (files_of line.now) }
     ensures failed { IfErr result.0 (MayFail (S.files store.old) (S.files store.new)) }
+    ensures followed { IsFollowed (λ device seen. D.follows device seen × D.tells device result.1) site.seen }
     ensures told { OnOk result.0 (IsToldLine D.follows D.well D.tells result.1 (length line.now.images.items) site.seen) }
 {
     // Its contract says that there is a half for each slave.

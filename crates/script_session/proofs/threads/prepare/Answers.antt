@@ -1,9 +1,11 @@
-use Rattle.script_session.proofs.apart.take_apart.Goals as goal
+use Rattle.script_session.proofs.ApartLaws.{same_servable}
+use Rattle.script_session.proofs.threads.prepare.Goals as goal
 
 pub returns-in-Ok-clause-sites : goal.returns-in-Ok-clause-sites
 returns-in-Ok-clause-sites g c =
     let parts = c.into_parts-parts in
-    c.in-Ok.ensures c.args.site.seen.state parts.ensures.disk parts.ensures.halves
+    same_servable c.args.capacity c.args.site.seen.state c.in-Ok.field-0.sites c.lent_sites-sites.result c.lent_sites-sites.ensures
+    (c.in-Ok.ensures.sites c.args.site.seen.state parts.ensures.disk parts.ensures.halves)
 
 pub returns-in-Ok-clause-told : goal.returns-in-Ok-clause-told
 returns-in-Ok-clause-told g c =

@@ -1,0 +1,142 @@
+-- A line that was taken apart in memory, whose parts got devices, and which no desk has served.
+use Rattle.std.proofs.Common.{◌≡◌, ◌∙◌, ℕ, suc, List, [], ◌∷◌, ◌++◌, length, Option, Some, None, refl, sym, ap, subst}
+use Rattle.std.specs.Prelude.{is_some}
+use Rattle.std.specs.List.{AllByRecursion, AllZip}
+use Rattle.site_core.specs.Passes.{LeavesOnly}
+use Rattle.site_core.specs.State.{Leaves, Pair, Seen, State}
+use Rattle.site_core.proofs.Runs.{Passes-none, Passes-stays}
+use Rattle.site_shadow.specs.Site.{SiteValue}
+use Rattle.sii_edit.specs.declared.command.Command.{Command}
+use Rattle.station_alone.specs.Station.{Station}
+use Rattle.station_jobs.specs.declared.log.SlaveLog.{SlaveLog}
+use Rattle.station_jobs.specs.Ends.{Stay}
+use Rattle.station_jobs.specs.Left.{ServedJobs}
+use Rattle.station_threads.specs.declared.closing.Ends.{Ends}
+use Rattle.station_threads.specs.Parts.{IsEndOfSlave}
+use Rattle.station_threads.specs.Places.{AllPlaced}
+use Rattle.station_threads.specs.Sites.{IsEndOfTurns}
+use Rattle.script_session.specs.declared.told.DeskTold.{DeskTold}
+use Rattle.script_session.specs.declared.told.PartTold.{PartTold}
+use Rattle.script_session.specs.declared.told.UnservedTold.TheVariants as unserved
+use Rattle.script_session.specs.Parts.{AreSame, AreToldOf, BeginsWith, IsApart, IsServable, Sites, Telling}
+use Rattle.script_session.specs.AtDesk as at_desk
+use Rattle.script_session.specs.AtDesk.{IsUnservedTold, PartsEnd}
+use Rattle.station_line.specs.Site.{IsFollowed}
+
+-- one item more in each list
+pub zip_more : {A B : Type 0} (R : A → B → Type 0) (xs : List A) (ys : List B) (x : A) (y : B) → AllZip R xs ys → R x y
+    → AllZip R (xs ++ x ∷ []) (ys ++ y ∷ [])
+zip_more R [] [] x y all one = (one, tt)
+zip_more R [] (b ∷ ys) x y all one = absurd all
+zip_more R (a ∷ xs) [] x y all one = absurd all
+zip_more R (a ∷ xs) (b ∷ ys) x y all one = (all.0, zip_more R xs ys x y all.1 one)
+
+-- Sites in the same states are taken apart of the same line.
+pub same_servable : (capacity : ℕ) (whole : State) (sites same : Sites) → AreSame sites same → IsServable capacity whole sites
+    → IsServable capacity whole same
+same_servable capacity whole sites same are is = record {
+  apart = record {
+    disk = ap (λ (s : SiteValue). s.seen.state.disk) are.disk ∙ is.apart.disk;
+    new = ap (λ (s : SiteValue). s.seen.past) are.disk ∙ is.apart.new;
+    slaves = subst (AllPlaced BeginsWith 0 whole.halves) (sym are.slaves) is.apart.slaves;
+    turning = ap is_some are.cycle ∙ is.apart.turning;
+  };
+  own = record {
+    owned = record {
+      of_disk = rw are.disk is.own.owned.of_disk;
+      of_slaves = rw are.slaves is.own.owned.of_slaves;
+      of_cycle = rw are.cycle is.own.owned.of_cycle;
+    };
+    long = rw are.disk is.own.long;
+  };
+}
+
+-- ---- ends of parts that were not served
+
+-- where no job was done, a power cut leaves what it may leave of the site as it is
+none_served : {J O : Type 0} (Does : J → O → Seen → Seen → Type 0) (Returns : J → O → State → State → Type 0)
+    (InProgress : J → State → Pair → Type 0) (seen : Seen) → ServedJobs Does Returns InProgress [] seen seen
+none_served Does Returns InProgress seen = record {
+  led = record { done = []; last = []; log_is = refl; mid = seen; in_turn = refl; ends = refl };
+  left = λ pair since.
+      let still = Passes-stays (Leaves seen.state) seen seen (Passes-none (LeavesOnly (Leaves seen.state)) seen (λ pair leaves. leaves)) in
+      record { done = []; others = []; log_is = refl; mid = seen.state; in_turn = refl; left = still.left pair since };
+}
+
+abbrev unserved_end : ℕ → SiteValue → Stay SiteValue SlaveLog
+unserved_end slave site = record { start = site; site = site; log = record { slave = slave; jobs = [] } }
+
+abbrev unserved_ends : ℕ → List SiteValue → List (Stay SiteValue SlaveLog)
+unserved_ends slave [] = []
+unserved_ends slave (site ∷ sites) = unserved_end slave site ∷ unserved_ends (suc slave) sites
+
+as_many : (slave : ℕ) (sites : List SiteValue) → length (unserved_ends slave sites) ≡ length sites
+as_many slave [] = refl
+as_many slave (site ∷ sites) = ap suc (as_many (suc slave) sites)
+
+are_ends : (slave : ℕ) (sites : List SiteValue)
+    → AllPlaced (λ place (site : SiteValue) (end : Stay SiteValue SlaveLog). IsEndOfSlave place site end) slave sites (unserved_ends slave sites)
+are_ends slave [] = tt
+are_ends slave (site ∷ sites) = (record { slave_is = refl; start = refl }, are_ends (suc slave) sites)
+
+none_done : (slave : ℕ) (sites : List SiteValue)
+    → AllByRecursion (λ (end : Stay SiteValue SlaveLog). (end.site ≡ end.start) × (end.log.jobs ≡ [])) (unserved_ends slave sites)
+none_done slave [] = tt
+none_done slave (site ∷ sites) = ((refl, refl), none_done (suc slave) sites)
+
+abbrev unserved_cycle : {L : Type 0} → Option SiteValue → Option (Stay SiteValue (List L))
+unserved_cycle (Some site) = Some (record { start = site; site = site; log = [] })
+unserved_cycle None = None
+
+is_end : (L : Type 0) (cycle : Option SiteValue) → IsEndOfTurns cycle (unserved_cycle {L = L} cycle)
+is_end L (Some site) = refl
+is_end L None = tt
+
+abbrev all_unserved : Sites → Ends SiteValue
+all_unserved sites = record {
+  flusher = record { start = sites.disk; site = sites.disk; log = [] };
+  workers = record {
+    ptr = sites.slaves.ptr;
+    len = sites.slaves.len;
+    cap = sites.slaves.cap;
+    alloc = sites.slaves.alloc;
+    items = unserved_ends 0 sites.slaves.items;
+    ok = (sites.slaves.ok.0 ∙ sym (as_many 0 sites.slaves.items), sites.slaves.ok.1);
+    small = sites.slaves.small;
+  };
+  cycle = unserved_cycle sites.cycle;
+}
+
+-- ---- what is told of their devices
+
+module _ {D T : Type 0} (follows : D → Seen → Type 0) (well : D → Type 0) (tells : D → T → Type 0) where
+  tell_of : (slave : ℕ) (sites : List SiteValue) (told : List (PartTold T))
+      → AllZip (λ (site : SiteValue) (part : PartTold T). IsFollowed (Telling follows well tells part) site.seen) sites told
+      → AreToldOf follows well tells told (unserved_ends slave sites)
+  tell_of slave [] [] all = tt
+  tell_of slave [] (part ∷ told) all = absurd all
+  tell_of slave (site ∷ sites) [] all = absurd all
+  tell_of slave (site ∷ sites) (part ∷ told) all =
+      (record { worked = none_served _ _ _ site.seen; followed = all.0 }, tell_of (suc slave) sites told all.1)
+
+  pub apart_told : (opened : Station) (commands : List Command) (seen : Seen) (sites : Sites) (told : DeskTold T) (line : PartTold T)
+      → seen ≡ opened.seen → IsApart seen.state sites → IsFollowed (Telling follows well tells line) seen → told.line ≡ line
+      → IsFollowed (Telling follows well tells told.disk) sites.disk.seen
+      → AllZip (λ (site : SiteValue) (part : PartTold T). IsFollowed (Telling follows well tells part) site.seen) sites.slaves.items told.slaves.items
+      → IsUnservedTold follows well tells opened commands (unserved.Apart told)
+  apart_told opened commands seen sites told line of_seen apart before same disk slaves =
+      at_desk.apart told
+      (record {
+        sites = sites;
+        apart = subst (λ (s : Seen). IsApart s.state sites) of_seen apart;
+        ends = all_unserved sites;
+        of_sites = record { flusher = refl; workers = are_ends 0 sites.slaves.items; cycle = is_end _ sites.cycle };
+      })
+      (record { disk = (refl, refl); slaves = none_done 0 sites.slaves.items })
+      (record {
+        before = subst (IsFollowed (Telling follows well tells told.line)) of_seen
+            (subst (λ (part : PartTold T). IsFollowed (Telling follows well tells part) seen) (sym same) before);
+        flushed = none_served _ _ _ sites.disk.seen;
+        disk = disk;
+        slaves = tell_of 0 sites.slaves.items told.slaves.items slaves;
+      })
